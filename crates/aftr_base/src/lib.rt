@@ -1,0 +1,9 @@
+//! The ground of the router: addresses, lists and sums that contracts see as plain numbers and lists, and the outside
+//! (files and standard output) as two traits that count their faults.
+#![tactic(auto)]
+
+mod lists;
+mod numbers;
+
+pub use lists::OutOfMemory;
+pub use numbers::{V4, V6};
