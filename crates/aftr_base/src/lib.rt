@@ -4,6 +4,8 @@
 
 mod lists;
 mod numbers;
+mod sums;
 
-pub use lists::OutOfMemory;
-pub use numbers::{V4, V6};
+pub use lists::{Bytes, Numbers, OutOfMemory, Packets, Text, WordList};
+pub use numbers::{V4, V6, be16, be32, be128};
+pub use sums::{patch16, sum16};
