@@ -4,6 +4,8 @@
 
 mod lists;
 mod numbers;
+mod outside;
 
 pub use lists::OutOfMemory;
 pub use numbers::{V4, V6};
+pub use outside::{Fault, Files, Sink};
