@@ -1,3 +1,5 @@
+pub mod Faults
 pub mod First
+pub mod Held
 pub mod Numbers
 pub mod Sums

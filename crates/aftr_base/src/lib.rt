@@ -4,8 +4,10 @@
 
 mod lists;
 mod numbers;
+mod outside;
 mod sums;
 
 pub use lists::{Bytes, Numbers, OutOfMemory, Packets, Text, WordList};
 pub use numbers::{V4, V6, be16, be32, be128};
+pub use outside::{Fault, Files, Sink};
 pub use sums::{patch16, sum16};
