@@ -4,7 +4,8 @@ use Rattle.std.proofs.lemmas.List.{drop-drop, length-take-le, length-append, len
 use Rattle.std.proofs.lemmas.Nat.{pow-add}
 use Rattle.std.proofs.Math.Nat.{mul_assoc}
 use Rattle.std.proofs.Math.Seq.{take-add}
-use Rattle.aftr_base.specs.Numbers.{big_endian, span}
+use Rattle.std.proofs.lemmas.Grind.{common_steps}
+use Rattle.aftr_base.specs.Numbers.{big_endian, span, with_word}
 
 joined_digit : (x p q r u v w : ℕ) → r ≡ p * q → u ≡ v * q + w → x * r + u ≡ (x * p + v) * q + w
 joined_digit x p q r u v w e f = rw (e, f) (omega (arith, mul_assoc x p q))
@@ -36,3 +37,8 @@ halves_of_8 bytes at h = sym (big_endian_split bytes at 4 4 h)
 pub halves_of_16 : (bytes : List ℕ) (at : ℕ) → at + 16 ≤ length bytes →
     big_endian (span bytes at 8) * 18446744073709551616 + big_endian (span bytes (at + 8) 8) ≡ big_endian (span bytes at 16)
 halves_of_16 bytes at h = sym (big_endian_split bytes at 8 8 h)
+
+-- of two words put at one place the second stays
+pub with_word-with_word : (bytes : List ℕ) (at first second : ℕ) → at + 2 ≤ length bytes →
+    with_word (with_word bytes at first) at second ≡ with_word bytes at second
+with_word-with_word bytes at first second within = grind (arith, common_steps)

@@ -5,7 +5,7 @@ use Rattle.std.proofs.lemmas.List.{drop-drop, length-append, length-drop, length
 use Rattle.std.proofs.Math.Nat.{add-mul-mod_self_left, mod-lt, div-add-mod}
 use Rattle.aftr_base.proofs.NumberLemmas.{length-span}
 use Rattle.aftr_base.specs.Numbers.{big_endian, span, with_word, word_bytes}
-use Rattle.aftr_base.specs.Sums.{word_sum, folded, checksum, patched, IsPatched}
+use Rattle.aftr_base.specs.Sums.{word_sum, folded, checksum, sealed, patched, IsPatched}
 
 -- a sum of 0 folds to 0, and every other as a remainder that is never 0
 folded-pos : (s : ℕ) → 0 < s → folded s ≡ (s - 1) % 65535 + 1
@@ -74,6 +74,15 @@ word_sum-span (x ∷ []) h = absurd (omega arith)
 word_sum-span (x ∷ y ∷ []) h = omega arith
 word_sum-span (x ∷ y ∷ z ∷ rest) h = absurd (omega arith)
 
+-- a word at an even place is one part of the sum, and what is around it another
+pub word_sum-with_word : (bytes : List ℕ) (at word : ℕ) → at % 2 ≡ 0 → at + 2 ≤ length bytes →
+    word_sum (with_word bytes at word) ≡ word_sum (take at bytes) + word_sum (drop (at + 2) bytes) + word
+word_sum-with_word bytes at word even within =
+    let front_len : length (take at bytes) ≡ at = length-take-le at bytes (omega arith) in
+    ap word_sum (append_assoc (take at bytes) (word_bytes word) (drop (at + 2) bytes))
+    ∙ word_sum-append (take at bytes) (word_bytes word ++ drop (at + 2) bytes) (rw front_len even)
+    ∙ omega (arith, word_sum-word word)
+
 patched_is : (front was now sum : ℕ) → was ≤ 65535 → 65535 - folded (front + was) ≡ sum → front + now ≢ 0 →
     65535 - folded ((65535 - sum) + (65535 - was) + now) ≡ 65535 - folded (front + now)
 patched_is front was now sum small e some =
@@ -105,3 +114,18 @@ patched-law sum was now small bytes at even within e was_is some =
     (ap (λ n. 65535 - folded n) (sym sum_is) ∙ e)
     (λ (z : word_sum before + word_sum after + now ≡ 0). some (new_is ∙ z))
     ∙ ap (λ n. 65535 - folded n) (sym new_is)
+
+pub folded_full : (s : ℕ) → folded (s + (65535 - folded s)) ≡ 65535
+folded_full s =
+    let parts = folded-parts s in
+    let full : s + (65535 - folded s) ≡ 65535 + 65535 * parts.0 = omega (arith, parts.1, folded-le s) in
+    ap folded full ∙ folded_shift 65535 parts.0 (λ (z : 65535 ≡ 0). absurd (omega arith))
+
+-- bytes with their own checksum in them sum to 0
+pub checksum-sealed : (bytes : List ℕ) (at : ℕ) → at % 2 ≡ 0 → at + 2 ≤ length bytes → checksum (sealed bytes at) ≡ 0
+checksum-sealed bytes at even within =
+    let around = word_sum (take at bytes) + word_sum (drop (at + 2) bytes) in
+    let blank : word_sum (with_word bytes at 0) ≡ around = word_sum-with_word bytes at 0 even within ∙ omega arith in
+    let whole : word_sum (sealed bytes at) ≡ around + (65535 - folded around) =
+    word_sum-with_word bytes at (checksum (with_word bytes at 0)) even within ∙ ap (λ n. around + (65535 - folded n)) blank in
+    ap (λ n. 65535 - folded n) whole ∙ ap (λ n. 65535 - n) (folded_full around)

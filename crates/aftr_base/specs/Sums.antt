@@ -16,6 +16,10 @@ folded sum = if sum == 0 then 0 else (sum - 1) % 65535 + 1
 abbrev pub checksum : List ℕ → ℕ
 checksum bytes = 65535 - folded (word_sum bytes)
 
+-- the bytes with their own checksum at a place, which counts as zero in it
+abbrev pub sealed : List ℕ → ℕ → List ℕ
+sealed bytes at = with_word bytes at (checksum (with_word bytes at 0))
+
 -- A checksum after one word has changed (RFC 1624, equation 3): the complement of the one's complement sum of the
 -- complements of the checksum and of the old word, and the new word.
 abbrev pub patched : ℕ → ℕ → ℕ → ℕ

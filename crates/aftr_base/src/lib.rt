@@ -8,6 +8,6 @@ mod outside;
 mod sums;
 
 pub use lists::{Bytes, Numbers, OutOfMemory, Packets, Text, WordList};
-pub use numbers::{V4, V6, be16, be32, be128};
+pub use numbers::{V4, V6, be16, be32, be128, put_be16};
 pub use outside::{Fault, Files, Sink};
-pub use sums::{patch16, sum16};
+pub use sums::{patch16, put_checksum, sum16};

@@ -1,6 +1,6 @@
 // Addresses, and numbers read from bytes.
 ghost use Rattle.std.specs.Prelude.{◌≡◌, ◌+◌, ◌≤◌, length};
-ghost use Rattle.aftr_base.specs.Numbers.{big_endian, span};
+ghost use Rattle.aftr_base.specs.Numbers.{big_endian, span, with_word};
 
 /// An IPv4 address (RFC 791): its 32 bits, the first byte of the dotted text in the highest eight.
 #[derive(Clone, Copy, Debug, PartialEq, Eq, PartialOrd, Ord)]
@@ -39,4 +39,12 @@ fn be64(bytes: &[u8], at: usize) -> u64
     ensures { result ≡ big_endian (span bytes.now at 8) }
 {
     u64::from(be32(bytes, at)) * 0x1_0000_0000 + u64::from(be32(bytes, at + 4))
+}
+
+/// Puts a 16-bit word at a place, in network order.
+pub fn put_be16(bytes: &mut [u8], at: usize, word: u16)
+    requires { at + 2 ≤ length bytes.old }
+    ensures { bytes.new ≡ with_word bytes.old at word }
+{
+    bytes[at..at + 2].copy_from_slice(&word.to_be_bytes());
 }

@@ -1,6 +1,8 @@
 // The Internet checksum, computed and patched.
-ghost use Rattle.std.specs.Prelude.{◌≡◌, ◌+◌, ◌*◌, ◌^◌, ◌<◌, ◌≤◌, length};
-ghost use Rattle.aftr_base.specs.Sums.{checksum, folded, word_sum, patched, IsPatched};
+ghost use Rattle.std.specs.Prelude.{◌≡◌, ◌+◌, ◌*◌, ◌%◌, ◌^◌, ◌<◌, ◌≤◌, length};
+ghost use Rattle.aftr_base.specs.Sums.{checksum, folded, sealed, word_sum, patched, IsPatched};
+
+use crate::put_be16;
 
 /// How many bytes are summed before the sum is folded. Any even number serves that keeps a 64-bit sum from overflowing.
 const PIECE: usize = 65536;
@@ -26,6 +28,18 @@ pub fn patch16(sum: u16, was: u16, now: u16) -> u16
     ensures law { IsPatched sum was now result }
 {
     !fold(u64::from(!sum) + u64::from(!was) + u64::from(now))
+}
+
+/// Puts the checksum of the bytes into them, at a place whose two bytes count as zero in it. At an even place the bytes
+/// then sum to 0.
+pub fn put_checksum(bytes: &mut [u8], at: usize)
+    requires { at + 2 ≤ length bytes.old }
+    ensures sealed { bytes.new ≡ sealed bytes.old at }
+    ensures sums { at % 2 ≡ 0 → checksum bytes.new ≡ 0 }
+{
+    put_be16(bytes, at, 0);
+    let sum = sum16(bytes);
+    put_be16(bytes, at, sum);
 }
 
 // A sum brought into 16 bits.
