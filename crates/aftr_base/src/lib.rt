@@ -5,7 +5,9 @@
 mod lists;
 mod numbers;
 mod outside;
+mod pieces;
 
 pub use lists::OutOfMemory;
 pub use numbers::{V4, V6};
 pub use outside::{Fault, Files, Sink};
+pub use pieces::{append_all, fill, put_all};
