@@ -11,6 +11,6 @@ returns-clause-sums c = λ even.
     let bytes = c.args.bytes.now in
     let at = c.args.at in
     let is_sealed : c.put_be16-2.new.bytes ≡ sealed bytes at =
-        rw (c.put_be16-2.ensures, c.sum16-sum.ensures, c.put_be16.ensures)
-            (with_word-with_word bytes at 0 (checksum (with_word bytes at 0)) c.requires) in
+    rw (c.put_be16-2.ensures, c.sum16-sum.ensures, c.put_be16.ensures)
+    (with_word-with_word bytes at 0 (checksum (with_word bytes at 0)) c.requires) in
     ap checksum is_sealed ∙ checksum-sealed bytes at even c.requires
