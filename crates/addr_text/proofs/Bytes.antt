@@ -49,7 +49,7 @@ unfolding ipv4_bits
 v4_number text a h = rw h.value (omega arith)
 
 -- a text spells one address at most
-one_number : (text : List ℕ) (a b : ℕ) → IsV4Text text a → IsV4Text text b → a ≡ b
+pub one_number : (text : List ℕ) (a b : ℕ) → IsV4Text text a → IsV4Text text b → a ≡ b
 one_number text a b h k =
     let same : bytes_of a ≡ bytes_of b = ap ipv4_octets (IsIpv4Text_unique text (record { octets = bytes_of a }) (record { octets = bytes_of b }) (to_dotted text a h) (to_dotted text b k)) in
     let number : number_from_digits 256 (bytes_of a) ≡ number_from_digits 256 (bytes_of b) = ap (number_from_digits 256) same in

@@ -99,6 +99,10 @@ to_colon_hex text gs (inr h) = inr (record {
 one_eight : (text xs ys : List ℕ) → AreEightGroups text xs → AreEightGroups text ys → xs ≡ ys
 one_eight text xs ys h k = ap ipv6_segments (IsIpv6Text_unique text (record { segments = xs }) (record { segments = ys }) (to_colon_hex text xs h) (to_colon_hex text ys k))
 
+-- a text spells one address at most
+pub one_v6 : (text : List ℕ) (a b : ℕ) → IsV6Text text a → IsV6Text text b → a ≡ b
+one_v6 text a b h k = h.value ∙ ap (number_from_digits (2 ^ 16)) (one_eight text h.groups k.groups h.spelled k.spelled) ∙ sym k.value
+
 module _ {E : Type 0} where
   pub v6_found : (text : List ℕ) (n : ℕ) → IsV6Text text n → (a : ℕ) → (◌≡◌ {A = Result V6 E} (Ok (record { 0 = n })) (Ok (record { 0 = a }))) ↔ IsV6Text text a
   v6_found text n h a = (
@@ -106,7 +110,5 @@ module _ {E : Type 0} where
         let whole : ◌≡◌ {A = V6} (record { 0 = n }) (record { 0 = a }) = cc in
         let same : n ≡ a = ap (λ (x : V6). x.0) whole in
         subst (IsV6Text text) same h,
-    λ k.
-        let same : n ≡ a = h.value ∙ ap (number_from_digits (2 ^ 16)) (one_eight text h.groups k.groups h.spelled k.spelled) ∙ sym k.value in
-        cc,
+    λ k. let same : n ≡ a = one_v6 text n a h k in cc,
   )

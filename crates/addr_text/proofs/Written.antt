@@ -1,5 +1,5 @@
 -- What is written of an IPv6 address is canonical, and spells it.
-use Rattle.std.proofs.Common.{◌≡◌, ℕ, zero, suc, ◌+◌, ◌-◌, ◌/◌, ◌%◌, ◌^◌, ◌<◌, ◌≤◌, inl, inr, Bool, true, false, List, [], ◌∷◌, ◌++◌, length, take, drop, refl, sym, ap, ◌∙◌, subst, arith, lt-ltb, le-ltb, ne_eqb, eq-eqb, append_assoc, append-nil, take-add, take-append-drop, length-take-le, length-drop}
+use Rattle.std.proofs.Common.{ap₂, ◌≡◌, ℕ, zero, suc, ◌+◌, ◌-◌, ◌/◌, ◌%◌, ◌^◌, ◌<◌, ◌≤◌, inl, inr, Bool, true, false, List, [], ◌∷◌, ◌++◌, length, take, drop, refl, sym, ap, ◌∙◌, subst, arith, lt-ltb, le-ltb, ne_eqb, eq-eqb, append_assoc, append-nil, take-add, take-append-drop, length-take-le, length-drop}
 use Rattle.std.proofs.lemmas.Bool.{cases_lt}
 use Rattle.std.proofs.lemmas.List.{take_rest}
 use Rattle.std.specs.Fmt.{digits, digit_glyph}
@@ -8,7 +8,7 @@ use Rattle.std.specs.Int.Digits.{number_from_digits}
 use Rattle.std.specs.Net.Text.{longest_zero_run}
 use Rattle.std.proofs.NetLemmas.Texts.{AllSegments, AllSegments-take, AllSegments-drop, IsZeroRun-longest_zero_run, longest_zero_run_first}
 use Rattle.addr_text.specs.Ipv6.{IsGroup, AreGroups, AreEightGroups, IsV6Text}
-use Rattle.addr_text.specs.Canonical.{groups_of, group_text, groups_text, text_without, IsCanonical}
+use Rattle.addr_text.specs.Canonical.{groups_of, group_text, groups_text, text_without, IsZeroRun, IsCanonical}
 
 -- the groups of an address are its digits, eight of sixteen bits
 groups_number : (a : ℕ) → a ≡ number_from_digits (2 ^ 16) (groups_of a)
@@ -163,3 +163,17 @@ spelled text groups a fits same e =
       spelled = subst (λ t. AreEightGroups t groups) (sym e) (written_spelled groups eight small);
       value = groups_number a ∙ ap (number_from_digits (2 ^ 16)) (sym same);
     }
+
+-- two canonical texts have `::` for the same run
+pub one_text : (groups s t : List ℕ) → IsCanonical s groups → IsCanonical t groups → s ≡ t
+one_text groups s t h k =
+    let count : h.count ≡ k.count = omega (arith, k.longest h.start h.count h.run, h.longest k.start k.count k.run) in
+    let at_h : IsZeroRun groups k.start h.count = subst (IsZeroRun groups k.start) (sym count) k.run in
+    let at_k : IsZeroRun groups h.start k.count = subst (IsZeroRun groups h.start) count h.run in
+    let start : h.start ≡ k.start = omega (arith, h.first k.start at_h, k.first h.start at_k) in
+    h.spelled ∙ ap₂ (λ (x y : ℕ). text_without groups x y) start count ∙ sym k.spelled
+
+-- a canonical text is what is written
+pub canonical_spells : (text : List ℕ) (a : ℕ) → a < 2 ^ 128 → IsCanonical text (groups_of a) → IsV6Text text a
+canonical_spells text a fits h =
+    spelled text (groups_of a) a fits refl (one_text (groups_of a) text (written (groups_of a)) h (canonical _ (groups_of a) a refl refl))
