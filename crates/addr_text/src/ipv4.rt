@@ -7,7 +7,7 @@ use aftr_base::V4;
 use arrayvec::ArrayString;
 use std::net::Ipv4Addr;
 
-/// The text is no address.
+/// The text spells no address.
 #[derive(Clone, Copy, Debug, PartialEq, Eq)]
 pub struct BadText;
 

@@ -12,6 +12,9 @@ use aftr_base::V6;
 use arrayvec::ArrayString;
 use std::net::Ipv6Addr;
 
+// The fewest zero groups that `::` stands for (RFC 5952, section 4.2.2).
+const FEWEST: usize = 2;
+
 /// The IPv6 address that a text spells (RFC 4291, section 2.2): eight groups of one to four hexadecimal digits of either
 /// case, joined by colons. Once, `::` may stand for one zero group or more, and the last two groups may be written as an
 /// IPv4 text. No zone name follows. `BadText` exactly where the text spells none.
@@ -34,7 +37,7 @@ pub fn write_v6(a: V6) -> ArrayString<39>
     let groups = split(a.0);
     let (start, count) = longest_zero_run(&groups);
     let mut text = ArrayString::new();
-    if count < 2 {
+    if count < FEWEST {
         push_groups(&mut text, &groups);
     } else {
         push_groups(&mut text, &groups[..start]);
