@@ -4,7 +4,7 @@ use Rattle.addr_text.proofs.ipv6.write_v6.Goals as goal
 use Rattle.addr_text.proofs.ipv6.write_v6.Goals.{After-push_groups, After-push_groups-else-count-lt-FEWEST-2}
 
 short : (c : After-push_groups) → c.push_groups.new.text.bytes ≡ written c.split-groups.result
-short c = written_short _ _ _ _ c.longest_zero_run-start.ensures.value c.if-count-lt-FEWEST.true c.new-text.ensures c.push_groups.ensures.groups
+short c = written_short _ _ _ _ c.longest_zero_run-start.ensures.value (omega arith) c.new-text.ensures c.push_groups.ensures.groups
 
 long : (c : After-push_groups-else-count-lt-FEWEST-2) → c.push_groups-else-count-lt-FEWEST-2.new.text.bytes ≡ written c.split-groups.result
 long c = written_long _ _ _ _ c.split-groups.result c.longest_zero_run-start.result
