@@ -1,5 +1,5 @@
 // IPv4 packets, read and written.
-ghost use Rattle.std.specs.Prelude.{◌≡◌, ◌+◌, ◌*◌, ◌/◌, ◌%◌, ◌≤◌, ◌++◌, length, take, drop, IfOk, Ok};
+ghost use Rattle.std.specs.Prelude.{◌≡◌, ◌+◌, ◌%◌, ◌^◌, ◌<◌, ◌≤◌, ◌++◌, length, take, drop, IfOk, Ok};
 ghost use Rattle.ip_codec.specs.Packet4.{ip4_of, packet4, Reads4, IsBounded4, fields4, header4, fixed4, flags_of, flag_worth, made4};
 
 use aftr_base::{Bytes, OutOfMemory, V4, be16, be32, put_checksum, sum16};
@@ -140,7 +140,7 @@ pub fn put4(
     let header_len = 20 + options.len();
     let total_len = header_len + payload.len();
     let mut list = Vec::with_capacity(alloc, total_len)?;
-    list.extend_from_slice(&fixed_part(head, header_len as u8, total_len as u16))?;
+    list.extend_from_slice(&fixed_part(*head, header_len as u8, total_len as u16))?;
     list.extend_from_slice(options)?;
     put_checksum(&mut list, 10);
     list.extend_from_slice(payload)?;
@@ -148,10 +148,11 @@ pub fn put4(
 }
 
 // The twenty bytes before the options, with zero in the place of the checksum.
-fn fixed_part(head: &Head4, header_len: u8, total_len: u16) -> [u8; 20]
-    requires offset { head.now.offset ≤ 8191 }
+fn fixed_part(head: Head4, header_len: u8, total_len: u16) -> [u8; 20]
+    requires offset { head.offset ≤ 8191 }
     requires most { header_len ≤ 60 }
-    ensures { result ≡ fixed4 head.now header_len total_len }
+    ensures bytes { result ≡ fixed4 head header_len total_len }
+    ensures addresses_fit { (head.src.0 < 2 ^ 32) × (head.dst.0 < 2 ^ 32) }
 {
     let [total_high, total_low] = total_len.to_be_bytes();
     let [id_high, id_low] = head.id.to_be_bytes();
@@ -183,9 +184,9 @@ fn fixed_part(head: &Head4, header_len: u8, total_len: u16) -> [u8; 20]
 }
 
 // The three flags and the offset, in one word.
-fn flags_word(head: &Head4) -> u16
-    requires { head.now.offset ≤ 8191 }
-    ensures { result ≡ flags_of head.now }
+fn flags_word(head: Head4) -> u16
+    requires { head.offset ≤ 8191 }
+    ensures { result ≡ flags_of head }
 {
     flag(head.reserved, 0x8000) + flag(head.df, 0x4000) + flag(head.mf, 0x2000) + head.offset
 }

@@ -1,0 +1,135 @@
+-- Lemmas on IPv4 packets: a header and a payload that fit each other are read as they stand.
+use Rattle.std.proofs.Common.{◌≡◌, ℕ, ◌^◌, Bool, true, false, ◌+◌, ◌-◌, ◌*◌, ◌/◌, ◌%◌, ◌<◌, ◌≤◌, List, [], ◌∷◌, ◌++◌, length, take, drop, Ok, refl, sym, ◌∙◌, ap, arith, slice_index}
+use Rattle.std.proofs.lemmas.List.{length-append, length-drop, length-take-le, get_or_append_left, get_or-take, take_all}
+use Rattle.std.proofs.lemmas.Bool.{le-ltb}
+use Rattle.std.proofs.Math.Seq.{take-append_seam, drop-append_seam, take-length, take-add}
+use Rattle.std.proofs.Math.Nat.{mod-eq_of_lt}
+use Rattle.std.proofs.lemmas.Bool.Decides.{nat_tests}
+use Rattle.std.specs.Int.{w32, to_be_bytes}
+use Rattle.aftr_base.specs.Numbers.{big_endian, span, word_bytes}
+use Rattle.aftr_base.specs.Sums.{checksum}
+use Rattle.aftr_base.proofs.NumberLemmas.{length-span}
+use Rattle.aftr_base.proofs.SumLemmas.{checksum-sealed}
+use Rattle.ip_codec.specs.declared.packet4.Head4.{Head4}
+use Rattle.ip_codec.specs.Packet4.{ip4_of, fields4, header_len_of, total_len_of, bit, flag_worth, flags_of, fixed4, header4, made4}
+use Rattle.ip_codec.proofs.FieldLemmas.{span-append, span-take, big_endian-bytes_high_first, big_endian-word_bytes}
+
+-- the conditions under which nothing is refused, and what is read then
+pub ip4_of-good : (bytes header payload : List ℕ) (header_len total_len : ℕ) →
+    slice_index bytes 0 / 16 ≡ 4 → header_len_of bytes ≡ header_len → total_len_of bytes ≡ total_len →
+    20 ≤ header_len → header_len ≤ total_len → total_len ≤ length bytes →
+    take header_len bytes ≡ header → span bytes header_len (total_len - header_len) ≡ payload → checksum header ≡ 0 →
+    ip4_of bytes ≡ Ok (fields4 header payload)
+ip4_of-good bytes header payload header_len total_len v h t least order within is_header is_payload sum =
+    rw (
+      le-ltb (length bytes) 20 (omega arith),
+      v,
+      h,
+      t,
+      le-ltb header_len 20 least,
+      le-ltb (length bytes) header_len (omega arith),
+      le-ltb total_len header_len order,
+      le-ltb (length bytes) total_len within,
+      is_header,
+      sum,
+      is_payload,
+    ) refl
+
+-- two parts that lie behind each other are the front of the whole
+pub front-parts : (bytes header payload : List ℕ) (header_len total_len : ℕ) → header_len ≤ total_len → total_len ≤ length bytes →
+    header ≡ take header_len bytes → payload ≡ span bytes header_len (total_len - header_len) →
+    header ++ payload ≡ take (length header + length payload) bytes
+front-parts bytes header payload header_len total_len order within is_header is_payload =
+    let header_is : length header ≡ header_len = ap length is_header ∙ length-take-le header_len bytes (omega arith) in
+    let payload_is : length payload ≡ total_len - header_len =
+    ap length is_payload ∙ length-span bytes header_len (total_len - header_len) (omega arith) in
+    rw (header_is, payload_is, is_header, is_payload) (sym (take-add header_len (total_len - header_len) bytes))
+
+-- a header behind which its payload stands
+pub ip4_of-joined : (header payload : List ℕ) → 20 ≤ length header →
+    slice_index header 0 / 16 ≡ 4 → header_len_of header ≡ length header → total_len_of header ≡ length header + length payload →
+    checksum header ≡ 0 → ip4_of (header ++ payload) ≡ Ok (fields4 header payload)
+ip4_of-joined header payload least version h t sum =
+    let first : slice_index (header ++ payload) 0 ≡ slice_index header 0 = get_or_append_left header payload 0 0 (omega arith) in
+    let total_is : total_len_of (header ++ payload) ≡ length header + length payload =
+    ap big_endian (span-append header payload 2 2 (omega arith)) ∙ t in
+    let rest_is : span (header ++ payload) (length header) (length header + length payload - length header) ≡ payload =
+    rw (drop-append_seam header payload) (take_all (length header + length payload - length header) payload (omega arith)) in
+    ip4_of-good (header ++ payload) header payload (length header) (length header + length payload)
+    (ap (λ n. n / 16) first ∙ version) (ap (λ n. 4 * (n % 16)) first ∙ h) total_is least (omega arith) (omega (arith, length-append header payload))
+    (take-append_seam header payload) rest_is sum
+
+-- the parts of a packet that is read are such
+pub ip4_of-parts : (bytes : List ℕ) (header_len total_len : ℕ) →
+    slice_index bytes 0 / 16 ≡ 4 → header_len_of bytes ≡ header_len → total_len_of bytes ≡ total_len →
+    20 ≤ header_len → header_len ≤ total_len → total_len ≤ length bytes → checksum (take header_len bytes) ≡ 0 →
+    ip4_of (take header_len bytes ++ span bytes header_len (total_len - header_len))
+    ≡ Ok (fields4 (take header_len bytes) (span bytes header_len (total_len - header_len)))
+ip4_of-parts bytes header_len total_len version h t least order within sum =
+    let header = take header_len bytes in
+    let payload = span bytes header_len (total_len - header_len) in
+    let header_is : length header ≡ header_len = length-take-le header_len bytes (omega arith) in
+    let payload_is : length payload ≡ total_len - header_len = length-span bytes header_len (total_len - header_len) (omega arith) in
+    let first : slice_index header 0 ≡ slice_index bytes 0 = get_or-take header_len bytes 0 0 (omega arith) in
+    ip4_of-joined header payload (omega arith) (ap (λ n. n / 16) first ∙ version) (ap (λ n. 4 * (n % 16)) first ∙ h ∙ sym header_is)
+    (ap big_endian (span-take bytes header_len 2 2 (omega arith) (omega arith)) ∙ t ∙ omega arith) sum
+
+-- the flags and the offset, read back from the word that they share
+record AreParts (word : ℕ) (reserved df mf : Bool) (offset : ℕ) : Type 0 where
+  pub reserved_is : bit word 32768 ≡ reserved
+  pub df_is : bit word 16384 ≡ df
+  pub mf_is : bit word 8192 ≡ mf
+  pub offset_is : word % 8192 ≡ offset
+
+flags-parts : (reserved df mf : Bool) (offset : ℕ) → offset ≤ 8191 →
+    AreParts (flag_worth reserved 32768 + flag_worth df 16384 + flag_worth mf 8192 + offset) reserved df mf offset
+flags-parts false false false offset small = record { reserved_is = grind (arith, nat_tests); df_is = grind (arith, nat_tests); mf_is = grind (arith, nat_tests); offset_is = omega arith }
+flags-parts false false true offset small = record { reserved_is = grind (arith, nat_tests); df_is = grind (arith, nat_tests); mf_is = grind (arith, nat_tests); offset_is = omega arith }
+flags-parts false true false offset small = record { reserved_is = grind (arith, nat_tests); df_is = grind (arith, nat_tests); mf_is = grind (arith, nat_tests); offset_is = omega arith }
+flags-parts false true true offset small = record { reserved_is = grind (arith, nat_tests); df_is = grind (arith, nat_tests); mf_is = grind (arith, nat_tests); offset_is = omega arith }
+flags-parts true false false offset small = record { reserved_is = grind (arith, nat_tests); df_is = grind (arith, nat_tests); mf_is = grind (arith, nat_tests); offset_is = omega arith }
+flags-parts true false true offset small = record { reserved_is = grind (arith, nat_tests); df_is = grind (arith, nat_tests); mf_is = grind (arith, nat_tests); offset_is = omega arith }
+flags-parts true true false offset small = record { reserved_is = grind (arith, nat_tests); df_is = grind (arith, nat_tests); mf_is = grind (arith, nat_tests); offset_is = omega arith }
+flags-parts true true true offset small = record { reserved_is = grind (arith, nat_tests); df_is = grind (arith, nat_tests); mf_is = grind (arith, nat_tests); offset_is = omega arith }
+
+-- a header that is written has just the fields that were given
+fields4-header4 : (head : Head4) (options payload : List ℕ) → head.src.0 < 2 ^ 32 → head.dst.0 < 2 ^ 32 → head.offset ≤ 8191 →
+    fields4 (header4 head options (length payload)) payload ≡ made4 head options payload
+fields4-header4 head options payload src_small dst_small offset_small =
+    let flags_is = big_endian-word_bytes (flags_of head) in
+    let parts = flags-parts head.reserved head.df head.mf head.offset offset_small in
+    let id_is = big_endian-word_bytes head.id in
+    let reserved_is : bit (big_endian (word_bytes (flags_of head))) 32768 ≡ head.reserved = ap (λ w. bit w 32768) flags_is ∙ parts.reserved_is in
+    let df_is : bit (big_endian (word_bytes (flags_of head))) 16384 ≡ head.df = ap (λ w. bit w 16384) flags_is ∙ parts.df_is in
+    let mf_is : bit (big_endian (word_bytes (flags_of head))) 8192 ≡ head.mf = ap (λ w. bit w 8192) flags_is ∙ parts.mf_is in
+    let offset_is : big_endian (word_bytes (flags_of head)) % 8192 ≡ head.offset = ap (λ w. w % 8192) flags_is ∙ parts.offset_is in
+    let src_is : big_endian (to_be_bytes w32 head.src.0) ≡ head.src.0 = big_endian-bytes_high_first 4 head.src.0 ∙ mod-eq_of_lt src_small in
+    let dst_is : big_endian (to_be_bytes w32 head.dst.0) ≡ head.dst.0 = big_endian-bytes_high_first 4 head.dst.0 ∙ mod-eq_of_lt dst_small in
+    λ i. record {
+      tos = head.tos;
+      id = id_is i;
+      reserved = reserved_is i;
+      df = df_is i;
+      mf = mf_is i;
+      offset = offset_is i;
+      ttl = head.ttl;
+      protocol = head.protocol;
+      src = src_is i;
+      dst = dst_is i;
+      header = header4 head options (length payload);
+      payload = payload;
+    }
+
+-- a packet that is written is read back
+pub ip4_of-header4 : (head : Head4) (options payload : List ℕ) → head.src.0 < 2 ^ 32 → head.dst.0 < 2 ^ 32 → head.offset ≤ 8191 →
+    length options % 4 ≡ 0 → length options ≤ 40 →
+    ip4_of (header4 head options (length payload) ++ payload) ≡ Ok (made4 head options payload)
+ip4_of-header4 head options payload src_small dst_small offset_small words most =
+    let header_len = 20 + length options in
+    let blank = fixed4 head header_len (header_len + length payload) ++ options in
+    let header = header4 head options (length payload) in
+    let header_is : length header ≡ header_len = omega arith in
+    ip4_of-joined header payload (omega arith) (omega arith) (omega arith)
+    (big_endian-word_bytes (header_len + length payload) ∙ omega arith)
+    (checksum-sealed blank 10 refl (omega arith))
+    ∙ ap Ok (fields4-header4 head options payload src_small dst_small offset_small)
