@@ -1,7 +1,7 @@
 -- Lemmas on IPv4 packets: a header and a payload that fit each other are read as they stand.
-use Rattle.std.proofs.Common.{◌≡◌, ℕ, ◌^◌, Bool, true, false, ◌+◌, ◌-◌, ◌*◌, ◌/◌, ◌%◌, ◌<◌, ◌≤◌, List, [], ◌∷◌, ◌++◌, length, take, drop, Ok, refl, sym, ◌∙◌, ap, arith, slice_index}
+use Rattle.std.proofs.Common.{nat_lt, not, ◌==◌, ◌≡◌, ℕ, ◌^◌, Bool, true, false, ◌+◌, ◌-◌, ◌*◌, ◌/◌, ◌%◌, ◌<◌, ◌≤◌, List, [], ◌∷◌, ◌++◌, length, take, drop, Ok, refl, sym, ◌∙◌, ap, arith, slice_index}
 use Rattle.std.proofs.lemmas.List.{length-append, length-drop, length-take-le, get_or_append_left, get_or-take, take_all}
-use Rattle.std.proofs.lemmas.Bool.{le-ltb}
+use Rattle.std.proofs.lemmas.Bool.{le-ltb, ltb-false, eqb-true, or_parts}
 use Rattle.std.proofs.Math.Seq.{take-append_seam, drop-append_seam, take-length, take-add}
 use Rattle.std.proofs.Math.Nat.{mod-eq_of_lt}
 use Rattle.std.proofs.lemmas.Bool.Decides.{nat_tests}
@@ -11,8 +11,9 @@ use Rattle.aftr_base.specs.Sums.{checksum}
 use Rattle.aftr_base.proofs.NumberLemmas.{length-span}
 use Rattle.aftr_base.proofs.SumLemmas.{checksum-sealed}
 use Rattle.ip_codec.specs.declared.packet4.Head4.{Head4}
-use Rattle.ip_codec.specs.Packet4.{ip4_of, fields4, header_len_of, total_len_of, bit, flag_worth, flags_of, fixed4, header4, made4}
+use Rattle.ip_codec.specs.Packet4.{Packet4, ip4_of, refusals4, fields4, header_len_of, total_len_of, bit, flag_worth, flags_of, fixed4, header4, made4}
 use Rattle.ip_codec.proofs.FieldLemmas.{span-append, span-take, big_endian-bytes_high_first, big_endian-word_bytes}
+use Rattle.ip_codec.proofs.FirstLemmas.{first_true-Ok, not-false}
 
 -- the conditions under which nothing is refused, and what is read then
 pub ip4_of-good : (bytes header payload : List ℕ) (header_len total_len : ℕ) →
@@ -133,3 +134,67 @@ ip4_of-header4 head options payload src_small dst_small offset_small words most 
     (big_endian-word_bytes (header_len + length payload) ∙ omega arith)
     (checksum-sealed blank 10 refl (omega arith))
     ∙ ap Ok (fields4-header4 head options payload src_small dst_small offset_small)
+
+-- what holds of bytes that spell a packet
+pub record Spells4 (bytes : List ℕ) (packet : Packet4) : Type 0 where
+  pub version : slice_index bytes 0 / 16 ≡ 4
+  pub least : 20 ≤ header_len_of bytes
+  pub order : header_len_of bytes ≤ total_len_of bytes
+  pub within : total_len_of bytes ≤ length bytes
+  pub sum : checksum (take (header_len_of bytes) bytes) ≡ 0
+  pub is : packet ≡ fields4 (take (header_len_of bytes) bytes) (span bytes (header_len_of bytes) (total_len_of bytes - header_len_of bytes))
+
+pub ip4_of-Ok : (bytes : List ℕ) (packet : Packet4) → ip4_of bytes ≡ Ok packet → Spells4 bytes packet
+ip4_of-Ok bytes packet is =
+    let good = fields4 (take (header_len_of bytes) bytes) (span bytes (header_len_of bytes) (total_len_of bytes - header_len_of bytes)) in
+    let none = first_true-Ok (refusals4 bytes) good packet is in
+    let tests = none.0 in
+    let header_ok = or_parts (nat_lt (header_len_of bytes) 20) (nat_lt (length bytes) (header_len_of bytes)) tests.1.1.0 in
+    let total_ok = or_parts (nat_lt (total_len_of bytes) (header_len_of bytes)) (nat_lt (length bytes) (total_len_of bytes)) tests.1.1.1.0 in
+    record {
+      version = eqb-true (slice_index bytes 0 / 16) 4 (not-false (slice_index bytes 0 / 16 == 4) tests.1.0);
+      least = ltb-false (header_len_of bytes) 20 header_ok.0;
+      order = ltb-false (total_len_of bytes) (header_len_of bytes) total_ok.0;
+      within = ltb-false (length bytes) (total_len_of bytes) total_ok.1;
+      sum = eqb-true (checksum (take (header_len_of bytes) bytes)) 0 (not-false (checksum (take (header_len_of bytes) bytes) == 0) tests.1.1.1.1.0);
+      is = sym none.1;
+    }
+
+-- a packet that is read is read again from its header and its payload alone
+pub ip4_of-alone : (bytes : List ℕ) (packet : Packet4) → ip4_of bytes ≡ Ok packet → ip4_of (packet.header ++ packet.payload) ≡ Ok packet
+ip4_of-alone bytes packet is =
+    let spelt = ip4_of-Ok bytes packet is in
+    ap (λ p. ip4_of (p.header ++ p.payload)) spelt.is
+    ∙ ip4_of-parts bytes (header_len_of bytes) (total_len_of bytes) spelt.version refl refl spelt.least spelt.order spelt.within spelt.sum
+    ∙ ap Ok (sym spelt.is)
+
+-- a packet that is read has a header of 20 to 60 bytes in words of four, and its bytes are the front of those read
+pub record IsShaped4 (bytes : List ℕ) (packet : Packet4) : Type 0 where
+  pub least_header : 20 ≤ length packet.header
+  pub most_header : length packet.header ≤ 60
+  pub whole_words : length packet.header % 4 ≡ 0
+  pub offset : packet.offset ≤ 8191
+  pub header_len : length packet.header ≡ header_len_of bytes
+  pub total_len : length packet.header + length packet.payload ≡ total_len_of bytes
+  pub front : packet.header ++ packet.payload ≡ take (total_len_of bytes) bytes
+
+pub ip4_of-shaped : (bytes : List ℕ) (packet : Packet4) → ip4_of bytes ≡ Ok packet → IsShaped4 bytes packet
+ip4_of-shaped bytes packet is =
+    let spelt = ip4_of-Ok bytes packet is in
+    let header_is : length packet.header ≡ header_len_of bytes =
+    ap (λ p. length p.header) spelt.is ∙ length-take-le (header_len_of bytes) bytes (omega (arith, spelt.order, spelt.within)) in
+    let payload_is : length packet.payload ≡ total_len_of bytes - header_len_of bytes =
+    ap (λ p. length p.payload) spelt.is ∙ length-span bytes (header_len_of bytes) (total_len_of bytes - header_len_of bytes) (omega (arith, spelt.order, spelt.within)) in
+    let total_is : length packet.header + length packet.payload ≡ total_len_of bytes = omega (arith, header_is, payload_is, spelt.order) in
+    let offset_is = ap (λ p. p.offset) spelt.is in
+    record {
+      least_header = omega (arith, header_is, spelt.least);
+      most_header = omega (arith, header_is);
+      whole_words = omega (arith, header_is);
+      offset = omega (arith, offset_is);
+      header_len = header_is;
+      total_len = total_is;
+      front = front-parts bytes packet.header packet.payload (header_len_of bytes) (total_len_of bytes) spelt.order spelt.within
+          (ap (λ p. p.header) spelt.is) (ap (λ p. p.payload) spelt.is)
+          ∙ ap (λ n. take n bytes) total_is;
+    }

@@ -1,12 +1,13 @@
 -- Lemmas on IPv6 packets: the version, and a packet that is written and read back.
-use Rattle.std.proofs.Common.{◌≡◌, ℕ, ◌+◌, ◌-◌, ◌*◌, ◌/◌, ◌%◌, ◌^◌, ◌<◌, ◌≤◌, List, [], ◌∷◌, ◌++◌, length, take, drop, Ok, refl, sym, ◌∙◌, ap, arith, slice_index}
+use Rattle.std.proofs.Common.{not, ◌==◌, ◌≡◌, ℕ, ◌+◌, ◌-◌, ◌*◌, ◌/◌, ◌%◌, ◌^◌, ◌<◌, ◌≤◌, List, [], ◌∷◌, ◌++◌, length, take, drop, Ok, refl, sym, ◌∙◌, ap, arith, slice_index}
 use Rattle.std.proofs.lemmas.List.{take_all}
-use Rattle.std.proofs.lemmas.Bool.{le-ltb}
+use Rattle.std.proofs.lemmas.Bool.{le-ltb, ltb-false, eqb-true}
 use Rattle.std.proofs.Math.Nat.{mod-eq_of_lt}
 use Rattle.aftr_base.specs.Numbers.{big_endian, span}
 use Rattle.ip_codec.specs.declared.packet6.Head6.{Head6}
-use Rattle.ip_codec.specs.Packet6.{ip6_of, bytes6, made6, version6}
+use Rattle.ip_codec.specs.Packet6.{Packet6, ip6_of, refusals6, fields6, payload_len, bytes6, made6, version6}
 use Rattle.ip_codec.proofs.FieldLemmas.{big_endian-bytes_high_first, big_endian-word_bytes}
+use Rattle.ip_codec.proofs.FirstLemmas.{first_true-Ok, not-false}
 
 -- the first word's highest four bits are those of the first byte
 pub version6-first : (bytes : List ℕ) → 4 ≤ length bytes → ((i : ℕ) → slice_index bytes i < 256) →
@@ -47,3 +48,21 @@ ip6_of-bytes6 head body word_small version src_small dst_small =
     (big_endian-bytes_high_first 16 head.src.0 ∙ mod-eq_of_lt src_small)
     (big_endian-bytes_high_first 16 head.dst.0 ∙ mod-eq_of_lt dst_small)
     (take_all (length body) body (omega arith))
+
+-- what holds of bytes that spell a packet
+pub record Spells6 (bytes : List ℕ) (packet : Packet6) : Type 0 where
+  pub least : 40 ≤ length bytes
+  pub version : slice_index bytes 0 / 16 ≡ 6
+  pub within : payload_len bytes ≤ length bytes - 40
+  pub is : packet ≡ fields6 bytes
+
+pub ip6_of-Ok : (bytes : List ℕ) (packet : Packet6) → ip6_of bytes ≡ Ok packet → Spells6 bytes packet
+ip6_of-Ok bytes packet is =
+    let none = first_true-Ok (refusals6 bytes) (fields6 bytes) packet is in
+    let tests = none.0 in
+    record {
+      least = ltb-false (length bytes) 40 tests.0;
+      version = eqb-true (slice_index bytes 0 / 16) 6 (not-false (slice_index bytes 0 / 16 == 6) tests.1.0);
+      within = ltb-false (length bytes - 40) (payload_len bytes) tests.1.1.0;
+      is = sym none.1;
+    }

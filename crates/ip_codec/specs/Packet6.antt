@@ -29,16 +29,20 @@ refusals6 bytes =
     ∷ (nat_lt (length bytes - 40) (payload_len bytes), bad.Payload)
     ∷ []
 
--- the fields and the body as the header claims, or the first true refusal; bytes past the body count for nothing
-abbrev pub ip6_of : List ℕ → Result Packet6 Ip6Bad
-ip6_of bytes = refused_or (first_true (refusals6 bytes)) (record {
+-- the fields and the body as the header claims; bytes past the body count for nothing
+abbrev pub fields6 : List ℕ → Packet6
+fields6 bytes = record {
   word = big_endian (span bytes 0 4);
   next = slice_index bytes 6;
   hop = slice_index bytes 7;
   src = big_endian (span bytes 8 16);
   dst = big_endian (span bytes 24 16);
   body = span bytes 40 (payload_len bytes);
-})
+}
+
+-- the packet that the bytes spell, or the first true refusal
+abbrev pub ip6_of : List ℕ → Result Packet6 Ip6Bad
+ip6_of bytes = refused_or (first_true (refusals6 bytes)) (fields6 bytes)
 
 abbrev pub packet6 : Ip6View → Packet6
 packet6 view = record {
