@@ -1,5 +1,5 @@
 -- Lemmas on the first true one of a list of conditions.
-use Rattle.std.proofs.Common.{◌≡◌, Bool, not, true, false, List, [], ◌∷◌, Some, None, Result, Ok, Err, refl}
+use Rattle.std.proofs.Common.{◌≡◌, Bool, not, true, false, List, [], ◌∷◌, Ok, refl}
 use Rattle.aftr_base.specs.First.{first_true, refused_or}
 
 abbrev pub AllFalse : {A : Type 0} → List (Bool × A) → Type 0

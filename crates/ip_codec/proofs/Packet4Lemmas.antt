@@ -1,8 +1,8 @@
 -- Lemmas on IPv4 packets: a header and a payload that fit each other are read as they stand.
-use Rattle.std.proofs.Common.{nat_lt, not, ◌==◌, ◌≡◌, ℕ, ◌^◌, Bool, true, false, ◌+◌, ◌-◌, ◌*◌, ◌/◌, ◌%◌, ◌<◌, ◌≤◌, List, [], ◌∷◌, ◌++◌, length, take, drop, Ok, refl, sym, ◌∙◌, ap, arith, slice_index}
-use Rattle.std.proofs.lemmas.List.{length-append, length-drop, length-take-le, get_or_append_left, get_or-take, take_all}
+use Rattle.std.proofs.Common.{nat_lt, ◌==◌, ◌≡◌, ℕ, ◌^◌, Bool, ◌+◌, ◌-◌, ◌*◌, ◌/◌, ◌%◌, ◌<◌, ◌≤◌, List, ◌++◌, length, take, Ok, refl, sym, ◌∙◌, ap, arith, slice_index}
+use Rattle.std.proofs.lemmas.List.{length-append, length-take-le, get_or_append_left, get_or-take, take_all}
 use Rattle.std.proofs.lemmas.Bool.{le-ltb, ltb-false, eqb-true, or_parts}
-use Rattle.std.proofs.Math.Seq.{take-append_seam, drop-append_seam, take-length, take-add}
+use Rattle.std.proofs.Math.Seq.{take-append_seam, drop-append_seam, take-add}
 use Rattle.std.proofs.Math.Nat.{mod-eq_of_lt}
 use Rattle.std.proofs.lemmas.Bool.Decides.{nat_tests}
 use Rattle.std.specs.Int.{w32, to_be_bytes}
@@ -84,14 +84,7 @@ record AreParts (word : ℕ) (reserved df mf : Bool) (offset : ℕ) : Type 0 whe
 
 flags-parts : (reserved df mf : Bool) (offset : ℕ) → offset ≤ 8191 →
     AreParts (flag_worth reserved 32768 + flag_worth df 16384 + flag_worth mf 8192 + offset) reserved df mf offset
-flags-parts false false false offset small = record { reserved_is = grind (arith, nat_tests); df_is = grind (arith, nat_tests); mf_is = grind (arith, nat_tests); offset_is = omega arith }
-flags-parts false false true offset small = record { reserved_is = grind (arith, nat_tests); df_is = grind (arith, nat_tests); mf_is = grind (arith, nat_tests); offset_is = omega arith }
-flags-parts false true false offset small = record { reserved_is = grind (arith, nat_tests); df_is = grind (arith, nat_tests); mf_is = grind (arith, nat_tests); offset_is = omega arith }
-flags-parts false true true offset small = record { reserved_is = grind (arith, nat_tests); df_is = grind (arith, nat_tests); mf_is = grind (arith, nat_tests); offset_is = omega arith }
-flags-parts true false false offset small = record { reserved_is = grind (arith, nat_tests); df_is = grind (arith, nat_tests); mf_is = grind (arith, nat_tests); offset_is = omega arith }
-flags-parts true false true offset small = record { reserved_is = grind (arith, nat_tests); df_is = grind (arith, nat_tests); mf_is = grind (arith, nat_tests); offset_is = omega arith }
-flags-parts true true false offset small = record { reserved_is = grind (arith, nat_tests); df_is = grind (arith, nat_tests); mf_is = grind (arith, nat_tests); offset_is = omega arith }
-flags-parts true true true offset small = record { reserved_is = grind (arith, nat_tests); df_is = grind (arith, nat_tests); mf_is = grind (arith, nat_tests); offset_is = omega arith }
+flags-parts reserved df mf offset small = record { reserved_is = grind (arith, nat_tests); df_is = grind (arith, nat_tests); mf_is = grind (arith, nat_tests); offset_is = grind (arith, nat_tests) }
 
 -- a header that is written has just the fields that were given
 fields4-header4 : (head : Head4) (options payload : List ℕ) → head.src.0 < 2 ^ 32 → head.dst.0 < 2 ^ 32 → head.offset ≤ 8191 →

@@ -1,5 +1,5 @@
 -- IPv6 packets: what bytes spell, and what is written (RFC 8200, section 3).
-use Rattle.std.specs.Prelude.{◌≡◌, ℕ, ◌+◌, ◌-◌, ◌/◌, ◌≤◌, ◌==◌, nat_lt, Bool, not, List, [], ◌∷◌, ◌++◌, length, slice_index, Result, Ok, Err}
+use Rattle.std.specs.Prelude.{◌≡◌, ℕ, ◌-◌, ◌/◌, ◌≤◌, ◌==◌, nat_lt, Bool, not, List, [], ◌∷◌, ◌++◌, length, slice_index, Result, Ok, Err}
 use Rattle.std.specs.Int.{w32, w128, to_be_bytes}
 use Rattle.aftr_base.specs.Numbers.{big_endian, span, word_bytes}
 use Rattle.aftr_base.specs.First.{first_true, refused_or}

@@ -1,5 +1,5 @@
 -- What is read lies in the front of the bytes, and is read again from there.
-use Rattle.std.proofs.Common.{◌≡◌, ◌++◌, ◌*◌, Ok, ◌∙◌, ap, sym, arith, rules, slice_index}
+use Rattle.std.proofs.Common.{◌++◌, ◌*◌, Ok, ◌∙◌, ap, sym, arith, rules, slice_index}
 use Rattle.std.proofs.lemmas.Nat.{and_mask}
 use Rattle.ip_codec.specs.Packet4.{ip4_of}
 use Rattle.ip_codec.proofs.Packet4Lemmas.{front-parts, ip4_of-parts}

@@ -1,5 +1,5 @@
 -- The version is the first four bits of the first word.
-use Rattle.std.proofs.Common.{◌≡◌, ◌<◌, ◌/◌, ◌∙◌, ap, arith, rules, slice_index}
+use Rattle.std.proofs.Common.{◌≡◌, ◌/◌, ◌∙◌, ap, arith, rules, slice_index}
 use Rattle.ip_codec.specs.Packet6.{version6}
 use Rattle.ip_codec.proofs.Packet6Lemmas.{version6-first}
 use Rattle.ip_codec.proofs.packet6.ip6.Goals as goal
