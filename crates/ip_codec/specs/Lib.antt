@@ -1,0 +1,3 @@
+pub mod Packet4
+pub mod Packet6
+pub mod Rules

@@ -1,0 +1,16 @@
+//! IPv4 and IPv6 headers, read and written, and the words that the crates above share: the items that records become,
+//! and the rules by which packets are dropped.
+#![tactic(auto)]
+
+mod items;
+mod packet4;
+mod packet6;
+mod rules;
+
+pub use items::{Item, Outer};
+pub use packet4::{Head4, Ip4Bad, Ip4View, ip4, put4};
+pub use packet6::{Head6, Ip6Bad, Ip6View, ip6, put6};
+pub use rules::Rule;
+
+#[cfg(test)]
+mod tests;

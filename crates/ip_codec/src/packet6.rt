@@ -1,0 +1,88 @@
+// IPv6 packets, read and written.
+ghost use Rattle.std.specs.Prelude.{◌≡◌, ◌≤◌, length, IfOk, Ok};
+ghost use Rattle.ip_codec.specs.Packet6.{ip6_of, packet6, Reads6, IsBounded6, version6, bytes6, made6};
+
+use aftr_base::{Bytes, OutOfMemory, V6, be16, be32, be128};
+use std::alloc::Global;
+
+/// An IPv6 packet as it stands in bytes (RFC 8200, section 3).
+#[derive(Clone, Copy, Debug)]
+pub struct Ip6View<'a> {
+    /// The first 32 bits: version, traffic class and flow label, the version in the highest four.
+    pub word: u32,
+    /// The number of the first header in the body, or of its data.
+    pub next: u8,
+    /// The hop limit.
+    pub hop: u8,
+    pub src: V6,
+    pub dst: V6,
+    /// What stands behind the 40 bytes of the header, as many bytes as it claims.
+    pub body: &'a [u8],
+}
+
+/// Why bytes are no IPv6 packet: the first of these that is true.
+#[derive(Clone, Copy, Debug, PartialEq, Eq)]
+pub enum Ip6Bad {
+    /// There are fewer than 40 bytes. `have` is their number.
+    Short { have: usize },
+    /// The first four bits are not 6.
+    Version,
+    /// The payload length is more than the bytes behind the header.
+    Payload,
+}
+
+/// The fields of an IPv6 header that is to be written. Its payload length follows from the body.
+#[derive(Clone, Copy, Debug, PartialEq, Eq)]
+pub struct Head6 {
+    /// The first 32 bits: version, traffic class and flow label, the version in the highest four.
+    pub word: u32,
+    /// The number of the first header in the body, or of its data.
+    pub next: u8,
+    /// The hop limit.
+    pub hop: u8,
+    pub src: V6,
+    pub dst: V6,
+}
+
+/// Reads an IPv6 packet (RFC 8200, section 3). Bytes past its body are ignored.
+pub fn ip6(bytes: &[u8]) -> Result<Ip6View<'_>, Ip6Bad>
+    ensures reads { Reads6 result (ip6_of bytes.now) }
+    ensures bounded { IfOk result (λ view. IsBounded6 (packet6 view)) }
+{
+    if bytes.len() < 40 {
+        return Err(Ip6Bad::Short { have: bytes.len() });
+    }
+    if bytes[0] >> 4 != 6 {
+        return Err(Ip6Bad::Version);
+    }
+    let payload_len = usize::from(be16(bytes, 4));
+    if bytes.len() - 40 < payload_len {
+        return Err(Ip6Bad::Payload);
+    }
+    Ok(Ip6View {
+        word: be32(bytes, 0),
+        next: bytes[6],
+        hop: bytes[7],
+        src: V6(be128(bytes, 8)),
+        dst: V6(be128(bytes, 24)),
+        body: &bytes[40..40 + payload_len],
+    })
+}
+
+/// Writes an IPv6 packet with these fields and body, in memory of its own final size (RFC 8200, section 3). The
+/// version in `word` is 6, and the body has at most 65,535 bytes.
+pub fn put6(alloc: Global, head: &Head6, body: &[u8]) -> Result<Bytes, OutOfMemory>
+    requires version { version6 head.now.word ≡ 6 }
+    requires most { length body.now ≤ 65535 }
+    ensures bytes { IfOk result (λ packet. packet ≡ bytes6 head.now body.now) }
+    ensures read { IfOk result (λ packet. ip6_of packet ≡ Ok (made6 head.now body.now)) }
+{
+    let mut list = Vec::with_capacity(alloc, 40 + body.len())?;
+    list.extend_from_slice(&head.word.to_be_bytes())?;
+    list.extend_from_slice(&(body.len() as u16).to_be_bytes())?;
+    list.extend_from_slice(&[head.next, head.hop])?;
+    list.extend_from_slice(&head.src.0.to_be_bytes())?;
+    list.extend_from_slice(&head.dst.0.to_be_bytes())?;
+    list.extend_from_slice(body)?;
+    Ok(Bytes::of(list))
+}
