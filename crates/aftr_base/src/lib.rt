@@ -6,6 +6,7 @@ mod lists;
 mod numbers;
 mod outside;
 mod pieces;
+mod shelf;
 
 pub use lists::OutOfMemory;
 pub use numbers::{V4, V6};
