@@ -8,26 +8,8 @@ use Rattle.std.specs.Cmp.Lexicographic.{slice_cmp, nat_list_cmp_total}
 use Rattle.std.specs.FinMap.{FinMap, IsAntisymmetric, get, insert, from_entries, nat_cmp-IsAntisymmetric, slice_cmp-IsAntisymmetric, get-from_entries, get-insert, same_map, from_entries_push}
 use Rattle.std.specs.FinMap.Entries.{find}
 use Rattle.aftr_base.specs.Held.{Held, content}
+use Rattle.aftr_base.proofs.HeldLemmas.{same_name, apart_names, equal_names, same_as_itself, different}
 use Rattle.aftr_base.specs.Entries.{name_at, bytes_at, IsFirstOf, HasNoneOf}
-
-abbrev same_name : List ℕ → List ℕ → Bool
-same_name = eq_by_cmp (slice_cmp nat_cmp)
-
-apart_names : IsAntisymmetric (slice_cmp nat_cmp)
-apart_names = slice_cmp-IsAntisymmetric nat_cmp-IsAntisymmetric
-
-equal_names : (x y : List ℕ) → same_name x y ≡ true → x ≡ y
-equal_names x y e = apart_names x y ((Equal-is (slice_cmp nat_cmp x y)).0 e)
-
-same_as_itself : (x : List ℕ) → same_name x x ≡ true
-same_as_itself x = (eq_by_cmp_equiv nat_list_cmp_total).refl x
-
-other_name : (b : Bool) → (b ≡ true → ⊥) → b ≡ false
-other_name true h = absurd (h refl)
-other_name false h = refl
-
-different : (x y : List ℕ) → x ≢ y → same_name x y ≡ false
-different x y apart = other_name (same_name x y) (λ e. apart (equal_names x y e))
 
 cond_over : (b c : Bool) (x y z : Option (List ℕ)) → c ≡ b → cond b x z ≡ cond b x (cond c y z)
 cond_over true c x y z e = refl

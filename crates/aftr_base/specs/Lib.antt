@@ -1,4 +1,5 @@
 pub mod Entries
 pub mod Faults
 pub mod Held
+pub mod Memory
 pub mod Pieces

@@ -3,12 +3,14 @@
 #![tactic(auto)]
 
 mod lists;
+mod memory;
 mod numbers;
 mod outside;
 mod pieces;
 mod shelf;
 
 pub use lists::OutOfMemory;
+pub use memory::MemFiles;
 pub use numbers::{V4, V6};
 pub use outside::{Fault, Files, Sink};
 pub use pieces::{append_all, fill, put_all};

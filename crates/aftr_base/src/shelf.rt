@@ -1,5 +1,5 @@
 // Named lists of bytes in memory, seen as the map from names to bytes.
-ghost use Rattle.std.specs.Prelude.{◌≡◌, ◌↔◌, ◌<◌, ◌++◌, IsTrue, IfOk, OnOk, OnErr, MatchOption};
+ghost use Rattle.std.specs.Prelude.{◌≡◌, ◌↔◌, ◌<◌, ◌++◌, length, take, drop, min, IsTrue, IfOk, OnOk, OnErr, MatchOption};
 ghost use Rattle.std.specs.Option.{option_copied};
 ghost use Rattle.std.specs.FinMap as map;
 ghost use Rattle.aftr_base.specs.Held.{content};
@@ -63,9 +63,23 @@ fn place(list: &[Entry], name: &str) -> Option<usize>
     None
 }
 
+/// Copies the bytes that stand from a place on into the front of a buffer, as many as it has room for.
+pub fn copy_from(bytes: &[u8], at: u64, into: &mut [u8]) -> usize
+    ensures count { result ≡ min (length into.old) (length (drop at bytes.now)) }
+    ensures bytes { take result into.new ≡ take result (drop at bytes.now) }
+{
+    let from = at as usize;
+    if from >= bytes.len() {
+        return 0;
+    }
+    let rest = &bytes[from..];
+    let count = rest.len().min(into.len());
+    into[..count].copy_from_slice(&rest[..count]);
+    count
+}
+
 #[derive(Drop)]
 pub struct Shelf {
-    alloc: Global,
     list: Vec<Entry>,
 }
 
@@ -85,7 +99,6 @@ impl Shelf {
         ensures { result ≡ map.empty }
     {
         Shelf {
-            alloc,
             list: Vec::new(alloc),
         }
     }
@@ -99,11 +112,11 @@ impl Shelf {
         }
     }
 
-    pub fn set(&mut self, name: &str, bytes: &[u8]) -> Result<(), AllocError>
+    pub fn set(&mut self, alloc: Global, name: &str, bytes: &[u8]) -> Result<(), AllocError>
         ensures ok { OnOk result (self.new ≡ map.insert self.old name.now bytes.now) }
         ensures err { OnErr result (self.new ≡ self.old) }
     {
-        let entry = Entry::copy(self.alloc, name, bytes)?;
+        let entry = Entry::copy(alloc, name, bytes)?;
         match place(&self.list, name) {
             Some(index) => self.list[index] = entry,
             None => self.list.push(entry)?,
@@ -111,14 +124,14 @@ impl Shelf {
         Ok(())
     }
 
-    pub fn append(&mut self, name: &str, bytes: &[u8]) -> Result<(), AllocError>
+    pub fn append(&mut self, alloc: Global, name: &str, bytes: &[u8]) -> Result<(), AllocError>
         ensures ok { OnOk result (self.new
             ≡ map.insert self.old name.now (content self.old name.now ++ bytes.now)) }
         ensures err { OnErr result (self.new ≡ self.old) }
     {
         match place(&self.list, name) {
             Some(index) => self.list[index].append(bytes)?,
-            None => self.list.push(Entry::copy(self.alloc, name, bytes)?)?,
+            None => self.list.push(Entry::copy(alloc, name, bytes)?)?,
         }
         Ok(())
     }
