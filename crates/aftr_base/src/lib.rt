@@ -3,14 +3,19 @@
 #![tactic(auto)]
 
 mod lists;
+mod mem_sink;
 mod memory;
 mod numbers;
 mod outside;
 mod pieces;
+mod quiet;
+mod real;
 mod shelf;
 
 pub use lists::OutOfMemory;
+pub use mem_sink::MemSink;
 pub use memory::MemFiles;
 pub use numbers::{V4, V6};
 pub use outside::{Fault, Files, Sink};
 pub use pieces::{append_all, fill, put_all};
+pub use quiet::QuietFiles;

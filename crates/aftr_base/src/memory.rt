@@ -14,9 +14,9 @@ use std::marker::Model;
 
 // The name and the place of a read that failed.
 #[derive(Drop)]
-struct LostRead {
-    name: String,
-    at: u64,
+pub struct LostRead {
+    pub name: String,
+    pub at: u64,
 }
 
 impl Model for LostRead {
