@@ -10,6 +10,7 @@ mod outside;
 mod pieces;
 mod quiet;
 mod real;
+mod real_sink;
 mod shelf;
 
 pub use lists::OutOfMemory;
@@ -19,3 +20,5 @@ pub use numbers::{V4, V6};
 pub use outside::{Fault, Files, Sink};
 pub use pieces::{append_all, fill, put_all};
 pub use quiet::QuietFiles;
+pub use real::RealFiles;
+pub use real_sink::RealSink;
