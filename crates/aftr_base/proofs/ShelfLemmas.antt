@@ -62,8 +62,8 @@ module _ (es : List (List ℕ × List ℕ)) (name : List ℕ) where
   -- to write over the first entry of a name is to insert it
   pub set_first : (bytes : List ℕ) (i : ℕ) → IsFirstOf es name i → from_entries {R = slice_cmp nat_cmp} (set es i (name, bytes)) ≡ insert (from_entries es) name bytes
   set_first bytes i h = same_map nat_list_cmp_total apart_names _ _ (λ q.
-    get-from_entries nat_list_cmp_total _ q ∙ find_set es name bytes i q h
-    ∙ sym (get-insert nat_list_cmp_total (from_entries es) name bytes q ∙ ap (cond (same_name q name) (Some bytes)) (get-from_entries nat_list_cmp_total es q)))
+      get-from_entries nat_list_cmp_total _ q ∙ find_set es name bytes i q h
+      ∙ sym (get-insert nat_list_cmp_total (from_entries es) name bytes q ∙ ap (cond (same_name q name) (Some bytes)) (get-from_entries nat_list_cmp_total es q)))
 
   -- and so is to push a new name
   pub push_new : (bytes : List ℕ) → HasNoneOf es name → from_entries {R = slice_cmp nat_cmp} (es ++ (name, bytes) ∷ []) ≡ insert (from_entries es) name bytes

@@ -22,3 +22,6 @@ pub use pieces::{append_all, fill, put_all};
 pub use quiet::QuietFiles;
 pub use real::RealFiles;
 pub use real_sink::RealSink;
+
+#[cfg(test)]
+mod outside_tests;

@@ -26,7 +26,10 @@ impl Model for MemSink {
     ghost coded = { sink_code };
 
     ghost view = { λ s. record {
-        out = s.bytes.items; calls = s.calls; failing = s.failing.items; faults = s.faults
+      out = s.bytes.items;
+      calls = s.calls;
+      failing = s.failing.items;
+      faults = s.faults;
     } };
 }
 

@@ -48,8 +48,13 @@ impl Model for MemFiles {
     ghost coded = { files_code };
 
     ghost view = { λ m. record {
-        held = m.shelf; calls = m.calls; failing = m.failing.items;
-        faults = m.faults; lost = m.lost; spoiled = m.spoiled; last = m.last
+      held = m.shelf;
+      calls = m.calls;
+      failing = m.failing.items;
+      faults = m.faults;
+      lost = m.lost;
+      spoiled = m.spoiled;
+      last = m.last;
     } };
 }
 
@@ -127,13 +132,7 @@ impl Files for MemFiles {
 
     ghost spoiled = { λ m. m.spoiled };
 
-    fn read(
-        &mut self,
-        alloc: Global,
-        name: &str,
-        at: u64,
-        into: &mut [u8],
-    ) -> Result<usize, Fault>
+    fn read(&mut self, alloc: Global, name: &str, at: u64, into: &mut [u8]) -> Result<usize, Fault>
         ensures count { IfOk result (λ n. n ≡ min (length into.old) (length (drop at (content self.old.held name.now)))) }
         ensures bytes { IfOk result (λ n. take n into.new ≡ take n (drop at (content self.old.held name.now))) }
         ensures answered { IsOk result → IsFalse (next_fails self.old || is_missing self.old name.now) }

@@ -66,13 +66,7 @@ impl Files for QuietFiles {
 
     ghost spoiled = { λ _. 0 };
 
-    fn read(
-        &mut self,
-        _alloc: Global,
-        name: &str,
-        at: u64,
-        into: &mut [u8],
-    ) -> Result<usize, Fault>
+    fn read(&mut self, _alloc: Global, name: &str, at: u64, into: &mut [u8]) -> Result<usize, Fault>
         ensures count { IfOk result (λ n. n ≡ min (length into.old) (length (drop at (content self.old name.now)))) }
         ensures bytes { IfOk result (λ n. take n into.new ≡ take n (drop at (content self.old name.now))) }
         ensures never_failed { IsErrOf result Fault.Failed → ⊥ }
