@@ -1,3 +1,5 @@
+mod ShelfLemmas
+pub mod HeldLemmas
 pub mod NumberLemmas
 pub mod PieceLemmas
 pub mod SumLemmas
