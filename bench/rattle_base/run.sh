@@ -11,7 +11,7 @@ mkdir -p "$repository/crates/base_bench/src"
 cp -r "$top/HANDLES" "$repository/"
 rm -rf "$repository/crates/aftr_base"
 cp -r "$top/crates/aftr_base" "$repository/crates/"
-cp "$here/program/main.rt" "$repository/crates/base_bench/src/main.rt"
+cp "$here/main.rt.txt" "$repository/crates/base_bench/src/main.rt"
 printf 'aftr_base:\nbase_bench: aftr_base\n' > "$repository/crates.txt"
 [ -f "$work/in" ] || head -c 209715200 /dev/urandom > "$work/in"
 cat "$work/in" > /dev/null
