@@ -1,7 +1,6 @@
 -- To insert a name into the map is to write that file alone.
-use Rattle.std.proofs.Common.{◌≡◌, ◌≢◌, Bool, true, false, cond, List, ℕ, [], ◌++◌, length, take, Option, Some, refl, sym, ◌∙◌, ap, unwrap_or, arith}
+use Rattle.std.proofs.Common.{◌≡◌, ◌≢◌, Bool, true, false, cond, List, ℕ, [], Some, refl, ◌∙◌, ap, unwrap_or}
 use Rattle.std.proofs.lemmas.Cmp.{eq_by_cmp_equiv}
-use Rattle.std.proofs.lemmas.List.{take_all}
 use Rattle.std.specs.Ordering.{nat_cmp, eq_by_cmp}
 use Rattle.std.specs.Cmp.{Equal-is}
 use Rattle.std.specs.Cmp.Lexicographic.{slice_cmp, nat_list_cmp_total}
@@ -35,8 +34,3 @@ insert_writes m n name bytes is = record {
   here = ap (λ h. content h name) is ∙ content_insert m name bytes name true (same_as_itself name);
   others = λ other apart. ap (λ h. content h other) is ∙ content_insert m name bytes other false (different other name apart);
 }
-
--- the same of the bytes that were taken, where these are all
-pub insert_appends : (m n : Held) (name bytes : List ℕ) (count : ℕ) → count ≡ length bytes → n ≡ insert m name (content m name ++ bytes) → Writes m n name (content m name ++ take count bytes)
-insert_appends m n name bytes count all is =
-    insert_writes m n name (content m name ++ take count bytes) (is ∙ ap (λ l. insert m name (content m name ++ l)) (sym (take_all count bytes (omega (arith, all)))))

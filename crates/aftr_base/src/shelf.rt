@@ -2,7 +2,7 @@
 ghost use Rattle.std.specs.Prelude.{◌≡◌, ◌↔◌, ◌<◌, ◌++◌, length, take, drop, min, IsTrue, IfOk, OnOk, OnErr, MatchOption};
 ghost use Rattle.std.specs.Option.{option_copied};
 ghost use Rattle.std.specs.FinMap as map;
-ghost use Rattle.aftr_base.specs.Held.{content};
+ghost use Rattle.aftr_base.specs.Held.{content, Writes};
 ghost use Rattle.aftr_base.specs.Entries.{IsFirstOf, HasNoneOf};
 
 use std::alloc::{AllocError, Global};
@@ -114,6 +114,7 @@ impl Shelf {
 
     pub fn set(&mut self, alloc: Global, name: &str, bytes: &[u8]) -> Result<(), AllocError>
         ensures ok { OnOk result (self.new ≡ map.insert self.old name.now bytes.now) }
+        ensures writes { OnOk result (Writes self.old self.new name.now bytes.now) }
         ensures err { OnErr result (self.new ≡ self.old) }
     {
         let entry = Entry::copy(alloc, name, bytes)?;
@@ -127,6 +128,7 @@ impl Shelf {
     pub fn append(&mut self, alloc: Global, name: &str, bytes: &[u8]) -> Result<(), AllocError>
         ensures ok { OnOk result (self.new
             ≡ map.insert self.old name.now (content self.old name.now ++ bytes.now)) }
+        ensures writes { OnOk result (Writes self.old self.new name.now (content self.old name.now ++ bytes.now)) }
         ensures err { OnErr result (self.new ≡ self.old) }
     {
         match place(&self.list, name) {

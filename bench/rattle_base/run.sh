@@ -1,0 +1,26 @@
+#!/usr/bin/env bash
+# Times the real files of aftr_base beside cp, over 200 MB, and the plain loop of a checksum in C, over 100 MB: builds the
+# program in a temporary repository, which proves it first, and runs it.
+#     bench/rattle_base/run.sh
+set -e
+here="$(cd "$(dirname "$0")" && pwd)"
+top="$(cd "$here/../.." && pwd)"
+work=/tmp/aftr_base_bench
+repository="$work/repository"
+mkdir -p "$repository/crates/base_bench/src"
+cp -r "$top/HANDLES" "$repository/"
+rm -rf "$repository/crates/aftr_base"
+cp -r "$top/crates/aftr_base" "$repository/crates/"
+cp "$here/main.rt.txt" "$repository/crates/base_bench/src/main.rt"
+printf 'aftr_base:\nbase_bench: aftr_base\n' > "$repository/crates.txt"
+[ -f "$work/in" ] || head -c 209715200 /dev/urandom > "$work/in"
+cat "$work/in" > /dev/null
+(cd "$repository/crates/base_bench" && rt run)
+for turn in 1 2 3; do
+    rm -f "$work/copy"
+    start=$(date +%s%N)
+    cp "$work/in" "$work/copy"
+    echo "cp of 200 MB: $(($(date +%s%N) - start)) ns"
+done
+rm -f "$work/copy" "$work/out"
+cc -O2 "$here/sum.c" -o "$work/sum" && "$work/sum"
