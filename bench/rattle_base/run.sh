@@ -1,5 +1,5 @@
 #!/usr/bin/env bash
-# Times the real files of aftr_base beside cp, over 200 MB, and the plain loop of a checksum in C, over 100 MB: builds the
+# Times the real files of aftr_base beside cp, over 200 MB, and sum16 beside the plain loop in C, over 100 MB: builds the
 # program in a temporary repository, which proves it first, and runs it.
 #     bench/rattle_base/run.sh
 set -e
@@ -23,4 +23,4 @@ for turn in 1 2 3; do
     echo "cp of 200 MB: $(($(date +%s%N) - start)) ns"
 done
 rm -f "$work/copy" "$work/out"
-cc -O2 "$here/sum.c" -o "$work/sum" && "$work/sum"
+cc -O2 -march=x86-64-v2 "$here/sum.c" -o "$work/sum" && "$work/sum"
