@@ -1,5 +1,5 @@
 -- Counts of faults, and the place of the last read that failed.
-use Rattle.std.specs.Prelude.{◌≡◌, ℕ, ◌+◌, ◌-◌, ◌^◌, ◌≤◌, min, List, Option, Some, Result, Ok, Err}
+use Rattle.std.specs.Prelude.{◌≡◌, ℕ, ◌+◌, ◌-◌, ◌^◌, ◌<◌, ◌≤◌, min, List, Option, Some, Result, Ok, Err}
 use Rattle.aftr_base.specs.declared.outside.Fault.{Fault}
 use Rattle.aftr_base.specs.declared.outside.Fault.TheVariants as fault
 
@@ -18,3 +18,8 @@ Counted (Err fault.OutOfMemory) before now = now ≡ before
 abbrev pub last_after : {T : Type 0} → Result T Fault → List ℕ → ℕ → Option (List ℕ × ℕ) → Option (List ℕ × ℕ)
 last_after (Err fault.Failed) name place last = Some (name, place)
 last_after _ name place last = last
+
+-- the last read that failed is one of this name at a place from the first on and before the end, if the answer is `Failed`
+abbrev pub LastWithin : {T : Type 0} → Result T Fault → List ℕ → ℕ → ℕ → Option (List ℕ × ℕ) → Option (List ℕ × ℕ) → Type 0
+LastWithin (Err fault.Failed) name from end old new = (place : ℕ) × (from ≤ place) × (place < end) × (new ≡ Some (name, place))
+LastWithin _ name from end old new = new ≡ old

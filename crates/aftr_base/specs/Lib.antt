@@ -2,4 +2,5 @@ pub mod Faults
 pub mod First
 pub mod Held
 pub mod Numbers
+pub mod Pieces
 pub mod Sums

@@ -5,9 +5,11 @@
 mod lists;
 mod numbers;
 mod outside;
+mod pieces;
 mod sums;
 
 pub use lists::{Bytes, Numbers, OutOfMemory, Packets, Text, WordList};
 pub use numbers::{V4, V6, be16, be32, be128, put_be16};
 pub use outside::{Fault, Files, Sink};
+pub use pieces::{append_all, fill, put_all};
 pub use sums::{patch16, put_checksum, sum16};

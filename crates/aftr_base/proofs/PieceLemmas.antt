@@ -1,0 +1,63 @@
+-- How the pieces of a list join, in memory, in a file and in a sink.
+use Rattle.std.proofs.Common.{◌≡◌, ◌≢◌, ℕ, ◌+◌, ◌-◌, ◌≤◌, min, List, ◌++◌, length, take, drop, Option, Some, None, refl, sym, ◌∙◌, ap, subst, arith, append_assoc, length-drop}
+use Rattle.std.proofs.Math.Seq.{take-add}
+use Rattle.std.proofs.lemmas.List.{take_rest, take-append-le, drop_at, drop-drop, length-take, length-take-le}
+use Rattle.std.proofs.lemmas.Slice.{take-put_mid_below}
+use borrow.Rule.Slice.PartMut.{put_mid}
+use Rattle.std.specs.Option.{option_map}
+use Rattle.aftr_base.specs.Held.{Held, content, Told, Moves, Writes}
+
+-- the first `done`, then `count` of the others
+pub front_more : (bytes : List ℕ) (done count : ℕ) → take done bytes ++ take count (take (length bytes - done) (drop done bytes)) ≡ take (done + count) bytes
+front_more bytes done count = ap (λ rest. take done bytes ++ take count rest) (take_rest bytes done) ∙ sym (take-add done count bytes)
+
+-- a sink that took x and then y took both
+pub took_then : (a b c : Option (List ℕ)) (x y z : List ℕ) → b ≡ option_map (λ taken. taken ++ x) a → c ≡ option_map (λ taken. taken ++ y) b → x ++ y ≡ z → c ≡ option_map (λ taken. taken ++ z) a
+took_then None b c x y z first second both = second ∙ ap (option_map (λ taken. taken ++ y)) first
+took_then (Some taken) b c x y z first second both = second ∙ ap (option_map (λ taken. taken ++ y)) first ∙ ap (λ l. Some l) (append_assoc taken x y ∙ ap (λ l. taken ++ l) both)
+
+-- a file that got x and then y got both
+pub moves_then : (a b c : Option Held) (name x y z : List ℕ) → Moves a b (λ m n. Writes m n name (content m name ++ x)) → Moves b c (λ m n. Writes m n name (content m name ++ y)) → x ++ y ≡ z → Moves a c (λ m n. Writes m n name (content m name ++ z))
+moves_then None None None name x y z first second both = tt
+moves_then None None (Some c) name x y z first second both = second
+moves_then None (Some b) c name x y z first second both = absurd first
+moves_then (Some a) None c name x y z first second both = absurd first
+moves_then (Some a) (Some b) None name x y z first second both = second
+moves_then (Some a) (Some b) (Some c) name x y z first second both = record {
+  here = second.here ∙ ap (λ l. l ++ y) first.here ∙ append_assoc (content a name) x y ∙ ap (λ l. content a name ++ l) both;
+  others = λ other apart. second.others other apart ∙ first.others other apart;
+}
+
+-- a buffer whose part from `got` on was overwritten by a longer list: the front has the first of that list
+pub front_over : (got k count : ℕ) (into part : List ℕ) → got ≤ length into → count ≤ length part → take (got + count) (put_mid got k into part) ≡ take got into ++ take count part
+front_over got k count into part in_into in_part =
+    let behind : drop got (put_mid got k into part) ≡ part ++ drop k (drop got into) = drop_at _ _ got (length-take-le got into in_into) in
+    take-add got count (put_mid got k into part)
+    ∙ ap (λ l. l ++ take count (drop got (put_mid got k into part))) (take-put_mid_below got k into part got (omega arith) in_into)
+    ∙ ap (λ l. take got into ++ l) (ap (take count) behind ∙ take-append-le count part (drop k (drop got into)) in_part)
+
+-- what was read at `place`, and then right behind it
+pub told_front : (a b : Option Held) (name : List ℕ) (place got count : ℕ) (before part after : List ℕ) → b ≡ a
+    → take (got + count) after ≡ take got before ++ take count part
+    → Told a (λ m. take got before ≡ take got (drop place (content m name)))
+    → Told b (λ m. take count part ≡ take count (drop (place + got) (content m name)))
+    → Told a (λ m. take (got + count) after ≡ take (got + count) (drop place (content m name)))
+told_front None b name place got count before part after same joined first second = tt
+told_front (Some m) b name place got count before part after same joined first second =
+    let bytes = content m name in
+    let next : take count part ≡ take count (drop (place + got) bytes) = subst (λ o. Told o (λ m. take count part ≡ take count (drop (place + got) (content m name)))) same second in
+    joined ∙ ap (λ l. l ++ take count part) first
+    ∙ ap (λ l. take got (drop place bytes) ++ l) (next ∙ ap (take count) (sym (drop-drop got place bytes)))
+    ∙ sym (take-add got count (drop place bytes))
+
+-- so many bytes stand there
+pub told_there : (a b : Option Held) (name : List ℕ) (place got count : ℕ) (part : List ℕ) → b ≡ a → count ≤ length part
+    → Told a (λ m. got ≤ length (drop place (content m name)))
+    → Told b (λ m. take count part ≡ take count (drop (place + got) (content m name)))
+    → Told a (λ m. got + count ≤ length (drop place (content m name)))
+told_there None b name place got count part same in_part first second = tt
+told_there (Some m) b name place got count part same in_part first second =
+    let bytes = content m name in
+    let next : take count part ≡ take count (drop (place + got) bytes) = subst (λ o. Told o (λ m. take count part ≡ take count (drop (place + got) (content m name)))) same second in
+    let long : length (take count part) ≡ length (take count (drop (place + got) bytes)) = ap length next in
+    omega (arith, first, length-take-le count part in_part, length-take count (drop (place + got) bytes), length-drop (place + got) bytes, length-drop place bytes)

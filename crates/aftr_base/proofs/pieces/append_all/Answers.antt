@@ -1,0 +1,13 @@
+use Rattle.std.proofs.Common.{arith, rules}
+use Rattle.aftr_base.proofs.PieceLemmas.{front_more, moves_then}
+use Rattle.aftr_base.proofs.pieces.append_all.Goals as goal
+
+pub pieces-preserved : goal.pieces-preserved
+pieces-preserved g c = record {
+  within = search (rules, arith);
+  held = moves_then _ _ _ _ _ _ _ c.pieces.invariant.held c.in_ok-done.ensures.held (front_more c.args.bytes.now c.pieces.done c.in_ok-done.field-0);
+  faults = search rules;
+  lost = search rules;
+  spoiled = search rules;
+  last = search rules;
+}

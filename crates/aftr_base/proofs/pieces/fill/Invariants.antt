@@ -1,0 +1,18 @@
+use Rattle.std.proofs.Common.{◌≡◌, ◌≤◌, ◌-◌, length, take, drop}
+use Rattle.aftr_base.specs.Held.{Told, content}
+use Rattle.aftr_base.proofs.pieces.fill.Given as goal
+
+abbrev pub invariant-pieces : goal.invariant-pieces
+invariant-pieces g l = let f = g.F.Files in record {
+  within : l.got ≤ length l.into;
+  bytes : Told (f.held l.initial.files) (λ m. take l.got l.into ≡ take l.got (drop l.at (content m l.name)));
+  there : Told (f.held l.initial.files) (λ m. l.got ≤ length (drop l.at (content m l.name)));
+  held : f.held l.files ≡ f.held l.initial.files;
+  faults : f.faults l.files ≡ f.faults l.initial.files;
+  lost : f.lost l.files ≡ f.lost l.initial.files;
+  spoiled : f.spoiled l.files ≡ f.spoiled l.initial.files;
+  last : f.last l.files ≡ f.last l.initial.files;
+}
+
+abbrev pub decreases-pieces : goal.decreases-pieces
+decreases-pieces g l = length l.into - l.got
