@@ -1,3 +1,5 @@
+pub mod AnswerLemmas
 pub mod FrontLemmas
+pub mod RecordLemmas
 pub mod SplitLemmas
 pub mod SpellingLemmas
