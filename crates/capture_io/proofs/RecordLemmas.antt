@@ -177,3 +177,18 @@ record_end big bytes read at number place head r e h within f =
     let same : captured big (drop at bytes) ≡ head.captured = ap (λ k. k.captured) (head_is big (drop at bytes) at number head found) in
     let end : at + 16 + captured big (drop at bytes) ≡ r.next_at = ap (λ x. x.next_at) (record_is big (drop at bytes) at number r f) in
     omega arith
+
+enough_by : (end many cut long less : Bool) (at : ℕ) (r s : Rec) → next_by end many cut long less at r ≡ Ok (next.Rec s) → less ≡ false
+enough_by true many cut long less at r s e = absurd (cc)
+enough_by false true cut long less at r s e = absurd (cc)
+enough_by false false true long less at r s e = absurd (cc)
+enough_by false false false true less at r s e = absurd (cc)
+enough_by false false false false true at r s e = absurd (cc)
+enough_by false false false false false at r s e = refl
+
+-- the bytes of a record that is found are there
+pub record_whole : (big : Bool) (left : List ℕ) (at number : ℕ) (r : Rec) → next_in big left at number ≡ Ok (next.Rec r) → 16 + captured big left ≤ length left
+record_whole big left at number r e =
+    let whole : nat_lt (length left) (16 + captured big left) ≡ false =
+        enough_by (length left == 0) (number == 2 ^ 31) (nat_lt (length left) 16) (nat_lt 262144 (captured big left)) (nat_lt (length left) (16 + captured big left)) at (record_in big left at) r e in
+    grind (arith, nat_tests)

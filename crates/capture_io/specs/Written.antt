@@ -37,6 +37,10 @@ written nano packets = header_bytes nano ++ flat_map (λ p. record_bytes p.secon
 abbrev pub timed : Rec → TimedPacket
 timed r = record { seconds = r.seconds; fraction = r.fraction; packet = r.bytes }
 
+-- a packet with its time, as the record at a place
+abbrev pub recorded : ℕ → TimedPacket → Rec
+recorded at p = record { seconds = p.seconds; fraction = p.fraction; bytes = p.packet; next_at = at + 16 + length p.packet }
+
 -- the form of a capture that is written
 abbrev pub written_form : Bool → Form
 written_form nano = record { big = false; nano = nano; link = 101 }
