@@ -2,7 +2,8 @@
 use Rattle.std.specs.Prelude.{◌≡◌, ◌≢◌, ℕ, List, [], ◌++◌, take, Option, Some, None, Result, Ok, Err, unwrap_or}
 use Rattle.std.specs.Ordering.{nat_cmp}
 use Rattle.std.specs.Cmp.Lexicographic.{slice_cmp}
-use Rattle.std.specs.FinMap.{FinMap, get}
+use Rattle.std.specs.Coded.{Coded, coded_list, coded_ℕ}
+use Rattle.std.specs.FinMap.{FinMap, get, code}
 use Rattle.aftr_base.specs.declared.outside.Fault.{Fault}
 
 -- the bytes of each file, by the bytes of its name
@@ -39,3 +40,6 @@ Created (Err _) old new name = new ≡ old
 abbrev pub Appended : Result ℕ Fault → Option Held → Option Held → List ℕ → List ℕ → Type 0
 Appended (Ok count) old new name bytes = Moves old new (λ m n. Writes m n name (content m name ++ take count bytes))
 Appended (Err _) old new name bytes = new ≡ old
+
+abbrev pub held_code : Coded Held
+held_code = code (coded_list coded_ℕ) (coded_list coded_ℕ)
