@@ -1,5 +1,5 @@
 -- From the bytes that were read to what the file holds, where that is told; and which read failed.
-use Rattle.std.proofs.Common.{◌≡◌, ℕ, ◌+◌, ◌<◌, ◌≤◌, min, Bool, List, [], ◌∷◌, length, take, drop, Option, Some, None, Result, Ok, Err, sym, ◌∙◌, ap, subst, arith}
+use Rattle.std.proofs.Common.{◌≡◌, ℕ, ◌+◌, ◌<◌, ◌≤◌, min, Bool, List, ◌∷◌, length, take, drop, Option, Some, None, Result, Ok, Err, sym, ◌∙◌, ap, subst, arith}
 use Rattle.aftr_base.specs.declared.outside.Fault.{Fault}
 use Rattle.aftr_base.specs.declared.outside.Fault.TheVariants as fault
 use Rattle.aftr_base.specs.Faults.{LastWithin}
@@ -53,7 +53,7 @@ whole_told (Some m) name big read list at number end head e h l enough n = whole
 pub continued_told : (held : Option Held) (name : List ℕ) (big : Bool) (at number : ℕ) (r : Rec) →
     Told held (λ m. next_in big (drop at (content m name)) at number ≡ Ok (next.Rec r)) → r.next_at ≡ at + 16 + length r.bytes →
     Told held (λ m. (rs : List Rec) (ending : Option CaptureBad) → Splits big (drop r.next_at (content m name)) r.next_at (number + 1) rs ending →
-        Splits big (drop at (content m name)) at number (r ∷ rs) ending)
+    Splits big (drop at (content m name)) at number (r ∷ rs) ending)
 continued_told None name big at number r e n = tt
 continued_told (Some m) name big at number r e n = continued big (content m name) at number r e n
 

@@ -1,9 +1,7 @@
 -- What is read is what is spelled.
-use Rattle.std.proofs.Common.{◌≡◌, ℕ, zero, suc, ◌+◌, ◌-◌, ◌^◌, ◌<◌, ◌≤◌, min, Bool, true, false, List, [], ◌∷◌, ◌++◌, length, drop, take, get_or, All, Option, Some, None, Result, Ok, Err, refl, sym, ◌∙◌, ap, subst, append_assoc, arith}
-use Rattle.std.specs.Int.{w16, w32, from_be_bytes, from_le_bytes, to_be_bytes, to_le_bytes, byte_len, byte_worth, IsBitSet}
-use Rattle.std.proofs.lemmas.List.{drop-drop, get_or-drop, length-append, length-take, length-drop, take-append-drop}
+use Rattle.std.proofs.Common.{◌≡◌, ℕ, zero, suc, ◌+◌, ◌<◌, ◌≤◌, Bool, true, false, List, [], ◌∷◌, ◌++◌, length, drop, take, get_or, All, Ok, refl, sym, ◌∙◌, ap, subst, append_assoc, arith}
+use Rattle.std.proofs.lemmas.List.{drop-drop, get_or-drop, length-take, length-drop, take-append-drop}
 use Rattle.std.proofs.lemmas.Nat.{le_bytes_4, be_bytes_4}
-use Rattle.std.proofs.lemmas.Grind.{common_steps}
 use Rattle.aftr_base.specs.Numbers.{span}
 use Rattle.capture_io.specs.declared.forms.Rec.{Rec}
 use Rattle.capture_io.specs.declared.forms.Next.TheVariants as next

@@ -1,8 +1,7 @@
 -- What a record's header and its bytes say of the record.
-use Rattle.std.proofs.Common.{◌≡◌, ℕ, ◌+◌, ◌-◌, ◌^◌, ◌<◌, ◌≤◌, ◌==◌, nat_lt, min, Bool, true, false, if◌then◌else◌, List, [], ◌∷◌, length, take, drop, Option, Some, None, Result, Ok, Err, refl, sym, ◌∙◌, ap, subst, arith}
+use Rattle.std.proofs.Common.{◌≡◌, ℕ, ◌+◌, ◌-◌, ◌^◌, ◌<◌, ◌≤◌, ◌==◌, nat_lt, min, Bool, true, false, if◌then◌else◌, List, [], ◌∷◌, length, take, drop, Option, Result, Ok, Err, refl, sym, ◌∙◌, ap, subst, arith}
 use Rattle.std.proofs.lemmas.List.{drop-drop, length-drop, length-take}
 use Rattle.std.proofs.lemmas.Bool.Decides.{nat_tests}
-use Rattle.aftr_base.specs.Numbers.{span}
 use Rattle.aftr_base.specs.First.{first_true, refused_or}
 use Rattle.capture_io.specs.declared.forms.Rec.{Rec}
 use Rattle.capture_io.specs.declared.forms.Next.{Next}
@@ -190,5 +189,5 @@ enough_by false false false false false at r s e = refl
 pub record_whole : (big : Bool) (left : List ℕ) (at number : ℕ) (r : Rec) → next_in big left at number ≡ Ok (next.Rec r) → 16 + captured big left ≤ length left
 record_whole big left at number r e =
     let whole : nat_lt (length left) (16 + captured big left) ≡ false =
-        enough_by (length left == 0) (number == 2 ^ 31) (nat_lt (length left) 16) (nat_lt 262144 (captured big left)) (nat_lt (length left) (16 + captured big left)) at (record_in big left at) r e in
+    enough_by (length left == 0) (number == 2 ^ 31) (nat_lt (length left) 16) (nat_lt 262144 (captured big left)) (nat_lt (length left) (16 + captured big left)) at (record_in big left at) r e in
     grind (arith, nat_tests)

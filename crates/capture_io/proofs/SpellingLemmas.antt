@@ -1,16 +1,13 @@
 -- Lemmas on what is written, read back.
-use Rattle.std.proofs.Common.{◌≡◌, ℕ, suc, ◌+◌, ◌^◌, ◌<◌, ◌≤◌, ◌==◌, nat_lt, Bool, true, false, List, [], ◌∷◌, ◌++◌, length, drop, take, map, flat_map, All, Option, Some, None, Result, Ok, Err, refl, sym, ◌∙◌, ap, subst, arith}
-use Rattle.std.specs.Int.{w16, w32, from_be_bytes, from_le_bytes, to_be_bytes, to_le_bytes}
+use Rattle.std.proofs.Common.{◌≡◌, ℕ, suc, ◌+◌, ◌^◌, ◌<◌, ◌≤◌, ◌==◌, nat_lt, Bool, true, false, List, [], ◌∷◌, ◌++◌, length, drop, take, map, flat_map, All, None, Ok, refl, sym, ◌∙◌, ap, subst, arith}
 use Rattle.std.proofs.lemmas.List.{drop-drop, length-append}
 use Rattle.std.proofs.Math.Seq.{take-append_seam, drop-append_seam}
 use Rattle.std.proofs.lemmas.Nat.{from_le_bytes-to_le_bytes_4, from_be_bytes-to_be_bytes_4}
 use Rattle.std.proofs.lemmas.Bool.Decides.{nat_tests}
 use Rattle.aftr_base.specs.Numbers.{span}
 use Rattle.capture_io.specs.declared.forms.Rec.{Rec}
-use Rattle.capture_io.specs.declared.forms.Next.{Next}
 use Rattle.capture_io.specs.declared.forms.Next.TheVariants as next
-use Rattle.capture_io.specs.declared.forms.CaptureBad.{CaptureBad}
-use Rattle.capture_io.specs.Words.{word, word_at}
+use Rattle.capture_io.specs.Words.{word_at}
 use Rattle.capture_io.specs.Header.{form_in, header_in, has_some_magic, is_version_2_4, is_known_link}
 use Rattle.capture_io.specs.Record.{captured, next_in, record_in}
 use Rattle.capture_io.specs.Capture.{IsCapture, Splits}
@@ -70,10 +67,10 @@ read_back : (big : Bool) (seconds fraction at number : ℕ) (bytes rest left : L
 read_back big seconds fraction at number bytes rest left few small back =
     let enough : 16 + captured big left ≤ length left = omega (arith, back.back_captured, back.back_length, length-append bytes rest) in
     let front : span left 16 (captured big left) ≡ bytes =
-        ap (λ n. take n (drop 16 left)) back.back_captured ∙ (ap (λ l. take (length bytes) l) back.back_rest ∙ take-append_seam bytes rest) in
+    ap (λ n. take n (drop 16 left)) back.back_captured ∙ (ap (λ l. take (length bytes) l) back.back_rest ∙ take-append_seam bytes rest) in
     let end : at + 16 + captured big left ≡ at + 16 + length bytes = ap (λ n. at + 16 + n) back.back_captured in
     let same : record_in big left at ≡ rec_of at seconds fraction bytes =
-        λ i. record { seconds = back.back_seconds i; fraction = back.back_fraction i; bytes = front i; next_at = end i } in
+    λ i. record { seconds = back.back_seconds i; fraction = back.back_fraction i; bytes = front i; next_at = end i } in
     stands big left at number few (omega (arith, back.back_captured)) enough ∙ ap (λ r. Ok (next.Rec r)) same
 
 rest_back : (big : Bool) (seconds fraction : ℕ) (bytes rest left : List ℕ) → SpellsBack big seconds fraction bytes rest left → drop (16 + length bytes) left ≡ rest
@@ -91,10 +88,11 @@ one_more : (p : TimedPacket) (packets : List TimedPacket) (at number : ℕ) (lef
     SpellsBack false p.seconds p.fraction p.packet rest left → Records rest packets (at + 16 + length p.packet) (number + 1) → Records left (p ∷ packets) at number
 one_more p packets at number left rest few small back after =
     let behind : rest ≡ drop (16 + length p.packet) left = sym (rest_back false p.seconds p.fraction p.packet rest left back) in
-    let After : List ℕ → Type 0 = λ l. Splits false l (at + 16 + length p.packet) (number + 1) after.0 None in
-    (rec_of at p.seconds p.fraction p.packet ∷ after.0,
-     (read_back false p.seconds p.fraction at number p.packet rest left few small back, subst After behind after.1),
-     ap (λ l. p ∷ l) after.2)
+    let After : List ℕ → Type 0 = λ l. Splits false l (at + 16 + length p.packet) (number + 1) after.0 None in (
+      rec_of at p.seconds p.fraction p.packet ∷ after.0,
+      (read_back false p.seconds p.fraction at number p.packet rest left few small back, subst After behind after.1),
+      ap (λ l. p ∷ l) after.2,
+    )
 
 records_back : (packets : List TimedPacket) (at number : ℕ) → All IsRecordable packets → number + length packets ≤ 2 ^ 31 → Records (flat_map spelling packets) packets at number
 records_back [] at number each few = ([], refl, refl)
@@ -103,7 +101,7 @@ records_back (p ∷ packets) at number each few =
     let others : All IsRecordable packets = λ k d within. each (suc k) d (omega arith) in
     let after : Records (flat_map spelling packets) packets (at + 16 + length p.packet) (number + 1) = records_back packets (at + 16 + length p.packet) (number + 1) others (omega arith) in
     let back : SpellsBack false p.seconds p.fraction p.packet (flat_map spelling packets) (flat_map spelling (p ∷ packets)) =
-        words_back false p.seconds p.fraction (length p.packet) p.packet (flat_map spelling packets) first.seconds first.fraction (omega (arith, first.size)) in
+    words_back false p.seconds p.fraction (length p.packet) p.packet (flat_map spelling packets) first.seconds first.fraction (omega (arith, first.size)) in
     one_more p packets at number (flat_map spelling (p ∷ packets)) (flat_map spelling packets) (omega arith) first.size back after
 
 pub capture_back : (nano : Bool) (packets : List TimedPacket) → All IsRecordable packets → length packets ≤ 2 ^ 31 →

@@ -5,11 +5,13 @@ ghost use Rattle.capture_io.specs.Frames.{behind_type, carried, ethernet, plain,
 use aftr_base::be16;
 
 const IPV4: u16 = 0x0800;
+
 const IPV6: u16 = 0x86dd;
+
 const VLAN_TAG: u16 = 0x8100;
 
 /// What a frame carries.
-#[derive(Clone, Copy, Debug)]
+#[derive(Clone, Copy, Debug, PartialEq, Eq)]
 pub enum Frame<'a> {
     /// An IPv4 packet, with whatever stands behind it in the frame.
     V4(&'a [u8]),

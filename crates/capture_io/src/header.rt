@@ -11,18 +11,18 @@ use aftr_base::{Files, fill};
 use std::alloc::Global;
 
 const HEADER_LEN: usize = 24;
+
 const MAGIC_MICRO: u32 = 0xa1b2c3d4;
+
 const MAGIC_NANO: u32 = 0xa1b23c4d;
+
 const ETHERNET: u32 = 1;
+
 const PLAIN_IP: u32 = 101;
 
 /// Reads the file header: what it says, or the first of these that is true: `CutHeader` at 0 for fewer than 24 bytes,
 /// `Magic`, `Version`, `Link`. The first record stands at place 24.
-pub fn read_header<F: Files>(
-    alloc: Global,
-    files: &mut F,
-    name: &str,
-) -> Result<Form, CaptureError>
+pub fn read_header<F: Files>(alloc: Global, files: &mut F, name: &str) -> Result<Form, CaptureError>
     ensures told { Told (F.held files.old) (λ m. Agrees result (header_in (content m name.now))) }
     ensures link { IfOk result (λ form. IsTrue (is_known_link form.link)) }
     ensures held { F.held files.new ≡ F.held files.old }

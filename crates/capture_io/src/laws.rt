@@ -12,14 +12,12 @@ pub fn one_reading()
     ensures { (big : Bool) (left : List ℕ) (at number : ℕ) (rs others : List Record) (ending other : Option Refusal) →
         Splits big left at number rs ending → Splits big left at number others other →
         (rs ≡ others) × (ending ≡ other) }
-{
-}
+{}
 
 /// All bytes are split into records and an ending.
 pub fn some_reading()
     ensures { (big : Bool) (left : List ℕ) (at number : ℕ) → (rs : List Record) × (ending : Option Refusal) × Splits big left at number rs ending }
-{
-}
+{}
 
 /// What is read is what is spelled. A record is found only where the bytes begin with its spelling, with some original
 /// length; and it is found wherever they do, for a record of the count and length that a capture may have.
@@ -30,13 +28,11 @@ pub fn spelling_is_read()
     ensures each { (big : Bool) (packet : TimedPacket) (original at number : ℕ) (rest : List ℕ) →
         IsRecordable packet → number < 2 ^ 31 →
         next_in big (spelled big packet.seconds packet.fraction original packet.packet ++ rest) at number
-            ≡ Ok (next.Rec (recorded at packet)) }
-{
-}
+        ≡ Ok (next.Rec (recorded at packet)) }
+{}
 
 /// A capture that was written is read back: the records have the packets with their times, and then it ends.
 pub fn written_is_read()
     ensures { (nano : Bool) (packets : List TimedPacket) → All IsRecordable packets → length packets ≤ 2 ^ 31 →
         (rs : List Record) × IsCapture (written nano packets) (Ok (written_form nano)) rs None × (map timed rs ≡ packets) }
-{
-}
+{}

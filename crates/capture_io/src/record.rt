@@ -13,7 +13,9 @@ use aftr_base::{Bytes, Fault, Files, OutOfMemory, fill};
 use std::alloc::Global;
 
 const HEADER_LEN: usize = 16;
+
 const MOST_BYTES: u32 = 262_144;
+
 const MOST_RECORDS: u32 = 0x8000_0000;
 
 /// Reads the record of a number, counted from 0, which stands at the place `at`: the first at 24, each other at the
@@ -135,12 +137,13 @@ pub fn put_record(
     requires { length packet.now ≤ 65575 }
     ensures { IfOk result (λ bytes. bytes ≡ record_bytes seconds fraction packet.now) }
 {
-    let size = (packet.len() as u32).to_le_bytes();
+    let captured = (packet.len() as u32).to_le_bytes();
+    let original = captured;
     let mut list = Vec::with_capacity(alloc, HEADER_LEN + packet.len())?;
     list.extend_from_slice(&seconds.to_le_bytes())?;
     list.extend_from_slice(&fraction.to_le_bytes())?;
-    list.extend_from_slice(&size)?;
-    list.extend_from_slice(&size)?;
+    list.extend_from_slice(&captured)?;
+    list.extend_from_slice(&original)?;
     list.extend_from_slice(packet)?;
     Ok(Bytes::of(list))
 }

@@ -1,8 +1,8 @@
-use Rattle.std.proofs.Common.{◌≡◌, ℕ, Option, subst, ◌+◌, ◌<◌, ◌≤◌, Ok, Err, List, length, take, drop, sym, ◌∙◌, ap, arith}
+use Rattle.std.proofs.Common.{◌≡◌, ℕ, Option, subst, ◌+◌, ◌<◌, Err, List, length, take, drop, sym, ◌∙◌, ap, arith}
 use Rattle.std.proofs.lemmas.Result.{err_from_is_err_and}
 use Rattle.std.proofs.lemmas.Bool.Decides.{nat_tests}
 use Rattle.aftr_base.specs.Faults.{LastWithin}
-use Rattle.aftr_base.specs.Held.{Told, content}
+use Rattle.aftr_base.specs.Held.{content}
 use Rattle.capture_io.specs.Answers.{IsBeforeEnd}
 use Rattle.capture_io.proofs.AnswerLemmas.{continued_told, cut_told, failed_inside, in_bytes, in_header, refused_told, told_same, whole_told}
 use Rattle.capture_io.proofs.record.next_record.Goals as goal
@@ -34,7 +34,7 @@ returns-in_err-bytes-clause-last g c =
     (g.F.Files.last c.args.files.now) (g.F.Files.last c.bytes_at.new.files)
     (e.1 ∙ ap Err e.2) (omega arith)
     (λ place within. in_bytes (g.F.Files.held c.args.files.now) c.args.name.now c.args.form.big (take c.in_ok-count.count c.fill.new.into) c.args.at c.args.number place c.in-Ok.head
-        c.in_ok-count.ensures.bytes (sym c.head_of.ensures ∙ c.in-Ok.is) within)
+    c.in_ok-count.ensures.bytes (sym c.head_of.ensures ∙ c.in-Ok.is) within)
     (subst Last c.in_ok-count.ensures.last c.in_err-bytes.ensures.last)
 
 pub returns-then-as_slice-head-clause-told : goal.returns-then-as_slice-head-clause-told
@@ -43,7 +43,7 @@ returns-then-as_slice-head-clause-told g c =
     cut_told (g.F.Files.held c.args.files.now) c.args.name.now c.args.form.big (take c.in_ok-count.count c.fill.new.into) c.in_ok-bytes.bytes c.args.at c.args.number c.in-Ok.head
     c.in_ok-count.ensures.bytes (sym c.head_of.ensures ∙ c.in-Ok.is)
     (told_same (g.F.Files.held c.fill.new.files) (g.F.Files.held c.args.files.now) (λ m. c.in_ok-bytes.bytes ≡ take c.in-Ok.head.captured (drop (c.args.at + 16) (content m c.args.name.now)))
-        c.in_ok-count.ensures.held c.in_ok-bytes.ensures.bytes)
+    c.in_ok-count.ensures.held c.in_ok-bytes.ensures.bytes)
     less
 
 pub returns-then-as_slice-head-clause-step : goal.returns-then-as_slice-head-clause-step
@@ -55,7 +55,7 @@ returns-clause-told g c =
     (c.args.at + 16 + c.from.result) c.in-Ok.head
     c.in_ok-count.ensures.bytes (sym c.head_of.ensures ∙ c.in-Ok.is)
     (told_same (g.F.Files.held c.fill.new.files) (g.F.Files.held c.args.files.now) (λ m. c.in_ok-bytes.bytes ≡ take c.in-Ok.head.captured (drop (c.args.at + 16) (content m c.args.name.now)))
-        c.in_ok-count.ensures.held c.in_ok-bytes.ensures.bytes)
+    c.in_ok-count.ensures.held c.in_ok-bytes.ensures.bytes)
     (grind (arith, nat_tests)) (omega arith)
 
 pub returns-clause-step : goal.returns-clause-step
