@@ -23,7 +23,8 @@ with open(sys.argv[1], "wb") as out:
         out.write(struct.pack("<IIII", number // 1000, number % 1000, 80, 80) + bytes(80))
 P
 cat "$work/records.pcap" > /dev/null
-(cd "$repository/crates/records_bench" && rt build > "$work/build.txt" 2>&1 || rt run > "$work/build.txt" 2>&1 || true)
+(cd "$repository/crates/records_bench" && rt run > "$work/build.txt" 2>&1) || true
+[ -x "$repository/crates/records_bench/out/records_bench" ] || { tail "$work/build.txt"; exit 1; }
 program="$repository/crates/records_bench/out/records_bench"
 cd "$work"
 for turn in 1 2 3; do

@@ -7,11 +7,7 @@ use std::alloc::Global;
 use std::io;
 use std::time::Instant;
 
-fn count_records<F: Files>(
-    alloc: Global,
-    files: &mut F,
-    name: &str,
-) -> Result<u32, CaptureError> {
+fn count_records<F: Files>(alloc: Global, files: &mut F, name: &str) -> Result<u32, CaptureError> {
     let form = read_header(alloc, files, name)?;
     let mut at = 24;
     let mut number = 0;
