@@ -1,0 +1,54 @@
+-- What the answers of reading say of the files' counts, and of what the bytes are.
+use Rattle.std.specs.Prelude.{◌≡◌, ℕ, ◌+◌, ◌<◌, ◌≤◌, Bool, List, [], ◌∷◌, drop, Option, Some, None, Result, Ok, Err}
+use Rattle.aftr_base.specs.declared.outside.Fault.{Fault}
+use Rattle.aftr_base.specs.declared.outside.Fault.TheVariants as fault
+use Rattle.aftr_base.specs.Faults.{Rose}
+use Rattle.aftr_base.specs.Held.{Held, content, Told}
+use Rattle.capture_io.specs.declared.forms.Rec.{Rec}
+use Rattle.capture_io.specs.declared.forms.Next.{Next}
+use Rattle.capture_io.specs.declared.forms.Next.TheVariants as next
+use Rattle.capture_io.specs.declared.forms.CaptureBad.{CaptureBad}
+use Rattle.capture_io.specs.declared.forms.CaptureError.{CaptureError}
+use Rattle.capture_io.specs.declared.forms.CaptureError.TheVariants as error
+use Rattle.capture_io.specs.Record.{next_in}
+use Rattle.capture_io.specs.Capture.{Splits}
+
+-- a fault of the outside, as an answer of reading
+abbrev pub error_of : Fault → CaptureError
+error_of fault.Failed = error.ReadFault
+error_of fault.OutOfMemory = error.OutOfMemory
+
+-- the answer is what the bytes are; where a read failed or memory was short it says nothing of them
+abbrev pub Agrees : {T : Type 0} → Result T CaptureError → Result T CaptureBad → Type 0
+Agrees (Ok value) read = read ≡ Ok value
+Agrees (Err (error.Bad refusal)) read = read ≡ Err refusal
+Agrees (Err error.ReadFault) read = Unit {0}
+Agrees (Err error.OutOfMemory) read = Unit {0}
+
+-- a count of faults rises exactly at the answer `ReadFault`
+abbrev pub CountedRead : {T : Type 0} → Result T CaptureError → ℕ → ℕ → Type 0
+CountedRead (Ok _) before now = now ≡ before
+CountedRead (Err (error.Bad _)) before now = now ≡ before
+CountedRead (Err error.ReadFault) before now = Rose before now
+CountedRead (Err error.OutOfMemory) before now = now ≡ before
+
+-- at the answer `ReadFault` the last read that failed is one of this name, from a place on that is `Inside`
+abbrev pub LastInside : {T : Type 0} → Result T CaptureError → List ℕ → ℕ → (ℕ → Type 0) → Option (List ℕ × ℕ) → Option (List ℕ × ℕ) → Type 0
+LastInside (Err error.ReadFault) name from Inside old new = (place : ℕ) × (from ≤ place) × Inside place × (new ≡ Some (name, place))
+LastInside (Err error.OutOfMemory) name from Inside old new = new ≡ old
+LastInside (Err (error.Bad _)) name from Inside old new = new ≡ old
+LastInside (Ok _) name from Inside old new = new ≡ old
+
+-- before the end of the record, if a whole one stands here
+abbrev pub IsBeforeEnd : Option Held → List ℕ → Bool → ℕ → ℕ → ℕ → Type 0
+IsBeforeEnd held name big at number place = Told held (λ m. (r : Rec) → next_in big (drop at (content m name)) at number ≡ Ok (next.Rec r) → place < r.next_at)
+
+-- The answer for a place of the file is a step of its definition: a record goes before whatever the rest of the file is
+-- from its `next_at` on, and each other answer is an ending.
+abbrev pub Continues : Result Next CaptureError → Bool → List ℕ → ℕ → ℕ → Type 0
+Continues (Ok (next.Rec r)) big bytes at number = (rs : List Rec) (ending : Option CaptureBad) →
+    Splits big (drop r.next_at bytes) r.next_at (number + 1) rs ending → Splits big (drop at bytes) at number (r ∷ rs) ending
+Continues (Ok next.End) big bytes at number = Splits big (drop at bytes) at number [] None
+Continues (Err (error.Bad refusal)) big bytes at number = Splits big (drop at bytes) at number [] (Some refusal)
+Continues (Err error.ReadFault) big bytes at number = Unit {0}
+Continues (Err error.OutOfMemory) big bytes at number = Unit {0}

@@ -1,0 +1,85 @@
+// What a capture says of itself, and why one is refused.
+ghost use Rattle.std.specs.Prelude.{◌≡◌};
+ghost use Rattle.capture_io.specs.Answers.{error_of};
+
+use aftr_base::{Bytes, Fault};
+use thiserror::Error;
+
+/// What the file header of a capture says.
+#[derive(Clone, Copy, Debug, PartialEq, Eq)]
+pub struct Form {
+    /// The numbers of the file have their most significant byte first.
+    pub big: bool,
+    /// The fraction of a record's time counts nanoseconds; otherwise microseconds.
+    pub nano: bool,
+    /// The link type: 1 is Ethernet, 101 is plain IP.
+    pub link: u32,
+}
+
+/// A record: its time, as seconds and a fraction that is not tested, and its captured bytes.
+#[derive(Debug, Drop)]
+pub struct Rec {
+    pub seconds: u32,
+    pub fraction: u32,
+    /// At most 262,144 bytes.
+    pub bytes: Bytes,
+    /// The place of the file where the next record stands.
+    pub next_at: u64,
+}
+
+/// What stands at a place of a capture.
+#[derive(Debug, Drop)]
+pub enum Next {
+    Rec(Rec),
+    /// No byte is left.
+    End,
+}
+
+/// Why a capture is refused. A refusal in a record has the place where that record's header stands or ought to stand.
+#[derive(Clone, Copy, Debug, PartialEq, Eq, Error)]
+pub enum CaptureBad {
+    /// The file does not begin with a magic number of the format.
+    #[error("no magic number of a capture")]
+    Magic,
+    /// The version is not 2.4.
+    #[error("a version other than 2.4")]
+    Version,
+    /// The link type is neither 1 nor 101.
+    #[error("link type {number}")]
+    Link { number: u32 },
+    /// Fewer than 24 bytes are there for the file header (place 0), or fewer than 16 for a record's header.
+    #[error("the header at byte {at} is cut short")]
+    CutHeader { at: u64 },
+    /// Fewer bytes are left than the record's header says.
+    #[error("the record at byte {at} is cut short")]
+    CutRecord { at: u64 },
+    /// The record's header says more than 262,144 bytes.
+    #[error("the record at byte {at} is too long")]
+    TooLong { at: u64 },
+    /// Something stands behind 2^31 records.
+    #[error("the record at byte {at} is one too many")]
+    TooMany { at: u64 },
+}
+
+/// Why reading a capture gave no answer.
+#[derive(Clone, Copy, Debug, PartialEq, Eq, Error)]
+pub enum CaptureError {
+    #[error("{0}")]
+    Bad(CaptureBad),
+    /// A read failed.
+    #[error("a read failed")]
+    ReadFault,
+    #[error("out of memory")]
+    OutOfMemory,
+}
+
+impl From<Fault> for CaptureError {
+    ghost from_gives = { λ fault error. error ≡ error_of fault };
+
+    fn from(fault: Fault) -> Self {
+        match fault {
+            Fault::Failed => CaptureError::ReadFault,
+            Fault::OutOfMemory => CaptureError::OutOfMemory,
+        }
+    }
+}

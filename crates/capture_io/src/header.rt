@@ -1,0 +1,83 @@
+// The file header of a capture.
+ghost use Rattle.std.specs.Prelude.{◌≡◌, ◌<◌, ◌≤◌, IfOk, IsTrue, length};
+ghost use Rattle.aftr_base.specs.Held.{content, Told};
+ghost use Rattle.capture_io.specs.Answers.{Agrees, CountedRead, LastInside};
+ghost use Rattle.capture_io.specs.Header.{has_magic, header_in, is_known_link};
+ghost use Rattle.capture_io.specs.Written.{header_bytes};
+
+use crate::words::{half, word};
+use crate::{CaptureBad, CaptureError, Form};
+use aftr_base::{Files, fill};
+use std::alloc::Global;
+
+const HEADER_LEN: usize = 24;
+
+const MAGIC_MICRO: u32 = 0xa1b2c3d4;
+
+const MAGIC_NANO: u32 = 0xa1b23c4d;
+
+const ETHERNET: u32 = 1;
+
+const PLAIN_IP: u32 = 101;
+
+/// Reads the file header: what it says, or the first of these that is true: `CutHeader` at 0 for fewer than 24 bytes,
+/// `Magic`, `Version`, `Link`. The first record stands at place 24.
+pub fn read_header<F: Files>(alloc: Global, files: &mut F, name: &str) -> Result<Form, CaptureError>
+    ensures told { Told (F.held files.old) (λ m. Agrees result (header_in (content m name.now))) }
+    ensures link { IfOk result (λ form. IsTrue (is_known_link form.link)) }
+    ensures held { F.held files.new ≡ F.held files.old }
+    ensures faults { CountedRead result (F.faults files.old) (F.faults files.new) }
+    ensures lost { CountedRead result (F.lost files.old) (F.lost files.new) }
+    ensures spoiled { F.spoiled files.new ≡ F.spoiled files.old }
+    ensures last { LastInside result name.now 0 (λ place. place < 24)
+        (F.last files.old) (F.last files.new) }
+{
+    let mut header = [0; HEADER_LEN];
+    let count = fill(alloc, files, name, 0, &mut header)?;
+    match form_of(&header[..count]) {
+        Ok(form) => Ok(form),
+        Err(refusal) => Err(CaptureError::Bad(refusal)),
+    }
+}
+
+/// What the first bytes of a file say, as many of 24 as it has.
+fn form_of(bytes: &[u8]) -> Result<Form, CaptureBad>
+    ensures { result ≡ header_in bytes.now }
+{
+    if bytes.len() < HEADER_LEN {
+        return Err(CaptureBad::CutHeader { at: 0 });
+    }
+    let big = is_magic(true, false, bytes) || is_magic(true, true, bytes);
+    let nano = is_magic(false, true, bytes) || is_magic(true, true, bytes);
+    if !(is_magic(false, false, bytes) || big || nano) {
+        return Err(CaptureBad::Magic);
+    }
+    if half(big, bytes, 4) != 2 || half(big, bytes, 6) != 4 {
+        return Err(CaptureBad::Version);
+    }
+    let link = word(big, bytes, 20);
+    if link != ETHERNET && link != PLAIN_IP {
+        return Err(CaptureBad::Link { number: link });
+    }
+    Ok(Form { big, nano, link })
+}
+
+fn is_magic(big: bool, nano: bool, bytes: &[u8]) -> bool
+    requires { 4 ≤ length bytes.now }
+    ensures { result ≡ has_magic big nano bytes.now }
+{
+    let magic = if nano { MAGIC_NANO } else { MAGIC_MICRO };
+    word(big, bytes, 0) == magic
+}
+
+/// The file header of a capture that is written: little-endian, version 2.4, a snapshot length of 262,144, plain IP
+/// (link type 101), and times in nanoseconds or in microseconds.
+pub fn put_header(nano: bool) -> [u8; 24]
+    ensures { result ≡ header_bytes nano }
+{
+    let magic = if nano { MAGIC_NANO } else { MAGIC_MICRO };
+    let [m0, m1, m2, m3] = magic.to_le_bytes();
+    [
+        m0, m1, m2, m3, 2, 0, 4, 0, 0, 0, 0, 0, 0, 0, 0, 0, 0, 0, 4, 0, 101, 0, 0, 0,
+    ]
+}

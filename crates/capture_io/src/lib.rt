@@ -1,0 +1,18 @@
+//! Capture files of the pcap format, version 2.4: the file header and the records are read at places of a file, each
+//! refusal the first true one, and written; and the frames of the records.
+#![tactic(auto)]
+
+mod forms;
+mod frames;
+mod header;
+mod laws;
+mod record;
+#[cfg(test)]
+mod tests;
+mod words;
+
+pub use forms::{CaptureBad, CaptureError, Form, Next, Rec};
+pub use frames::{Frame, frame_of};
+pub use header::{put_header, read_header};
+pub use laws::{one_reading, some_reading, spelling_is_read, written_is_read};
+pub use record::{next_record, put_record, time_of};

@@ -1,0 +1,149 @@
+// The records of a capture.
+ghost use Rattle.std.specs.Prelude.{◌≡◌, ◌+◌, ◌^◌, ◌≤◌, IfOk, length, take, drop};
+ghost use Rattle.aftr_base.specs.Faults.{Counted, LastWithin};
+ghost use Rattle.aftr_base.specs.Held.{content, Told};
+ghost use Rattle.capture_io.specs.Answers.{Agrees, Continues, CountedRead, IsBeforeEnd, LastInside};
+ghost use Rattle.capture_io.specs.Head.{head_in};
+ghost use Rattle.capture_io.specs.Record.{IsBounded, nanoseconds, next_in};
+ghost use Rattle.capture_io.specs.Written.{record_bytes};
+
+use crate::words::word;
+use crate::{CaptureBad, CaptureError, Form, Next, Rec};
+use aftr_base::{Bytes, Fault, Files, OutOfMemory, fill};
+use std::alloc::Global;
+
+const HEADER_LEN: usize = 16;
+
+const MOST_BYTES: u32 = 262_144;
+
+const MOST_RECORDS: u32 = 0x8000_0000;
+
+/// Reads the record of a number, counted from 0, which stands at the place `at`: the first at 24, each other at the
+/// `next_at` of the record before it. `End` where no byte is left, and otherwise the record or the first of these that
+/// is true: `TooMany` for number 2^31, `CutHeader` where fewer than 16 bytes are left, `TooLong` for a captured length
+/// above 262,144, `CutRecord` where fewer bytes are left than that.
+pub fn next_record<F: Files>(
+    alloc: Global,
+    files: &mut F,
+    name: &str,
+    form: Form,
+    at: u64,
+    number: u32,
+) -> Result<Next, CaptureError>
+    requires number { number ≤ 2 ^ 31 }
+    requires place { at ≤ 2 ^ 62 }
+    ensures told { Told (F.held files.old)
+        (λ m. Agrees result (next_in form.big (drop at (content m name.now)) at number)) }
+    ensures step { Told (F.held files.old)
+        (λ m. Continues result form.big (content m name.now) at number) }
+    ensures bounded { IfOk result (λ next. IsBounded next at number) }
+    ensures held { F.held files.new ≡ F.held files.old }
+    ensures faults { CountedRead result (F.faults files.old) (F.faults files.new) }
+    ensures lost { CountedRead result (F.lost files.old) (F.lost files.new) }
+    ensures spoiled { F.spoiled files.new ≡ F.spoiled files.old }
+    ensures last { LastInside result name.now at
+        (λ place. IsBeforeEnd (F.held files.old) name.now form.big at number place)
+        (F.last files.old) (F.last files.new) }
+{
+    let mut header = [0; HEADER_LEN];
+    let count = fill(alloc, files, name, at, &mut header)?;
+    if count == 0 {
+        return Ok(Next::End);
+    }
+    let head = match head_of(form.big, &header[..count], at, number) {
+        Ok(head) => head,
+        Err(refusal) => return Err(CaptureError::Bad(refusal)),
+    };
+    let bytes = bytes_at(alloc, files, name, at + 16, head.captured as usize)?;
+    if bytes.as_slice().len() < head.captured as usize {
+        return Err(CaptureError::Bad(CaptureBad::CutRecord { at }));
+    }
+    Ok(Next::Rec(Rec {
+        seconds: head.seconds,
+        fraction: head.fraction,
+        bytes,
+        next_at: at + 16 + u64::from(head.captured),
+    }))
+}
+
+/// A record's header that is whole.
+#[derive(Clone, Copy)]
+struct Head {
+    seconds: u32,
+    fraction: u32,
+    captured: u32,
+}
+
+fn head_of(big: bool, bytes: &[u8], at: u64, number: u32) -> Result<Head, CaptureBad>
+    ensures { result ≡ head_in big bytes.now at number }
+{
+    if number == MOST_RECORDS {
+        return Err(CaptureBad::TooMany { at });
+    }
+    if bytes.len() < HEADER_LEN {
+        return Err(CaptureBad::CutHeader { at });
+    }
+    let captured = word(big, bytes, 8);
+    if captured > MOST_BYTES {
+        return Err(CaptureBad::TooLong { at });
+    }
+    Ok(Head {
+        seconds: word(big, bytes, 0),
+        fraction: word(big, bytes, 4),
+        captured,
+    })
+}
+
+/// So many bytes from a place on, or as many as there are.
+fn bytes_at<F: Files>(
+    alloc: Global,
+    files: &mut F,
+    name: &str,
+    at: u64,
+    count: usize,
+) -> Result<Bytes, Fault>
+    requires { at + count ≤ 2 ^ 64 }
+    ensures bytes { IfOk result (λ bytes. Told (F.held files.old)
+        (λ m. bytes ≡ take count (drop at (content m name.now)))) }
+    ensures within { IfOk result (λ bytes. length bytes ≤ count) }
+    ensures held { F.held files.new ≡ F.held files.old }
+    ensures faults { Counted result (F.faults files.old) (F.faults files.new) }
+    ensures lost { Counted result (F.lost files.old) (F.lost files.new) }
+    ensures spoiled { F.spoiled files.new ≡ F.spoiled files.old }
+    ensures last { LastWithin result name.now at (at + count) (F.last files.old) (F.last files.new) }
+{
+    let mut list = vec![in alloc; 0; count]?;
+    let got = fill(alloc, files, name, at, &mut list)?;
+    list.truncate(got);
+    Ok(Bytes::of(list))
+}
+
+/// The time of a record in nanoseconds. The fraction is not tested: one second or more of it counts as it stands.
+pub fn time_of(form: Form, seconds: u32, fraction: u32) -> u64
+    ensures { result ≡ nanoseconds form seconds fraction }
+{
+    let unit = if form.nano { 1 } else { 1000 };
+    u64::from(seconds) * 1_000_000_000 + u64::from(fraction) * unit
+}
+
+/// A record of a capture that is written: little-endian, the packet's length both as the captured and as the original
+/// one.
+pub fn put_record(
+    alloc: Global,
+    seconds: u32,
+    fraction: u32,
+    packet: &[u8],
+) -> Result<Bytes, OutOfMemory>
+    requires { length packet.now ≤ 65575 }
+    ensures { IfOk result (λ bytes. bytes ≡ record_bytes seconds fraction packet.now) }
+{
+    let captured = (packet.len() as u32).to_le_bytes();
+    let original = captured;
+    let mut list = Vec::with_capacity(alloc, HEADER_LEN + packet.len())?;
+    list.extend_from_slice(&seconds.to_le_bytes())?;
+    list.extend_from_slice(&fraction.to_le_bytes())?;
+    list.extend_from_slice(&captured)?;
+    list.extend_from_slice(&original)?;
+    list.extend_from_slice(packet)?;
+    Ok(Bytes::of(list))
+}
