@@ -1,0 +1,7 @@
+pub mod Blocks
+pub mod Fits
+pub mod Members
+pub mod Owners
+pub mod Rows
+pub mod Shares
+pub mod Spans

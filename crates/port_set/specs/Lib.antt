@@ -1,0 +1,3 @@
+pub mod Places
+pub mod PortSets
+pub mod Shapes
