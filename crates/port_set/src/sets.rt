@@ -1,7 +1,7 @@
 // The port set of an identifier.
 ghost use Rattle.std.specs.Prelude.{◌≡◌, ℕ, ◌^◌, ◌<◌, ◌↔◌, IsTrue, IsNone, IfSome, IfNone, Contains, length};
 ghost use Rattle.std.specs.List.Sorted.{IsStrictlyIncreasing};
-ghost use Rattle.port_set.specs.PortSets.{InSet, IsLow, IsOwner, OwnersAreApart, OwnersShareAll, owned_ports};
+ghost use Rattle.port_set.specs.PortSets.{InSet, IsLow, IsOwner, OwnersAreApart, OwnersShareAll, in_set, owned_ports};
 
 use crate::ports::{Ports, count_of, mask};
 use crate::shape::Shape;
@@ -9,7 +9,8 @@ use crate::shape::Shape;
 /// Whether the identifier owns the port: the bits of the port after the offset are the identifier, and where the
 /// offset is above 0, the bits of the offset are not all 0.
 pub fn owns(shape: Shape, psid: u16, port: u16) -> bool
-    ensures { IsTrue result ↔ InSet shape.offset shape.length psid port }
+    ensures member { IsTrue result ↔ InSet shape.offset shape.length psid port }
+    ensures test { result ≡ in_set shape.offset shape.length psid port }
 {
     psid_of(shape, port) == Some(psid)
 }
