@@ -1,6 +1,6 @@
 -- The first true refusal, put together from the first of each stage.
 use Rattle.std.proofs.Common.{◌≡◌, ℕ, ◌+◌, ◌^◌, ◌<◌, ◌≤◌, ◌⊎◌, inl, inr, false, true, Option, Some, None, List, length, subst, refl, sym, ap, ◌∙◌, arith}
-use Rattle.std.specs.Prelude.{slice_get, is_some, IfNone}
+use Rattle.std.specs.Prelude.{slice_get, is_some, IfNone, IfSome}
 use Rattle.std.proofs.lemmas.Bool.{cases_lt, true≢false}
 use Rattle.std.proofs.lemmas.Option.{slice_get_within}
 use Rattle.port_set.specs.Shapes.{IsShape, IsNoShape}
@@ -26,6 +26,15 @@ sound_more own bs i x None e t sound before = λ n y l g. elim (cases_lt n i) [
       | inr more ↦ (let same : n ≡ i = omega arith in
           subst (IsSound own) (same_binding bs i x y e (subst (λ (m : ℕ). slice_get bs m ≡ Some y) same g)) sound)
     ]
+
+-- what holds where an optional refusal is none, or of the one that there is
+pub when_none : (o : Option Refused) (P : Type 0) → is_some o ≡ false → IfNone o P → P
+when_none None P e h = h
+when_none (Some r) P e h = absurd (true≢false e)
+
+pub some_map : (o : Option Refused) (P Q : Refused → Type 0) → ((r : Refused) → P r → Q r) → IfSome o P → IfSome o Q
+some_map None P Q turns h = tt
+some_map (Some r) P Q turns h = turns r h
 
 -- a sound binding is not refused on its own
 not_shape : (own : ℕ) (x : Binding) → IsSound own x → IsNoShape x.offset x.length → ⊥
@@ -62,19 +71,6 @@ pair_not_before f s g t (inr l) (inl m) = omega (arith, l.0)
 pair_not_before f s g t (inr l) (inr m) = omega (arith, l.1, m.1)
 
 module _ (e : Edition) (s : Softwire) (bs : List Binding) (fine : IsFine s) where
-  pub first_too_many : 65536 < length bs → IsFirstRefusal e s bs (refused.TooMany (length bs))
-  first_too_many many = record { applies = (refl, many); first = first }
-    where
-      first : (q : Refused) → Applies e s bs q → IsEarlier (turn q) (turn (refused.TooMany (length bs))) → ⊥
-      first refused.Mtu h l = not_fine s fine h
-      first refused.Hop h l = omega (arith, h, fine.hop_limit)
-      first (refused.TooMany n) h l = elim (same_stage (turn (refused.TooMany n)) (turn (refused.TooMany (length bs))) refl l) [ inl m ↦ omega arith | inr m ↦ omega (arith, m.1) ]
-      first (refused.Shape p) h l = later_stage (turn (refused.Shape p)) (turn (refused.TooMany (length bs))) (omega arith) l
-      first (refused.Psid p) h l = later_stage (turn (refused.Psid p)) (turn (refused.TooMany (length bs))) (omega arith) l
-      first (refused.OwnAddress p) h l = later_stage (turn (refused.OwnAddress p)) (turn (refused.TooMany (length bs))) (omega arith) l
-      first (refused.MixedShape f g) h l = later_stage (turn (refused.MixedShape f g)) (turn (refused.TooMany (length bs))) (omega arith) l
-      first (refused.Twice f g) h l = later_stage (turn (refused.Twice f g)) (turn (refused.TooMany (length bs))) (omega arith) l
-
   module _ (few : length bs ≤ 65536) where
     -- which refusal can be before a step at a place up to which all bindings are sound: one at this place, by an earlier step
     abbrev pub IsBefore : ℕ → ℕ → Refused → Type 0
