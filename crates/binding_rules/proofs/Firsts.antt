@@ -22,10 +22,10 @@ pub sound_more : (own : ℕ) (bs : List Binding) (i : ℕ) (x : Binding) (o : Op
     → IfNone o (IsSound own x) → AreSound own bs i → AreSound own bs (i + 1)
 sound_more own bs i x (Some r) e t sound before = absurd (true≢false t)
 sound_more own bs i x None e t sound before = λ n y l g. elim (cases_lt n i) [
-      | inl less ↦ before n y less g
-      | inr more ↦ (let same : n ≡ i = omega arith in
-          subst (IsSound own) (same_binding bs i x y e (subst (λ (m : ℕ). slice_get bs m ≡ Some y) same g)) sound)
-    ]
+  | inl less ↦ before n y less g
+  | inr more ↦ (let same : n ≡ i = omega arith in
+      subst (IsSound own) (same_binding bs i x y e (subst (λ (m : ℕ). slice_get bs m ≡ Some y) same g)) sound)
+]
 
 -- what holds where an optional refusal is none, or of the one that there is
 pub when_none : (o : Option Refused) (P : Type 0) → is_some o ≡ false → IfNone o P → P

@@ -92,7 +92,7 @@ taken_more ports p place before now l t = record {
   taken = λ key c. elim (cases_eq key p) [
     | inl e ↦ rw e (get_or-set_same now p (Some place) None l)
     | inr n ↦ get_or-set_other now p key (Some place) None n
-      ∙ t.taken key (elim (Contains-append_cases ports (p ∷ []) key c) [ inl h ↦ h | inr h ↦ absurd (n (contains_one p key h)) ])
+        ∙ t.taken key (elim (Contains-append_cases ports (p ∷ []) key c) [ inl h ↦ h | inr h ↦ absurd (n (contains_one p key h)) ])
   ];
   kept = λ key c. elim (cases_eq key p) [
     | inl e ↦ absurd (c (rw e (Contains-append_right ports (p ∷ []) p (one_contains p))))
