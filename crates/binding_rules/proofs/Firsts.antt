@@ -1,5 +1,5 @@
 -- The first true refusal, put together from the first of each stage.
-use Rattle.std.proofs.Common.{◌≡◌, ℕ, ◌+◌, ◌^◌, ◌<◌, ◌≤◌, ◌⊎◌, inl, inr, false, true, Option, Some, None, List, length, subst, refl, sym, ap, ◌∙◌, arith}
+use Rattle.std.proofs.Common.{◌≡◌, ℕ, ◌+◌, ◌^◌, ◌<◌, ◌≤◌, ◌⊎◌, inl, inr, false, Option, Some, None, List, length, subst, refl, sym, arith}
 use Rattle.std.specs.Prelude.{slice_get, is_some, IfNone, IfSome}
 use Rattle.std.proofs.lemmas.Bool.{cases_lt, true≢false}
 use Rattle.std.proofs.lemmas.Option.{slice_get_within}
@@ -11,8 +11,8 @@ use Rattle.binding_rules.specs.declared.settings.Softwire.{Softwire}
 use Rattle.binding_rules.specs.declared.refused.Refused.{Refused}
 use Rattle.binding_rules.specs.declared.refused.Refused.TheVariants as refused
 use Rattle.binding_rules.specs.Conflicts.{Conflict}
-use Rattle.binding_rules.specs.Refusals.{At, AtBoth, Applies, turn, IsEarlier, IsFirstRefusal, IsMixed, IsTwice, Turn}
-use Rattle.binding_rules.specs.Steps.{IsFine, IsSound, AreSound, IsOwnRefusal, IsPlaceRefusal, IsFirstPair, IsConflictRefusal, IsNotAfter}
+use Rattle.binding_rules.specs.Refusals.{AtBoth, Applies, turn, IsEarlier, IsFirstRefusal, IsMixed, IsTwice, Turn}
+use Rattle.binding_rules.specs.Steps.{IsFine, IsSound, AreSound, IsPlaceRefusal, IsFirstPair, IsConflictRefusal, IsNotAfter}
 use Rattle.binding_rules.specs.Tables.{IsValid, rules}
 use Rattle.binding_rules.proofs.Keys.{both_map}
 use Rattle.binding_rules.proofs.Laws.{shape_not_both}

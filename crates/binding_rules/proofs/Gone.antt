@@ -8,8 +8,7 @@ use Rattle.binding_rules.specs.declared.binding.Binding.{Binding}
 use Rattle.binding_rules.specs.declared.conflicts.Pair.{Pair}
 use Rattle.binding_rules.specs.declared.settings.Edition.{Edition}
 use Rattle.binding_rules.specs.Conflicts.{Conflict}
-use Rattle.binding_rules.specs.Refusals.{At, AtBoth}
-use Rattle.binding_rules.specs.Steps.{IsLeastPair, IsFirstPair, ArePair, IsNearest, IsLast, HasAddress, IsOwnersOf, AreFresh, counted, has_address, slot, earlier_of}
+use Rattle.binding_rules.specs.Steps.{IsFirstPair, ArePair, IsNearest, IsLast, HasAddress, IsOwnersOf, AreFresh, counted, has_address, slot, earlier_of}
 use Rattle.binding_rules.proofs.Leasts.{pair_iff, pair_or}
 use Rattle.binding_rules.proofs.Links.{has_address_of, same_binding}
 

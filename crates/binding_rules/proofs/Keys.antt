@@ -1,5 +1,5 @@
 -- Conflicts in terms of the keys: ports, or identifiers where the shapes are one.
-use Rattle.std.proofs.Common.{◌≡◌, ℕ, zero, suc, ◌+◌, ◌-◌, ◌*◌, ◌^◌, ◌<◌, ◌≤◌, ◌⊎◌, min, inl, inr, Bool, true, false, Option, Some, None, List, [], ◌∷◌, Contains, length, subst, refl, sym, ap, ◌∙◌, arith}
+use Rattle.std.proofs.Common.{◌≡◌, ℕ, zero, suc, ◌-◌, ◌*◌, ◌^◌, ◌<◌, ◌≤◌, ◌⊎◌, min, inl, inr, Bool, true, false, Option, Some, None, List, [], ◌∷◌, Contains, length, subst, refl, sym, ap, ◌∙◌, arith}
 use Rattle.std.specs.Prelude.{slice_get, is_some}
 use Rattle.std.proofs.Math.Nat.{le-mul_of_pos_right, pow-le-pow_right}
 use Rattle.std.proofs.Math.Pow.{pow-lt}
@@ -15,8 +15,8 @@ use Rattle.binding_rules.specs.declared.binding.Binding.{Binding}
 use Rattle.binding_rules.specs.declared.conflicts.Pair.{Pair}
 use Rattle.binding_rules.specs.declared.settings.Edition.TheVariants as edition
 use Rattle.binding_rules.specs.Conflicts.{HaveCommonPort, HaveOneShape, Conflict}
-use Rattle.binding_rules.specs.Refusals.{At, AtBoth}
-use Rattle.binding_rules.specs.Steps.{IsLeast, IsLeastPair, IsFirstPair, ArePair, IsLeastUnlike, IsLater, HasAddress, HaveCommonKey, AreShared, AreUnlike, IsWell, AreWell, paired, earlier_of}
+use Rattle.binding_rules.specs.Refusals.{AtBoth}
+use Rattle.binding_rules.specs.Steps.{IsLeast, IsFirstPair, ArePair, IsLeastUnlike, HasAddress, HaveCommonKey, AreShared, AreUnlike, IsWell, AreWell, paired, earlier_of}
 use Rattle.binding_rules.proofs.Leasts.{pair_iff, pair_or}
 use Rattle.binding_rules.proofs.Links.{has_address_of, same_binding}
 

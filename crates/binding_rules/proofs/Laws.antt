@@ -13,7 +13,7 @@ use Rattle.binding_rules.specs.declared.binding.Want.TheVariants as want
 use Rattle.binding_rules.specs.declared.refused.Refused.TheVariants as refused
 use Rattle.binding_rules.specs.declared.settings.Edition.{Edition}
 use Rattle.binding_rules.specs.declared.settings.Edition.TheVariants as edition
-use Rattle.binding_rules.specs.Bindings.{bound, is_bound, owns, IsPlaceOf}
+use Rattle.binding_rules.specs.Bindings.{is_bound, owns, IsPlaceOf}
 use Rattle.binding_rules.specs.Conflicts.{Conflict, HaveCommonPort, AreMixed}
 use Rattle.binding_rules.specs.Tables.{Rules, IsValid, IsLawful, rules}
 use Rattle.binding_rules.proofs.Keys.{shape_cases}

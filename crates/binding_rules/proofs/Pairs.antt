@@ -1,14 +1,14 @@
 -- A step of the walk over the places of an address, from the last one down: p is the place, x the binding there.
-use Rattle.std.proofs.Common.{◌≡◌, ℕ, ◌<◌, ◌≤◌, ◌⊎◌, inl, inr, Bool, true, false, Option, Some, None, List, subst, refl, sym, ap, ◌∙◌, arith}
+use Rattle.std.proofs.Common.{◌≡◌, ℕ, ◌<◌, ◌≤◌, ◌⊎◌, inl, inr, Bool, true, Option, Some, None, List, subst, refl, sym, ap, ◌∙◌, arith}
 use Rattle.std.specs.Prelude.{slice_get}
 use Rattle.std.proofs.lemmas.Bool.{cases_Bool, cases_lt, true≢false, eq-eqb}
 use Rattle.std.proofs.lemmas.Option.{same_Some}
 use Rattle.binding_rules.specs.declared.binding.Binding.{Binding}
 use Rattle.binding_rules.specs.declared.conflicts.Pair.{Pair}
-use Rattle.binding_rules.specs.Refusals.{At, AtBoth}
+use Rattle.binding_rules.specs.Refusals.{AtBoth}
 use Rattle.binding_rules.specs.Steps.{IsLeast, IsLeastPair, IsFirstPair, ArePair, IsNearest, IsLinked, IsLast, IsLater, HasAddress, HaveCommonKey, AreShared, AreFresh, IsMet, IsTaken, IsOwnersOf, has_key, counted, slot, paired, earlier_of}
-use Rattle.binding_rules.proofs.Leasts.{least_iff, pair_iff, pair_or}
-use Rattle.binding_rules.proofs.Links.{IsOf, later_split, later_behind, later_here, least_here, least_kept, none_later, near_of, nearest_is_of, has_address_of, same_binding}
+use Rattle.binding_rules.proofs.Leasts.{pair_iff, pair_or}
+use Rattle.binding_rules.proofs.Links.{IsOf, later_split, later_behind, later_here, least_here, least_kept, none_later, near_of, nearest_is_of, same_binding}
 
 -- a binding of the address behind the place
 abbrev pub IsBehind : List Binding → ℕ → Option ℕ → ℕ → Type 0

@@ -1,4 +1,4 @@
-use Rattle.std.proofs.Common.{◌≡◌, ◌≤◌, Some, None, length, subst, sym, ◌∙◌, arith}
+use Rattle.std.proofs.Common.{subst, sym, ◌∙◌}
 use Rattle.std.proofs.lemmas.Option.{slice_get_within}
 use Rattle.binding_rules.specs.Conflicts.{Conflict}
 use Rattle.binding_rules.specs.Steps.{IsFirstPair}
