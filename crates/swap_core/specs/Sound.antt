@@ -14,6 +14,9 @@ claims a (Asks b) = b == a
 claims a (Holds b w) = b == a
 claims a _ = false
 
+abbrev pub HasClaimed : ℕ → ActorState → Type 0
+HasClaimed a s = (s ≡ Asks a) ⊎ ((w : ℕ) × (s ≡ Holds a w))
+
 -- how many actors ask for area a or hold it
 abbrev pub claimants : ℕ → List Actor → ℕ
 claimants a actors = count_by (λ (x : Actor). claims a x.state) actors

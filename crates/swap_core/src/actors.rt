@@ -15,6 +15,22 @@ pub enum ActorState {
     Holds(u32, u32),
 }
 
+impl ActorState {
+    ghost use Rattle.std.specs.Prelude.{ℕ, IfSome, IfNone};
+    ghost use Rattle.swap_core.specs.Sound.{HasClaimed};
+
+    /// The area that it has claimed.
+    pub(crate) fn claimed(self) -> Option<u32>
+        ensures some { IfSome result (λ area. HasClaimed area self) }
+        ensures none { IfNone result ((area : ℕ) → HasClaimed area self → ⊥) }
+    {
+        match self {
+            ActorState::Asks(area) | ActorState::Holds(area, _) => Some(area),
+            ActorState::Idle | ActorState::Looked(_) => None,
+        }
+    }
+}
+
 /// Where the desk is on its way to the next version.
 #[derive(Clone, Copy, Debug, PartialEq, Eq)]
 pub enum DeskState {

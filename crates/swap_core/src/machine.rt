@@ -185,7 +185,7 @@ impl Core {
         if at >= self.actors.len() {
             return no(NotNow::Stranger);
         }
-        let (ActorState::Asks(area) | ActorState::Holds(area, _)) = self.actors[at].state else {
+        let Some(area) = self.actors[at].state.claimed() else {
             return no(NotNow::Phase);
         };
         self.actors[at].state = ActorState::Idle;
