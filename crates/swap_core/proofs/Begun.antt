@@ -9,6 +9,7 @@ use Rattle.swap_core.specs.Plans.{Tables, IsPlan, table, width, limit}
 use Rattle.swap_core.specs.States.{CoreState, area, newcomer, opening, row_of}
 use Rattle.swap_core.specs.Sound.{Sound, HoldsRightly, IsDrawRight, Begins, times, how_many}
 use Rattle.swap_core.specs.declared.actors.Actor.{Actor}
+use Rattle.swap_core.specs.declared.actors.DeskState.TheVariants.{Resting}
 use Rattle.swap_core.proofs.ListLemmas.{at_replicate}
 use Rattle.swap_core.proofs.PlanLemmas.{table_fits}
 use Rattle.swap_core.proofs.Moves.{weight}
@@ -59,3 +60,18 @@ opening_sound plan actors h =
     right who x at =
         let P : Actor → Type 0 = λ z. HoldsRightly (opening plan actors) z.state × All (IsDrawRight (opening plan actors)) z.draws in
         subst P (at_replicate actors newcomer x who at) (tt, All-nil (IsDrawRight (opening plan actors)))
+
+-- what the opening is made of
+pub opened : (plan : Tables) (n : ℕ) (first second : List ℕ) (actors : List Actor) (points : List ℕ)
+    → first ≡ row_of (width plan) (table plan 0) → second ≡ row_of (width plan) [] → actors ≡ replicate n newcomer → points ≡ []
+    → (let made : CoreState = record {
+      plan = plan; version = 0; records = 0; counts = 0 ∷ 0 ∷ []; areas = first ∷ second ∷ [];
+      actors = actors; desk = Resting; points = points;
+    } in made) ≡ opening plan n
+opened plan n first second actors points is_first is_second are_actors no_points =
+    let empty : second ≡ replicate (width plan) 0 =
+    is_second ∙ ap (λ (k : ℕ). replicate k 0) (let all : width plan - 0 ≡ width plan = omega arith in all) in
+    λ i. record {
+      plan = plan; version = 0; records = 0; counts = 0 ∷ 0 ∷ []; areas = is_first i ∷ empty i ∷ [];
+      actors = are_actors i; desk = Resting; points = no_points i;
+    }

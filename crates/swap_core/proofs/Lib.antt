@@ -1,5 +1,6 @@
 pub mod Answering
 pub mod Begun
+pub mod Bounds
 pub mod DeskMoves
 pub mod Drawing
 pub mod Kept

@@ -110,6 +110,12 @@ after c step.Publish = publish c c.desk
 abbrev pub after_all : CoreState → List Step → CoreState
 after_all c steps = fold (λ (b : CoreState) s. (after b s).core) c steps
 
+-- a step that lengthens a list, for which memory may be wanting
+abbrev pub TakesMemory : Step → Type 0
+TakesMemory (step.Draw who) = Unit {0}
+TakesMemory step.Publish = Unit {0}
+TakesMemory _ = ⊥
+
 -- this is the answer and the state after the step
 abbrev pub IsAnswer : Outcome → Took → CoreState → Type 0
 IsAnswer o took core = (took ≡ o.took) × (core ≡ o.core)

@@ -72,12 +72,6 @@ impl Draws {
         self.list.push((number, version))?;
         Ok(())
     }
-
-    pub fn as_slice(&self) -> &[(u32, u32)]
-        ensures { result.now ≡ self.now }
-    {
-        &self.list
-    }
 }
 
 /// One who claims tables and draws numbers.

@@ -1,8 +1,8 @@
 // The machine: its state, and its steps.
-ghost use Rattle.std.specs.Prelude.{◌≡◌, ◌≤◌, ℕ, IfOk, OnOk, OnErr, length, replicate, take};
+ghost use Rattle.std.specs.Prelude.{◌≡◌, ◌<◌, ℕ, IfOk, OnOk, OnErr, length, replicate, take};
 ghost use Rattle.swap_core.specs.Plans.{width};
 ghost use Rattle.swap_core.specs.States.{row_of, newcomer, opening};
-ghost use Rattle.swap_core.specs.Steps.{Outcome, after, after_all, IsAnswer};
+ghost use Rattle.swap_core.specs.Steps.{Outcome, TakesMemory, after, after_all, IsAnswer};
 ghost use Rattle.swap_core.specs.declared.steps.Step.TheVariants as step;
 ghost use Rattle.swap_core.specs.declared.steps.Took.TheVariants as took;
 
@@ -66,6 +66,7 @@ impl Core {
     pub fn step(&mut self, step: Step) -> Result<Took, OutOfMemory>
         ensures answer { IfOk result (λ took. IsAnswer (after self.old step) took self.new) }
         ensures unchanged { OnErr result (self.new ≡ self.old) }
+        ensures memory { OnErr result (TakesMemory step) }
     {
         match step {
             Step::Look { who } => Ok(self.look(who)),
@@ -84,7 +85,7 @@ impl Core {
     /// The steps in order. After want of memory a prefix of them was taken.
     pub fn run(&mut self, steps: &[Step]) -> Result<(), OutOfMemory>
         ensures all { OnOk result (self.new ≡ after_all self.old steps.now) }
-        ensures prefix { OnErr result ((k : ℕ) × (k ≤ length steps.now) × (self.new ≡ after_all self.old (take k steps.now))) }
+        ensures prefix { OnErr result ((k : ℕ) × (k < length steps.now) × (self.new ≡ after_all self.old (take k steps.now))) }
     {
         'steps: for step in steps {
             self.step(*step)?;
@@ -132,7 +133,8 @@ impl Core {
         let ActorState::Asks(area) = self.actors[at].state else {
             return no(NotNow::Phase);
         };
-        if self.version % 2 != area {
+        let in_force = self.version % 2;
+        if in_force != area {
             return no(NotNow::Moved);
         }
         self.actors[at].state = ActorState::Holds(area, self.version);
@@ -166,11 +168,13 @@ impl Core {
         let ActorState::Holds(_, version) = self.actors[at].state else {
             return Ok(no(NotNow::Phase));
         };
-        if self.version != version {
+        let in_force = self.version;
+        if in_force != version {
             return Ok(no(NotNow::Moved));
         }
         let number = self.records;
-        if number == self.plan.limit(version) {
+        let limit = self.plan.limit(version);
+        if number == limit {
             return Ok(no(NotNow::Hold));
         }
         self.actors[at].draws.push(number, version)?;
@@ -216,7 +220,8 @@ impl Core {
         let DeskState::Ready = self.desk else {
             return no(NotNow::Phase);
         };
-        if self.counts[((self.version + 1) % 2) as usize] != 0 {
+        let claims = self.counts[((self.version + 1) % 2) as usize];
+        if claims != 0 {
             return no(NotNow::Claimed);
         }
         self.desk = DeskState::Writing(0);
@@ -247,7 +252,8 @@ impl Core {
         let DeskState::Writing(place) = self.desk else {
             return Ok(no(NotNow::Phase));
         };
-        if (place as usize) < self.plan.words(self.version + 1).len() {
+        let written = place as usize;
+        if written < self.plan.words(self.version + 1).len() {
             return Ok(no(NotNow::Phase));
         }
         self.points.push(self.records)?;
@@ -281,4 +287,109 @@ fn newcomers(alloc: Global, count: u32) -> Result<Vec<Actor>, OutOfMemory>
         })?;
     }
     Ok(actors)
+}
+
+#[cfg(test)]
+mod tests {
+    use super::*;
+    use crate::plan::Window;
+    use aftr_base::WordList;
+    use std::test::Fail;
+
+    const LOOK: Step = Step::Look { who: 0 };
+    const ENTER: Step = Step::Enter { who: 0 };
+    const CONFIRM: Step = Step::Confirm { who: 0 };
+    const DRAW: Step = Step::Draw { who: 0 };
+    const LEAVE: Step = Step::Leave { who: 0 };
+
+    fn read(place: u32) -> Step {
+        Step::Read { who: 0, place }
+    }
+
+    // A table of one word.
+    fn one_word(alloc: Global, word: u64) -> Result<WordList, OutOfMemory>
+        ensures { IfOk result (λ words. words ≡ word ∷ []) }
+    {
+        let mut list = Vec::new(alloc);
+        list.push(word)?;
+        Ok(WordList::of(list))
+    }
+
+    #[test]
+    fn one_table_and_one_actor(rt: HostRuntime) -> Result<(), Fail> {
+        let plan = Plan::of(rt.alloc(), one_word(rt.alloc(), 7)?)?;
+        assert_eq!(rt; (plan.len(), plan.limit(0)), (1, 1 << 31));
+        let mut core = Core::opening(rt.alloc(), plan, 1)?;
+        let table = [
+            (DRAW, no(NotNow::Phase)),
+            (Step::Look { who: 1 }, no(NotNow::Stranger)),
+            (LOOK, yes(0)),
+            (ENTER, yes(0)),
+            (CONFIRM, yes(0)),
+            (read(1), no(NotNow::Past)),
+            (read(0), yes(7)),
+            (Step::Due, no(NotNow::NoLoad)),
+        ];
+        for (step, took) in table {
+            assert_eq!(rt; core.step(step)?, took, "{step:?}");
+        }
+        Ok(())
+    }
+
+    #[test]
+    fn a_window_holds_the_draws(rt: HostRuntime) -> Result<(), Fail> {
+        let mut plan = Plan::of(rt.alloc(), one_word(rt.alloc(), 7)?)?;
+        let window = Window {
+            earliest: 1,
+            latest: 1,
+        };
+        plan.add(window, one_word(rt.alloc(), 8)?)?;
+        assert_eq!(rt; (plan.len(), plan.limit(0), plan.limit(1)), (2, 1, 1 << 31));
+        assert_eq!(rt; (plan.window(1), plan.words(1)[0]), (window, 8));
+        let mut core = Core::opening(rt.alloc(), plan, 1)?;
+        core.run(&[LOOK, ENTER, CONFIRM])?;
+        let table = [
+            (Step::Due, no(NotNow::Later)),
+            (DRAW, yes(0)),
+            (DRAW, no(NotNow::Hold)),
+            (Step::Due, yes(0)),
+        ];
+        for (step, took) in table {
+            assert_eq!(rt; core.step(step)?, took, "{step:?}");
+        }
+        Ok(())
+    }
+
+    #[test]
+    fn a_table_changes_under_its_reader(rt: HostRuntime) -> Result<(), Fail> {
+        let mut plan = Plan::of(rt.alloc(), one_word(rt.alloc(), 7)?)?;
+        let window = Window {
+            earliest: 0,
+            latest: 9,
+        };
+        plan.add(window, one_word(rt.alloc(), 8)?)?;
+        plan.add(window, one_word(rt.alloc(), 9)?)?;
+        let mut core = Core::opening(rt.alloc(), plan, 1)?;
+        let table = [
+            (LOOK, yes(0)),
+            (ENTER, yes(0)),
+            (CONFIRM, yes(0)),
+            (DRAW, yes(0)),
+            (Step::Due, yes(0)),
+            (Step::Count, yes(0)),
+            (Step::Publish, no(NotNow::Phase)),
+            (Step::Write, yes(0)),
+            (Step::Publish, yes(1)),
+            (DRAW, no(NotNow::Moved)),
+            (read(0), yes(7)),
+            (Step::Due, yes(0)),
+            (Step::Count, no(NotNow::Claimed)),
+            (LEAVE, yes(0)),
+            (Step::Count, yes(0)),
+        ];
+        for (step, took) in table {
+            assert_eq!(rt; core.step(step)?, took, "{step:?}");
+        }
+        Ok(())
+    }
 }

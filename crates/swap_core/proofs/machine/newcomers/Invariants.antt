@@ -3,4 +3,4 @@ use Rattle.swap_core.specs.States.{newcomer}
 use Rattle.swap_core.proofs.machine.newcomers.Given as goal
 
 abbrev pub invariant-actors : goal.invariant-actors
-invariant-actors l = l.actors.items ≡ replicate l.yielded newcomer
+invariant-actors l = l.actors.items ≡ replicate l.counter newcomer

@@ -26,12 +26,12 @@ returns-in_default c =
     (at_index c.self.inside.actors.items c.args.who c.index.result.now (omega (arith, c.self.inside.actors.ok.0)) c.index.ensures)
     refl (confirm_else (state_of c.self.inside) c.args.who c.index.result.now c.index.result.now.state c.in_default.not-Asks) c.no-in_default.ensures
 
-pub returns-then-self-area : goal.returns-then-self-area
-returns-then-self-area c =
-    stays (λ b. confirm b c.args.who) (state_of c.self.inside) c.args.self.now c.args.who c.index.result.now (Asks c.in-Asks.area) _ c.no-then-self-area.result
+pub returns-then-in_force-area : goal.returns-then-in_force-area
+returns-then-in_force-area c =
+    stays (λ b. confirm b c.args.who) (state_of c.self.inside) c.args.self.now c.args.who c.index.result.now (Asks c.in-Asks.area) _ c.no-then-in_force-area.result
     c.self.view_is
     (at_index c.self.inside.actors.items c.args.who c.index.result.now (omega (arith, c.self.inside.actors.ok.0)) c.index.ensures)
-    c.in-Asks.is (confirm_moved (state_of c.self.inside) c.args.who c.index.result.now c.in-Asks.area c.if-self-area.true) c.no-then-self-area.ensures
+    c.in-Asks.is (confirm_moved (state_of c.self.inside) c.args.who c.index.result.now c.in-Asks.area c.if-in_force-area.true) c.no-then-in_force-area.ensures
 
 pub invariant_of-self : goal.invariant_of-self
 invariant_of-self c =
@@ -40,7 +40,7 @@ invariant_of-self c =
     same_read c.self.inside.actors.items c.args.who c.index_mut.result.now c.index.result.now below c.index_mut.ensures.value c.index.ensures in
     confirms_sound (state_of c.self.inside) c.args.who c.index_mut.result.now c.in-Asks.area c.self.invariant
     (at_index c.self.inside.actors.items c.args.who c.index_mut.result.now below c.index_mut.ensures.value)
-    (ap (λ (x : Actor). x.state) same ∙ c.in-Asks.is) c.if-self-area.false
+    (ap (λ (x : Actor). x.state) same ∙ c.in-Asks.is) c.if-in_force-area.false
 
 pub returns : goal.returns
 returns c =
@@ -52,5 +52,5 @@ returns c =
     (ap (λ (x : Actor). x.state) same ∙ c.in-Asks.is)
     (taken (confirmed (state_of c.self.inside) c.args.who c.index_mut.result.now c.in-Asks.area)
     (confirm (state_of c.self.inside) c.args.who c.index_mut.result.now (Asks c.in-Asks.area)) c.self.inside.version c.yes.result
-    (confirm_held (state_of c.self.inside) c.args.who c.index_mut.result.now c.in-Asks.area c.if-self-area.false)
+    (confirm_held (state_of c.self.inside) c.args.who c.index_mut.result.now c.in-Asks.area c.if-in_force-area.false)
     (c.yes.ensures ∙ ap Yes c.from.ensures))

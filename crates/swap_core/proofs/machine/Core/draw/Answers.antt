@@ -31,26 +31,26 @@ returns-in_default c =
       unchanged = tt;
     }
 
-pub returns-then-self-version-clause-answer : goal.returns-then-self-version-clause-answer
-returns-then-self-version-clause-answer c =
-    stays (λ b. draw b c.args.who) (state_of c.self.inside) c.args.self.now c.args.who c.index.result.now (Holds c.in-Holds.field-0 c.in-Holds.version) _ c.no-then-self-version.result
+pub returns-then-in_force-version-clause-answer : goal.returns-then-in_force-version-clause-answer
+returns-then-in_force-version-clause-answer c =
+    stays (λ b. draw b c.args.who) (state_of c.self.inside) c.args.self.now c.args.who c.index.result.now (Holds c.in-Holds.field-0 c.in-Holds.version) _ c.no-then-in_force-version.result
     c.self.view_is
     (at_index c.self.inside.actors.items c.args.who c.index.result.now (omega (arith, c.self.inside.actors.ok.0)) c.index.ensures)
-    c.in-Holds.is (draw_moved (state_of c.self.inside) c.args.who c.index.result.now c.in-Holds.field-0 c.in-Holds.version c.if-self-version.true) c.no-then-self-version.ensures
+    c.in-Holds.is (draw_moved (state_of c.self.inside) c.args.who c.index.result.now c.in-Holds.field-0 c.in-Holds.version c.if-in_force-version.true) c.no-then-in_force-version.ensures
 
 pub returns-then-number-limit-clause-answer : goal.returns-then-number-limit-clause-answer
 returns-then-number-limit-clause-answer c =
     stays (λ b. draw b c.args.who) (state_of c.self.inside) c.args.self.now c.args.who c.index.result.now (Holds c.in-Holds.field-0 c.in-Holds.version) _ c.no-then-number-limit.result
     c.self.view_is
     (at_index c.self.inside.actors.items c.args.who c.index.result.now (omega (arith, c.self.inside.actors.ok.0)) c.index.ensures)
-    c.in-Holds.is (draw_hold (state_of c.self.inside) c.args.who c.index.result.now c.in-Holds.field-0 c.in-Holds.version c.if-self-version.false
-    (c.if-number-limit.true ∙ c.limit.ensures ∙ ap (λ (v : ℕ). limit c.self.inside.plan v) (sym c.if-self-version.false))) c.no-then-number-limit.ensures
+    c.in-Holds.is (draw_hold (state_of c.self.inside) c.args.who c.index.result.now c.in-Holds.field-0 c.in-Holds.version c.if-in_force-version.false
+    (c.if-number-limit.true ∙ c.limit-limit.ensures ∙ ap (λ (v : ℕ). limit c.self.inside.plan v) (sym c.if-in_force-version.false))) c.no-then-number-limit.ensures
 
 pub invariant_of-self-2 : goal.invariant_of-self-2
 invariant_of-self-2 c =
     let below : c.args.who < length c.self.inside.actors.items = omega (arith, c.self.inside.actors.ok.0) in
-    let at_limit : c.limit.result ≡ limit c.self.inside.plan c.self.inside.version =
-    c.limit.ensures ∙ ap (λ (v : ℕ). limit c.self.inside.plan v) (sym c.if-self-version.false) in
+    let at_limit : c.limit-limit.result ≡ limit c.self.inside.plan c.self.inside.version =
+    c.limit-limit.ensures ∙ ap (λ (v : ℕ). limit c.self.inside.plan v) (sym c.if-in_force-version.false) in
     let room : c.self.inside.records < limit c.self.inside.plan c.self.inside.version =
     omega (arith, c.self.invariant.within, c.if-number-limit.false) in
     let h : Sound (drawn (state_of c.self.inside) c.args.who c.index_mut.result.now) =
@@ -59,7 +59,7 @@ invariant_of-self-2 c =
     let P : List (ℕ × ℕ) → Type 0 = λ ds. Sound (record (with_actor (state_of c.self.inside) c.args.who
     (record { state = c.index_mut.result.now.state; draws = ds })) { records = c.self.inside.records + 1 }) in
     let pushed : c.push.new.self ≡ c.index_mut.result.now.draws ++ (c.self.inside.records, c.self.inside.version) ∷ [] =
-    c.in_ok-push.ensures ∙ ap (λ (v : ℕ). c.index_mut.result.now.draws ++ (c.self.inside.records, v) ∷ []) (sym c.if-self-version.false) in
+    c.in_ok-push.ensures ∙ ap (λ (v : ℕ). c.index_mut.result.now.draws ++ (c.self.inside.records, v) ∷ []) (sym c.if-in_force-version.false) in
     subst P (sym pushed) h
 
 pub returns-clause-answer : goal.returns-clause-answer
@@ -67,10 +67,10 @@ returns-clause-answer c =
     let below : c.args.who < length c.self.inside.actors.items = omega (arith, c.self.inside.actors.ok.0) in
     let same : c.index_mut.result.now ≡ c.index.result.now =
     same_read c.self.inside.actors.items c.args.who c.index_mut.result.now c.index.result.now below c.index_mut.ensures.value c.index.ensures in
-    let at_limit : c.limit.result ≡ limit c.self.inside.plan c.self.inside.version =
-    c.limit.ensures ∙ ap (λ (v : ℕ). limit c.self.inside.plan v) (sym c.if-self-version.false) in
+    let at_limit : c.limit-limit.result ≡ limit c.self.inside.plan c.self.inside.version =
+    c.limit-limit.ensures ∙ ap (λ (v : ℕ). limit c.self.inside.plan v) (sym c.if-in_force-version.false) in
     let pushed : c.push.new.self ≡ c.index_mut.result.now.draws ++ (c.self.inside.records, c.self.inside.version) ∷ [] =
-    c.in_ok-push.ensures ∙ ap (λ (v : ℕ). c.index_mut.result.now.draws ++ (c.self.inside.records, v) ∷ []) (sym c.if-self-version.false) in
+    c.in_ok-push.ensures ∙ ap (λ (v : ℕ). c.index_mut.result.now.draws ++ (c.self.inside.records, v) ∷ []) (sym c.if-in_force-version.false) in
     let P : List (ℕ × ℕ) → Type 0 = λ ds. IsAnswer (by_actor c.args.self.now (get_elem? c.args.self.now.actors c.args.who) (draw c.args.self.now c.args.who))
     c.yes.result (record (with_actor (state_of c.self.inside) c.args.who
     (record { state = c.index_mut.result.now.state; draws = ds })) { records = c.self.inside.records + 1 }) in
@@ -80,6 +80,6 @@ returns-clause-answer c =
     (ap (λ (x : Actor). x.state) same ∙ c.in-Holds.is)
     (taken (drawn (state_of c.self.inside) c.args.who c.index_mut.result.now)
     (draw (state_of c.self.inside) c.args.who c.index_mut.result.now (Holds c.in-Holds.field-0 c.in-Holds.version)) c.self.inside.records c.yes.result
-    (draw_next (state_of c.self.inside) c.args.who c.index_mut.result.now c.in-Holds.field-0 c.in-Holds.version c.if-self-version.false
+    (draw_next (state_of c.self.inside) c.args.who c.index_mut.result.now c.in-Holds.field-0 c.in-Holds.version c.if-in_force-version.false
     (λ e. c.if-number-limit.false (e ∙ sym at_limit)))
     (c.yes.ensures ∙ ap Yes c.from.ensures)))
