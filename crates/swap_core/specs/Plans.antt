@@ -49,3 +49,10 @@ pub record IsPlan (p : Tables) : Type 0 where
   pub each_window : All IsWindow p.windows
   pub rising : (k : ℕ) → k + 1 < length p.windows
       → IsNotBefore (slice_index_or p.windows (k + 1) always) (slice_index_or p.windows k always)
+
+-- a table and its window may come behind those of the plan
+pub record MayFollow (p : Tables) (next : Window) (words : List ℕ) : Type 0 where
+  pub room : length p.tables < 256
+  pub size : IsTableSize words
+  pub opens : IsWindow next
+  pub not_before : (k : ℕ) → k + 1 ≡ length p.windows → IsNotBefore next (slice_index_or p.windows k always)

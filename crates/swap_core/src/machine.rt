@@ -1,5 +1,5 @@
 // The machine: its state, and its steps.
-ghost use Rattle.std.specs.Prelude.{◌≡◌, ◌<◌, ℕ, IfOk, OnOk, OnErr, length, replicate, take};
+ghost use Rattle.std.specs.Prelude.{◌≡◌, ◌<◌, ℕ, [], ◌∷◌, IfOk, OnOk, OnErr, length, replicate, take};
 ghost use Rattle.swap_core.specs.Plans.{width};
 ghost use Rattle.swap_core.specs.States.{row_of, newcomer, opening};
 ghost use Rattle.swap_core.specs.Steps.{Outcome, TakesMemory, after, after_all, IsAnswer};

@@ -1,6 +1,6 @@
 // The tables that come into force one after another, and when each may.
 ghost use Rattle.std.specs.Prelude.{◌≡◌, ◌≤◌, ◌<◌, [], ◌∷◌, IfOk, is_ok, if◌then◌else◌, length};
-ghost use Rattle.swap_core.specs.Plans.{IsPlan, IsTableSize, Tables, limit as limit_of, longer, table, window as window_of, width};
+ghost use Rattle.swap_core.specs.Plans.{IsPlan, IsTableSize, MayFollow, limit as limit_of, longer, table, window as window_of, width};
 
 use aftr_base::{OutOfMemory, WordList};
 use std::alloc::Global;
@@ -47,7 +47,7 @@ impl Plan {
 
     /// One table more, for the end. After want of memory the plan is as before.
     pub fn add(&mut self, window: Window, words: WordList) -> Result<(), OutOfMemory>
-        requires { IsPlan (longer self.old window words) }
+        requires { MayFollow self.old window words }
         ensures { self.new ≡ (if is_ok result then longer self.old window words else self.old) }
     {
         self.windows.reserve(1)?;
