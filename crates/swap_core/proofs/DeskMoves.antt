@@ -1,0 +1,267 @@
+-- The steps of the desk: it waits, finds the spare area free, writes the next table there, and puts it into force.
+use Rattle.std.proofs.Common.{◌≡◌, ℕ, ◌+◌, ◌-◌, ◌%◌, ◌<◌, ◌≤◌, ◌≢◌, ◌⊎◌, Bool, true, false, cond, eqb, nat_le, nat_lt, All, List, [], ◌∷◌, ◌++◌, length, get_or, set, sum_by, count_by, slice_index, subst, sym, refl, ap, ◌∙◌, arith, inl, inr, eq-eqb, ne_eqb, lt-ltb, le-ltb, leb-false, suc, zero, length-set, get_or-set_same, get_or-set_other}
+use mathlib.Core.Option.{some}
+use lib.ListN.{get_elem?}
+use borrow.Author.Tests.{lt-leb}
+use Rattle.std.proofs.lemmas.Bool.{cases_eq, cases_lt}
+use Rattle.std.proofs.lemmas.List.{length_push, get_or_push, get_or_append_left}
+use Rattle.std.proofs.lemmas.List.Elements.{All-weaker}
+use Rattle.std.proofs.lemmas.List.Sums.{sum_by_push}
+use Rattle.swap_core.specs.Plans.{limit, table, window, width}
+use Rattle.swap_core.specs.States.{CoreState, IsActor, area, count_of, spare, next_table, with_desk, written, published}
+use Rattle.swap_core.specs.Sound.{Sound, HoldsRightly, IsWriting, IsAtWork, IsDrawRight, Begins, BeginsWith, in_force}
+use Rattle.swap_core.specs.declared.actors.Actor.{Actor}
+use Rattle.swap_core.specs.declared.actors.ActorState.{ActorState}
+use Rattle.swap_core.specs.declared.actors.ActorState.TheVariants.{Idle, Looked, Asks, Holds}
+use Rattle.swap_core.specs.declared.actors.DeskState.{DeskState}
+use Rattle.swap_core.specs.declared.actors.DeskState.TheVariants.{Resting, Ready, Writing}
+use Rattle.swap_core.proofs.ListLemmas.{at_set}
+use Rattle.swap_core.proofs.PlanLemmas.{limit_before, limit_rises, table_fits}
+use Rattle.swap_core.proofs.Moves.{counted_there}
+
+-- the desk's state changes, and nothing else
+pub desk_moves : (c : CoreState) (d : DeskState) → Sound c
+    → ((j : ℕ) → d ≡ Writing j → (j ≤ length (next_table c)) × BeginsWith j (next_table c) (area c (spare c)))
+    → ((IsWriting d → ⊥) → IsWriting c.desk → ⊥)
+    → ((who : ℕ) (x : Actor) → IsActor c who x → HoldsRightly (with_desk c d) x.state)
+    → (IsAtWork d → (c.version + 1 < length c.plan.tables) × ((window c.plan (c.version + 1)).earliest ≤ c.records))
+    → Sound (with_desk c d)
+desk_moves c d h writing before held next =
+    record {
+      planned = h.planned;
+      there = h.there;
+      two_counts = h.two_counts;
+      two_areas = h.two_areas;
+      rows = h.rows;
+      counted = h.counted;
+      current = h.current;
+      writing = writing;
+      before = λ n. h.before (before n);
+      held = held;
+      next = next;
+      pointed = h.pointed;
+      rising = h.rising;
+      reached = h.reached;
+      in_window = h.in_window;
+      each_once = h.each_once;
+      all_drawn = h.all_drawn;
+      under = h.under;
+      within = h.within;
+    }
+
+-- what is held stays so while the desk writes neither before nor after
+held_still : (c : CoreState) (d : DeskState) (s : ActorState) → (IsWriting d → ⊥) → HoldsRightly c s → HoldsRightly (with_desk c d) s
+held_still c d Idle n r = tt
+held_still c d (Looked v) n r = tt
+held_still c d (Asks a) n r = r
+held_still c d (Holds a w) n r = (r.0, elim r.1 [ inl e ↦ inl e | inr t ↦ inr (t.0, n) ])
+
+-- the next table's window is reached
+pub due_sound : (c : CoreState) → Sound c → (IsWriting c.desk → ⊥) → c.version + 1 < length c.plan.tables
+    → (window c.plan (c.version + 1)).earliest ≤ c.records → Sound (with_desk c Ready)
+due_sound c h still more reached =
+    desk_moves c Ready h (λ j e. cc) (λ _. still)
+    (λ who x at. held_still c Ready x.state (λ w. w) (h.held who x at)) (λ _. (more, reached))
+
+-- the desk rests
+pub rests_sound : (c : CoreState) → Sound c → (IsWriting c.desk → ⊥) → Sound (with_desk c Resting)
+rests_sound c h still =
+    desk_moves c Resting h (λ j e. cc) (λ _. still)
+    (λ who x at. held_still c Resting x.state (λ w. w) (h.held who x at)) (λ w. absurd w)
+
+-- nobody has claimed the spare area, so who holds a version holds the one in force
+pub count_sound : (c : CoreState) → Sound c → c.desk ≡ Ready → count_of c (spare c) ≡ 0 → Sound (with_desk c (Writing 0))
+count_sound c h ready none =
+    desk_moves c (Writing 0) h writing (λ n _. n tt) (λ who x at. held who x x.state at refl (h.held who x at))
+    (λ _. h.next (let P : DeskState → Type 0 = IsAtWork in subst P (sym ready) tt))
+  where
+    writing : (j : ℕ) → Writing 0 ≡ Writing j → (j ≤ length (next_table c)) × BeginsWith j (next_table c) (area c (spare c))
+    writing j e =
+        let zero_words : 0 ≡ j = cc in
+        (omega arith, λ k l. absurd (omega arith))
+
+    held : (who : ℕ) (x : Actor) (s : ActorState) → IsActor c who x → x.state ≡ s → HoldsRightly c s
+        → HoldsRightly (with_desk c (Writing 0)) s
+    held who x Idle at e r = tt
+    held who x (Looked v) at e r = tt
+    held who x (Asks a) at e r = r
+    held who x (Holds a w) at e r =
+        (r.0, elim r.1 [
+          | inl now ↦ inl now
+          | inr t ↦
+              let claimed : 1 ≤ count_of c a = counted_there c who x a h at (inr (w, e)) in
+              let there : a ≡ spare c = omega (arith, r.0, t.0) in
+              let same : count_of c a ≡ count_of c (spare c) = ap (λ (n : ℕ). count_of c n) there in
+              absurd (omega arith)
+        ])
+
+-- one word more of the next table
+pub write_sound : (c : CoreState) (j : ℕ) → Sound c → c.desk ≡ Writing j → j < length (next_table c) → Sound (written c j)
+write_sound c j h desk more =
+    record {
+      planned = h.planned;
+      there = h.there;
+      two_counts = h.two_counts;
+      two_areas = length-set c.areas (spare c) row ∙ h.two_areas;
+      rows = rows;
+      counted = h.counted;
+      current = λ k l. ap (λ (r : List ℕ). slice_index r k) (elsewhere (c.version % 2) (omega arith)) ∙ h.current k l;
+      writing = writing;
+      before = λ n. absurd (n tt);
+      held = λ who x at. held x.state (h.held who x at);
+      next = λ _. h.next at_work;
+      pointed = h.pointed;
+      rising = h.rising;
+      reached = h.reached;
+      in_window = h.in_window;
+      each_once = h.each_once;
+      all_drawn = h.all_drawn;
+      under = h.under;
+      within = h.within;
+    }
+  where
+    row : List ℕ
+    row = set (area c (spare c)) j (slice_index (next_table c) j)
+
+    at_work : IsAtWork c.desk
+    at_work = let P : DeskState → Type 0 = IsAtWork in subst P (sym desk) tt
+
+    busy : IsWriting c.desk
+    busy = let P : DeskState → Type 0 = IsWriting in subst P (sym desk) tt
+
+    elsewhere : (a : ℕ) → a ≢ spare c → area (written c j) a ≡ area c a
+    elsewhere a n = get_or-set_other c.areas (spare c) a row [] n
+
+    here : area (written c j) (spare c) ≡ row
+    here =
+        let inside : spare c < length c.areas = omega (arith, h.two_areas) in
+        get_or-set_same c.areas (spare c) row [] inside
+
+    rows : (a : ℕ) → a < 2 → length (area (written c j) a) ≡ width c.plan
+    rows a l =
+        elim (cases_eq a (spare c)) [
+          | inl e ↦
+              ap (λ (b : ℕ). length (area (written c j) b)) e ∙ ap (λ (r : List ℕ). length r) here
+              ∙ length-set (area c (spare c)) j (slice_index (next_table c) j) ∙ h.rows (spare c) (omega arith)
+          | inr n ↦ ap (λ (r : List ℕ). length r) (elsewhere a n) ∙ h.rows a l
+        ]
+
+    writing : (i : ℕ) → Writing (j + 1) ≡ Writing i
+        → (i ≤ length (next_table c)) × BeginsWith i (next_table c) (area (written c j) (spare c))
+    writing i e =
+        let same : j + 1 ≡ i = cc in
+        (omega arith, λ k l.
+        ap (λ (r : List ℕ). slice_index r k) here
+        ∙ elim (cases_eq k j) [
+          | inl now ↦
+              let inside : j < length (area c (spare c)) = omega (arith, h.rows (spare c) (omega arith), table_fits c.plan (c.version + 1)) in
+              ap (λ (n : ℕ). slice_index row n) now ∙ get_or-set_same (area c (spare c)) j (slice_index (next_table c) j) 0 inside
+              ∙ ap (λ (n : ℕ). slice_index (next_table c) n) (sym now)
+          | inr n ↦
+              let below : k < j = omega arith in
+              get_or-set_other (area c (spare c)) j k (slice_index (next_table c) j) 0 n ∙ (h.writing j desk).1 k below
+        ])
+
+    held : (s : ActorState) → HoldsRightly c s → HoldsRightly (written c j) s
+    held Idle r = tt
+    held (Looked v) r = tt
+    held (Asks a) r = r
+    held (Holds a w) r = (r.0, elim r.1 [ inl e ↦ inl e | inr t ↦ absurd (t.1 busy) ])
+
+-- the next table is in force
+pub publish_sound : (c : CoreState) (j : ℕ) → Sound c → c.desk ≡ Writing j → length (next_table c) ≤ j → Sound (published c)
+publish_sound c j h desk done =
+    record {
+      planned = h.planned;
+      there = (h.next at_work).0;
+      two_counts = h.two_counts;
+      two_areas = h.two_areas;
+      rows = h.rows;
+      counted = h.counted;
+      current = λ k l. (h.writing j desk).1 k (omega arith);
+      writing = λ i e. cc;
+      before = before;
+      held = λ who x at. held x.state (h.held who x at);
+      next = λ w. absurd w;
+      pointed = length_push c.points c.records ∙ ap (λ (n : ℕ). n + 1) h.pointed;
+      rising = rising;
+      reached = reached;
+      in_window = in_window;
+      each_once = h.each_once;
+      all_drawn = h.all_drawn;
+      under = λ who x at. All-weaker (IsDrawRight c) (IsDrawRight (published c)) older x.draws (h.under who x at);
+      within = omega (arith, h.within, limit_rises c.plan c.version h.planned);
+    }
+  where
+    at_work : IsAtWork c.desk
+    at_work = let P : DeskState → Type 0 = IsAtWork in subst P (sym desk) tt
+
+    busy : IsWriting c.desk
+    busy = let P : DeskState → Type 0 = IsWriting in subst P (sym desk) tt
+
+    before : (IsWriting Resting → ⊥) → (w : ℕ) → w + 1 ≡ c.version + 1 → Begins (table c.plan w) (area c (w % 2))
+    before _ w e =
+        let same : c.version ≡ w = omega arith in
+        let P : ℕ → Type 0 = λ v. Begins (table c.plan v) (area c (v % 2)) in
+        subst P same h.current
+
+    held : (s : ActorState) → HoldsRightly c s → HoldsRightly (published c) s
+    held Idle r = tt
+    held (Looked v) r = tt
+    held (Asks a) r = r
+    held (Holds a w) r =
+        (r.0, elim r.1 [ inl e ↦ inr (ap (λ (n : ℕ). n + 1) e, λ w. w) | inr t ↦ absurd (t.1 busy) ])
+
+    old_point : (k : ℕ) → k < length c.points → slice_index (c.points ++ c.records ∷ []) k ≡ slice_index c.points k
+    old_point k l = get_or_append_left c.points (c.records ∷ []) 0 k l
+
+    new_point : (k : ℕ) → length c.points ≡ k → slice_index (c.points ++ c.records ∷ []) k ≡ c.records
+    new_point k e = get_or_push c.points c.records 0 k e
+
+    longer : length (c.points ++ c.records ∷ []) ≡ length c.points + 1
+    longer = length_push c.points c.records
+
+    rising : (k : ℕ) → k + 1 < length (c.points ++ c.records ∷ [])
+        → slice_index (c.points ++ c.records ∷ []) k ≤ slice_index (c.points ++ c.records ∷ []) (k + 1)
+    rising k l =
+        let inside : k < length c.points = omega (arith, longer) in
+        elim (cases_lt (k + 1) (length c.points)) [
+          | inl m ↦ omega (arith, old_point k inside, old_point (k + 1) m, h.rising k m)
+          | inr m ↦
+              let last : length c.points ≡ k + 1 = omega (arith, longer) in
+              omega (arith, old_point k inside, new_point (k + 1) last, h.reached k inside)
+        ]
+
+    reached : (k : ℕ) → k < length (c.points ++ c.records ∷ []) → slice_index (c.points ++ c.records ∷ []) k ≤ c.records
+    reached k l =
+        elim (cases_lt k (length c.points)) [
+          | inl m ↦ omega (arith, old_point k m, h.reached k m)
+          | inr m ↦ let last : length c.points ≡ k = omega (arith, longer) in omega (arith, new_point k last)
+        ]
+
+    in_window : (k : ℕ) → k < length (c.points ++ c.records ∷ [])
+        → ((window c.plan (k + 1)).earliest ≤ slice_index (c.points ++ c.records ∷ []) k)
+        × (slice_index (c.points ++ c.records ∷ []) k ≤ (window c.plan (k + 1)).latest)
+    in_window k l =
+        elim (cases_lt k (length c.points)) [
+          | inl m ↦ (omega (arith, old_point k m, (h.in_window k m).0), omega (arith, old_point k m, (h.in_window k m).1))
+          | inr m ↦
+              let last : length c.points ≡ k = omega (arith, longer) in
+              let now : c.version ≡ k = omega (arith, h.pointed) in
+              let due : (window c.plan (k + 1)).earliest ≤ c.records =
+              let P : ℕ → Type 0 = λ v. (window c.plan (v + 1)).earliest ≤ c.records in subst P now (h.next at_work).1 in
+              let more : c.version < length c.plan.windows = omega (arith, (h.next at_work).0, h.planned.paired) in
+              let most : limit c.plan c.version ≡ (window c.plan (c.version + 1)).latest = limit_before c.plan c.version more in
+              let until : c.records ≤ (window c.plan (c.version + 1)).latest = omega (arith, h.within) in
+              let late : c.records ≤ (window c.plan (k + 1)).latest =
+              let P : ℕ → Type 0 = λ v. c.records ≤ (window c.plan (v + 1)).latest in subst P now until in
+              (omega (arith, new_point k last), omega (arith, new_point k last))
+        ]
+
+    older : (d : ℕ × ℕ) → IsDrawRight c d → IsDrawRight (published c) d
+    older d r =
+        let above : nat_le c.records d.0 ≡ false = lt-leb c.records d.0 r.0 in
+        let none : (let k : ℕ = cond (nat_le c.records d.0) 1 0 in k) ≡ 0 = ap (λ (t : Bool). let k : ℕ = cond t 1 0 in k) above in
+        let more : in_force (c.points ++ c.records ∷ []) d.0 ≡ in_force c.points d.0 + (let k : ℕ = cond (nat_le c.records d.0) 1 0 in k) =
+        sum_by_push (λ (p : ℕ). let k : ℕ = cond (nat_le p d.0) 1 0 in k) c.points c.records in
+        (r.0, omega (arith, r.1))

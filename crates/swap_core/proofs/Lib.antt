@@ -1,0 +1,11 @@
+pub mod Answering
+pub mod Begun
+pub mod Bounds
+pub mod DeskMoves
+pub mod Drawing
+pub mod Kept
+pub mod ListLemmas
+pub mod Moves
+pub mod PlanLemmas
+pub mod Seating
+pub mod SumLemmas

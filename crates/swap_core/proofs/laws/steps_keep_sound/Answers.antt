@@ -1,0 +1,6 @@
+use Rattle.swap_core.proofs.Kept.{step_kept}
+use Rattle.swap_core.proofs.Seating.{merged_sound}
+use Rattle.swap_core.proofs.laws.steps_keep_sound.Goals as goal
+
+pub returns : goal.returns
+returns c = λ core s h. step_kept core h s

@@ -1,0 +1,86 @@
+use Rattle.std.proofs.Common.{◌≡◌, ◌+◌, ◌≤◌, ◌<◌, ◌%◌, ℕ, List, [], ◌∷◌, ◌++◌, length, get_or, set, slice_index, refl, ap, ap₂, subst, ◌∙◌, sym, inl, inr, arith}
+use Rattle.swap_core.specs.Plans.{table, limit, width}
+use Rattle.swap_core.specs.Sound.{Sound}
+use Rattle.swap_core.specs.States.{CoreState, IsActor, in_state, with_actor, with_draw, looked, entered, confirmed, drawn, gone, area}
+use Rattle.swap_core.specs.Steps.{look, enter, confirm, read, draw, leave}
+use Rattle.swap_core.specs.Views.{state_of}
+use Rattle.swap_core.specs.declared.actors.Actor.{Actor}
+use Rattle.swap_core.specs.declared.actors.ActorState.{ActorState}
+use Rattle.swap_core.specs.declared.actors.ActorState.TheVariants.{Idle, Looked, Asks, Holds}
+use Rattle.swap_core.specs.declared.steps.Took.TheVariants.{Yes}
+use Rattle.swap_core.proofs.Answering.{stranger, stays, still, acts, same_read, taken, look_else, enter_else, confirm_else, confirm_moved, confirm_held, read_else, read_past, read_word, draw_else, draw_moved, draw_hold, draw_next, leave_else, leave_claimed}
+use Rattle.std.proofs.lemmas.List.{get_or_default}
+use Rattle.swap_core.proofs.PlanLemmas.{table_fits}
+use Rattle.swap_core.proofs.ListLemmas.{at_index}
+use Rattle.swap_core.proofs.Moves.{looks_sound, enters_sound, confirms_sound, leaves_sound, claimed_area, counted_there, held_there}
+use Rattle.swap_core.proofs.Drawing.{draws_sound}
+use Rattle.swap_core.proofs.machine.Core.read.Goals as goal
+
+pub returns-then-at-len : goal.returns-then-at-len
+returns-then-at-len c =
+    stranger (λ b _. read b c.args.place) (state_of c.self.inside) c.args.self.now c.args.who c.no.result c.self.view_is
+    (omega (arith, c.self.inside.actors.ok.0)) c.no.ensures
+
+pub returns-in_default : goal.returns-in_default
+returns-in_default c =
+    stays (λ b _. read b c.args.place) (state_of c.self.inside) c.args.self.now c.args.who c.index.result.now (c.index.result.now.state) _ c.no-in_default.result
+    c.self.view_is
+    (at_index c.self.inside.actors.items c.args.who c.index.result.now (omega (arith, c.self.inside.actors.ok.0)) c.index.ensures)
+    refl (read_else (state_of c.self.inside) c.args.place c.index.result.now.state c.in_default.not-Holds) c.no-in_default.ensures
+
+past : (c : goal.After-no-then-place-words) → length (table c.self.inside.plan c.in-Holds.version) ≤ c.args.place
+past c = omega (arith, c.if-place-words.true, ap (λ (ws : List ℕ). length ws) c.words.ensures)
+
+pub returns-then-place-words : goal.returns-then-place-words
+returns-then-place-words c =
+    stays (λ b _. read b c.args.place) (state_of c.self.inside) c.args.self.now c.args.who c.index.result.now (Holds c.in-Holds.area c.in-Holds.version) _ c.no-then-place-words.result
+    c.self.view_is
+    (at_index c.self.inside.actors.items c.args.who c.index.result.now (omega (arith, c.self.inside.actors.ok.0)) c.index.ensures)
+    c.in-Holds.is (read_past (state_of c.self.inside) c.args.place c.in-Holds.area c.in-Holds.version (past c)) c.no-then-place-words.ensures
+
+pub words-requires : goal.words-requires
+words-requires c =
+    held_there (state_of c.self.inside) c.args.who c.index.result.now c.in-Holds.area c.in-Holds.version c.self.invariant
+    (at_index c.self.inside.actors.items c.args.who c.index.result.now (omega (arith, c.self.inside.actors.ok.0)) c.index.ensures) c.in-Holds.is
+
+pub bounds-self-inside-area : goal.bounds-self-inside-area
+bounds-self-inside-area c =
+    claimed_area (state_of c.self.inside) c.args.who c.index.result.now c.in-Holds.area c.self.invariant
+    (at_index c.self.inside.actors.items c.args.who c.index.result.now (omega (arith, c.self.inside.actors.ok.0)) c.index.ensures) (inr (c.in-Holds.version, c.in-Holds.is))
+
+pub listed : goal.listed
+listed c =
+    let small : c.in-Holds.area < 2 =
+    claimed_area (state_of c.self.inside) c.args.who c.index.result.now c.in-Holds.area c.self.invariant
+    (at_index c.self.inside.actors.items c.args.who c.index.result.now (omega (arith, c.self.inside.actors.ok.0)) c.index.ensures) (inr (c.in-Holds.version, c.in-Holds.is)) in
+    omega (arith, c.self.invariant.two_areas)
+
+pub get-requires : goal.get-requires
+get-requires c =
+    let small : c.in-Holds.area < 2 =
+    claimed_area (state_of c.self.inside) c.args.who c.index.result.now c.in-Holds.area c.self.invariant
+    (at_index c.self.inside.actors.items c.args.who c.index.result.now (omega (arith, c.self.inside.actors.ok.0)) c.index.ensures) (inr (c.in-Holds.version, c.in-Holds.is)) in
+    let inside : c.in-Holds.area < length c.self.inside.areas = omega (arith, c.self.invariant.two_areas) in
+    let row : length (area (state_of c.self.inside) c.in-Holds.area) ≡ width c.self.inside.plan = c.self.invariant.rows c.in-Holds.area small in
+    let same : get_or c.self.inside.areas c.in-Holds.area c.index-self-area.result ≡ area (state_of c.self.inside) c.in-Holds.area =
+    get_or_default c.self.inside.areas c.in-Holds.area c.index-self-area.result [] inside in
+    omega (arith, table_fits c.self.inside.plan c.in-Holds.version, ap (λ (ws : List ℕ). length ws) same,
+    ap (λ (ws : List ℕ). length ws) c.words.ensures, c.if-place-words.false)
+
+pub returns : goal.returns
+returns c =
+    let small : c.in-Holds.area < 2 =
+    claimed_area (state_of c.self.inside) c.args.who c.index.result.now c.in-Holds.area c.self.invariant
+    (at_index c.self.inside.actors.items c.args.who c.index.result.now (omega (arith, c.self.inside.actors.ok.0)) c.index.ensures) (inr (c.in-Holds.version, c.in-Holds.is)) in
+    let inside : c.in-Holds.area < length c.self.inside.areas = omega (arith, c.self.invariant.two_areas) in
+    let same : get_or c.self.inside.areas c.in-Holds.area c.index-self-area.result ≡ area (state_of c.self.inside) c.in-Holds.area =
+    get_or_default c.self.inside.areas c.in-Holds.area c.index-self-area.result [] inside in
+    let below : c.args.place < length (table c.self.inside.plan c.in-Holds.version) =
+    omega (arith, ap (λ (ws : List ℕ). length ws) c.words.ensures, c.if-place-words.false) in
+    still (λ b _. read b c.args.place) (state_of c.self.inside) c.args.self.now c.args.who c.index.result.now (Holds c.in-Holds.area c.in-Holds.version) c.yes.result c.self.view_is
+    (at_index c.self.inside.actors.items c.args.who c.index.result.now (omega (arith, c.self.inside.actors.ok.0)) c.index.ensures)
+    c.in-Holds.is
+    (taken (state_of c.self.inside) (read (state_of c.self.inside) c.args.place (Holds c.in-Holds.area c.in-Holds.version))
+    (slice_index (area (state_of c.self.inside) c.in-Holds.area) c.args.place) c.yes.result
+    (read_word (state_of c.self.inside) c.args.place c.in-Holds.area c.in-Holds.version below)
+    (c.yes.ensures ∙ ap Yes (c.get.ensures ∙ ap (λ (ws : List ℕ). slice_index ws c.args.place) same)))
