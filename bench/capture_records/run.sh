@@ -12,8 +12,9 @@ cp "$top/HANDLES" "$repository/"
 rm -rf "$repository/crates/aftr_base" "$repository/crates/capture_io" "$repository/crates/records_bench/src" "$repository/crates/records_bench/proofs"
 cp -r "$top/crates/aftr_base" "$top/crates/capture_io" "$repository/crates/"
 mkdir -p "$repository/crates/records_bench/src"
-cp "$here/program/main.rt" "$repository/crates/records_bench/src/"
-cp -r "$here/program/proofs" "$repository/crates/records_bench/"
+cp "$here/program/main.rt.txt" "$repository/crates/records_bench/src/main.rt"
+mkdir -p "$repository/crates/records_bench/proofs/count_records"
+cp "$here/program/Invariants.antt.txt" "$repository/crates/records_bench/proofs/count_records/Invariants.antt"
 printf 'aftr_base:\ncapture_io: aftr_base thiserror\nrecords_bench: aftr_base capture_io\n' > "$repository/crates.txt"
 [ -f "$work/records.pcap" ] || python3 - "$work/records.pcap" <<'P'
 import struct, sys
