@@ -297,9 +297,13 @@ mod tests {
     use std::test::Fail;
 
     const LOOK: Step = Step::Look { who: 0 };
+
     const ENTER: Step = Step::Enter { who: 0 };
+
     const CONFIRM: Step = Step::Confirm { who: 0 };
+
     const DRAW: Step = Step::Draw { who: 0 };
+
     const LEAVE: Step = Step::Leave { who: 0 };
 
     fn read(place: u32) -> Step {
