@@ -1,13 +1,13 @@
 -- The opening is sound.
-use Rattle.std.proofs.Common.{◌≡◌, ℕ, zero, suc, ◌+◌, ◌-◌, ◌*◌, ◌<◌, ◌≤◌, All, Bool, cond, le-ltb, List, [], ◌∷◌, ◌++◌, length, get_or, replicate, sum_by, slice_index, subst, sym, refl, ap, ◌∙◌, arith, length-append, mul-zero}
+use Rattle.std.proofs.Common.{◌≡◌, ℕ, zero, suc, ◌-◌, ◌*◌, ◌<◌, ◌≤◌, All, Bool, cond, le-ltb, List, [], ◌∷◌, length, replicate, sum_by, slice_index, subst, sym, refl, ap, ◌∙◌, arith, length-append, mul-zero}
 use mathlib.Core.Option.{some}
 use lib.ListN.{get_elem?}
 use Rattle.std.proofs.lemmas.List.{length-replicate, get_or_append_left}
 use Rattle.std.proofs.lemmas.List.Folds.{sum_by-replicate}
 use Rattle.std.proofs.lemmas.List.Elements.{All-nil}
-use Rattle.swap_core.specs.Plans.{Tables, IsPlan, table, width, limit}
+use Rattle.swap_core.specs.Plans.{Tables, IsPlan, table, width}
 use Rattle.swap_core.specs.States.{CoreState, area, newcomer, opening, row_of}
-use Rattle.swap_core.specs.Sound.{Sound, HoldsRightly, IsDrawRight, Begins, times, how_many}
+use Rattle.swap_core.specs.Sound.{Sound, HoldsRightly, IsDrawRight, times, how_many}
 use Rattle.swap_core.specs.declared.actors.Actor.{Actor}
 use Rattle.swap_core.specs.declared.actors.DeskState.TheVariants.{Resting}
 use Rattle.swap_core.proofs.ListLemmas.{at_replicate}
@@ -65,13 +65,25 @@ opening_sound plan actors h =
 pub opened : (plan : Tables) (n : ℕ) (first second : List ℕ) (actors : List Actor) (points : List ℕ)
     → first ≡ row_of (width plan) (table plan 0) → second ≡ row_of (width plan) [] → actors ≡ replicate n newcomer → points ≡ []
     → (let made : CoreState = record {
-      plan = plan; version = 0; records = 0; counts = 0 ∷ 0 ∷ []; areas = first ∷ second ∷ [];
-      actors = actors; desk = Resting; points = points;
+      plan = plan;
+      version = 0;
+      records = 0;
+      counts = 0 ∷ 0 ∷ [];
+      areas = first ∷ second ∷ [];
+      actors = actors;
+      desk = Resting;
+      points = points;
     } in made) ≡ opening plan n
 opened plan n first second actors points is_first is_second are_actors no_points =
     let empty : second ≡ replicate (width plan) 0 =
     is_second ∙ ap (λ (k : ℕ). replicate k 0) (let all : width plan - 0 ≡ width plan = omega arith in all) in
     λ i. record {
-      plan = plan; version = 0; records = 0; counts = 0 ∷ 0 ∷ []; areas = is_first i ∷ empty i ∷ [];
-      actors = are_actors i; desk = Resting; points = no_points i;
+      plan = plan;
+      version = 0;
+      records = 0;
+      counts = 0 ∷ 0 ∷ [];
+      areas = is_first i ∷ empty i ∷ [];
+      actors = are_actors i;
+      desk = Resting;
+      points = no_points i;
     }

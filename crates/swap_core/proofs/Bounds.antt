@@ -1,5 +1,5 @@
 -- How large the numbers of a sound state are.
-use Rattle.std.proofs.Common.{ℕ, ◌<◌, ◌≤◌, arith}
+use Rattle.std.proofs.Common.{◌<◌, ◌≤◌, arith}
 use Rattle.swap_core.specs.States.{CoreState}
 use Rattle.swap_core.specs.Sound.{Sound}
 use Rattle.swap_core.proofs.PlanLemmas.{limit_small}

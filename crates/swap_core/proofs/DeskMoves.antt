@@ -1,7 +1,5 @@
 -- The steps of the desk: it waits, finds the spare area free, writes the next table there, and puts it into force.
-use Rattle.std.proofs.Common.{◌≡◌, ℕ, ◌+◌, ◌-◌, ◌%◌, ◌<◌, ◌≤◌, ◌≢◌, ◌⊎◌, Bool, true, false, cond, eqb, nat_le, nat_lt, All, List, [], ◌∷◌, ◌++◌, length, get_or, set, sum_by, count_by, slice_index, subst, sym, refl, ap, ◌∙◌, arith, inl, inr, eq-eqb, ne_eqb, lt-ltb, le-ltb, leb-false, suc, zero, length-set, get_or-set_same, get_or-set_other}
-use mathlib.Core.Option.{some}
-use lib.ListN.{get_elem?}
+use Rattle.std.proofs.Common.{◌≡◌, ℕ, ◌+◌, ◌%◌, ◌<◌, ◌≤◌, ◌≢◌, Bool, false, cond, nat_le, List, [], ◌∷◌, ◌++◌, length, set, slice_index, subst, sym, refl, ap, ◌∙◌, arith, inl, inr, length-set, get_or-set_same, get_or-set_other}
 use borrow.Author.Tests.{lt-leb}
 use Rattle.std.proofs.lemmas.Bool.{cases_eq, cases_lt}
 use Rattle.std.proofs.lemmas.List.{length_push, get_or_push, get_or_append_left}
@@ -15,7 +13,6 @@ use Rattle.swap_core.specs.declared.actors.ActorState.{ActorState}
 use Rattle.swap_core.specs.declared.actors.ActorState.TheVariants.{Idle, Looked, Asks, Holds}
 use Rattle.swap_core.specs.declared.actors.DeskState.{DeskState}
 use Rattle.swap_core.specs.declared.actors.DeskState.TheVariants.{Resting, Ready, Writing}
-use Rattle.swap_core.proofs.ListLemmas.{at_set}
 use Rattle.swap_core.proofs.PlanLemmas.{limit_before, limit_rises, table_fits}
 use Rattle.swap_core.proofs.Moves.{counted_there}
 
@@ -85,15 +82,17 @@ count_sound c h ready none =
     held who x Idle at e r = tt
     held who x (Looked v) at e r = tt
     held who x (Asks a) at e r = r
-    held who x (Holds a w) at e r =
-        (r.0, elim r.1 [
-          | inl now ↦ inl now
-          | inr t ↦
-              let claimed : 1 ≤ count_of c a = counted_there c who x a h at (inr (w, e)) in
-              let there : a ≡ spare c = omega (arith, r.0, t.0) in
-              let same : count_of c a ≡ count_of c (spare c) = ap (λ (n : ℕ). count_of c n) there in
-              absurd (omega arith)
-        ])
+    held who x (Holds a w) at e r = (
+      r.0,
+      elim r.1 [
+        | inl now ↦ inl now
+        | inr t ↦
+            let claimed : 1 ≤ count_of c a = counted_there c who x a h at (inr (w, e)) in
+            let there : a ≡ spare c = omega (arith, r.0, t.0) in
+            let same : count_of c a ≡ count_of c (spare c) = ap (λ (n : ℕ). count_of c n) there in
+            absurd (omega arith)
+      ],
+    )
 
 -- one word more of the next table
 pub write_sound : (c : CoreState) (j : ℕ) → Sound c → c.desk ≡ Writing j → j < length (next_table c) → Sound (written c j)
@@ -149,18 +148,20 @@ write_sound c j h desk more =
     writing : (i : ℕ) → Writing (j + 1) ≡ Writing i
         → (i ≤ length (next_table c)) × BeginsWith i (next_table c) (area (written c j) (spare c))
     writing i e =
-        let same : j + 1 ≡ i = cc in
-        (omega arith, λ k l.
-        ap (λ (r : List ℕ). slice_index r k) here
-        ∙ elim (cases_eq k j) [
-          | inl now ↦
-              let inside : j < length (area c (spare c)) = omega (arith, h.rows (spare c) (omega arith), table_fits c.plan (c.version + 1)) in
-              ap (λ (n : ℕ). slice_index row n) now ∙ get_or-set_same (area c (spare c)) j (slice_index (next_table c) j) 0 inside
-              ∙ ap (λ (n : ℕ). slice_index (next_table c) n) (sym now)
-          | inr n ↦
-              let below : k < j = omega arith in
-              get_or-set_other (area c (spare c)) j k (slice_index (next_table c) j) 0 n ∙ (h.writing j desk).1 k below
-        ])
+        let same : j + 1 ≡ i = cc in (
+          omega arith,
+          λ k l.
+              ap (λ (r : List ℕ). slice_index r k) here
+              ∙ elim (cases_eq k j) [
+                | inl now ↦
+                    let inside : j < length (area c (spare c)) = omega (arith, h.rows (spare c) (omega arith), table_fits c.plan (c.version + 1)) in
+                    ap (λ (n : ℕ). slice_index row n) now ∙ get_or-set_same (area c (spare c)) j (slice_index (next_table c) j) 0 inside
+                    ∙ ap (λ (n : ℕ). slice_index (next_table c) n) (sym now)
+                | inr n ↦
+                    let below : k < j = omega arith in
+                    get_or-set_other (area c (spare c)) j k (slice_index (next_table c) j) 0 n ∙ (h.writing j desk).1 k below
+              ],
+        )
 
     held : (s : ActorState) → HoldsRightly c s → HoldsRightly (written c j) s
     held Idle r = tt

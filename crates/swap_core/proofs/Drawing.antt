@@ -1,5 +1,5 @@
 -- A draw: the next number, under the version in force.
-use Rattle.std.proofs.Common.{◌≡◌, ℕ, ◌+◌, ◌-◌, ◌<◌, ◌≤◌, ◌≢◌, ◌⊎◌, Bool, true, false, cond, eqb, nat_le, All, List, [], ◌∷◌, ◌++◌, length, get_or, set, sum_by, count_by, slice_index, subst, sym, refl, ap, ◌∙◌, arith, inl, inr, eq-eqb, ne_eqb, lt-ltb, le-ltb, le-leb, suc, zero}
+use Rattle.std.proofs.Common.{◌≡◌, ℕ, ◌+◌, ◌<◌, ◌≤◌, Bool, true, cond, eqb, nat_le, All, List, [], ◌∷◌, length, set, sum_by, slice_index, subst, sym, refl, ap, ◌∙◌, arith, inl, inr, eq-eqb, ne_eqb, lt-ltb, le-ltb, le-leb, suc}
 use mathlib.Core.Option.{some}
 use lib.ListN.{get_elem?}
 use Rattle.std.proofs.lemmas.Bool.{cases_eq, cases_lt}
@@ -7,8 +7,8 @@ use Rattle.std.proofs.lemmas.List.{length_push}
 use Rattle.std.proofs.lemmas.List.Elements.{All-push, All-weaker}
 use Rattle.std.proofs.lemmas.List.Sums.{sum_by_push, sum_by-cons}
 use Rattle.swap_core.specs.Plans.{limit}
-use Rattle.swap_core.specs.States.{CoreState, IsActor, with_actor, with_draw, drawn}
-use Rattle.swap_core.specs.Sound.{Sound, HoldsRightly, IsWriting, IsAtWork, IsDrawRight, times, how_many, once_below, in_force}
+use Rattle.swap_core.specs.States.{CoreState, IsActor, with_draw, drawn}
+use Rattle.swap_core.specs.Sound.{Sound, HoldsRightly, IsDrawRight, times, how_many, once_below, in_force}
 use Rattle.swap_core.specs.declared.actors.Actor.{Actor}
 use Rattle.swap_core.proofs.ListLemmas.{at_set}
 use Rattle.swap_core.proofs.SumLemmas.{sum_changed, sum_kept}
@@ -69,10 +69,10 @@ draws_sound c who x h at room =
       in_window = h.in_window;
       each_once = once;
       all_drawn =
-      let e : sum_by how_many (set c.actors who y) + how_many x ≡ sum_by how_many c.actors + how_many y =
-      sum_changed how_many c.actors who x y at in
-      let more : how_many y ≡ how_many x + 1 = length_push x.draws (c.records, c.version) in
-      omega (arith, h.all_drawn);
+          let e : sum_by how_many (set c.actors who y) + how_many x ≡ sum_by how_many c.actors + how_many y =
+          sum_changed how_many c.actors who x y at in
+          let more : how_many y ≡ how_many x + 1 = length_push x.draws (c.records, c.version) in
+          omega (arith, h.all_drawn);
       under = under;
       within = omega arith;
     }

@@ -1,11 +1,11 @@
 -- Each step of the machine, and each run of it, leaves a sound state sound.
-use Rattle.std.proofs.Common.{◌≡◌, ℕ, ◌+◌, ◌%◌, ◌<◌, ◌≤◌, Bool, true, false, cond, eqb, ltb, if◌then◌else◌, List, [], ◌∷◌, length, refl, sym, subst, inl, inr, arith, eqb-true, ltb-true, ltb-false}
+use Rattle.std.proofs.Common.{◌≡◌, ℕ, ◌+◌, ◌%◌, ◌<◌, Bool, true, false, eqb, ltb, if◌then◌else◌, List, [], ◌∷◌, length, refl, sym, subst, inl, inr, arith, eqb-true, ltb-true, ltb-false}
 use mathlib.Core.Option as maybe
 use Rattle.std.proofs.lemmas.Bool.{eqb-false}
 use lib.ListN.{get_elem?}
 use Rattle.swap_core.specs.Plans.{Tables, IsPlan, limit, window}
 use Rattle.swap_core.specs.States.{CoreState, IsActor, count_of, spare, next_table, opening}
-use Rattle.swap_core.specs.Steps.{Outcome, yes, no, after, after_all, by_actor, look, enter, confirm, read, draw, leave, due, due_now, count, write, publish}
+use Rattle.swap_core.specs.Steps.{Outcome, after, after_all, by_actor, look, enter, confirm, read, draw, leave, due, due_now, count, write, publish}
 use Rattle.swap_core.specs.Sound.{Sound, IsWriting}
 use Rattle.swap_core.specs.declared.actors.Actor.{Actor}
 use Rattle.swap_core.specs.declared.actors.ActorState.{ActorState}

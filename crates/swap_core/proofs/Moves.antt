@@ -1,12 +1,11 @@
 -- The steps by which an actor comes to hold a table, and gives it up.
-use Rattle.std.proofs.Common.{◌≡◌, ℕ, ◌+◌, ◌-◌, ◌%◌, ◌<◌, ◌≤◌, ◌≢◌, ◌⊎◌, Bool, true, false, cond, eqb, All, List, length, get_or, set, sum_by, slice_index, subst, sym, refl, ap, ◌∙◌, arith, inl, inr, ⊎_elim, eq-eqb, ne_eqb, length-set, get_or-set_same, get_or-set_other}
+use Rattle.std.proofs.Common.{◌≡◌, ℕ, ◌+◌, ◌-◌, ◌%◌, ◌<◌, ◌≤◌, ◌≢◌, ◌⊎◌, Bool, cond, All, List, length, set, sum_by, slice_index, subst, sym, refl, ap, ◌∙◌, arith, inl, inr, eq-eqb, ne_eqb, length-set, get_or-set_same, get_or-set_other}
 use mathlib.Core.Option.{some}
 use lib.ListN.{get_elem?}
-use native.Mathlib.Decide.{ℕ_discrete}
 use Rattle.std.proofs.lemmas.Bool.{cases_eq}
 use Rattle.swap_core.specs.Plans.{table}
-use Rattle.swap_core.specs.States.{CoreState, IsActor, count_of, area, spare, next_table, in_state, with_actor, looked, entered, confirmed, gone}
-use Rattle.swap_core.specs.Sound.{Sound, HoldsRightly, IsWriting, IsDrawRight, HasClaimed, claims, claimants, times, how_many, Begins}
+use Rattle.swap_core.specs.States.{CoreState, IsActor, count_of, area, in_state, with_actor, looked, entered, confirmed, gone}
+use Rattle.swap_core.specs.Sound.{Sound, HoldsRightly, IsDrawRight, HasClaimed, claims, times, how_many, Begins}
 use Rattle.swap_core.specs.declared.actors.Actor.{Actor}
 use Rattle.swap_core.specs.declared.actors.ActorState.{ActorState}
 use Rattle.swap_core.specs.declared.actors.ActorState.TheVariants.{Idle, Looked, Asks, Holds}
@@ -32,11 +31,11 @@ moves c who x s counts h at two count right =
       two_areas = h.two_areas;
       rows = h.rows;
       counted = λ a l.
-      let e : sum_by (weight a) (set c.actors who (in_state x s)) + weight a x ≡ sum_by (weight a) c.actors + claim a s =
-      sum_changed (weight a) c.actors who x (in_state x s) at in
-      let was : count_of c a ≡ sum_by (weight a) c.actors = h.counted a l in
-      let now : slice_index counts a + weight a x ≡ count_of c a + claim a s = count a l in
-      omega arith;
+          let e : sum_by (weight a) (set c.actors who (in_state x s)) + weight a x ≡ sum_by (weight a) c.actors + claim a s =
+          sum_changed (weight a) c.actors who x (in_state x s) at in
+          let was : count_of c a ≡ sum_by (weight a) c.actors = h.counted a l in
+          let now : slice_index counts a + weight a x ≡ count_of c a + claim a s = count a l in
+          omega arith;
       current = h.current;
       writing = h.writing;
       before = h.before;

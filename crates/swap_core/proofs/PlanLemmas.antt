@@ -1,5 +1,5 @@
 -- What the rules of a plan give.
-use Rattle.std.proofs.Common.{◌≡◌, ℕ, zero, suc, ◌+◌, ◌-◌, ◌^◌, ◌<◌, ◌≤◌, max, Bool, true, false, cond, nat_lt, if◌then◌else◌, List, [], ◌∷◌, ◌++◌, length, get_or, All, fold, sym, refl, ap, ◌∙◌, arith, inl, inr, lt-ltb, le-ltb, lit≤}
+use Rattle.std.proofs.Common.{◌≡◌, ℕ, zero, suc, ◌+◌, ◌-◌, ◌^◌, ◌<◌, ◌≤◌, max, true, false, nat_lt, List, [], ◌∷◌, length, get_or, fold, refl, ap, arith, inl, inr, lt-ltb, le-ltb}
 use Rattle.std.proofs.lemmas.List.Elements.{All-get_or}
 use Rattle.std.proofs.lemmas.Bool.{cases_lt}
 use Rattle.swap_core.specs.Plans.{Tables, IsPlan, IsWindow, IsNotBefore, table, window, limit, width, always}

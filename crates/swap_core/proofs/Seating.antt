@@ -1,10 +1,10 @@
 -- One actor more, and draws that move from one idle actor to another.
-use Rattle.std.proofs.Common.{◌≡◌, ℕ, ◌+◌, ◌<◌, ◌≤◌, ◌≢◌, Bool, cond, eqb, All, List, [], ◌∷◌, ◌++◌, length, set, sum_by, subst, sym, refl, ap, ◌∙◌, arith, inl, inr, length-append}
+use Rattle.std.proofs.Common.{◌≡◌, ℕ, ◌+◌, ◌≢◌, cond, eqb, All, List, [], ◌∷◌, ◌++◌, set, sum_by, subst, sym, refl, ap, ◌∙◌, arith, inl, inr, length-append}
 use mathlib.Core.Option.{some}
 use lib.ListN.{get_elem?}
 use Rattle.std.proofs.lemmas.List.Elements.{All-append, All-nil}
 use Rattle.std.proofs.lemmas.List.Sums.{sum_by_push, sum_by-append}
-use Rattle.swap_core.specs.States.{CoreState, IsActor, newcomer, with_actor, joined_by_newcomer, merged}
+use Rattle.swap_core.specs.States.{CoreState, IsActor, newcomer, joined_by_newcomer, merged}
 use Rattle.swap_core.specs.Sound.{Sound, HoldsRightly, IsDrawRight, times, how_many}
 use Rattle.swap_core.specs.declared.actors.Actor.{Actor}
 use Rattle.swap_core.specs.declared.actors.ActorState.{ActorState}

@@ -1,12 +1,12 @@
 -- What holds of the state of the machine at any moment.
 use Rattle.std.specs.Prelude.{◌≡◌, ℕ, ◌+◌, ◌%◌, ◌<◌, ◌≤◌, ◌⊎◌, Bool, false, cond, ◌==◌, nat_lt, nat_le, List, length, slice_index, All, sum_by, count_by}
-use Rattle.swap_core.specs.Plans.{Tables, IsPlan, table, width, limit, window}
+use Rattle.swap_core.specs.Plans.{IsPlan, table, width, limit, window}
 use Rattle.swap_core.specs.States.{CoreState, IsActor, count_of, area, spare, next_table}
 use Rattle.swap_core.specs.declared.actors.Actor.{Actor}
 use Rattle.swap_core.specs.declared.actors.ActorState.{ActorState}
-use Rattle.swap_core.specs.declared.actors.ActorState.TheVariants.{Idle, Looked, Asks, Holds}
+use Rattle.swap_core.specs.declared.actors.ActorState.TheVariants.{Asks, Holds}
 use Rattle.swap_core.specs.declared.actors.DeskState.{DeskState}
-use Rattle.swap_core.specs.declared.actors.DeskState.TheVariants.{Resting, Ready, Writing}
+use Rattle.swap_core.specs.declared.actors.DeskState.TheVariants.{Resting, Writing}
 
 -- the actor asks for area a, or holds it
 abbrev pub claims : ℕ → ActorState → Bool

@@ -49,9 +49,14 @@ row_of size words = words ++ replicate (size - length words) 0
 abbrev pub opening : Tables → ℕ → CoreState
 opening plan actors =
     record {
-      plan = plan; version = 0; records = 0; counts = 0 ∷ 0 ∷ [];
+      plan = plan;
+      version = 0;
+      records = 0;
+      counts = 0 ∷ 0 ∷ [];
       areas = row_of (width plan) (table plan 0) ∷ replicate (width plan) 0 ∷ [];
-      actors = replicate actors newcomer; desk = Resting; points = [];
+      actors = replicate actors newcomer;
+      desk = Resting;
+      points = [];
     }
 
 abbrev pub in_state : Actor → ActorState → Actor

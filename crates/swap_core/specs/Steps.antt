@@ -1,5 +1,5 @@
 -- What each kind of step does: one definition for each row of the machine's table.
-use Rattle.std.specs.Prelude.{◌≡◌, ℕ, ◌+◌, ◌%◌, ◌==◌, nat_lt, if◌then◌else◌, nat_le, List, length, slice_index, fold}
+use Rattle.std.specs.Prelude.{◌≡◌, ℕ, ◌+◌, ◌%◌, ◌==◌, nat_lt, if◌then◌else◌, List, length, slice_index, fold}
 use lib.ListN.{get_elem?}
 use mathlib.Core.Option as maybe
 use Rattle.swap_core.specs.Plans.{table, limit, window}
@@ -8,7 +8,7 @@ use Rattle.swap_core.specs.declared.actors.Actor.{Actor}
 use Rattle.swap_core.specs.declared.actors.ActorState.{ActorState}
 use Rattle.swap_core.specs.declared.actors.ActorState.TheVariants.{Idle, Looked, Asks, Holds}
 use Rattle.swap_core.specs.declared.actors.DeskState.{DeskState}
-use Rattle.swap_core.specs.declared.actors.DeskState.TheVariants.{Resting, Ready, Writing}
+use Rattle.swap_core.specs.declared.actors.DeskState.TheVariants.{Ready, Writing}
 use Rattle.swap_core.specs.declared.steps.Step.{Step}
 use Rattle.swap_core.specs.declared.steps.Step.TheVariants as step
 use Rattle.swap_core.specs.declared.steps.NotNow.{NotNow}

@@ -1,4 +1,7 @@
 // Those who take steps: the actors, and the desk, which alone replaces a table.
+ghost use Rattle.std.specs.Prelude.{◌≡◌, IfOk, replicate};
+ghost use Rattle.swap_core.specs.States.{newcomer};
+
 use aftr_base::OutOfMemory;
 use std::alloc::Global;
 use std::marker::Model;
@@ -79,4 +82,18 @@ impl Draws {
 pub struct Actor {
     pub state: ActorState,
     pub draws: Draws,
+}
+
+/// So many actors that are idle and have drawn nothing.
+pub(crate) fn newcomers(alloc: Global, count: u32) -> Result<Vec<Actor>, OutOfMemory>
+    ensures { IfOk result (λ actors. actors.items ≡ replicate count newcomer) }
+{
+    let mut actors = Vec::new(alloc);
+    'actors: for _ in 0..count {
+        actors.push(Actor {
+            state: ActorState::Idle,
+            draws: Draws::none(alloc),
+        })?;
+    }
+    Ok(actors)
 }

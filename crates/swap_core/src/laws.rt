@@ -6,47 +6,39 @@ ghost use Rattle.swap_core.specs.States.{CoreState};
 /// A step of any kind leaves a sound state sound.
 pub fn steps_keep_sound()
     ensures { StepsKeepSound }
-{
-}
+{}
 
 /// Whatever is done from the opening, the state is sound.
 pub fn runs_are_sound()
     ensures { RunsAreSound }
-{
-}
+{}
 
 /// An actor that holds a version reads the words of its table, each place of it.
 pub fn held_tables_are_whole()
     ensures { (c : CoreState) → Sound c → ReadsItsTable c }
-{
-}
+{}
 
 /// A write changes no area that an actor holds.
 pub fn writes_disturb_nobody()
     ensures { (c : CoreState) → Sound c → WritesWhereNobodyHolds c }
-{
-}
+{}
 
 /// No number is drawn twice, by one actor or by two.
 pub fn no_number_is_drawn_twice()
     ensures { (c : CoreState) → Sound c → NoneTwice c }
-{
-}
+{}
 
 /// Each number is drawn under the version that the points put in force at it.
 pub fn draws_are_in_force()
     ensures { (c : CoreState) → Sound c → DrawnInForce c }
-{
-}
+{}
 
 /// One actor more, which is idle and has drawn nothing, leaves a sound state sound.
 pub fn newcomers_keep_sound()
     ensures { NewcomerKeepsSound }
-{
-}
+{}
 
 /// Two idle actors: that the draws of one move behind those of the other leaves a sound state sound.
 pub fn merges_keep_sound()
     ensures { MergeKeepsSound }
-{
-}
+{}

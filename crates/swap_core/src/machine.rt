@@ -1,12 +1,12 @@
 // The machine: its state, and its steps.
-ghost use Rattle.std.specs.Prelude.{◌≡◌, ◌<◌, ℕ, [], ◌∷◌, IfOk, OnOk, OnErr, length, replicate, take};
-ghost use Rattle.swap_core.specs.Plans.{width};
-ghost use Rattle.swap_core.specs.States.{row_of, newcomer, opening};
-ghost use Rattle.swap_core.specs.Steps.{Outcome, TakesMemory, after, after_all, IsAnswer};
+ghost use Rattle.std.specs.Prelude.{◌≡◌, ◌<◌, ℕ, [], ◌∷◌, IfOk, OnOk, OnErr, length, take};
+ghost use Rattle.swap_core.specs.Sound.{Sound};
+ghost use Rattle.swap_core.specs.States.{opening};
+ghost use Rattle.swap_core.specs.Steps.{TakesMemory, after, after_all, IsAnswer};
 ghost use Rattle.swap_core.specs.declared.steps.Step.TheVariants as step;
 ghost use Rattle.swap_core.specs.declared.steps.Took.TheVariants as took;
 
-use crate::actors::{Actor, ActorState, DeskState, Draws};
+use crate::actors::{Actor, ActorState, DeskState, newcomers};
 use crate::plan::Plan;
 use crate::row::Row;
 use crate::steps::{NotNow, Step, Took};
@@ -91,6 +91,13 @@ impl Core {
             self.step(*step)?;
         }
         Ok(())
+    }
+
+    /// Whatever was done, the state is sound: the contract says so, and nothing is done here.
+    pub fn stays_sound(&self)
+        ensures { Sound self.now }
+    {
+        let _ = &self.plan;
     }
 
     fn look(&mut self, who: u32) -> Took
@@ -275,20 +282,6 @@ fn no(cause: NotNow) -> Took
     Took::No { cause }
 }
 
-/// So many actors that are idle and have drawn nothing.
-fn newcomers(alloc: Global, count: u32) -> Result<Vec<Actor>, OutOfMemory>
-    ensures { IfOk result (λ actors. actors.items ≡ replicate count newcomer) }
-{
-    let mut actors = Vec::new(alloc);
-    'actors: for _ in 0..count {
-        actors.push(Actor {
-            state: ActorState::Idle,
-            draws: Draws::none(alloc),
-        })?;
-    }
-    Ok(actors)
-}
-
 #[cfg(test)]
 mod tests {
     use super::*;
@@ -297,9 +290,13 @@ mod tests {
     use std::test::Fail;
 
     const LOOK: Step = Step::Look { who: 0 };
+
     const ENTER: Step = Step::Enter { who: 0 };
+
     const CONFIRM: Step = Step::Confirm { who: 0 };
+
     const DRAW: Step = Step::Draw { who: 0 };
+
     const LEAVE: Step = Step::Leave { who: 0 };
 
     fn read(place: u32) -> Step {

@@ -1,5 +1,4 @@
 use Rattle.swap_core.proofs.Kept.{step_kept}
-use Rattle.swap_core.proofs.Seating.{merged_sound}
 use Rattle.swap_core.proofs.laws.steps_keep_sound.Goals as goal
 
 pub returns : goal.returns

@@ -1,17 +1,15 @@
-use Rattle.std.proofs.Common.{◌≡◌, ◌+◌, ◌≤◌, ◌<◌, ◌%◌, ℕ, List, [], ◌∷◌, ◌++◌, length, get_or, set, slice_index, refl, ap, ap₂, subst, ◌∙◌, sym, inl, inr, arith}
-use Rattle.swap_core.specs.Plans.{table, limit, width}
+use Rattle.std.proofs.Common.{◌≡◌, ◌+◌, ◌<◌, ℕ, List, [], ◌∷◌, ◌++◌, length, refl, ap, subst, ◌∙◌, sym, arith}
+use Rattle.swap_core.specs.Plans.{limit}
 use Rattle.swap_core.specs.Sound.{Sound}
-use Rattle.swap_core.specs.States.{CoreState, IsActor, in_state, with_actor, with_draw, looked, entered, confirmed, drawn, gone, area}
+use Rattle.swap_core.specs.States.{with_actor, drawn}
 use lib.ListN.{get_elem?}
-use Rattle.swap_core.specs.Steps.{IsAnswer, by_actor, look, enter, confirm, read, draw, leave}
+use Rattle.swap_core.specs.Steps.{IsAnswer, by_actor, draw}
 use Rattle.swap_core.specs.Views.{state_of}
 use Rattle.swap_core.specs.declared.actors.Actor.{Actor}
-use Rattle.swap_core.specs.declared.actors.ActorState.{ActorState}
-use Rattle.swap_core.specs.declared.actors.ActorState.TheVariants.{Idle, Looked, Asks, Holds}
+use Rattle.swap_core.specs.declared.actors.ActorState.TheVariants.{Holds}
 use Rattle.swap_core.specs.declared.steps.Took.TheVariants.{Yes}
-use Rattle.swap_core.proofs.Answering.{stranger, stays, still, acts, same_read, taken, look_else, enter_else, confirm_else, confirm_moved, confirm_held, read_else, read_past, read_word, draw_else, draw_moved, draw_hold, draw_next, leave_else, leave_claimed}
+use Rattle.swap_core.proofs.Answering.{stranger, stays, acts, same_read, taken, draw_else, draw_moved, draw_hold, draw_next}
 use Rattle.swap_core.proofs.ListLemmas.{at_index}
-use Rattle.swap_core.proofs.Moves.{looks_sound, enters_sound, confirms_sound, leaves_sound, claimed_area, counted_there, held_there}
 use Rattle.swap_core.proofs.Drawing.{draws_sound}
 use Rattle.swap_core.proofs.machine.Core.draw.Goals as goal
 
@@ -24,10 +22,10 @@ pub returns-in_default : goal.returns-in_default
 returns-in_default c =
     record {
       answer =
-      stays (λ b. draw b c.args.who) (state_of c.self.inside) c.args.self.now c.args.who c.index.result.now (c.index.result.now.state) _ c.no-in_default.result
-    c.self.view_is
-    (at_index c.self.inside.actors.items c.args.who c.index.result.now (omega (arith, c.self.inside.actors.ok.0)) c.index.ensures)
-    refl (draw_else (state_of c.self.inside) c.args.who c.index.result.now c.index.result.now.state c.in_default.not-Holds) c.no-in_default.ensures;
+          stays (λ b. draw b c.args.who) (state_of c.self.inside) c.args.self.now c.args.who c.index.result.now (c.index.result.now.state) _ c.no-in_default.result
+          c.self.view_is
+          (at_index c.self.inside.actors.items c.args.who c.index.result.now (omega (arith, c.self.inside.actors.ok.0)) c.index.ensures)
+          refl (draw_else (state_of c.self.inside) c.args.who c.index.result.now c.index.result.now.state c.in_default.not-Holds) c.no-in_default.ensures;
       unchanged = tt;
     }
 

@@ -1,17 +1,11 @@
-use Rattle.std.proofs.Common.{◌≡◌, ◌+◌, ◌≤◌, ◌<◌, ◌%◌, ℕ, List, [], ◌∷◌, ◌++◌, length, get_or, set, slice_index, refl, ap, ap₂, subst, ◌∙◌, sym, inl, inr, arith}
-use Rattle.swap_core.specs.Plans.{table, limit, width}
-use Rattle.swap_core.specs.Sound.{Sound}
-use Rattle.swap_core.specs.States.{CoreState, IsActor, in_state, with_actor, with_draw, looked, entered, confirmed, drawn, gone, area}
-use Rattle.swap_core.specs.Steps.{look, enter, confirm, read, draw, leave}
+use Rattle.std.proofs.Common.{◌≡◌, ◌<◌, length, refl, ap, ◌∙◌, arith}
+use Rattle.swap_core.specs.Steps.{enter}
 use Rattle.swap_core.specs.Views.{state_of}
 use Rattle.swap_core.specs.declared.actors.Actor.{Actor}
-use Rattle.swap_core.specs.declared.actors.ActorState.{ActorState}
-use Rattle.swap_core.specs.declared.actors.ActorState.TheVariants.{Idle, Looked, Asks, Holds}
-use Rattle.swap_core.specs.declared.steps.Took.TheVariants.{Yes}
-use Rattle.swap_core.proofs.Answering.{stranger, stays, still, acts, same_read, taken, look_else, enter_else, confirm_else, confirm_moved, confirm_held, read_else, read_past, read_word, draw_else, draw_moved, draw_hold, draw_next, leave_else, leave_claimed}
+use Rattle.swap_core.specs.declared.actors.ActorState.TheVariants.{Looked}
+use Rattle.swap_core.proofs.Answering.{stranger, stays, acts, same_read, enter_else}
 use Rattle.swap_core.proofs.ListLemmas.{at_index}
-use Rattle.swap_core.proofs.Moves.{looks_sound, enters_sound, confirms_sound, leaves_sound, claimed_area, counted_there, held_there}
-use Rattle.swap_core.proofs.Drawing.{draws_sound}
+use Rattle.swap_core.proofs.Moves.{enters_sound}
 use Rattle.swap_core.proofs.machine.Core.enter.Goals as goal
 
 pub returns-then-at-len : goal.returns-then-at-len

@@ -1,6 +1,5 @@
-use Rattle.std.proofs.Common.{◌≡◌, ℕ, List, [], ap, ap₂, subst, sym, ◌∙◌, length, arith}
-use Rattle.swap_core.specs.Plans.{table, width}
-use Rattle.swap_core.specs.States.{CoreState, row_of}
+use Rattle.std.proofs.Common.{ℕ, List, [], ap, ap₂, subst, sym, ◌∙◌, length, arith}
+use Rattle.swap_core.specs.States.{row_of}
 use Rattle.swap_core.specs.Sound.{Sound}
 use Rattle.swap_core.proofs.PlanLemmas.{table_fits}
 use Rattle.swap_core.proofs.Begun.{opening_sound, opened}

@@ -1,4 +1,4 @@
-use Rattle.std.proofs.Common.{◌≡◌, ◌+◌, ◌≤◌, ℕ, List, [], ◌∷◌, ◌++◌, length, ap, subst, sym, arith}
+use Rattle.std.proofs.Common.{◌+◌, ◌≤◌, ℕ, List, length, ap, subst, sym, arith}
 use Rattle.swap_core.specs.Sound.{Sound}
 use Rattle.swap_core.specs.States.{next_table}
 use Rattle.swap_core.specs.Views.{state_of}

@@ -1,19 +1,15 @@
-use Rattle.std.proofs.Common.{◌≡◌, ◌+◌, ◌≤◌, ◌<◌, ◌%◌, ℕ, List, [], ◌∷◌, ◌++◌, length, get_or, set, slice_index, refl, ap, ap₂, subst, ◌∙◌, sym, inl, inr, arith}
-use Rattle.swap_core.specs.Plans.{table, limit, width}
-use Rattle.swap_core.specs.Sound.{Sound}
-use Rattle.swap_core.specs.States.{CoreState, IsActor, in_state, with_actor, with_draw, looked, entered, confirmed, drawn, gone, area}
-use Rattle.swap_core.specs.Steps.{look, enter, confirm, read, draw, leave}
+use Rattle.std.proofs.Common.{◌≡◌, ◌≤◌, ◌<◌, ℕ, List, [], length, get_or, slice_index, refl, ap, ◌∙◌, inr, arith}
+use Rattle.swap_core.specs.Plans.{table, width}
+use Rattle.swap_core.specs.States.{area}
+use Rattle.swap_core.specs.Steps.{read}
 use Rattle.swap_core.specs.Views.{state_of}
-use Rattle.swap_core.specs.declared.actors.Actor.{Actor}
-use Rattle.swap_core.specs.declared.actors.ActorState.{ActorState}
-use Rattle.swap_core.specs.declared.actors.ActorState.TheVariants.{Idle, Looked, Asks, Holds}
+use Rattle.swap_core.specs.declared.actors.ActorState.TheVariants.{Holds}
 use Rattle.swap_core.specs.declared.steps.Took.TheVariants.{Yes}
-use Rattle.swap_core.proofs.Answering.{stranger, stays, still, acts, same_read, taken, look_else, enter_else, confirm_else, confirm_moved, confirm_held, read_else, read_past, read_word, draw_else, draw_moved, draw_hold, draw_next, leave_else, leave_claimed}
+use Rattle.swap_core.proofs.Answering.{stranger, stays, still, taken, read_else, read_past, read_word}
 use Rattle.std.proofs.lemmas.List.{get_or_default}
 use Rattle.swap_core.proofs.PlanLemmas.{table_fits}
 use Rattle.swap_core.proofs.ListLemmas.{at_index}
-use Rattle.swap_core.proofs.Moves.{looks_sound, enters_sound, confirms_sound, leaves_sound, claimed_area, counted_there, held_there}
-use Rattle.swap_core.proofs.Drawing.{draws_sound}
+use Rattle.swap_core.proofs.Moves.{claimed_area, held_there}
 use Rattle.swap_core.proofs.machine.Core.read.Goals as goal
 
 pub returns-then-at-len : goal.returns-then-at-len
@@ -64,8 +60,13 @@ get-requires c =
     let row : length (area (state_of c.self.inside) c.in-Holds.area) ≡ width c.self.inside.plan = c.self.invariant.rows c.in-Holds.area small in
     let same : get_or c.self.inside.areas c.in-Holds.area c.index-self-area.result ≡ area (state_of c.self.inside) c.in-Holds.area =
     get_or_default c.self.inside.areas c.in-Holds.area c.index-self-area.result [] inside in
-    omega (arith, table_fits c.self.inside.plan c.in-Holds.version, ap (λ (ws : List ℕ). length ws) same,
-    ap (λ (ws : List ℕ). length ws) c.words.ensures, c.if-place-words.false)
+    omega (
+      arith,
+      table_fits c.self.inside.plan c.in-Holds.version,
+      ap (λ (ws : List ℕ). length ws) same,
+      ap (λ (ws : List ℕ). length ws) c.words.ensures,
+      c.if-place-words.false,
+    )
 
 pub returns : goal.returns
 returns c =

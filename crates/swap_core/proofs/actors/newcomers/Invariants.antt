@@ -1,6 +1,6 @@
 use Rattle.std.proofs.Common.{◌≡◌, replicate}
 use Rattle.swap_core.specs.States.{newcomer}
-use Rattle.swap_core.proofs.machine.newcomers.Given as goal
+use Rattle.swap_core.proofs.actors.newcomers.Given as goal
 
 abbrev pub invariant-actors : goal.invariant-actors
 invariant-actors l = l.actors.items ≡ replicate l.counter newcomer
