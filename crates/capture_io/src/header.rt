@@ -21,7 +21,8 @@ const ETHERNET: u32 = 1;
 const PLAIN_IP: u32 = 101;
 
 /// Reads the file header: what it says, or the first of these that is true: `CutHeader` at 0 for fewer than 24 bytes,
-/// `Magic`, `Version`, `Link`. The first record stands at place 24.
+/// `Magic`, `Version`, `Link`. `ReadFault` comes only where a read of this file failed in this call, at a place below
+/// 24. The first record stands at place 24.
 pub fn read_header<F: Files>(alloc: Global, files: &mut F, name: &str) -> Result<Form, CaptureError>
     ensures told { Told (F.held files.old) (λ m. Agrees result (header_in (content m name.now))) }
     ensures link { IfOk result (λ form. IsTrue (is_known_link form.link)) }

@@ -21,7 +21,8 @@ const MOST_RECORDS: u32 = 0x8000_0000;
 /// Reads the record of a number, counted from 0, which stands at the place `at`: the first at 24, each other at the
 /// `next_at` of the record before it. `End` where no byte is left, and otherwise the record or the first of these that
 /// is true: `TooMany` for number 2^31, `CutHeader` where fewer than 16 bytes are left, `TooLong` for a captured length
-/// above 262,144, `CutRecord` where fewer bytes are left than that.
+/// above 262,144, `CutRecord` where fewer bytes are left than that. `ReadFault` comes only where a read of this file
+/// failed in this call, at a place from `at` on. The number is at most 2^31 and the place at most 2^62.
 pub fn next_record<F: Files>(
     alloc: Global,
     files: &mut F,
@@ -127,7 +128,7 @@ pub fn time_of(form: Form, seconds: u32, fraction: u32) -> u64
 }
 
 /// A record of a capture that is written: little-endian, the packet's length both as the captured and as the original
-/// one.
+/// one. The packet has at most 65,575 bytes.
 pub fn put_record(
     alloc: Global,
     seconds: u32,
