@@ -16,6 +16,9 @@ use aftr_base::OutOfMemory;
 use std::alloc::Global;
 use std::marker::Model;
 
+/// How many bindings a table may have.
+const MOST_BINDINGS: usize = 65536;
+
 /// Settings and bindings that keep all rules, seen as the edition, the settings and the list of bindings.
 #[derive(Debug, Drop)]
 pub struct Table {
@@ -102,7 +105,7 @@ fn first_refusal(
     if refusal.is_some() {
         return Ok(refusal);
     }
-    if bindings.len() > 65536 {
+    if bindings.len() > MOST_BINDINGS {
         return Ok(Some(Refused::TooMany {
             count: bindings.len() as u32,
         }));
