@@ -1,0 +1,6 @@
+pub mod Answers
+pub mod Bounds
+pub mod Layout
+pub mod Parts
+pub mod Reads
+pub mod Spans
