@@ -4,3 +4,4 @@ pub mod Layout
 pub mod Parts
 pub mod Reads
 pub mod Spans
+pub mod Tried

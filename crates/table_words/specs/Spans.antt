@@ -49,6 +49,7 @@ pub record IsLike (first : ℕ) (x : Binding) : Type 0 where
   pub offset : x.offset ≡ first / 16777216 % 256
   pub length : x.length ≡ first / 65536 % 256
   pub psid : x.psid < 65536
+  pub psid_fits : x.psid < 2 ^ x.length
 
 -- the first word of the one entry with the address and shape that owns what is wanted, if any can
 abbrev pub IsKey : ℕ → Want → Option ℕ → Type 0

@@ -1,0 +1,7 @@
+pub mod Compiling
+pub mod Counts
+pub mod Digits
+pub mod Groups
+pub mod Halving
+pub mod Keys
+pub mod Members
