@@ -1,7 +1,9 @@
 pub mod Compiling
 pub mod Counts
 pub mod Digits
+pub mod Filters
 pub mod Groups
 pub mod Halving
 pub mod Keys
 pub mod Members
+pub mod Trying

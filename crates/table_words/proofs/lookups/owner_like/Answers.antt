@@ -1,10 +1,23 @@
+use Rattle.std.proofs.Common.{◌≡◌, ◌+◌, ◌-◌, ◌<◌, ◌≤◌, arith}
+use Rattle.table_words.proofs.Digits.{few_halvings}
 use Rattle.table_words.proofs.lookups.owner_like.Goals as goal
-
-pub returns-then-at-to-clause-bound : goal.returns-then-at-to-clause-bound
-returns-then-at-to-clause-bound g c = ?
+use Rattle.table_words.proofs.lookups.owner_like.Goals.{then-at-to-via-then-at-to, then-at-to-via-else-at-to+then-first_word-key}
 
 pub returns-then-at-to-clause-bound_none : goal.returns-then-at-to-clause-bound_none
-returns-then-at-to-clause-bound_none g c = ?
+returns-then-at-to-clause-bound_none g c = λ d l.
+    let s = c.lower_bound-at.ensures in
+    let few = few_halvings _ _ d s.cost l in
+    elim c.then-at-to.branch [
+      | then-at-to-via-then-at-to w ↦ omega (arith, few, s.later, w.steps-is)
+      | then-at-to-via-else-at-to+then-first_word-key w ↦ omega (arith, few, s.later, w.steps-is, w.first_word.ensures.steps)
+    ]
+
+pub returns-then-at-to-clause-bound : goal.returns-then-at-to-clause-bound
+returns-then-at-to-clause-bound g c = λ d l.
+    let h = returns-then-at-to-clause-bound_none g c d l in omega (arith, h)
 
 pub returns-clause-bound : goal.returns-clause-bound
-returns-clause-bound g c = ?
+returns-clause-bound g c = λ d l.
+    let s = c.lower_bound-at.ensures in
+    let few = few_halvings _ _ d s.cost l in
+    omega (arith, few, s.later, c.first_word.ensures.steps, c.tunnel_end.ensures.steps)
