@@ -2,13 +2,14 @@
 use Rattle.std.proofs.Common.{◌≡◌, ℕ, suc, ◌+◌, ◌-◌, ◌*◌, ◌/◌, ◌%◌, ◌^◌, ◌<◌, ◌≤◌, max, Bool, true, false, eqb, ◌&&◌, List, [], ◌∷◌, Some, None, length, filter, Contains, refl, sym, ap, ◌∙◌, inl, inr, arith}
 use Rattle.std.proofs.Math.Nat.{mul-le-mul_right}
 use Rattle.std.proofs.lemmas.Nat.{mul-le}
-use Rattle.std.proofs.lemmas.Bool.{cases_lt, cases_eq, eq-eqb, ne_eqb, and_from, and_left, and_right}
+use Rattle.std.proofs.lemmas.Bool.{true≢false, false≢true, cases_lt, cases_eq, eq-eqb, ne_eqb, and_from, and_left, and_right}
 use Rattle.aftr_base.specs.declared.numbers.V4.{V4}
 use Rattle.aftr_base.specs.declared.numbers.V6.{V6}
 use Rattle.binding_rules.specs.Bindings.{owns, is_bound, bound}
 use Rattle.binding_rules.specs.Tables.{Rules}
 use Rattle.binding_rules.specs.declared.binding.Binding.{Binding}
 use Rattle.binding_rules.specs.declared.binding.Want.{Want}
+use Rattle.std.specs.Prelude.{Option, is_some, IfSome, IfNone}
 use Rattle.table_words.specs.Answers.{first_b4, has_v4}
 use Rattle.table_words.specs.Bounds.{count_below, has_shape, shape_end, shape_count, group_digits, most_shapes, greatest, look_bound, found_bound}
 use Rattle.table_words.specs.Layout.{IsCompiled, row}
@@ -256,3 +257,32 @@ module _ (t : Rules) (words : List ℕ) (h : IsCompiled t words) (v4 : V4) (from
 
   pub address_cost : (c : ℕ) → 2 ^ c ≤ 2 * (to - from) + 1 → c ≤ group_digits t.bindings
   address_cost c cost = few_halvings c (to - from) (group_digits t.bindings) cost group.size
+
+-- an optional end of a tunnel
+pub some_is : (o r : Option V6) (P : V6 → Type 0) → is_some o ≡ true → IfSome o P → ((b4 : V6) → P b4 → r ≡ Some b4) → o ≡ r
+some_is None r P e h f = absurd (false≢true e)
+some_is (Some b4) r P e h f = sym (f b4 h)
+
+pub if_some : (o : Option V6) (P : Type 0) → P → IfSome o (λ _. P)
+if_some None P h = tt
+if_some (Some b4) P h = h
+
+pub when_none : (o : Option V6) (P : Type 0) → is_some o ≡ false → IfNone o P → P
+when_none None P e h = h
+when_none (Some b4) P e h = absurd (true≢false e)
+
+pub span_rest : (words : List ℕ) (from to at : ℕ) → IsSpan words from to → at ≤ to → IsSpan words at to
+span_rest words from to at s l = record { ordered = l; few = s.few; within = s.within; ascending = s.ascending; shapes = s.shapes }
+
+-- the first word behind a shape fits
+pub next_fits : (n a : ℕ) → a < 4294967296 → n / 4294967296 ≡ a → n / 16777216 % 256 ≤ 15 → n - n % 65536 + 65536 < 18446744073709551616
+next_fits n a l e o = omega arith
+
+pub above_address : (n m a least : ℕ) → n ≤ m → least ≤ n → a * 4294967296 ≤ least → (n / 4294967296 ≡ a → ⊥) → a < m / 4294967296
+above_address n m a least up l s other = elim (cases_lt a (m / 4294967296)) [
+  | inl less ↦ less
+  | inr more ↦ absurd (other (omega (arith, up, l, s, more)))
+]
+
+pub found_below : (t : Rules) → found_bound t.bindings ≤ look_bound t.bindings
+found_below t = omega arith
