@@ -1,6 +1,6 @@
 -- What the steps of the test give. No public contract cites these. Below, a is an address as a number, a place is that of
 -- a binding in the list, and a key is a port or an identifier.
-use Rattle.std.specs.Prelude.{◌≡◌, ℕ, suc, ◌^◌, ◌<◌, ◌≤◌, ◌⊎◌, ◌==◌, nat_lt, ◌&&◌, ◌||◌, Bool, true, false, if◌then◌else◌, List, length, slice_get, slice_index_or, Option, Some, None}
+use Rattle.std.specs.Prelude.{◌≡◌, ℕ, ◌^◌, ◌<◌, ◌≤◌, ◌⊎◌, ◌==◌, nat_lt, ◌&&◌, ◌||◌, Bool, true, false, if◌then◌else◌, List, length, slice_get, slice_index_or, Option, Some, None}
 use Rattle.port_set.specs.PortSets.{in_set}
 use Rattle.port_set.specs.Shapes.{IsShape, IsNoShape}
 use Rattle.binding_rules.specs.Conflicts.{HaveOneShape}
@@ -106,11 +106,11 @@ counted bindings a None = None
 counted bindings a (Some place) = if has_address a (slice_get bindings place) then Some place else None
 
 -- a slot of a key of the binding names the place
-pub record IsMet (by_port : Bool) (x : Binding) (bindings : List Binding) (owners : List (Option ℕ)) (place : ℕ) : Type 0 where
+pub record IsMet (by_port : Bool) (x : Binding) (bindings : List Binding) (a : ℕ) (owners : List (Option ℕ)) (place : ℕ) : Type 0 where
   pub key : ℕ
   pub in_range : key < 65536
   pub has : has_key by_port x key ≡ true
-  pub named : counted bindings x.v4.0 (slot owners key) ≡ Some place
+  pub named : counted bindings a (slot owners key) ≡ Some place
 
 -- the slots of the keys of the binding name the place, and the others are as before
 pub record IsTaken (by_port : Bool) (x : Binding) (place : ℕ) (before now : List (Option ℕ)) : Type 0 where
@@ -121,11 +121,17 @@ pub record IsTaken (by_port : Bool) (x : Binding) (place : ℕ) (before now : Li
 abbrev pub IsNotAfter : ℕ → ℕ → ℕ → ℕ → Type 0
 IsNotAfter first second f s = (second < s) ⊎ ((second ≡ s) × (first ≤ f))
 
--- the first pair, in this order, of two bindings with R of which the first is at a place with G
+-- the first pair of numbers with Q, in this order, if there is one
+abbrev pub IsLeastPair : (ℕ → ℕ → Type 0) → Option Pair → Type 0
+IsLeastPair Q None = (f s : ℕ) → Q f s → ⊥
+IsLeastPair Q (Some pair) = Q pair.first pair.second × ((f s : ℕ) → Q f s → IsNotAfter pair.first pair.second f s)
+
+-- two bindings with R, the first of them at a place with G
+abbrev pub ArePair : List Binding → (Binding → Binding → Type 0) → (ℕ → Type 0) → ℕ → ℕ → Type 0
+ArePair bindings R G f s = G f × AtBoth bindings f s R
+
 abbrev pub IsFirstPair : List Binding → (Binding → Binding → Type 0) → (ℕ → Type 0) → Option Pair → Type 0
-IsFirstPair bindings R G None = (f s : ℕ) → G f → AtBoth bindings f s R → ⊥
-IsFirstPair bindings R G (Some pair) = AtBoth bindings pair.first pair.second R
-    × ((f s : ℕ) → G f → AtBoth bindings f s R → IsNotAfter pair.first pair.second f s)
+IsFirstPair bindings R G pair = IsLeastPair (ArePair bindings R G) pair
 
 -- the binding at the place has the address
 abbrev pub HasAddress : List Binding → ℕ → ℕ → Type 0

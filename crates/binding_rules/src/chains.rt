@@ -52,8 +52,8 @@ pub(crate) fn least_unlike(
     like: Binding,
 ) -> Option<u32>
     requires linked { IsLinked bindings.now previous.now }
-    requires within { last < length bindings.now }
-    ensures { (a : ℕ) → IsLast bindings.now a last → IsLeastUnlike bindings.now a like result }
+    requires last { IsLast bindings.now like.v4.0 last }
+    ensures { IsLeastUnlike bindings.now like.v4.0 like result }
 {
     let mut found = None;
     let mut at = Some(last);

@@ -32,6 +32,7 @@ fn lesser(x: Option<u32>, y: Option<u32>) -> Option<u32>
 /// The least place that the slots of the binding's keys name. Then they name the place of this binding.
 pub(crate) fn meet(
     bindings: &[Binding],
+    v4: V4,
     by_port: bool,
     place: u32,
     binding: Binding,
@@ -40,34 +41,36 @@ pub(crate) fn meet(
     requires shape { IsShape binding.offset binding.length }
     requires psid { binding.psid < 2 ^ binding.length }
     requires size { length owners.old ≡ 65536 }
-    ensures least { IsLeast (IsMet by_port binding bindings.now owners.old) result }
+    ensures least { IsLeast (IsMet by_port binding bindings.now v4.0 owners.old) result }
     ensures taken { IsTaken by_port binding place owners.old owners.new }
 {
     if by_port {
-        let met = least_of_ports(bindings, binding, owners);
+        let met = least_of_ports(bindings, v4, binding, owners);
         take_ports(binding, place, owners);
         met
     } else {
         let key = usize::from(binding.psid);
-        let met = owner_of(bindings, binding.v4, owners[key]);
+        let met = owner_of(bindings, v4, owners[key]);
         owners[key] = Some(place);
         met
     }
 }
 
-fn least_of_ports(bindings: &[Binding], binding: Binding, owners: &[Option<u32>]) -> Option<u32>
+fn least_of_ports(
+    bindings: &[Binding],
+    v4: V4,
+    binding: Binding,
+    owners: &[Option<u32>],
+) -> Option<u32>
     requires shape { IsShape binding.offset binding.length }
     requires psid { binding.psid < 2 ^ binding.length }
     requires size { length owners.now ≡ 65536 }
-    ensures { IsLeast (IsMet true binding bindings.now owners.now) result }
+    ensures { IsLeast (IsMet true binding bindings.now v4.0 owners.now) result }
 {
     let mut met = None;
     if let Ok(shape) = shape_of(binding.offset, binding.length) {
         'ports: for port in ports_of(shape, binding.psid) {
-            met = lesser(
-                met,
-                owner_of(bindings, binding.v4, owners[usize::from(port)]),
-            );
+            met = lesser(met, owner_of(bindings, v4, owners[usize::from(port)]));
         }
     }
     met
