@@ -107,7 +107,7 @@ has_port x k =
     let s : ℕ = x.psid in
     let m : ℕ = 16 - x.offset - x.length in
     let inside : s * 2 ^ m < 2 ^ (16 - a) = rw (tail_split x.offset x.length k.shape)
-      (mul-lt-right s (2 ^ x.length) (2 ^ m) k.psid_fits (pow_pos m)) in
+    (mul-lt-right s (2 ^ x.length) (2 ^ m) k.psid_fits (pow_pos m)) in
     let at = in_set_at x.offset x.length x.psid k.shape (min a 1) (s * 2 ^ m) inside in
     record {
       port = min a 1 * 2 ^ (16 - a) + s * 2 ^ m;
@@ -140,9 +140,9 @@ module _ (t : Rules) (h : IsLawful t) where
       let p = has_port x k in
       let mapped = count_map row (λ (r : ℕ × ℕ). eqb r.0 (row x).0) t.bindings in
       let fewer : count_by (λ y. eqb (row y).0 (row x).0) t.bindings ≤ count_by (is_bound x.v4 (want.Port p.port)) t.bindings =
-        count_weaker _ _ t.bindings (λ y n e. same_fields x y k (known t h y n) (eqb-true _ _ e) p.port p.is_port p.owned) in
+      count_weaker _ _ t.bindings (λ y n e. same_fields x y k (known t h y n) (eqb-true _ _ e) p.port p.is_port p.owned) in
       let counted : length (bound t.bindings x.v4 (want.Port p.port)) ≡ count_by (is_bound x.v4 (want.Port p.port)) t.bindings =
-        length-filter (is_bound x.v4 (want.Port p.port)) t.bindings in
+      length-filter (is_bound x.v4 (want.Port p.port)) t.bindings in
       omega (arith, mapped, fewer, counted, h.at_most_one x.v4 (want.Port p.port))
 
   module _ (rows : List (ℕ × ℕ)) (same : IsPermutation (map row t.bindings) rows) (up : IsAscending rows) where
@@ -192,9 +192,9 @@ module _ (t : Rules) (h : IsLawful t) where
         spares j l m = elim (cases_eq j 5) [
           | inl five ↦ rw five refl
           | inr not_five ↦ elim (cases_eq j 6) [
-              | inl six ↦ rw six refl
-              | inr not_six ↦ (let seven : j ≡ 7 = omega arith in rw seven refl)
-            ]
+            | inl six ↦ rw six refl
+            | inr not_six ↦ (let seven : j ≡ 7 = omega arith in rw seven refl)
+          ]
         ]
 
         indexed : (g : ℕ) → g ≤ 65536 → slice_index (settings_words t.softwire (length rows) ++ (index_words rows 65537 ++ entry_words rows)) (8 + g) ≡ rows_below rows g

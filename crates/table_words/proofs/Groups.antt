@@ -52,7 +52,7 @@ module _ (rows : List (ℕ × ℕ)) (up : IsAscending rows) (h : ℕ) where
   below_at e l m = elim (cases_lt (top rows e) h) [
     | inl less ↦ less
     | inr more ↦ absurd (let most : rows_below rows h ≤ e = count_at_most (λ (r : ℕ × ℕ). ltb (r.0 / 281474976710656) h) rows (0, 0) e
-          (λ j n k. le-ltb _ _ (let s : top rows e ≤ top rows j = top_mono rows up e j n k in omega (arith, s, more))) in
+        (λ j n k. le-ltb _ _ (let s : top rows e ≤ top rows j = top_mono rows up e j n k in omega (arith, s, more))) in
         omega (arith, most, m))
   ]
 
@@ -60,7 +60,7 @@ module _ (rows : List (ℕ × ℕ)) (up : IsAscending rows) (h : ℕ) where
   unfolding top
   above_at e l m = elim (cases_lt (top rows e) h) [
     | inl less ↦ absurd (let least : e + 1 ≤ rows_below rows h = count_at_least (λ (r : ℕ × ℕ). ltb (r.0 / 281474976710656) h) rows (0, 0) (e + 1) (omega arith)
-          (λ j n. lt-ltb _ _ (let s : top rows j ≤ top rows e = top_mono rows up j e (omega arith) l in omega (arith, s, less))) in
+        (λ j n. lt-ltb _ _ (let s : top rows j ≤ top rows e = top_mono rows up j e (omega arith) l in omega (arith, s, less))) in
         omega (arith, least, m))
     | inr more ↦ more
   ]
@@ -71,9 +71,9 @@ module _ (rows : List (ℕ × ℕ)) (up : IsAscending rows) (h : ℕ) where
   unfolding top
   rows_below_is c l below above =
       let least : c ≤ rows_below rows h = count_at_least (λ (r : ℕ × ℕ). ltb (r.0 / 281474976710656) h) rows (0, 0) c l
-        (λ j n. lt-ltb _ _ (below j n)) in
+      (λ j n. lt-ltb _ _ (below j n)) in
       let most : rows_below rows h ≤ c = count_at_most (λ (r : ℕ × ℕ). ltb (r.0 / 281474976710656) h) rows (0, 0) c
-        (λ j n k. le-ltb _ _ (let s : top rows c ≤ top rows j = top_mono rows up c j n k in omega (arith, s, above (omega arith)))) in
+      (λ j n k. le-ltb _ _ (let s : top rows c ≤ top rows j = top_mono rows up c j n k in omega (arith, s, above (omega arith)))) in
       omega (arith, least, most)
 
   pub few_below : rows_below rows h ≤ length rows
@@ -83,9 +83,9 @@ split_top : (n h : ℕ) → cond (ltb n (h + 1)) 1 0 ≤ cond (ltb n h) 1 0 + co
 split_top n h = elim (cases_lt n h) [
   | inl less ↦ rw (lt-ltb n h less, lt-ltb n (h + 1) (omega arith)) (omega arith)
   | inr more ↦ elim (cases_eq n h) [
-      | inl same ↦ rw (eq-eqb n h same) (one_at_most (ltb n (h + 1)) (cond (ltb n h) 1 0))
-      | inr other ↦ rw (le-ltb n (h + 1) (omega arith)) (omega arith)
-    ]
+    | inl same ↦ rw (eq-eqb n h same) (one_at_most (ltb n (h + 1)) (cond (ltb n h) 1 0))
+    | inr other ↦ rw (le-ltb n (h + 1) (omega arith)) (omega arith)
+  ]
 ]
   where
     one_at_most : (b : Bool) (k : ℕ) → cond b 1 0 ≤ k + 1
@@ -137,12 +137,12 @@ module _ (t : Rules) (words : List ℕ) (h : IsCompiled t words) where
   group_count g =
       let here : (ℕ × ℕ) → Bool = λ (r : ℕ × ℕ). eqb (r.0 / 281474976710656) g in
       let split : rows_below h.rows (g + 1) ≤ rows_below h.rows g + count_by here h.rows =
-        count_split (λ (r : ℕ × ℕ). ltb (r.0 / 281474976710656) (g + 1)) (λ (r : ℕ × ℕ). ltb (r.0 / 281474976710656) g) here h.rows
-          (λ r. split_top (r.0 / 281474976710656) g) in
+      count_split (λ (r : ℕ × ℕ). ltb (r.0 / 281474976710656) (g + 1)) (λ (r : ℕ × ℕ). ltb (r.0 / 281474976710656) g) here h.rows
+      (λ r. split_top (r.0 / 281474976710656) g) in
       let moved : count_by here h.rows ≡ count_by here (map row t.bindings) = sum_by-IsPermutation (λ r. cond (here r) 1 0) (map row t.bindings) h.rows h.same in
       let mapped : count_by here (map row t.bindings) ≡ count_by (λ x. here (row x)) t.bindings = count_map row here t.bindings in
       let fewer : count_by (λ x. here (row x)) t.bindings ≤ group_size t.bindings g = count_weaker (λ x. here (row x)) (λ x. eqb (x.v4.0 / 65536) g) t.bindings
-          (λ x m y. eq-eqb _ _ (sym (fields x (known t h.lawful x m) _ refl).top ∙ eqb-true _ _ y)) in
+      (λ x m y. eq-eqb _ _ (sym (fields x (known t h.lawful x m) _ refl).top ∙ eqb-true _ _ y)) in
       omega (arith, split, moved, mapped, fewer)
 
   module _ (a from to : ℕ) (small : a < 4294967296) (f : from ≡ slice_index words (8 + a / 65536)) (g : to ≡ slice_index words (9 + a / 65536)) where
@@ -212,8 +212,8 @@ module _ (t : Rules) (words : List ℕ) (h : IsCompiled t words) where
               let count : rows_below h.rows (a / 65536 + 1) ≤ rows_below h.rows (a / 65536) + group_size t.bindings (a / 65536) = group_count (a / 65536) in
               let here : group_size t.bindings (x.v4.0 / 65536) ≡ group_size t.bindings (a / 65536) = ap (group_size t.bindings) same in
               let most : group_size t.bindings (x.v4.0 / 65536) ≤ greatest (λ b. group_size t.bindings (b.v4.0 / 65536)) t.bindings =
-                le_greatest (λ b. group_size t.bindings (b.v4.0 / 65536)) t.bindings x b.1 in
+              le_greatest (λ b. group_size t.bindings (b.v4.0 / 65536)) t.bindings x b.1 in
               let digits : greatest (λ b. group_size t.bindings (b.v4.0 / 65536)) t.bindings < 2 ^ group_digits t.bindings =
-                below_digits (greatest (λ b. group_size t.bindings (b.v4.0 / 65536)) t.bindings) in
+              below_digits (greatest (λ b. group_size t.bindings (b.v4.0 / 65536)) t.bindings) in
               omega (arith, from_is, to_is, count, here, most, digits))
         ]

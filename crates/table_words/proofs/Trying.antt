@@ -137,7 +137,7 @@ module _ (words : List ℕ) (v4 : V4) (w : Want) (first to : ℕ) where
           let f = fields x (known t h.lawful x b.1) word (word_is ∙ b.2.first) in
           let code : x.offset * 256 + x.length ≡ (word - v4.0 * 4294967296) / 65536 = shape_code word v4.0 x.offset x.length same_address f.offset f.length in
           any_passes (λ (y : Binding). eqb y.v4.0 v4.0 && eqb (y.offset * 256 + y.length) ((word - v4.0 * 4294967296) / 65536)) t.bindings x b.1
-            (and_from _ _ (eq-eqb _ _ (sym f.v4 ∙ same_address)) (eq-eqb _ _ code))
+          (and_from _ _ (eq-eqb _ _ (sym f.v4 ∙ same_address)) (eq-eqb _ _ code))
         where
           shape_code : (n a o l : ℕ) → n / 4294967296 ≡ a → n / 16777216 % 256 ≡ o → n / 65536 % 256 ≡ l → o * 256 + l ≡ (n - a * 4294967296) / 65536
           shape_code n a o l e f g = omega arith
@@ -159,7 +159,7 @@ module _ (words : List ℕ) (v4 : V4) (w : Want) (first to : ℕ) where
           let counted : tried_shapes t v4.0 (word - word % 65536 + 65536) ≤ shape_count t.bindings v4.0 = count_below_mono (has_shape t.bindings v4.0) _ shape_end small in
           let moved : shape_count t.bindings x.v4.0 ≡ shape_count t.bindings v4.0 = ap (shape_count t.bindings) (sym f.v4 ∙ same_address) in
           let most : shape_count t.bindings x.v4.0 ≤ greatest (λ y. shape_count t.bindings y.v4.0) t.bindings =
-            le_greatest (λ y. shape_count t.bindings y.v4.0) t.bindings x b.1 in
+          le_greatest (λ y. shape_count t.bindings y.v4.0) t.bindings x b.1 in
           omega (arith, counted, moved, most)
 
       pub tried_more : (now : ℕ) → ((t : Rules) → IsCompiled t words → now ≤ spent + (2 * group_digits t.bindings + 2))

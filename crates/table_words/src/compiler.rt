@@ -50,11 +50,7 @@ fn row_of(binding: Binding) -> (u64, u128)
 }
 
 /// Puts the eight words of the settings.
-fn put_settings(
-    words: &mut Vec<u64>,
-    count: usize,
-    softwire: Softwire,
-) -> Result<(), OutOfMemory>
+fn put_settings(words: &mut Vec<u64>, count: usize, softwire: Softwire) -> Result<(), OutOfMemory>
     ensures { OnOk result (words.new.items ≡ words.old.items ++ settings_words softwire count) }
 {
     words.extend_from_slice(&[

@@ -29,11 +29,7 @@ pub(crate) fn first_word<W: Words, L: Ledger>(
 }
 
 /// The address of the tunnel's end of an entry.
-pub(crate) fn tunnel_end<W: Words, L: Ledger>(
-    words: &mut W,
-    entry: u32,
-    steps: &mut Steps<L>,
-) -> V6
+pub(crate) fn tunnel_end<W: Words, L: Ledger>(words: &mut W, entry: u32, steps: &mut Steps<L>) -> V6
     requires few { entry < 65536 }
     requires within { 65545 + 3 * entry + 3 ≤ length (W.list words.old) }
     ensures value { result.0 ≡ b4_at (W.list words.old) entry }

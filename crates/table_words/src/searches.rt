@@ -19,11 +19,7 @@ pub(crate) struct Span {
 }
 
 /// The entries whose addresses agree with this one in the top 16 bits.
-pub(crate) fn group_of<W: Words, L: Ledger>(
-    words: &mut W,
-    v4: V4,
-    steps: &mut Steps<L>,
-) -> Span
+pub(crate) fn group_of<W: Words, L: Ledger>(words: &mut W, v4: V4, steps: &mut Steps<L>) -> Span
     requires { AreCompiled (W.list words.old) }
     ensures span { IsSpan (W.list words.old) result.from result.to }
     ensures group { (t : Rules) → IsCompiled t (W.list words.old) → IsGroup t (W.list words.old) v4.0 result.from result.to }

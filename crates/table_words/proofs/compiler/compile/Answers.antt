@@ -16,11 +16,11 @@ returns-clause-words c =
     let ranged : IsRanged c.softwire.result = record { mtu6 = omega arith; mtu4 = omega arith; hop_limit = omega arith } in
     let count : c.len-2.result ≡ length rows = search rules in
     let settings = c.in_ok-put_settings.ensures ∙ ap (λ s. c.in_ok-words.words.items ++ settings_words s c.len-2.result) c.softwire.ensures.value
-      ∙ ap (λ n. c.in_ok-words.words.items ++ settings_words c.args.table.now.softwire n) count in
+    ∙ ap (λ n. c.in_ok-words.words.items ++ settings_words c.args.table.now.softwire n) count in
     compiled_is t c.softwire.ensures.lawful rows
-      (subst (λ bs. IsPermutation (map row bs) rows) c.bindings-bindings.ensures.value c.in_ok-rows.ensures.same)
-      c.in_ok-rows.ensures.ascending c.softwire.ensures.valid (subst IsRanged c.softwire.ensures.value ranged) c.of.result
-      (c.of.ensures ∙ words_are _ _ _ c.in_ok-words.words.items _ _ _ entries index settings c.in_ok-words.ensures.items)
+    (subst (λ bs. IsPermutation (map row bs) rows) c.bindings-bindings.ensures.value c.in_ok-rows.ensures.same)
+    c.in_ok-rows.ensures.ascending c.softwire.ensures.valid (subst IsRanged c.softwire.ensures.value ranged) c.of.result
+    (c.of.ensures ∙ words_are _ _ _ c.in_ok-words.words.items _ _ _ entries index settings c.in_ok-words.ensures.items)
 
 pub returns-clause-some_table : goal.returns-clause-some_table
 returns-clause-some_table c = record { table = c.args.table.now; of_table = returns-clause-words c }

@@ -15,7 +15,7 @@ shapes-init g c =
     record {
       span = grouped.span;
       tried = rw c.from-address.ensures
-        (tried_none words c.args.v4 c.args.want c.group_of-group.result.from c.group_of-group.result.to _ (omega (arith, grouped.steps)) grouped.group);
+          (tried_none words c.args.v4 c.args.want c.group_of-group.result.from c.group_of-group.result.to _ (omega (arith, grouped.steps)) grouped.group);
       list = grouped.list;
       reads = rw steps_are grouped.reads;
       goes = grouped.goes;
@@ -38,12 +38,12 @@ returns-then-from-group g c =
     let place = subst (λ (ws : List ℕ). IsBoundary ws c.shapes.from to c.shapes.least at) i.list bounded.place in
     record {
       owner = λ t h. sym (none_left words c.args.v4 c.args.want first to c.shapes.from c.shapes.least spent at i.tried i.span place t h
-        (λ e l m. absurd (omega (arith, c.if-from-group.true))));
+          (λ e l m. absurd (omega (arith, c.if-from-group.true))));
       bound = λ t h.
-        let cost = search_cost words c.args.v4 c.args.want first to c.shapes.from c.shapes.least spent at i.tried i.span place t h _ bounded.cost in
-        let most = none_cost words c.args.v4 c.args.want first to c.shapes.from c.shapes.least spent at i.tried i.span place t h
+          let cost = search_cost words c.args.v4 c.args.want first to c.shapes.from c.shapes.least spent at i.tried i.span place t h _ bounded.cost in
+          let most = none_cost words c.args.v4 c.args.want first to c.shapes.from c.shapes.least spent at i.tried i.span place t h
           (c.lower_bound-from.new.steps - c.args.steps.now) (omega (arith, cost, bounded.later, i.later)) in
-        omega (arith, most, bounded.later, i.later);
+          omega (arith, most, bounded.later, i.later);
       found = tt;
       list = bounded.list ∙ i.list;
       reads = reads_on _ _ _ spent _ _ (omega (arith, bounded.later, i.later)) i.reads bounded.reads;
@@ -72,17 +72,17 @@ returns-then-first-address g c =
     let other : c.first_word-first.result / 4294967296 ≢ c.args.v4.0 = λ e. c.if-first-address.true (e ∙ sym c.from-address.ensures) in
     record {
       owner = λ t h. sym (none_left words c.args.v4 c.args.want first to c.shapes.from c.shapes.least spent at i.tried i.span place t h
-        (λ e l m. above_address (first_at words at) (first_at words e) c.args.v4.0 c.shapes.least (i.span.ascending at e l m)
+          (λ e l m. above_address (first_at words at) (first_at words e) c.args.v4.0 c.shapes.least (i.span.ascending at e l m)
           (place.above at (omega arith) c.if-from-group.false) i.tried.at_least (rw (← word) other)));
       bound = λ t h.
-        let cost = search_cost words c.args.v4 c.args.want first to c.shapes.from c.shapes.least spent at i.tried i.span place t h _ bounded.cost in
-        let most = none_cost words c.args.v4 c.args.want first to c.shapes.from c.shapes.least spent at i.tried i.span place t h
+          let cost = search_cost words c.args.v4 c.args.want first to c.shapes.from c.shapes.least spent at i.tried i.span place t h _ bounded.cost in
+          let most = none_cost words c.args.v4 c.args.want first to c.shapes.from c.shapes.least spent at i.tried i.span place t h
           (c.first_word-first.new.steps - c.args.steps.now) (omega (arith, cost, bounded.later, i.later, read.steps)) in
-        omega (arith, most, bounded.later, i.later, read.steps);
+          omega (arith, most, bounded.later, i.later, read.steps);
       found = tt;
       list = read.list ∙ bounded.list ∙ i.list;
       reads = reads_on _ _ _ (c.lower_bound-from.new.steps - c.args.steps.now) 1 _ (omega (arith, bounded.later, i.later, read.steps))
-        (reads_on _ _ _ spent _ _ (omega (arith, bounded.later, i.later)) i.reads bounded.reads) read.reads;
+          (reads_on _ _ _ spent _ _ (omega (arith, bounded.later, i.later)) i.reads bounded.reads) read.reads;
       goes = g.met.W.Words.goes_on _ _ _ (g.met.W.Words.goes_on _ _ _ i.goes bounded.goes) read.goes;
       later = omega (arith, bounded.later, i.later, read.steps);
     }
@@ -92,7 +92,7 @@ owner_like-owner-requires-clause-span g c =
     let i = c.shapes.invariant in
     let list = c.first_word-first.ensures.list ∙ c.lower_bound-from.ensures.list ∙ i.list in
     subst (λ (ws : List ℕ). IsSpan ws c.lower_bound-from.result c.group_of-group.result.to) (sym list)
-      (span_rest _ c.shapes.from _ _ i.span (omega (arith, c.if-from-group.false)))
+    (span_rest _ c.shapes.from _ _ i.span (omega (arith, c.if-from-group.false)))
 
 pub returns-then-is_some : goal.returns-then-is_some
 returns-then-is_some g c =
@@ -114,24 +114,24 @@ returns-then-is_some g c =
     let now = c.owner_like-owner.new.steps - c.args.steps.now in
     record {
       owner = λ t h. some_is c.owner_like-owner.result _ (λ b4. IsFound words at to word c.args.want b4.0) (sym c.is_some.ensures ∙ c.if-is_some.true) found
-        (found_here words c.args.v4 c.args.want first to c.shapes.from c.shapes.least spent at i.tried i.span place c.if-from-group.false word word_is address t h);
+          (found_here words c.args.v4 c.args.want first to c.shapes.from c.shapes.least spent at i.tried i.span place c.if-from-group.false word word_is address t h);
       bound = λ t h.
-        let cost = search_cost words c.args.v4 c.args.want first to c.shapes.from c.shapes.least spent at i.tried i.span place t h _ bounded.cost in
-        let small = rest_small words c.args.v4 c.args.want first to c.shapes.from c.shapes.least spent at i.tried i.span place t h in
-        let tries = tested.bound (group_digits t.bindings) small in
-        let most = found_cost words c.args.v4 c.args.want first to c.shapes.from c.shapes.least spent at i.tried i.span place c.if-from-group.false word word_is address t h
+          let cost = search_cost words c.args.v4 c.args.want first to c.shapes.from c.shapes.least spent at i.tried i.span place t h _ bounded.cost in
+          let small = rest_small words c.args.v4 c.args.want first to c.shapes.from c.shapes.least spent at i.tried i.span place t h in
+          let tries = tested.bound (group_digits t.bindings) small in
+          let most = found_cost words c.args.v4 c.args.want first to c.shapes.from c.shapes.least spent at i.tried i.span place c.if-from-group.false word word_is address t h
           now (omega (arith, cost, tries, bounded.later, i.later, read.steps, tested.later)) in
-        omega (arith, most, found_below t, bounded.later, i.later, read.steps, tested.later);
+          omega (arith, most, found_below t, bounded.later, i.later, read.steps, tested.later);
       found = if_some c.owner_like-owner.result _ (λ t h.
-        let cost = search_cost words c.args.v4 c.args.want first to c.shapes.from c.shapes.least spent at i.tried i.span place t h _ bounded.cost in
-        let small = rest_small words c.args.v4 c.args.want first to c.shapes.from c.shapes.least spent at i.tried i.span place t h in
-        let tries = tested.bound (group_digits t.bindings) small in
-        let most = found_cost words c.args.v4 c.args.want first to c.shapes.from c.shapes.least spent at i.tried i.span place c.if-from-group.false word word_is address t h
+          let cost = search_cost words c.args.v4 c.args.want first to c.shapes.from c.shapes.least spent at i.tried i.span place t h _ bounded.cost in
+          let small = rest_small words c.args.v4 c.args.want first to c.shapes.from c.shapes.least spent at i.tried i.span place t h in
+          let tries = tested.bound (group_digits t.bindings) small in
+          let most = found_cost words c.args.v4 c.args.want first to c.shapes.from c.shapes.least spent at i.tried i.span place c.if-from-group.false word word_is address t h
           now (omega (arith, cost, tries, bounded.later, i.later, read.steps, tested.later)) in
-        omega (arith, most, bounded.later, i.later, read.steps, tested.later));
+          omega (arith, most, bounded.later, i.later, read.steps, tested.later));
       list = tested.list ∙ list;
       reads = reads_on _ _ _ (c.first_word-first.new.steps - c.args.steps.now) _ _ (omega (arith, bounded.later, i.later, read.steps, tested.later))
-        (reads_on _ _ _ (c.lower_bound-from.new.steps - c.args.steps.now) 1 _ (omega (arith, bounded.later, i.later, read.steps))
+          (reads_on _ _ _ (c.lower_bound-from.new.steps - c.args.steps.now) 1 _ (omega (arith, bounded.later, i.later, read.steps))
           (reads_on _ _ _ spent _ _ (omega (arith, bounded.later, i.later)) i.reads bounded.reads) read.reads) tested.reads;
       goes = g.met.W.Words.goes_on _ _ _ (g.met.W.Words.goes_on _ _ _ (g.met.W.Words.goes_on _ _ _ i.goes bounded.goes) read.goes) tested.goes;
       later = omega (arith, bounded.later, i.later, read.steps, tested.later);
@@ -166,20 +166,20 @@ shapes-preserved g c =
     let address : word / 4294967296 ≡ c.args.v4.0 = c.if-first-address.false ∙ c.from-address.ensures in
     let none = sym c.is_some.ensures ∙ c.if-is_some.false in
     let not_found : IsNotFound words at to word c.args.want =
-      subst (λ (ws : List ℕ). IsNotFound ws at to word c.args.want) list (when_none c.owner_like-owner.result _ none tested.none) in
+    subst (λ (ws : List ℕ). IsNotFound ws at to word c.args.want) list (when_none c.owner_like-owner.result _ none tested.none) in
     record {
       span = span_rest _ c.shapes.from _ _ i.span (omega (arith, c.if-from-group.false));
       tried = tried_more words c.args.v4 c.args.want first to c.shapes.from c.shapes.least spent at i.tried i.span place c.if-from-group.false word word_is address
-        (c.owner_like-owner.new.steps - c.args.steps.now)
-        (λ t h.
+          (c.owner_like-owner.new.steps - c.args.steps.now)
+          (λ t h.
           let cost = search_cost words c.args.v4 c.args.want first to c.shapes.from c.shapes.least spent at i.tried i.span place t h _ bounded.cost in
           let small = rest_small words c.args.v4 c.args.want first to c.shapes.from c.shapes.least spent at i.tried i.span place t h in
           let tries = when_none c.owner_like-owner.result _ none tested.bound_none (group_digits t.bindings) small in
           omega (arith, cost, tries, bounded.later, i.later, read.steps, tested.later))
-        not_found;
+          not_found;
       list = tested.list ∙ list;
       reads = reads_on _ _ _ (c.first_word-first.new.steps - c.args.steps.now) _ _ (omega (arith, bounded.later, i.later, read.steps, tested.later))
-        (reads_on _ _ _ (c.lower_bound-from.new.steps - c.args.steps.now) 1 _ (omega (arith, bounded.later, i.later, read.steps))
+          (reads_on _ _ _ (c.lower_bound-from.new.steps - c.args.steps.now) 1 _ (omega (arith, bounded.later, i.later, read.steps))
           (reads_on _ _ _ spent _ _ (omega (arith, bounded.later, i.later)) i.reads bounded.reads) read.reads) tested.reads;
       goes = g.met.W.Words.goes_on _ _ _ (g.met.W.Words.goes_on _ _ _ (g.met.W.Words.goes_on _ _ _ i.goes bounded.goes) read.goes) tested.goes;
       later = omega (arith, bounded.later, i.later, read.steps, tested.later);

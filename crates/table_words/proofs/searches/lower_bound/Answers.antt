@@ -11,7 +11,7 @@ search-preserved-then-first_word-key g c =
     let list = f.list ∙ i.list in
     let here : first_at (g.W.Words.list c.args.words.now) middle < c.args.key = rw (← i.list) (rw (← f.value) c.if-first_word-key.true) in
     let h : IsHalved (c.search.steps + 1) c.args.steps.now (c.search.high - (middle + 1)) (c.args.to - c.args.from) =
-      halved_more c.search.steps c.args.steps.now (c.search.high - c.search.low) _ _ i.later (omega arith) (omega arith) i.halved in
+    halved_more c.search.steps c.args.steps.now (c.search.high - c.search.low) _ _ i.later (omega arith) (omega arith) i.halved in
     record {
       from_on = omega arith;
       ordered = omega arith;
@@ -34,7 +34,7 @@ search-preserved g c =
     let list = f.list ∙ i.list in
     let here : c.args.key ≤ first_at (g.W.Words.list c.args.words.now) middle = rw (← i.list) (rw (← f.value) c.if-first_word-key.false) in
     let h : IsHalved (c.search.steps + 1) c.args.steps.now (middle - c.search.low) (c.args.to - c.args.from) =
-      halved_more c.search.steps c.args.steps.now (c.search.high - c.search.low) _ _ i.later (omega arith) (omega arith) i.halved in
+    halved_more c.search.steps c.args.steps.now (c.search.high - c.search.low) _ _ i.later (omega arith) (omega arith) i.halved in
     record {
       from_on = i.from_on;
       ordered = omega arith;
