@@ -168,6 +168,7 @@ module _ (t : Rules) (words : List ℕ) (h : IsCompiled t words) where
       few = omega (arith, to_within, row_count);
       within = omega (arith, to_within, h.size);
       ascending = λ d e l m. rw (h.first d (omega (arith, to_within)), h.first e (omega (arith, to_within))) (rows_ascend d e l (omega (arith, to_within)));
+      rising = λ d e l m. rw (h.first d (omega (arith, to_within)), h.first e (omega (arith, to_within))) (h.ascending d e l (omega (arith, to_within)));
       shapes = λ e l.
           let b = binding_of e (omega (arith, to_within)) in
           let k = known t h.lawful b.0 b.1 in

@@ -1,6 +1,7 @@
 pub mod Compiling
 pub mod Counts
 pub mod Digits
+pub mod Ends
 pub mod Filters
 pub mod Groups
 pub mod Halving

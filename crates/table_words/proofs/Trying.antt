@@ -272,7 +272,7 @@ when_none None P e h = h
 when_none (Some b4) P e h = absurd (true≢false e)
 
 pub span_rest : (words : List ℕ) (from to at : ℕ) → IsSpan words from to → at ≤ to → IsSpan words at to
-span_rest words from to at s l = record { ordered = l; few = s.few; within = s.within; ascending = s.ascending; shapes = s.shapes }
+span_rest words from to at s l = record { ordered = l; few = s.few; within = s.within; ascending = s.ascending; rising = s.rising; shapes = s.shapes }
 
 -- the first word behind a shape fits
 pub next_fits : (n a : ℕ) → a < 4294967296 → n / 4294967296 ≡ a → n / 16777216 % 256 ≤ 15 → n - n % 65536 + 65536 < 18446744073709551616

@@ -23,6 +23,7 @@ pub record IsSpan (words : List ℕ) (from to : ℕ) : Type 0 where
   pub few : to ≤ 65536
   pub within : 65545 + 3 * to ≤ length words
   pub ascending : (d e : ℕ) → d ≤ e → e < to → first_at words d ≤ first_at words e
+  pub rising : (d e : ℕ) → d < e → e < to → first_at words d < first_at words e
   pub shapes : (e : ℕ) → e < to → IsShape (first_at words e / 16777216 % 256) (first_at words e / 65536 % 256)
 
 -- the place where entries below the key end
@@ -69,3 +70,9 @@ pub record IsFound (words : List ℕ) (from to first : ℕ) (w : Want) (b4 : ℕ
 -- no entry with this address and shape owns what is wanted
 abbrev pub IsNotFound : List ℕ → ℕ → ℕ → ℕ → Want → Type 0
 IsNotFound words from to first w = (e : ℕ) (x : Binding) → from ≤ e → e < to → first_at words e ≡ (row x).0 → IsLike first x → owns w x ≡ false
+
+-- the entries up to this end are all that can have the key, and perhaps more
+pub record IsEnd (from to first key end : ℕ) : Type 0 where
+  pub some : from < end
+  pub within : end ≤ to
+  pub enough : end < to → key < first + (end - from)

@@ -11,7 +11,7 @@ ghost use Rattle.table_words.specs.Spans.{IsSpan, IsGroup, IsFound, IsNotFound, 
 use crate::counter::Steps;
 use crate::entries::{first_word, key_of, tunnel_end};
 use crate::reader::Words;
-use crate::searches::{group_of, lower_bound};
+use crate::searches::{group_of, lower_bound, place_of};
 use aftr_base::{V4, V6};
 use binding_rules::{Softwire, Want};
 use std::sync::ledger::Ledger;
@@ -79,7 +79,7 @@ fn owner_like<W: Words, L: Ledger>(
     ensures later { steps.old ≤ steps.new }
 {
     let key = key_of(first, want)?;
-    let at = lower_bound(words, from, to, key, steps);
+    let at = place_of(words, from, to, first, key, steps);
     if at >= to || first_word(words, at, steps) != key {
         return None;
     }

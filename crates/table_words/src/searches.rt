@@ -3,7 +3,7 @@ ghost use Rattle.std.specs.Prelude.{◌≡◌, ◌+◌, ◌-◌, ◌*◌, ◌^�
 ghost use Rattle.binding_rules.specs.Tables.{Rules};
 ghost use Rattle.table_words.specs.Layout.{IsCompiled, AreCompiled};
 ghost use Rattle.table_words.specs.Reads.{read_more};
-ghost use Rattle.table_words.specs.Spans.{IsSpan, IsGroup, IsBoundary};
+ghost use Rattle.table_words.specs.Spans.{IsSpan, IsGroup, IsBoundary, IsEnd, first_at};
 
 use crate::counter::Steps;
 use crate::entries::first_word;
@@ -61,4 +61,42 @@ pub(crate) fn lower_bound<W: Words, L: Ledger>(
         }
     }
     low
+}
+
+/// The first of these entries whose first word is not below the key, where `first` is the first word of the first of
+/// them. From one entry to the next the first words rise by at least 1, so the key is at most as far behind the first
+/// entry as it is above its first word.
+pub(crate) fn place_of<W: Words, L: Ledger>(
+    words: &mut W,
+    from: u32,
+    to: u32,
+    first: u64,
+    key: u64,
+    steps: &mut Steps<L>,
+) -> u32
+    requires span { IsSpan (W.list words.old) from to }
+    requires here { first ≡ first_at (W.list words.old) from }
+    requires some { from < to }
+    ensures place { IsBoundary (W.list words.old) from to key result }
+    ensures cost { 2 ^ (steps.new - steps.old) ≤ 2 * (to - from) + 1 }
+    ensures list { W.list words.new ≡ W.list words.old }
+    ensures reads { W.reads words.new ≡ read_more (W.reads words.old) (steps.new - steps.old) }
+    ensures goes { W.goes words.old words.new }
+    ensures later { steps.old ≤ steps.new }
+{
+    let end = end_of(from, to, first, key);
+    lower_bound(words, from, end, key, steps)
+}
+
+/// The end of the entries among which the key can be.
+fn end_of(from: u32, to: u32, first: u64, key: u64) -> u32
+    requires { from < to }
+    ensures { IsEnd from to first key result }
+{
+    let ahead = key.saturating_sub(first);
+    if ahead < u64::from(to - from) {
+        from + ahead as u32 + 1
+    } else {
+        to
+    }
 }
