@@ -1,17 +1,17 @@
 -- The parts of the words, put together.
-use Rattle.std.proofs.Common.{◌≡◌, ℕ, zero, suc, ◌+◌, ◌-◌, ◌*◌, ◌/◌, ◌%◌, ◌^◌, ◌<◌, ◌≤◌, min, Bool, true, false, cond, eqb, ◌&&◌, List, [], ◌∷◌, ◌++◌, length, get_or, map, Contains, refl, sym, ap, ◌∙◌, inl, inr, arith, append-nil, append_assoc}
-use Rattle.std.specs.Prelude.{slice_index, slice_get, filter}
+use Rattle.std.proofs.Common.{◌≡◌, ℕ, zero, suc, ◌+◌, ◌-◌, ◌*◌, ◌/◌, ◌%◌, ◌^◌, ◌<◌, ◌≤◌, min, Bool, true, false, cond, eqb, List, [], ◌∷◌, ◌++◌, length, get_or, map, Contains, refl, sym, ap, ◌∙◌, inl, inr, arith, append-nil, append_assoc}
+use Rattle.std.specs.Prelude.{slice_index}
 use Rattle.std.specs.List.{count_by, range_with_len}
 use Rattle.std.specs.List.Sorted.{IsPermutation, IsSorted}
 use Rattle.std.specs.Ordering.{nat_cmp, is_lt, ordering_then}
 use Rattle.std.proofs.Math.Nat.{mul-le-mul_right}
 use Rattle.std.proofs.Math.Pow.{pow_mono}
-use Rattle.std.proofs.lemmas.Nat.{pow_pos, shl-shr, mul-lt}
+use Rattle.std.proofs.lemmas.Nat.{pow_pos, shl-shr}
 use Rattle.std.proofs.lemmas.Bool.{cases_lt, cases_eq, lt-ltb, eqb-true, eq-eqb, and_from, true≢false}
-use Rattle.std.proofs.lemmas.List.{length-append, length-map, get_or_append_left, get_or-append-add, get_or-append_right}
+use Rattle.std.proofs.lemmas.List.{length-append, get_or_append_left, get_or-append-add, get_or-append_right}
 use Rattle.std.proofs.lemmas.List.Elements.{Contains-get_or}
 use Rattle.std.proofs.lemmas.List.FromFn.{length-map-range_with_len, get_or-map-range_with_len, map-range_with_len_more}
-use Rattle.std.proofs.lemmas.List.Sorted.{IsNonDecreasingBy-from_all_adjacent, IsPermutation-sym, Contains-permutation, length_permutation, sum_by-IsPermutation}
+use Rattle.std.proofs.lemmas.List.Sorted.{IsNonDecreasingBy-from_all_adjacent, IsPermutation-sym, Contains-permutation, sum_by-IsPermutation}
 use Rattle.std.proofs.lemmas.List.Sums.{length-filter}
 use Rattle.port_set.specs.PortSets.{in_set}
 use Rattle.port_set.specs.Shapes.{IsShape}
@@ -22,8 +22,8 @@ use Rattle.binding_rules.specs.declared.binding.Binding.{Binding}
 use Rattle.binding_rules.specs.declared.binding.Want.TheVariants as want
 use Rattle.table_words.specs.Layout.{IsCompiled, IsRanged, row, row_at, rows_below}
 use Rattle.table_words.specs.Parts.{IsAscending, settings_words, index_words, entry_words}
-use Rattle.table_words.proofs.Counts.{count_cons, count_two, count_map, count_weaker}
-use Rattle.table_words.proofs.Groups.{fields, AreFields, rows_below_is}
+use Rattle.table_words.proofs.Counts.{count_two, count_map, count_weaker}
+use Rattle.table_words.proofs.Groups.{fields}
 use Rattle.table_words.proofs.Members.{contains_from_map, IsKnown, known}
 
 -- the index

@@ -1,8 +1,8 @@
 -- How many of a list pass a test.
-use Rattle.std.proofs.Common.{◌≡◌, ℕ, zero, suc, ◌+◌, ◌*◌, ◌<◌, ◌≤◌, Bool, true, false, cond, List, [], ◌∷◌, length, get_or, map, Contains, max, refl, sym, ap, ◌∙◌, inl, inr, arith}
-use Rattle.std.specs.List.{count_by, sum_by}
+use Rattle.std.proofs.Common.{◌≡◌, ℕ, zero, suc, ◌+◌, ◌<◌, ◌≤◌, Bool, true, false, cond, List, [], ◌∷◌, length, get_or, map, Contains, refl, ap, inl, inr, arith}
+use Rattle.std.specs.List.{count_by}
 use Rattle.std.proofs.lemmas.List.Sums.{sum_by-cons}
-use Rattle.std.proofs.lemmas.Bool.{cases_Bool, cases_lt, false≢true}
+use Rattle.std.proofs.lemmas.Bool.{cases_Bool}
 use Rattle.binding_rules.specs.declared.binding.Binding.{Binding}
 use Rattle.table_words.specs.Bounds.{greatest}
 

@@ -1,20 +1,18 @@
 -- The entries of a table's words, and those that agree with an address in its top 16 bits.
-use Rattle.std.proofs.Common.{◌≡◌, ℕ, ◌+◌, ◌-◌, ◌*◌, ◌/◌, ◌%◌, ◌^◌, ◌<◌, ◌≤◌, Bool, true, false, cond, eqb, ltb, List, length, get_or, map, Contains, refl, sym, ap, ◌∙◌, inl, inr, arith}
+use Rattle.std.proofs.Common.{◌≡◌, ℕ, ◌+◌, ◌-◌, ◌*◌, ◌/◌, ◌%◌, ◌^◌, ◌<◌, ◌≤◌, Bool, true, false, cond, eqb, ltb, List, length, map, Contains, refl, sym, ap, ◌∙◌, inl, inr, arith}
 use Rattle.std.specs.Prelude.{slice_index}
 use Rattle.std.specs.List.{count_by}
-use Rattle.std.specs.List.Sorted.{IsPermutation}
-use Rattle.std.proofs.lemmas.Bool.{cases_Bool, cases_lt, cases_eq, lt-ltb, le-ltb, ltb-true, eqb-true, eq-eqb, ne_eqb, false≢true}
+use Rattle.std.proofs.lemmas.Bool.{cases_lt, cases_eq, lt-ltb, le-ltb, ltb-true, eqb-true, eq-eqb}
 use Rattle.std.proofs.lemmas.List.{length-map, get_or_default}
 use Rattle.std.proofs.lemmas.List.Elements.{Contains-get_or}
 use Rattle.std.proofs.lemmas.List.Sorted.{IsPermutation-sym, Contains-permutation, length_permutation, sum_by-IsPermutation}
 use Rattle.std.proofs.lemmas.Nat.{pow_pos}
-use Rattle.binding_rules.specs.Tables.{Rules, IsLawful}
+use Rattle.binding_rules.specs.Tables.{Rules}
 use Rattle.binding_rules.specs.declared.binding.Binding.{Binding}
-use Rattle.port_set.specs.Shapes.{IsShape}
-use Rattle.table_words.specs.Bounds.{group_size, group_digits, greatest, binary_digits}
+use Rattle.table_words.specs.Bounds.{group_size, group_digits, greatest}
 use Rattle.table_words.specs.Layout.{IsCompiled, row, row_at, rows_below}
 use Rattle.table_words.specs.Parts.{IsAscending}
-use Rattle.table_words.specs.Spans.{first_at, b4_at, IsSpan, IsGroup, IsEntry, IsLike}
+use Rattle.table_words.specs.Spans.{IsSpan, IsGroup, IsEntry, IsLike}
 use Rattle.table_words.proofs.Counts.{count_at_most, count_at_least, count_map, count_weaker, count_split, le_greatest}
 use Rattle.table_words.proofs.Digits.{below_digits}
 use Rattle.table_words.proofs.Members.{contains_map, contains_from_map, IsKnown, known}

@@ -1,5 +1,5 @@
 -- A search that halves what is left, and a count of reads over several calls.
-use Rattle.std.proofs.Common.{◌≡◌, ℕ, suc, ◌+◌, ◌-◌, ◌*◌, ◌^◌, ◌<◌, ◌≤◌, List, Option, Some, None, refl, sym, ap, ◌∙◌, arith, mul_assoc, mul_comm}
+use Rattle.std.proofs.Common.{◌≡◌, ℕ, suc, ◌+◌, ◌-◌, ◌*◌, ◌^◌, ◌<◌, ◌≤◌, List, Option, Some, None, refl, ap, ◌∙◌, arith, mul_assoc, mul_comm}
 use Rattle.std.proofs.lemmas.Nat.{mul-le}
 use Rattle.table_words.specs.Reads.{read_more}
 use Rattle.table_words.specs.Spans.{first_at, IsSpan}

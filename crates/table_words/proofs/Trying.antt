@@ -1,5 +1,5 @@
 -- The shapes of an address, tried one after the other.
-use Rattle.std.proofs.Common.{◌≡◌, ℕ, suc, ◌+◌, ◌-◌, ◌*◌, ◌/◌, ◌%◌, ◌^◌, ◌<◌, ◌≤◌, max, Bool, true, false, eqb, ◌&&◌, List, [], ◌∷◌, Some, None, length, filter, Contains, refl, sym, ap, ◌∙◌, inl, inr, arith}
+use Rattle.std.proofs.Common.{◌≡◌, ℕ, suc, ◌+◌, ◌-◌, ◌*◌, ◌/◌, ◌%◌, ◌^◌, ◌<◌, ◌≤◌, true, false, eqb, ◌&&◌, List, Some, None, Contains, refl, sym, ap, ◌∙◌, inl, inr, arith}
 use Rattle.std.proofs.Math.Nat.{mul-le-mul_right}
 use Rattle.std.proofs.lemmas.Nat.{mul-le}
 use Rattle.std.proofs.lemmas.Bool.{true≢false, false≢true, cases_lt, cases_eq, eq-eqb, ne_eqb, and_from, and_left, and_right}
@@ -13,12 +13,12 @@ use Rattle.std.specs.Prelude.{Option, is_some, IfSome, IfNone}
 use Rattle.table_words.specs.Answers.{first_b4, has_v4}
 use Rattle.table_words.specs.Bounds.{count_below, has_shape, shape_end, shape_count, group_digits, most_shapes, greatest, look_bound, found_bound}
 use Rattle.table_words.specs.Layout.{IsCompiled, row}
-use Rattle.table_words.specs.Spans.{first_at, b4_at, IsSpan, IsBoundary, IsEntry, IsGroup, IsLike, IsFound, IsNotFound}
-use Rattle.table_words.specs.Tried.{tried_shapes, IsTried, AreTried}
+use Rattle.table_words.specs.Spans.{first_at, IsSpan, IsBoundary, IsEntry, IsGroup, IsLike, IsFound, IsNotFound}
+use Rattle.table_words.specs.Tried.{tried_shapes, AreTried}
 use Rattle.table_words.proofs.Counts.{le_greatest}
 use Rattle.table_words.proofs.Digits.{count_below_mono, count_below_more, few_halvings}
 use Rattle.table_words.proofs.Filters.{any_passes, any_fails, filter_fails, filter_contains, only_one}
-use Rattle.table_words.proofs.Groups.{AreFields, fields, like}
+use Rattle.table_words.proofs.Groups.{AreFields, fields}
 use Rattle.table_words.proofs.Members.{IsKnown, known}
 
 pub shape_end_is : shape_end ≡ 65536

@@ -1,5 +1,5 @@
-use Rattle.std.proofs.Common.{◌≡◌, ◌+◌, ◌/◌, ◌<◌, ◌≤◌, length, ap, ◌∙◌, arith}
-use Rattle.table_words.specs.Layout.{row_at, rows_below}
+use Rattle.std.proofs.Common.{◌/◌, ◌<◌, ◌≤◌, length, ◌∙◌, arith}
+use Rattle.table_words.specs.Layout.{row_at}
 use Rattle.table_words.proofs.Compiling.{index_none, index_more}
 use Rattle.table_words.proofs.Groups.{rows_below_is}
 use Rattle.table_words.proofs.compiler.put_index.Goals as goal

@@ -1,4 +1,3 @@
-use Rattle.std.proofs.Common.{◌≡◌, ◌+◌, ◌-◌, ◌*◌, ◌/◌, ◌%◌, ◌<◌, arith}
 use Rattle.table_words.proofs.Keys.{whole_key}
 use Rattle.table_words.proofs.entries.key_of.Goals as goal
 

@@ -1,7 +1,6 @@
-use Rattle.std.proofs.Common.{◌≡◌, ◌≢◌, ◌+◌, ◌-◌, ◌*◌, ◌/◌, ◌%◌, ◌<◌, ◌≤◌, List, ℕ, length, true, false, subst, sym, ap, ◌∙◌, arith}
-use Rattle.std.specs.Prelude.{is_some, IfSome, IfNone}
-use Rattle.port_set.specs.Shapes.{IsShape}
-use Rattle.table_words.specs.Bounds.{group_digits, look_bound, found_bound}
+use Rattle.std.proofs.Common.{◌≡◌, ◌≢◌, ◌-◌, ◌/◌, ◌%◌, ◌≤◌, List, ℕ, length, subst, sym, ap, ◌∙◌, arith}
+use Rattle.std.specs.Prelude.{IfSome}
+use Rattle.table_words.specs.Bounds.{group_digits}
 use Rattle.table_words.specs.Spans.{first_at, IsBoundary, IsSpan, IsFound, IsNotFound}
 use Rattle.table_words.proofs.Halving.{reads_on}
 use Rattle.table_words.proofs.Trying.{tried_none, none_left, none_cost, search_cost, rest_small, tried_more, found_here, found_cost, some_is, if_some, when_none, span_rest, next_fits, above_address, found_below}

@@ -1,8 +1,6 @@
-use Rattle.std.proofs.Common.{◌≡◌, ℕ, ◌+◌, ◌-◌, ◌*◌, ◌/◌, ◌<◌, ◌≤◌}
-use Rattle.binding_rules.specs.Tables.{Rules}
-use Rattle.table_words.specs.Layout.{IsCompiled}
+use Rattle.std.proofs.Common.{◌≡◌, ◌-◌, ◌≤◌}
 use Rattle.table_words.specs.Reads.{read_more}
-use Rattle.table_words.specs.Spans.{IsSpan, IsGroup}
+use Rattle.table_words.specs.Spans.{IsSpan}
 use Rattle.table_words.specs.Tried.{AreTried}
 use Rattle.table_words.proofs.lookups.look.Given as goal
 

@@ -1,4 +1,4 @@
-use Rattle.std.proofs.Common.{◌≡◌, ◌+◌, ◌-◌, ◌<◌, ◌≤◌, List, ℕ, ap, ◌∙◌, arith}
+use Rattle.std.proofs.Common.{List, ℕ, ap, ◌∙◌, arith}
 use Rattle.table_words.specs.Spans.{first_at}
 use Rattle.table_words.proofs.Ends.{none_before}
 use Rattle.table_words.proofs.Digits.{few_halvings}
@@ -28,9 +28,9 @@ pub returns-then-at-to-clause-none : goal.returns-then-at-to-clause-none
 returns-then-at-to-clause-none g c =
     let s = c.place_of-at.ensures in
     none_before (g.W.Words.list c.args.words.now) c.args.from c.args.to c.args.first c.in_ok-key.key c.place_of-at.result c.args.want
-      c.requires.span s.place c.in_ok-key.ensures
-      (λ l. elim c.then-at-to.branch [
-        | then-at-to-via-then-at-to w ↦ absurd (omega arith)
-        | then-at-to-via-else-at-to+then-first_word-key w ↦
-            (λ same. w.if-first_word-key.true (w.first_word.ensures.value ∙ ap (λ (ws : List ℕ). first_at ws c.place_of-at.result) s.list ∙ same))
-      ])
+    c.requires.span s.place c.in_ok-key.ensures
+    (λ l. elim c.then-at-to.branch [
+      | then-at-to-via-then-at-to w ↦ absurd (omega arith)
+      | then-at-to-via-else-at-to+then-first_word-key w ↦
+          (λ same. w.if-first_word-key.true (w.first_word.ensures.value ∙ ap (λ (ws : List ℕ). first_at ws c.place_of-at.result) s.list ∙ same))
+    ])

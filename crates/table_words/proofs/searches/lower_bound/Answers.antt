@@ -1,4 +1,4 @@
-use Rattle.std.proofs.Common.{◌≡◌, ◌+◌, ◌-◌, ◌*◌, ◌/◌, ◌<◌, ◌≤◌, ap, sym, ◌∙◌, arith}
+use Rattle.std.proofs.Common.{◌+◌, ◌-◌, ◌/◌, ◌<◌, ◌≤◌, ◌∙◌, arith}
 use Rattle.table_words.specs.Spans.{first_at}
 use Rattle.table_words.proofs.Halving.{halved_more, IsHalved, reads_on, all_below, all_above}
 use Rattle.table_words.proofs.searches.lower_bound.Goals as goal

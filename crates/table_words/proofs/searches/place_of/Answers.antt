@@ -1,4 +1,4 @@
-use Rattle.std.proofs.Common.{◌<◌, ◌≤◌, arith}
+use Rattle.std.proofs.Common.{arith}
 use Rattle.table_words.proofs.Ends.{span_front, boundary_whole}
 use Rattle.table_words.proofs.searches.place_of.Goals as goal
 
