@@ -1,0 +1,10 @@
+pub mod Compiling
+pub mod Counts
+pub mod Digits
+pub mod Ends
+pub mod Filters
+pub mod Groups
+pub mod Halving
+pub mod Keys
+pub mod Members
+pub mod Trying

@@ -1,0 +1,185 @@
+use Rattle.std.proofs.Common.{◌≡◌, ◌≢◌, ◌-◌, ◌/◌, ◌%◌, ◌≤◌, List, ℕ, length, subst, sym, ap, ◌∙◌, arith}
+use Rattle.std.specs.Prelude.{IfSome}
+use Rattle.table_words.specs.Bounds.{group_digits}
+use Rattle.table_words.specs.Spans.{first_at, IsBoundary, IsSpan, IsFound, IsNotFound}
+use Rattle.table_words.proofs.Halving.{reads_on}
+use Rattle.table_words.proofs.Trying.{tried_none, none_left, none_cost, search_cost, rest_small, tried_more, found_here, found_cost, some_is, if_some, when_none, span_rest, next_fits, above_address, found_below}
+use Rattle.table_words.proofs.lookups.look.Goals as goal
+
+pub shapes-init : goal.shapes-init
+shapes-init g c =
+    let grouped = c.group_of-group.ensures in
+    let words = g.W.Words.list c.args.words.now in
+    let steps_are : c.group_of-group.new.steps - c.args.steps.now ≡ 2 = omega (arith, grouped.steps) in
+    record {
+      span = grouped.span;
+      tried = rw c.from-address.ensures
+          (tried_none words c.args.v4 c.args.want c.group_of-group.result.from c.group_of-group.result.to _ (omega (arith, grouped.steps)) grouped.group);
+      list = grouped.list;
+      reads = rw steps_are grouped.reads;
+      goes = grouped.goes;
+      later = omega (arith, grouped.steps);
+    }
+
+pub lower_bound-from-requires : goal.lower_bound-from-requires
+lower_bound-from-requires g c =
+    subst (λ (ws : List ℕ). IsSpan ws c.shapes.from c.group_of-group.result.to) (sym c.shapes.invariant.list) c.shapes.invariant.span
+
+pub returns-then-from-group : goal.returns-then-from-group
+returns-then-from-group g c =
+    let i = c.shapes.invariant in
+    let bounded = c.lower_bound-from.ensures in
+    let words = g.W.Words.list c.args.words.now in
+    let first = c.group_of-group.result.from in
+    let to = c.group_of-group.result.to in
+    let at = c.lower_bound-from.result in
+    let spent = c.shapes.steps - c.args.steps.now in
+    let place = subst (λ (ws : List ℕ). IsBoundary ws c.shapes.from to c.shapes.least at) i.list bounded.place in
+    record {
+      owner = λ t h. sym (none_left words c.args.v4 c.args.want first to c.shapes.from c.shapes.least spent at i.tried i.span place t h
+          (λ e l m. absurd (omega (arith, c.if-from-group.true))));
+      bound = λ t h.
+          let cost = search_cost words c.args.v4 c.args.want first to c.shapes.from c.shapes.least spent at i.tried i.span place t h _ bounded.cost in
+          let most = none_cost words c.args.v4 c.args.want first to c.shapes.from c.shapes.least spent at i.tried i.span place t h
+          (c.lower_bound-from.new.steps - c.args.steps.now) (omega (arith, cost, bounded.later, i.later)) in
+          omega (arith, most, bounded.later, i.later);
+      found = tt;
+      list = bounded.list ∙ i.list;
+      reads = reads_on _ _ _ spent _ _ (omega (arith, bounded.later, i.later)) i.reads bounded.reads;
+      goes = g.met.W.Words.goes_on _ _ _ i.goes bounded.goes;
+      later = omega (arith, bounded.later, i.later);
+    }
+
+pub first_word-first-requires-clause-within : goal.first_word-first-requires-clause-within
+first_word-first-requires-clause-within g c =
+    let i = c.shapes.invariant in
+    let size = ap length (c.lower_bound-from.ensures.list ∙ i.list) in
+    omega (arith, size, i.span.within, c.if-from-group.false)
+
+pub returns-then-first-address : goal.returns-then-first-address
+returns-then-first-address g c =
+    let i = c.shapes.invariant in
+    let bounded = c.lower_bound-from.ensures in
+    let read = c.first_word-first.ensures in
+    let words = g.W.Words.list c.args.words.now in
+    let first = c.group_of-group.result.from in
+    let to = c.group_of-group.result.to in
+    let at = c.lower_bound-from.result in
+    let spent = c.shapes.steps - c.args.steps.now in
+    let place = subst (λ (ws : List ℕ). IsBoundary ws c.shapes.from to c.shapes.least at) i.list bounded.place in
+    let word = read.value ∙ ap (λ (ws : List ℕ). first_at ws at) (bounded.list ∙ i.list) in
+    let other : c.first_word-first.result / 4294967296 ≢ c.args.v4.0 = λ e. c.if-first-address.true (e ∙ sym c.from-address.ensures) in
+    record {
+      owner = λ t h. sym (none_left words c.args.v4 c.args.want first to c.shapes.from c.shapes.least spent at i.tried i.span place t h
+          (λ e l m. above_address (first_at words at) (first_at words e) c.args.v4.0 c.shapes.least (i.span.ascending at e l m)
+          (place.above at (omega arith) c.if-from-group.false) i.tried.at_least (rw (← word) other)));
+      bound = λ t h.
+          let cost = search_cost words c.args.v4 c.args.want first to c.shapes.from c.shapes.least spent at i.tried i.span place t h _ bounded.cost in
+          let most = none_cost words c.args.v4 c.args.want first to c.shapes.from c.shapes.least spent at i.tried i.span place t h
+          (c.first_word-first.new.steps - c.args.steps.now) (omega (arith, cost, bounded.later, i.later, read.steps)) in
+          omega (arith, most, bounded.later, i.later, read.steps);
+      found = tt;
+      list = read.list ∙ bounded.list ∙ i.list;
+      reads = reads_on _ _ _ (c.lower_bound-from.new.steps - c.args.steps.now) 1 _ (omega (arith, bounded.later, i.later, read.steps))
+          (reads_on _ _ _ spent _ _ (omega (arith, bounded.later, i.later)) i.reads bounded.reads) read.reads;
+      goes = g.met.W.Words.goes_on _ _ _ (g.met.W.Words.goes_on _ _ _ i.goes bounded.goes) read.goes;
+      later = omega (arith, bounded.later, i.later, read.steps);
+    }
+
+pub owner_like-owner-requires-clause-span : goal.owner_like-owner-requires-clause-span
+owner_like-owner-requires-clause-span g c =
+    let i = c.shapes.invariant in
+    let list = c.first_word-first.ensures.list ∙ c.lower_bound-from.ensures.list ∙ i.list in
+    subst (λ (ws : List ℕ). IsSpan ws c.lower_bound-from.result c.group_of-group.result.to) (sym list)
+    (span_rest _ c.shapes.from _ _ i.span (omega (arith, c.if-from-group.false)))
+
+pub returns-then-is_some : goal.returns-then-is_some
+returns-then-is_some g c =
+    let i = c.shapes.invariant in
+    let bounded = c.lower_bound-from.ensures in
+    let read = c.first_word-first.ensures in
+    let tested = c.owner_like-owner.ensures in
+    let words = g.W.Words.list c.args.words.now in
+    let first = c.group_of-group.result.from in
+    let to = c.group_of-group.result.to in
+    let at = c.lower_bound-from.result in
+    let spent = c.shapes.steps - c.args.steps.now in
+    let word = c.first_word-first.result in
+    let list = read.list ∙ bounded.list ∙ i.list in
+    let place = subst (λ (ws : List ℕ). IsBoundary ws c.shapes.from to c.shapes.least at) i.list bounded.place in
+    let word_is = read.value ∙ ap (λ (ws : List ℕ). first_at ws at) (bounded.list ∙ i.list) in
+    let address : word / 4294967296 ≡ c.args.v4.0 = c.if-first-address.false ∙ c.from-address.ensures in
+    let found = subst (λ (ws : List ℕ). IfSome c.owner_like-owner.result (λ b4. IsFound ws at to word c.args.want b4.0)) list tested.owner in
+    let now = c.owner_like-owner.new.steps - c.args.steps.now in
+    record {
+      owner = λ t h. some_is c.owner_like-owner.result _ (λ b4. IsFound words at to word c.args.want b4.0) (sym c.is_some.ensures ∙ c.if-is_some.true) found
+          (found_here words c.args.v4 c.args.want first to c.shapes.from c.shapes.least spent at i.tried i.span place c.if-from-group.false word word_is address t h);
+      bound = λ t h.
+          let cost = search_cost words c.args.v4 c.args.want first to c.shapes.from c.shapes.least spent at i.tried i.span place t h _ bounded.cost in
+          let small = rest_small words c.args.v4 c.args.want first to c.shapes.from c.shapes.least spent at i.tried i.span place t h in
+          let tries = tested.bound (group_digits t.bindings) small in
+          let most = found_cost words c.args.v4 c.args.want first to c.shapes.from c.shapes.least spent at i.tried i.span place c.if-from-group.false word word_is address t h
+          now (omega (arith, cost, tries, bounded.later, i.later, read.steps, tested.later)) in
+          omega (arith, most, found_below t, bounded.later, i.later, read.steps, tested.later);
+      found = if_some c.owner_like-owner.result _ (λ t h.
+          let cost = search_cost words c.args.v4 c.args.want first to c.shapes.from c.shapes.least spent at i.tried i.span place t h _ bounded.cost in
+          let small = rest_small words c.args.v4 c.args.want first to c.shapes.from c.shapes.least spent at i.tried i.span place t h in
+          let tries = tested.bound (group_digits t.bindings) small in
+          let most = found_cost words c.args.v4 c.args.want first to c.shapes.from c.shapes.least spent at i.tried i.span place c.if-from-group.false word word_is address t h
+          now (omega (arith, cost, tries, bounded.later, i.later, read.steps, tested.later)) in
+          omega (arith, most, bounded.later, i.later, read.steps, tested.later));
+      list = tested.list ∙ list;
+      reads = reads_on _ _ _ (c.first_word-first.new.steps - c.args.steps.now) _ _ (omega (arith, bounded.later, i.later, read.steps, tested.later))
+          (reads_on _ _ _ (c.lower_bound-from.new.steps - c.args.steps.now) 1 _ (omega (arith, bounded.later, i.later, read.steps))
+          (reads_on _ _ _ spent _ _ (omega (arith, bounded.later, i.later)) i.reads bounded.reads) read.reads) tested.reads;
+      goes = g.met.W.Words.goes_on _ _ _ (g.met.W.Words.goes_on _ _ _ (g.met.W.Words.goes_on _ _ _ i.goes bounded.goes) read.goes) tested.goes;
+      later = omega (arith, bounded.later, i.later, read.steps, tested.later);
+    }
+
+pub overflow_add-least : goal.overflow_add-least
+overflow_add-least g c =
+    let i = c.shapes.invariant in
+    let at = c.lower_bound-from.result in
+    let words = g.W.Words.list c.args.words.now in
+    let word_is = c.first_word-first.ensures.value ∙ ap (λ (ws : List ℕ). first_at ws at) (c.lower_bound-from.ensures.list ∙ i.list) in
+    let shape = i.span.shapes at c.if-from-group.false in
+    let small : c.first_word-first.result / 16777216 % 256 ≤ 15 = rw word_is shape.offset_fits in
+    let fits = next_fits c.first_word-first.result c.args.v4.0 (omega arith) (c.if-first-address.false ∙ c.from-address.ensures) small in
+    omega (arith, fits)
+
+pub shapes-preserved : goal.shapes-preserved
+shapes-preserved g c =
+    let i = c.shapes.invariant in
+    let bounded = c.lower_bound-from.ensures in
+    let read = c.first_word-first.ensures in
+    let tested = c.owner_like-owner.ensures in
+    let words = g.W.Words.list c.args.words.now in
+    let first = c.group_of-group.result.from in
+    let to = c.group_of-group.result.to in
+    let at = c.lower_bound-from.result in
+    let spent = c.shapes.steps - c.args.steps.now in
+    let word = c.first_word-first.result in
+    let list = read.list ∙ bounded.list ∙ i.list in
+    let place = subst (λ (ws : List ℕ). IsBoundary ws c.shapes.from to c.shapes.least at) i.list bounded.place in
+    let word_is = read.value ∙ ap (λ (ws : List ℕ). first_at ws at) (bounded.list ∙ i.list) in
+    let address : word / 4294967296 ≡ c.args.v4.0 = c.if-first-address.false ∙ c.from-address.ensures in
+    let none = sym c.is_some.ensures ∙ c.if-is_some.false in
+    let not_found : IsNotFound words at to word c.args.want =
+    subst (λ (ws : List ℕ). IsNotFound ws at to word c.args.want) list (when_none c.owner_like-owner.result _ none tested.none) in
+    record {
+      span = span_rest _ c.shapes.from _ _ i.span (omega (arith, c.if-from-group.false));
+      tried = tried_more words c.args.v4 c.args.want first to c.shapes.from c.shapes.least spent at i.tried i.span place c.if-from-group.false word word_is address
+          (c.owner_like-owner.new.steps - c.args.steps.now)
+          (λ t h.
+          let cost = search_cost words c.args.v4 c.args.want first to c.shapes.from c.shapes.least spent at i.tried i.span place t h _ bounded.cost in
+          let small = rest_small words c.args.v4 c.args.want first to c.shapes.from c.shapes.least spent at i.tried i.span place t h in
+          let tries = when_none c.owner_like-owner.result _ none tested.bound_none (group_digits t.bindings) small in
+          omega (arith, cost, tries, bounded.later, i.later, read.steps, tested.later))
+          not_found;
+      list = tested.list ∙ list;
+      reads = reads_on _ _ _ (c.first_word-first.new.steps - c.args.steps.now) _ _ (omega (arith, bounded.later, i.later, read.steps, tested.later))
+          (reads_on _ _ _ (c.lower_bound-from.new.steps - c.args.steps.now) 1 _ (omega (arith, bounded.later, i.later, read.steps))
+          (reads_on _ _ _ spent _ _ (omega (arith, bounded.later, i.later)) i.reads bounded.reads) read.reads) tested.reads;
+      goes = g.met.W.Words.goes_on _ _ _ (g.met.W.Words.goes_on _ _ _ (g.met.W.Words.goes_on _ _ _ i.goes bounded.goes) read.goes) tested.goes;
+      later = omega (arith, bounded.later, i.later, read.steps, tested.later);
+    }

@@ -1,0 +1,20 @@
+-- The parts of the words, as they are written one after the other. No public contract cites these.
+use Rattle.std.specs.Prelude.{ℕ, ◌/◌, ◌+◌, ◌*◌, ◌%◌, ◌≤◌, ◌<◌, List, [], ◌∷◌, length, map}
+use Rattle.std.specs.List.{range_with_len}
+use Rattle.binding_rules.specs.declared.settings.Softwire.{Softwire}
+use Rattle.table_words.specs.Layout.{row_at, rows_below, flags}
+
+abbrev pub IsAscending : List (ℕ × ℕ) → Type 0
+IsAscending rows = (d e : ℕ) → d ≤ e → e < length rows → (row_at rows d).0 ≤ (row_at rows e).0
+
+abbrev pub settings_words : Softwire → ℕ → List ℕ
+settings_words s n = n ∷ s.aftr.0 / 18446744073709551616 ∷ s.aftr.0 % 18446744073709551616
+    ∷ (s.own.0 * 4294967296 + flags s) ∷ (s.mtu6 * 4294967296 + s.mtu4 * 65536 + s.hop_limit) ∷ 0 ∷ 0 ∷ 0 ∷ []
+
+-- the first n words of the index; not an `abbrev`, so that no proof writes them out
+unfoldable pub index_words : List (ℕ × ℕ) → ℕ → List ℕ
+index_words rows n = map (rows_below rows) (range_with_len 0 n)
+
+abbrev pub entry_words : List (ℕ × ℕ) → List ℕ
+entry_words [] = []
+entry_words (r ∷ rows) = r.0 ∷ r.1 / 18446744073709551616 ∷ r.1 % 18446744073709551616 ∷ entry_words rows

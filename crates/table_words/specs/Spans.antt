@@ -1,0 +1,78 @@
+-- What the steps of a lookup know of the words. No public contract cites these. Below, d and e are places of entries, and
+-- a is an address as a number.
+use Rattle.std.specs.Prelude.{◌≡◌, ℕ, ◌+◌, ◌-◌, ◌*◌, ◌/◌, ◌%◌, ◌^◌, ◌<◌, ◌≤◌, ◌↔◌, true, false, List, length, slice_index, Contains, Option, Some, None}
+use Rattle.port_set.specs.Shapes.{IsShape}
+use Rattle.binding_rules.specs.Bindings.{owns}
+use Rattle.binding_rules.specs.Tables.{Rules}
+use Rattle.binding_rules.specs.declared.binding.Binding.{Binding}
+use Rattle.binding_rules.specs.declared.binding.Want.{Want}
+use Rattle.table_words.specs.Bounds.{group_digits}
+use Rattle.table_words.specs.Layout.{row}
+
+-- the first word of an entry
+abbrev pub first_at : List ℕ → ℕ → ℕ
+first_at words e = slice_index words (65545 + 3 * e)
+
+-- the address of the tunnel's end of an entry
+abbrev pub b4_at : List ℕ → ℕ → ℕ
+b4_at words e = slice_index words (65546 + 3 * e) * 18446744073709551616 + slice_index words (65547 + 3 * e)
+
+-- the entries from one place up to another
+pub record IsSpan (words : List ℕ) (from to : ℕ) : Type 0 where
+  pub ordered : from ≤ to
+  pub few : to ≤ 65536
+  pub within : 65545 + 3 * to ≤ length words
+  pub ascending : (d e : ℕ) → d ≤ e → e < to → first_at words d ≤ first_at words e
+  pub rising : (d e : ℕ) → d < e → e < to → first_at words d < first_at words e
+  pub shapes : (e : ℕ) → e < to → IsShape (first_at words e / 16777216 % 256) (first_at words e / 65536 % 256)
+
+-- the place where entries below the key end
+pub record IsBoundary (words : List ℕ) (from to key at : ℕ) : Type 0 where
+  pub from_on : from ≤ at
+  pub up_to : at ≤ to
+  pub below : (e : ℕ) → from ≤ e → e < at → first_at words e < key
+  pub above : (e : ℕ) → at ≤ e → e < to → key ≤ first_at words e
+
+-- the entry is that of the binding
+pub record IsEntry (words : List ℕ) (x : Binding) (e : ℕ) : Type 0 where
+  pub first : first_at words e ≡ (row x).0
+  pub b4 : b4_at words e ≡ x.b4.0
+
+-- the entries of the bindings that agree with the address in its top 16 bits
+pub record IsGroup (t : Rules) (words : List ℕ) (a from to : ℕ) : Type 0 where
+  pub members : (x : Binding) → Contains t.bindings x → x.v4.0 ≡ a → (e : ℕ) × (from ≤ e) × (e < to) × IsEntry words x e
+  pub entries : (e : ℕ) → from ≤ e → e < to → (x : Binding) × Contains t.bindings x × IsEntry words x e
+  pub size : to - from < 2 ^ group_digits t.bindings
+
+-- a binding of the address and shape of the first word of an entry
+pub record IsLike (first : ℕ) (x : Binding) : Type 0 where
+  pub v4 : x.v4.0 ≡ first / 4294967296
+  pub offset : x.offset ≡ first / 16777216 % 256
+  pub length : x.length ≡ first / 65536 % 256
+  pub psid : x.psid < 65536
+  pub psid_fits : x.psid < 2 ^ x.length
+
+-- the first word of the one entry with the address and shape that owns what is wanted, if any can
+abbrev pub IsKey : ℕ → Want → Option ℕ → Type 0
+IsKey first w None = (x : Binding) → IsLike first x → owns w x ≡ false
+IsKey first w (Some key) = (key / 65536 ≡ first / 65536)
+    × ((x : Binding) → IsLike first x → (owns w x ≡ true) ↔ ((row x).0 ≡ key))
+
+-- the end of the tunnel is that of an entry with this address and shape that owns what is wanted
+pub record IsFound (words : List ℕ) (from to first : ℕ) (w : Want) (b4 : ℕ) : Type 0 where
+  pub at : ℕ
+  pub from_on : from ≤ at
+  pub up_to : at < to
+  pub b4_is : b4 ≡ b4_at words at
+  pub alike : first_at words at / 65536 ≡ first / 65536
+  pub owned : (x : Binding) → IsLike first x → first_at words at ≡ (row x).0 → owns w x ≡ true
+
+-- no entry with this address and shape owns what is wanted
+abbrev pub IsNotFound : List ℕ → ℕ → ℕ → ℕ → Want → Type 0
+IsNotFound words from to first w = (e : ℕ) (x : Binding) → from ≤ e → e < to → first_at words e ≡ (row x).0 → IsLike first x → owns w x ≡ false
+
+-- the entries up to this end are all that can have the key, and perhaps more
+pub record IsEnd (from to first key end : ℕ) : Type 0 where
+  pub some : from < end
+  pub within : end ≤ to
+  pub enough : end < to → key < first + (end - from)

@@ -1,0 +1,16 @@
+//! Compiled binding tables: a table as a list of 64-bit words, and the lookups that read those words one at a time. The
+//! words have an index by the top 16 bits of an address, so that a lookup searches only the bindings that agree in them,
+//! and every read of a word is counted.
+#![tactic(auto)]
+
+mod compiler;
+mod counter;
+mod entries;
+mod lookups;
+mod reader;
+mod searches;
+
+pub use compiler::compile;
+pub use counter::Steps;
+pub use lookups::{has_address, look, softwire};
+pub use reader::{SliceWords, Words};
