@@ -1,0 +1,45 @@
+use Rattle.std.proofs.Common.{subst, sym}
+use Rattle.binding_rules.specs.Steps.{IsLast, IsLeastUnlike}
+use Rattle.binding_rules.proofs.Links.{of_within, has_address_of, read, read_is}
+use Rattle.binding_rules.proofs.Keys.{two_by_test, unlike_first, one_by_identifier}
+use Rattle.binding_rules.proofs.conflicts.address_pair.Goals as goal
+
+pub bounds-bindings-head : goal.bounds-bindings-head
+bounds-bindings-head c = of_within _ c.args.v4.0 _ (c.head_of-head.ensures c.args.v4.0 c.requires.last.here).0
+
+pub least_unlike-unlike-requires-clause-last : goal.least_unlike-unlike-requires-clause-last
+least_unlike-unlike-requires-clause-last c =
+    let bs = c.args.bindings.now in
+    let head = (c.head_of-head.ensures c.args.v4.0 c.requires.last.here).0 in
+    let there = read_is bs c.head_of-head.result (of_within bs c.args.v4.0 _ head) in
+    subst (λ v. IsLast bs v c.args.last) (sym (has_address_of bs c.args.v4.0 _ _ there head)) c.requires.last
+
+pub bounds-bindings-last : goal.bounds-bindings-last
+bounds-bindings-last c = of_within _ c.args.v4.0 _ c.requires.last.here
+
+pub least_unlike-unlike-requires-in-Two-clause-last : goal.least_unlike-unlike-requires-in-Two-clause-last
+least_unlike-unlike-requires-in-Two-clause-last c =
+    let bs = c.args.bindings.now in
+    let there = read_is bs c.args.last (of_within bs c.args.v4.0 _ c.requires.last.here) in
+    subst (λ v. IsLast bs v c.args.last) (sym (has_address_of bs c.args.v4.0 _ _ there c.requires.last.here)) c.requires.last
+
+pub returns-in-One-clause-first : goal.returns-in-One-clause-first
+returns-in-One-clause-first c =
+    let bs = c.args.bindings.now in
+    let first = c.head_of-head.ensures c.args.v4.0 c.requires.last.here in
+    let head = read bs c.head_of-head.result in
+    let there = read_is bs c.head_of-head.result (of_within bs c.args.v4.0 _ first.0) in
+    let least = subst (λ v. IsLeastUnlike bs v head c.least_unlike-unlike.result) (has_address_of bs c.args.v4.0 _ head there first.0) c.least_unlike-unlike.ensures in
+    rw (c.in-One.is, c.earlier.ensures, c.pair_of.ensures)
+    (one_by_identifier bs c.args.v4.0 _ c.shared_pair-shared.result c.requires.well
+    (unlike_first bs c.args.v4.0 c.head_of-head.result head c.least_unlike-unlike.result first there least) c.shared_pair-shared.ensures.first)
+
+pub returns-in-Two-clause-first : goal.returns-in-Two-clause-first
+returns-in-Two-clause-first c =
+    let bs = c.args.bindings.now in
+    let like = read bs c.args.last in
+    let there = read_is bs c.args.last (of_within bs c.args.v4.0 _ c.requires.last.here) in
+    let least = subst (λ v. IsLeastUnlike bs v like c.least_unlike-unlike-in-Two.result) (has_address_of bs c.args.v4.0 _ like there c.requires.last.here) c.least_unlike-unlike-in-Two.ensures in
+    rw c.in-Two.is
+    (two_by_test bs c.args.v4.0 like c.least_unlike-unlike-in-Two.result c.is_some.result c.shared_pair.result c.requires.well
+    c.is_some.ensures least c.shared_pair.ensures.first)

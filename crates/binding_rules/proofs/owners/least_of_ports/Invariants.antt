@@ -1,0 +1,10 @@
+use Rattle.std.proofs.Common.{◌≡◌, ◌++◌}
+use Rattle.binding_rules.specs.Steps.{IsLeast}
+use Rattle.binding_rules.proofs.Slots.{IsNamed}
+use Rattle.binding_rules.proofs.owners.least_of_ports.Given as goal
+
+abbrev pub invariant-ports : goal.invariant-ports
+invariant-ports l = record {
+  all : l.initial.port-iterator ≡ l.yielded ++ l.port-iterator;
+  least : IsLeast (IsNamed l.yielded l.bindings l.v4.0 l.owners) l.met;
+}

@@ -1,0 +1,9 @@
+use Rattle.std.proofs.Common.{◌≡◌, ◌++◌, length}
+use Rattle.binding_rules.proofs.Slots.{IsTakenBy}
+use Rattle.binding_rules.proofs.owners.take_ports.Given as goal
+
+abbrev pub invariant-ports : goal.invariant-ports
+invariant-ports l = record {
+  all : l.initial.port-iterator ≡ l.yielded ++ l.port-iterator;
+  taken : IsTakenBy l.yielded l.place l.initial.owners l.owners;
+}

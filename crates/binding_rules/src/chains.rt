@@ -1,0 +1,73 @@
+// The places of each address, chained from the last one to the first.
+ghost use Rattle.std.specs.Prelude.{ℕ, ◌<◌, ◌≤◌, ◌↔◌, Some, length, IfOk, IsTrue};
+ghost use Rattle.std.specs.Ordering.{nat_cmp};
+ghost use Rattle.std.specs.BTreeMap.{get};
+ghost use Rattle.binding_rules.specs.Conflicts.{HaveOneShape};
+ghost use Rattle.binding_rules.specs.Steps.{IsLinked, IsNearest, IsLast, IsLeast, IsLeastUnlike, HasAddress};
+
+use crate::binding::Binding;
+use aftr_base::OutOfMemory;
+use std::alloc::Global;
+use std::collections::BTreeMap;
+
+/// For each place the nearest earlier place of the same address, and for each address its last place.
+#[derive(Drop)]
+pub(crate) struct Chains {
+    pub(crate) previous: Vec<Option<u32>>,
+    pub(crate) last: BTreeMap<u32, u32>,
+}
+
+pub(crate) fn chains_of(alloc: Global, bindings: &[Binding]) -> Result<Chains, OutOfMemory>
+    requires { length bindings.now ≤ 65536 }
+    ensures linked { IfOk result (λ c. IsLinked bindings.now c.previous.items) }
+    ensures ends { IfOk result (λ c. (a : ℕ) → IsNearest bindings.now a (length bindings.now) (get nat_cmp c.last a)) }
+{
+    let mut previous = Vec::new(alloc);
+    let mut last = BTreeMap::new(alloc);
+    'places: for place in 0..bindings.len() {
+        let earlier = last.insert(bindings[place].v4.0, place as u32)?;
+        previous.push(earlier)?;
+    }
+    Ok(Chains { previous, last })
+}
+
+/// The first place of the address of which `last` is a place.
+pub(crate) fn head_of(bindings: &[Binding], previous: &[Option<u32>], last: u32) -> u32
+    requires linked { IsLinked bindings.now previous.now }
+    requires within { last < length bindings.now }
+    ensures { (a : ℕ) → HasAddress bindings.now a last → IsLeast (HasAddress bindings.now a) (Some result) }
+{
+    let mut place = last;
+    'chain: while let Some(earlier) = previous[place as usize] {
+        place = earlier;
+    }
+    place
+}
+
+/// The least place of the address whose binding has another shape than `like`.
+pub(crate) fn least_unlike(
+    bindings: &[Binding],
+    previous: &[Option<u32>],
+    last: u32,
+    like: Binding,
+) -> Option<u32>
+    requires linked { IsLinked bindings.now previous.now }
+    requires last { IsLast bindings.now like.v4.0 last }
+    ensures { IsLeastUnlike bindings.now like.v4.0 like result }
+{
+    let mut found = None;
+    let mut at = Some(last);
+    'chain: while let Some(place) = at {
+        if !have_one_shape(like, bindings[place as usize]) {
+            found = at;
+        }
+        at = previous[place as usize];
+    }
+    found
+}
+
+pub(crate) fn have_one_shape(x: Binding, y: Binding) -> bool
+    ensures { IsTrue result ↔ HaveOneShape x y }
+{
+    x.offset == y.offset && x.length == y.length
+}

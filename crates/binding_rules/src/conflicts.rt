@@ -1,0 +1,153 @@
+// The first conflict, found address by address.
+ghost use Rattle.std.specs.Prelude.{◌≡◌, ℕ, ◌<◌, ◌≤◌, None, length, IfOk};
+ghost use Rattle.binding_rules.specs.Conflicts.{Conflict};
+ghost use Rattle.binding_rules.specs.Steps.{IsLinked, IsLast, IsFirstPair, HasAddress, AreShared, IsOwnersOf, AreWell, AreFresh, earlier_of, paired, slot};
+
+use crate::binding::Binding;
+use crate::chains::{chains_of, head_of, least_unlike};
+use crate::owners::meet;
+use crate::settings::Edition;
+use aftr_base::{OutOfMemory, V4};
+use std::alloc::Global;
+
+/// The places of two bindings, the first before the second.
+#[derive(Clone, Copy, Debug, PartialEq, Eq)]
+pub(crate) struct Pair {
+    pub(crate) first: u32,
+    pub(crate) second: u32,
+}
+
+/// Of two pairs the one whose second place, or at the same second place whose first place, is less.
+fn earlier(x: Option<Pair>, y: Option<Pair>) -> Option<Pair>
+    ensures { result ≡ earlier_of x y }
+{
+    match (x, y) {
+        (Some(a), Some(b)) => {
+            if b.second < a.second || b.second == a.second && b.first < a.first {
+                y
+            } else {
+                x
+            }
+        }
+        (None, y) => y,
+        (x, None) => x,
+    }
+}
+
+fn pair_of(first: u32, second: Option<u32>) -> Option<Pair>
+    ensures { result ≡ paired first second }
+{
+    Some(Pair {
+        first,
+        second: second?,
+    })
+}
+
+/// The first pair of the address that has a key in common.
+fn shared_pair(
+    bindings: &[Binding],
+    previous: &[Option<u32>],
+    by_port: bool,
+    v4: V4,
+    last: u32,
+    owners: &mut [Option<u32>],
+) -> Option<Pair>
+    requires few { length bindings.now ≤ 65536 }
+    requires linked { IsLinked bindings.now previous.now }
+    requires last { IsLast bindings.now v4.0 last }
+    requires well { AreWell bindings.now }
+    requires size { length owners.old ≡ 65536 }
+    requires fresh { AreFresh bindings.now v4.0 owners.old }
+    ensures first { IsFirstPair bindings.now (AreShared by_port) (HasAddress bindings.now v4.0) result }
+    ensures owners { IsOwnersOf bindings.now v4.0 owners.old owners.new }
+{
+    let mut best = None;
+    let mut at = Some(last);
+    'chain: while let Some(place) = at {
+        let met = meet(
+            bindings,
+            v4,
+            by_port,
+            place,
+            bindings[place as usize],
+            owners,
+        );
+        best = earlier(best, pair_of(place, met));
+        at = previous[place as usize];
+    }
+    best
+}
+
+/// The first conflict of the address. Where all its bindings have one shape, a common port is an equal identifier.
+fn address_pair(
+    edition: Edition,
+    bindings: &[Binding],
+    previous: &[Option<u32>],
+    v4: V4,
+    last: u32,
+    owners: &mut [Option<u32>],
+) -> Option<Pair>
+    requires few { length bindings.now ≤ 65536 }
+    requires linked { IsLinked bindings.now previous.now }
+    requires last { IsLast bindings.now v4.0 last }
+    requires well { AreWell bindings.now }
+    requires size { length owners.old ≡ 65536 }
+    requires fresh { AreFresh bindings.now v4.0 owners.old }
+    ensures first { IsFirstPair bindings.now (Conflict edition) (HasAddress bindings.now v4.0) result }
+    ensures owners { IsOwnersOf bindings.now v4.0 owners.old owners.new }
+{
+    match edition {
+        Edition::One => {
+            let shared = shared_pair(bindings, previous, false, v4, last, owners);
+            let head = head_of(bindings, previous, last);
+            let unlike = least_unlike(bindings, previous, last, bindings[head as usize]);
+            earlier(pair_of(head, unlike), shared)
+        }
+        Edition::Two => {
+            let unlike = least_unlike(bindings, previous, last, bindings[last as usize]);
+            shared_pair(bindings, previous, unlike.is_some(), v4, last, owners)
+        }
+    }
+}
+
+/// A slot for each port or identifier, none of them taken.
+fn no_owners(alloc: Global) -> Result<Vec<Option<u32>>, OutOfMemory>
+    ensures size { IfOk result (λ owners. length owners.items ≡ 65536) }
+    ensures none { IfOk result (λ owners. (key : ℕ) → key < 65536 → slot owners.items key ≡ None) }
+{
+    let mut owners = Vec::with_capacity(alloc, 65536)?;
+    'keys: while owners.len() < 65536 {
+        owners.push(None)?;
+    }
+    Ok(owners)
+}
+
+/// The first conflict.
+pub(crate) fn first_conflict(
+    alloc: Global,
+    edition: Edition,
+    bindings: &[Binding],
+) -> Result<Option<Pair>, OutOfMemory>
+    requires few { length bindings.now ≤ 65536 }
+    requires well { AreWell bindings.now }
+    ensures { IfOk result (λ best. IsFirstPair bindings.now (Conflict edition) (λ n. Unit {0}) best) }
+{
+    let chains = chains_of(alloc, bindings)?;
+    let mut owners = no_owners(alloc)?;
+    let mut best = None;
+    'places: for place in 0..bindings.len() {
+        let v4 = bindings[place].v4;
+        if chains.last.get(&v4.0).copied() == Some(place as u32) {
+            let found = address_pair(
+                edition,
+                bindings,
+                &chains.previous,
+                v4,
+                place as u32,
+                &mut owners,
+            );
+            best = earlier(best, found);
+        }
+    }
+    Ok(best)
+}

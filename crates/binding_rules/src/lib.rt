@@ -1,0 +1,20 @@
+//! Binding tables: which subscriber owns an IPv4 address and a port (the binding table of RFC 7596 with the port sets of
+//! RFC 7597). A `Table` is made of settings and bindings that keep the rules of its edition, above all that no port of
+//! an address is in two bindings. The rules are tested without comparing all pairs of bindings.
+#![tactic(auto)]
+
+mod binding;
+mod chains;
+mod conflicts;
+mod lookup;
+mod owners;
+mod places;
+mod refused;
+mod settings;
+mod table;
+
+pub use binding::{Binding, Want};
+pub use lookup::find;
+pub use refused::{Refused, TableError};
+pub use settings::{Edition, Softwire};
+pub use table::{Table, table_of};

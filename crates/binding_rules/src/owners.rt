@@ -1,0 +1,90 @@
+// The slots of the keys: for each port or identifier the place whose binding was the last to take it. A slot counts for
+// an address only where the binding at the place has that address, so the slots need no clearing between addresses.
+ghost use Rattle.std.specs.Prelude.{◌≡◌, ◌<◌, ◌^◌, true, length};
+ghost use Rattle.port_set.specs.Shapes.{IsShape};
+ghost use Rattle.binding_rules.specs.Steps.{IsLeast, IsMet, IsTaken, counted, lesser_of};
+
+use crate::binding::Binding;
+use aftr_base::V4;
+use port_set::{ports_of, shape_of};
+
+/// The place that a slot names, where the binding there has the address.
+fn owner_of(bindings: &[Binding], v4: V4, slot: Option<u32>) -> Option<u32>
+    ensures { result ≡ counted bindings.now v4.0 slot }
+{
+    match bindings.get(slot? as usize) {
+        Some(binding) if binding.v4 == v4 => slot,
+        _ => None,
+    }
+}
+
+/// The lesser of two places, where there are two.
+fn lesser(x: Option<u32>, y: Option<u32>) -> Option<u32>
+    ensures { result ≡ lesser_of x y }
+{
+    match (x, y) {
+        (Some(a), Some(b)) => Some(if b < a { b } else { a }),
+        (None, y) => y,
+        (x, None) => x,
+    }
+}
+
+/// The least place that the slots of the binding's keys name. Then they name the place of this binding.
+pub(crate) fn meet(
+    bindings: &[Binding],
+    v4: V4,
+    by_port: bool,
+    place: u32,
+    binding: Binding,
+    owners: &mut [Option<u32>],
+) -> Option<u32>
+    requires shape { IsShape binding.offset binding.length }
+    requires psid { binding.psid < 2 ^ binding.length }
+    requires size { length owners.old ≡ 65536 }
+    ensures least { IsLeast (IsMet by_port binding bindings.now v4.0 owners.old) result }
+    ensures taken { IsTaken by_port binding place owners.old owners.new }
+{
+    if by_port {
+        let met = least_of_ports(bindings, v4, binding, owners);
+        take_ports(binding, place, owners);
+        met
+    } else {
+        let key = usize::from(binding.psid);
+        let met = owner_of(bindings, v4, owners[key]);
+        owners[key] = Some(place);
+        met
+    }
+}
+
+fn least_of_ports(
+    bindings: &[Binding],
+    v4: V4,
+    binding: Binding,
+    owners: &[Option<u32>],
+) -> Option<u32>
+    requires shape { IsShape binding.offset binding.length }
+    requires psid { binding.psid < 2 ^ binding.length }
+    requires size { length owners.now ≡ 65536 }
+    ensures { IsLeast (IsMet true binding bindings.now v4.0 owners.now) result }
+{
+    let mut met = None;
+    if let Ok(shape) = shape_of(binding.offset, binding.length) {
+        'ports: for port in ports_of(shape, binding.psid) {
+            met = lesser(met, owner_of(bindings, v4, owners[usize::from(port)]));
+        }
+    }
+    met
+}
+
+fn take_ports(binding: Binding, place: u32, owners: &mut [Option<u32>])
+    requires shape { IsShape binding.offset binding.length }
+    requires psid { binding.psid < 2 ^ binding.length }
+    requires size { length owners.old ≡ 65536 }
+    ensures { IsTaken true binding place owners.old owners.new }
+{
+    if let Ok(shape) = shape_of(binding.offset, binding.length) {
+        'ports: for port in ports_of(shape, binding.psid) {
+            owners[usize::from(port)] = Some(place);
+        }
+    }
+}

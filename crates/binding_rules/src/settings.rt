@@ -1,0 +1,33 @@
+// What holds for all bindings of a table.
+use aftr_base::{V4, V6};
+
+/// Which rule the bindings of one address keep. In edition One they have one shape, and in edition Two their shapes may
+/// differ. In both no port is in two of them.
+#[derive(Clone, Copy, Debug, PartialEq, Eq)]
+pub enum Edition {
+    One,
+    Two,
+}
+
+/// The router's own addresses and settings.
+#[derive(Clone, Copy, Debug, PartialEq, Eq)]
+pub struct Softwire {
+    /// The tunnel's end at the router.
+    pub aftr: V6,
+    /// The router's own IPv4 address, from which its ICMP errors come; no binding has it.
+    pub own: V4,
+    /// The greatest size of a packet towards the subscribers, in bytes, at least 1,280.
+    pub mtu6: u16,
+    /// The greatest size of a packet towards the IPv4 network, in bytes, at least 576.
+    pub mtu4: u16,
+    /// The hop limit of a packet towards the subscribers, at least 1.
+    pub hop_limit: u8,
+    /// Whether a packet from one subscriber to another is turned round in the router.
+    pub hairpin: bool,
+    /// Whether ICMP messages pass towards the subscribers.
+    pub icmp_in: bool,
+    /// Whether ICMP errors go out to the subscribers.
+    pub errors_up: bool,
+    /// Whether ICMP errors go out to the IPv4 network.
+    pub errors_down: bool,
+}
