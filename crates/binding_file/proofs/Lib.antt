@@ -1,3 +1,4 @@
 mod Elements
 mod Trees
 mod Members
+mod Written

@@ -15,8 +15,8 @@ use Rattle.binding_file.specs.declared.refusals.FileRefused.{FileRefused}
 pub then_ok : {A B : Type 0} (x : Result A FileRefused) (a : A) (Q : A → Type 0) (r : Result B FileRefused) → x ≡ Ok a → Q a → Then x Q r
 then_ok x a Q r e q = subst (λ y. Then y Q r) (sym e) q
 
-pub then_err : {A B : Type 0} (x : Result A FileRefused) (f : FileRefused) (Q : A → Type 0) → x ≡ Err f → Then {A = A} {B = B} x Q (Err f)
-then_err x f Q e = subst (λ y. Then y Q (Err f)) (sym e) refl
+pub then_err : {A : Type 0} (B : Type 0) (x : Result A FileRefused) (f : FileRefused) (Q : A → Type 0) → x ≡ Err f → Then {A = A} {B = B} x Q (Err f)
+then_err B x f Q e = subst (λ y. Then {B = B} y Q (Err f)) (sym e) refl
 
 -- spelled elements are elements from any place on
 pub spelled_elements : (at : ℕ) (ds : Items) (bs : List Binding) → AreSpelled ds bs → AreElements at ds (Ok bs)

@@ -1,11 +1,11 @@
 -- What one key of a TOML table gives: a value, or the refusal at the key's place. Each key is looked up by its name.
-use Rattle.std.specs.Prelude.{◌≡◌, ℕ, ℤ, pos, negsuc, nat_le, Bool, not, if◌then◌else◌, List, [], ◌∷◌, Option, Some, None, Result, Ok, Err}
+use Rattle.std.specs.Prelude.{◌≡◌, ℕ, ℤ, pos, negsuc, nat_le, Bool, not, if◌then◌else◌, List, [], ◌∷◌, Option, Some, None, Result, Ok, Err, bytes_eq}
 use Rattle.std.specs.List.{list_any}
 use Rattle.aftr_base.specs.declared.numbers.V4.{V4}
 use Rattle.aftr_base.specs.declared.numbers.V6.{V6}
 use Rattle.addr_text.specs.Ipv4.{IsV4Text}
 use Rattle.addr_text.specs.Ipv6.{IsV6Text}
-use Rattle.toml.specs.Data.{Data, as_str, as_integer, as_bool, as_table, Members, no_members, member, get_member, same_key}
+use Rattle.toml.specs.Data.{Data, as_str, as_integer, as_bool, as_table, Members, no_members, member, get_member}
 use Rattle.binding_file.specs.Names.{key_of, name_of}
 use Rattle.binding_file.specs.declared.names.Name.{Name}
 use Rattle.binding_file.specs.declared.names.Place.{Place}
@@ -59,14 +59,14 @@ abbrev pub number_or : Place → ℕ → ℕ → Option Data → Result ℕ File
 number_or p most default None = Ok default
 number_or p most default (Some d) = of_kind p (as_integer d) >>= (λ z. in_range p most z)
 
-abbrev pub number_at : Members → Place → ℕ → ℕ → Result ℕ FileRefused
+unfoldable pub number_at : Members → Place → ℕ → ℕ → Result ℕ FileRefused
 number_at ms p most default = number_or p most default (member_at ms p)
 
 abbrev pub flag_or : Place → Bool → Option Data → Result Bool FileRefused
 flag_or p default None = Ok default
 flag_or p default (Some d) = of_kind p (as_bool d)
 
-abbrev pub flag_at : Members → Place → Bool → Result Bool FileRefused
+unfoldable pub flag_at : Members → Place → Bool → Result Bool FileRefused
 flag_at ms p default = flag_or p default (member_at ms p)
 
 -- the address that the text spells, or that it spells none
@@ -89,10 +89,10 @@ keys_of no_members = []
 keys_of (member k d ms) = k ∷ keys_of ms
 
 abbrev pub is_one_of : List Name → List ℕ → Bool
-is_one_of names key = list_any (λ n. same_key (key_of n) key) names
+is_one_of names key = list_any (λ n. bytes_eq (key_of n) key) names
 
 -- the table has a key that is none of these
-abbrev pub has_other : List Name → Members → Bool
+unfoldable pub has_other : List Name → Members → Bool
 has_other names ms = list_any (λ key. not (is_one_of names key)) (keys_of ms)
 
 -- the value, unless the table has a key that is none of these

@@ -64,6 +64,7 @@ pub(crate) fn address4_at(table: &Table, place: Place) -> Result<V4, FileRefused
 }
 
 /// An integer from 0 to `most`.
+#[tactic(auto, unfolding(crate::specs::Keys::number_at))]
 pub(crate) fn number_at(
     table: &Table,
     place: Place,
@@ -93,6 +94,7 @@ pub(crate) fn byte_at(table: &Table, place: Place, default: u8) -> Result<u8, Fi
     Ok(number_at(table, place, 255, u16::from(default))? as u8)
 }
 
+#[tactic(auto, unfolding(crate::specs::Keys::flag_at))]
 pub(crate) fn flag_at(table: &Table, place: Place, default: bool) -> Result<bool, FileRefused>
     ensures { result ≡ flag_at (table_view table.now) place default }
 {

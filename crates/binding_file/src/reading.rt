@@ -108,6 +108,7 @@ fn softwire_of(table: &toml::Table) -> Result<Softwire, FileRefused>
 }
 
 /// The settings behind the two addresses.
+#[tactic(auto, unfolding(crate::specs::Files::settings_of))]
 fn settings_of(table: &toml::Table, aftr: V6, own: V4) -> Result<Softwire, FileRefused>
     ensures { result ≡ settings_of (table_view table.now) aftr own }
 {
@@ -181,6 +182,7 @@ fn element_of(at: u32, value: &Value) -> Result<Binding, FileRefused>
 }
 
 /// A binding's port set, behind its two addresses.
+#[tactic(auto, unfolding(crate::specs::Files::port_set_of))]
 fn port_set_of(at: u32, table: &toml::Table, b4: V6, v4: V4) -> Result<Binding, FileRefused>
     ensures { result ≡ port_set_of at (table_view table.now) b4 v4 }
 {

@@ -2,6 +2,7 @@
 ghost use Rattle.std.specs.Prelude.{◌≡◌, ◌≤◌, IfOk, OnOk};
 ghost use Rattle.toml.specs.Data.{members_depth};
 ghost use Rattle.toml.specs.View.{view, table_view};
+ghost use Rattle.binding_rules.specs.Tables.{IsValid};
 ghost use Rattle.binding_file.specs.Names.{key_of};
 ghost use Rattle.binding_file.specs.Files.{IsTree, TextOf};
 ghost use Rattle.binding_file.specs.Steps.{with_member, IsSpelled, IsSoftwireData, AreBindingsData};
@@ -29,12 +30,13 @@ pub fn write_table(alloc: Global, table: &Table) -> Result<Text, OutOfMemory>
 fn document_of(alloc: Global, table: &Table) -> Result<toml::Table, OutOfMemory>
     ensures tree { IfOk result (λ t. IsTree (table_view t) (Ok table.now)) }
     ensures flat { IfOk result (λ t. members_depth (table_view t) ≤ 2) }
+    ensures valid { IsValid table.now }
 {
     let version = match table.edition() {
         Edition::One => 1,
         Edition::Two => 2,
     };
-    let softwire = softwire_value(alloc, &table.softwire())?;
+    let softwire = softwire_value(alloc, table.softwire())?;
     let bindings = bindings_value(alloc, table.bindings())?;
     let mut document = toml::Table::new(alloc);
     put(alloc, &mut document, Name::Version, Value::Integer(version))?;
@@ -52,8 +54,8 @@ fn put(alloc: Global, table: &mut toml::Table, name: Name, value: Value) -> Resu
     Ok(())
 }
 
-fn softwire_value(alloc: Global, softwire: &Softwire) -> Result<Value, OutOfMemory>
-    ensures { IfOk result (λ v. IsSoftwireData (view v) softwire.now) }
+fn softwire_value(alloc: Global, softwire: Softwire) -> Result<Value, OutOfMemory>
+    ensures { IfOk result (λ v. IsSoftwireData (view v) softwire) }
 {
     let aftr = Value::string(alloc, write_v6(softwire.aftr).as_str())?;
     let own = Value::string(alloc, write_v4(softwire.own).as_str())?;
@@ -110,13 +112,13 @@ fn bindings_value(alloc: Global, bindings: &[Binding]) -> Result<Value, OutOfMem
 {
     let mut values = Vec::with_capacity(alloc, bindings.len())?;
     'bindings: for binding in bindings {
-        values.push(binding_value(alloc, binding)?)?;
+        values.push(binding_value(alloc, *binding)?)?;
     }
     Ok(Value::Array(values))
 }
 
-fn binding_value(alloc: Global, binding: &Binding) -> Result<Value, OutOfMemory>
-    ensures { IfOk result (λ v. IsSpelled (view v) binding.now) }
+fn binding_value(alloc: Global, binding: Binding) -> Result<Value, OutOfMemory>
+    ensures { IfOk result (λ v. IsSpelled (view v) binding) }
 {
     let b4 = Value::string(alloc, write_v6(binding.b4).as_str())?;
     let v4 = Value::string(alloc, write_v4(binding.v4).as_str())?;
