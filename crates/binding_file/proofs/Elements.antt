@@ -1,5 +1,5 @@
 -- The elements of the array, one by one.
-use Rattle.std.proofs.Common.{◌≡◌, ℕ, ◌+◌, ◌<◌, List, [], ◌∷◌, ◌++◌, length, drop, get_or, Result, Ok, Err, refl, ap, sym, ◌∙◌, subst, append_assoc, arith}
+use Rattle.std.proofs.Common.{◌≡◌, ℕ, ◌+◌, ◌<◌, ◌≤◌, List, [], ◌∷◌, ◌++◌, length, drop, get_or, Result, Ok, Err, refl, ap, sym, ◌∙◌, subst, append_assoc, arith}
 use Rattle.std.proofs.lemmas.List.{append-nil, drop_all}
 use Rattle.binding_rules.specs.declared.binding.Binding.{Binding}
 use Rattle.toml.specs.Data.{Data, Items, no_items, item}
@@ -40,5 +40,5 @@ pub ready_refused : (vs : List Value) (at : ℕ) (bs : List Binding) (e : FileRe
 ready_refused vs at bs e v within is h ready =
     ready (Err e) (subst (λ ds. AreElements at ds (Err e)) (sym (items_view-drop vs at v within)) (record { gives = Err e; given = subst (λ x. IsElement at (view x) (Err e)) is h; rest = refl }))
 
-pub ready_done : (vs : List Value) (bs : List Binding) → Ready vs (length vs) bs → AreElements 0 (items_view vs) (Ok bs)
-ready_done vs bs ready = subst (λ x. AreElements 0 (items_view vs) (Ok x)) (append-nil bs) (ready (Ok []) (subst (λ ds. AreElements (length vs) ds (Ok [])) (sym (ap items_view (drop_all (length vs) vs (omega arith)))) refl))
+pub ready_done : (vs : List Value) (at : ℕ) (bs : List Binding) → length vs ≤ at → Ready vs at bs → AreElements 0 (items_view vs) (Ok bs)
+ready_done vs at bs past ready = subst (λ x. AreElements 0 (items_view vs) (Ok x)) (append-nil bs) (ready (Ok []) (subst (λ ds. AreElements at ds (Ok [])) (sym (ap items_view (drop_all at vs past))) refl))

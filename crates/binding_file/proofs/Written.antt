@@ -1,6 +1,10 @@
 -- The tables that the writer makes. The keys of a table ascend.
-use Rattle.std.proofs.Common.{◌≡◌, ℕ, ◌<◌, ◌≤◌, ◌^◌, pos, max, List, [], ◌∷◌, Bool, true, Option, Some, Result, Ok, Err, codes, refl, ap, sym, ◌∙◌, subst, arith}
+use Rattle.std.proofs.Common.{◌≡◌, ℕ, ◌<◌, ◌≤◌, ◌^◌, pos, max, List, [], ◌∷◌, ◌++◌, ◌+◌, length, take, get_or, Bool, true, Option, Some, Result, Ok, Err, codes, refl, ap, sym, ◌∙◌, subst, arith}
 use Rattle.std.proofs.lemmas.Bool.{le-leb}
+use Rattle.std.proofs.lemmas.List.{take_more}
+use Rattle.toml.specs.View.{view, items_view}
+use Rattle.toml.specs.declared.value.Value.{Value}
+use Rattle.toml.proofs.Views.{items_view-push}
 use Rattle.addr_text.specs.Ipv4.{IsV4Text}
 use Rattle.addr_text.specs.Ipv6.{IsV6Text}
 use Rattle.binding_rules.specs.Tables.{Rules, rules, IsValid}
@@ -8,11 +12,11 @@ use Rattle.binding_rules.specs.declared.binding.Binding.{Binding}
 use Rattle.binding_rules.specs.declared.settings.Edition.{Edition}
 use Rattle.binding_rules.specs.declared.settings.Edition.TheVariants as edition
 use Rattle.binding_rules.specs.declared.settings.Softwire.{Softwire}
-use Rattle.toml.specs.Data.{Data, string, integer, boolean, array, table, Items, Members, no_members, member, members_depth, depth, items_depth}
+use Rattle.toml.specs.Data.{Data, string, integer, boolean, array, table, Items, Members, no_members, member, members_depth, depth, items_depth, push_item}
 use Rattle.binding_file.specs.Keys.{Then, After, number_at, flag_at, has_other}
 use Rattle.binding_file.specs.Files.{settings_of, port_set_of, IsSoftwire, IsBinding, IsElement, IsTree, AreBindings}
 use Rattle.binding_file.specs.Steps.{with_member, edition_number, IsSpelled, AreSpelled, IsSoftwireData, AreBindingsData}
-use Rattle.binding_file.proofs.Trees.{spelled_elements, spelled_tables, spelled_depth, then_ok}
+use Rattle.binding_file.proofs.Trees.{spelled_elements, spelled_tables, spelled_depth, spelled_push, then_ok}
 
 -- a table's settings, as a tree
 abbrev pub softwire_members : List ℕ → List ℕ → Softwire → Members
@@ -39,18 +43,18 @@ port_set_written at b4 v4 b o l p = rw (le-leb b.offset 255 (omega arith), le-le
 
 pub softwire_written : (d : Data) (aftr own : List ℕ) (s : Softwire) → d ≡ table (softwire_members aftr own s) → IsV6Text aftr s.aftr.0 → IsV4Text own s.own.0 → s.mtu6 < 2 ^ 16 → s.mtu4 < 2 ^ 16 → s.hop_limit < 2 ^ 8 → IsSoftwireData d s
 softwire_written d aftr own s e v6 v4 a b h = record {
-    members = softwire_members aftr own s;
-    is = e;
-    spelled = record { gives = Ok s.aftr; given = v6; rest = record { gives = Ok s.own; given = v4; rest = sym (settings_written aftr own s a b h) } };
-    flat = refl;
-  }
+  members = softwire_members aftr own s;
+  is = e;
+  spelled = record { gives = Ok s.aftr; given = v6; rest = record { gives = Ok s.own; given = v4; rest = sym (settings_written aftr own s a b h) } };
+  flat = refl;
+}
 
 pub binding_written : (d : Data) (b4 v4 : List ℕ) (b : Binding) → d ≡ table (binding_members b4 v4 b) → IsV6Text b4 b.b4.0 → IsV4Text v4 b.v4.0 → b.offset < 2 ^ 8 → b.length < 2 ^ 8 → b.psid < 2 ^ 16 → IsSpelled d b
 binding_written d b4 v4 b e six four o l p = record {
-    element = λ at. subst (λ x. IsElement at x (Ok b)) (sym e) (record { gives = Ok b.b4; given = six; rest = record { gives = Ok b.v4; given = four; rest = sym (port_set_written at b4 v4 b o l p) } });
-    is_table = rw e refl;
-    flat = rw e (omega arith);
-  }
+  element = λ at. subst (λ x. IsElement at x (Ok b)) (sym e) (record { gives = Ok b.b4; given = six; rest = record { gives = Ok b.v4; given = four; rest = sym (port_set_written at b4 v4 b o l p) } });
+  is_table = rw e refl;
+  flat = rw e (omega arith);
+}
 
 tree_of_edition : (e : Edition) (s : Softwire) (bs : List Binding) (sm : Members) (ds : Items) → IsSoftwire sm (Ok s) → AreBindings (top_members e (table sm) (array ds)) (Ok bs) → IsTree (top_members e (table sm) (array ds)) (Ok (rules e s bs))
 unfolding has_other
@@ -87,3 +91,8 @@ pub softwire_put : (m0 m1 m2 m3 m4 m5 m6 m7 m8 m9 : Members) (s : Softwire) (aft
     → m9 ≡ softwire_members aftr own s
 softwire_put m0 m1 m2 m3 m4 m5 m6 m7 m8 m9 s aftr own d1 d2 d3 d4 d5 d6 d7 d8 d9 z e1 e2 e3 e4 e5 e6 e7 e8 e9 p1 p2 p3 p4 p5 p6 p7 p8 p9 =
     rw (p9, p8, p7, p6, p5, p4, p3, p2, p1, z, e1, e2, e3, e4, e5, e6, e7, e8, e9) refl
+
+pub spelled_more : (vs : List Value) (bs : List Binding) (i : ℕ) (v : Value) (d : Binding) → i < length bs → AreSpelled (items_view vs) (take i bs) → IsSpelled (view v) (get_or bs i d) → AreSpelled (items_view (vs ++ v ∷ [])) (take (i + 1) bs)
+spelled_more vs bs i v d within h k =
+    subst (λ ds. AreSpelled ds (take (i + 1) bs)) (sym (items_view-push vs v))
+    (subst (λ xs. AreSpelled (push_item (items_view vs) (view v)) xs) (sym (take_more bs i d within)) (spelled_push (items_view vs) (take i bs) (view v) (get_or bs i d) h k))

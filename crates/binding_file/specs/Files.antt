@@ -9,6 +9,7 @@ use Rattle.binding_rules.specs.declared.binding.Binding.{Binding}
 use Rattle.binding_rules.specs.declared.settings.Edition.{Edition}
 use Rattle.binding_rules.specs.declared.settings.Edition.TheVariants as edition
 use Rattle.binding_rules.specs.declared.settings.Softwire.{Softwire}
+use Rattle.binding_rules.specs.declared.refused.Refused.{Refused}
 use Rattle.toml.specs.Data.{Data, as_integer, as_array, as_table, Items, no_items, item, Members}
 use Rattle.toml.specs.Parse.{parse_document}
 use Rattle.binding_file.specs.Keys.{◌>>=◌, Then, After, member_at, required, of_kind, table_at, number_at, flag_at, IsAddress6At, IsAddress4At, known}
@@ -126,15 +127,14 @@ IsDocument bytes (Err e) = (e ≡ refused.NotToml) × (IsUtf8 bytes → parse_do
 abbrev pub Says : List ℕ → Result Rules FileRefused → Type 0
 Says bytes r = After (IsDocument bytes) (λ ms. IsTree ms r) r
 
--- the refusal is the first: by the rules of tables only where all before them is well
-abbrev pub IsRefused : List ℕ → FileRefused → Type 0
-IsRefused bytes (refused.Rules rule) = (t : Rules) × Says bytes (Ok t) × IsFirstRefusal t.edition t.softwire t.bindings rule
-IsRefused bytes e = Says bytes (Err e)
+-- the rules of tables: nothing is wrong, or this is the first refusal by them
+abbrev pub IsJudged : Rules → Result Rules FileRefused → Type 0
+IsJudged t (Ok u) = (u ≡ t) × IsValid t
+IsJudged t (Err e) = (rule : Refused) × (e ≡ refused.Rules rule) × IsFirstRefusal t.edition t.softwire t.bindings rule
 
 -- the table that a text spells, whatever its size, or its first refusal
 abbrev pub TextOf : List ℕ → Result Rules FileRefused → Type 0
-TextOf bytes (Ok t) = Says bytes (Ok t) × IsValid t
-TextOf bytes (Err e) = IsRefused bytes e
+TextOf bytes r = After (Says bytes) (λ t. IsJudged t r) r
 
 -- the most bytes that a file may have
 abbrev pub most_bytes : ℕ

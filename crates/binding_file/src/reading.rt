@@ -1,5 +1,5 @@
 // Reads a table file: the document's tree first, then the keys in their order, then the rules of tables.
-ghost use Rattle.std.specs.Prelude.{◌≡◌, IfOk, IfErr};
+ghost use Rattle.std.specs.Prelude.{◌≡◌, ◌≤◌, IfOk, IfErr, vec_len};
 ghost use Rattle.toml.specs.View.{view, table_view, items_view};
 ghost use Rattle.binding_rules.specs.Tables.{rules};
 ghost use Rattle.binding_file.specs.Files.{top_edition, settings_of, port_set_of, elements_of, are_tables, IsSoftwire, IsElement, AreBindings, IsDocument, IsTree, TableOf, IsCause};
@@ -70,7 +70,8 @@ fn document_of(alloc: Global, text: &[u8]) -> Result<toml::Table, FileError>
 }
 
 fn tree_of(alloc: Global, document: &toml::Table) -> Result<Spelled, FileError>
-    ensures { IsRead (λ s. rules s.edition s.softwire s.bindings.items) (IsTree (table_view document.now)) result }
+    ensures read { IsRead (λ s. rules s.edition s.softwire s.bindings.items) (IsTree (table_view document.now)) result }
+    ensures few { IfOk result (λ s. vec_len s.bindings ≤ 16777216) }
 {
     let edition = edition_of(document)?;
     let softwire = softwire_of(table_at(document, Place::Top(Name::Softwire))?)?;
@@ -151,7 +152,8 @@ fn are_tables(values: &[Value]) -> bool
 
 /// The bindings. An array of 2^32 elements or more, which is more than a file has bytes, is answered by `OutOfMemory`.
 fn bindings_of(alloc: Global, document: &toml::Table) -> Result<Vec<Binding>, FileError>
-    ensures { IsRead (λ v. v.items) (AreBindings (table_view document.now)) result }
+    ensures read { IsRead (λ v. v.items) (AreBindings (table_view document.now)) result }
+    ensures few { IfOk result (λ v. vec_len v ≤ 16777216) }
 {
     let values = elements_of(document)?;
     if values.len() > MOST_BYTES {

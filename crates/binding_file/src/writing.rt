@@ -1,11 +1,11 @@
 // Writes a table file: the tree of a table, which `toml` prints.
-ghost use Rattle.std.specs.Prelude.{◌≡◌, ◌≤◌, IfOk, OnOk};
-ghost use Rattle.toml.specs.Data.{members_depth};
+ghost use Rattle.std.specs.Prelude.{◌≡◌, ◌<◌, ◌≤◌, ◌^◌, pos, IfOk, OnOk};
+ghost use Rattle.toml.specs.Data.{boolean, integer, members_depth};
 ghost use Rattle.toml.specs.View.{view, table_view};
 ghost use Rattle.binding_rules.specs.Tables.{IsValid};
 ghost use Rattle.binding_file.specs.Names.{key_of};
 ghost use Rattle.binding_file.specs.Files.{IsTree, TextOf};
-ghost use Rattle.binding_file.specs.Steps.{with_member, IsSpelled, IsSoftwireData, AreBindingsData};
+ghost use Rattle.binding_file.specs.Steps.{edition_number, with_member, IsSpelled, IsSoftwireData, AreBindingsData};
 
 use crate::names::Name;
 use addr_text::{write_v4, write_v6};
@@ -32,17 +32,43 @@ fn document_of(alloc: Global, table: &Table) -> Result<toml::Table, OutOfMemory>
     ensures flat { IfOk result (λ t. members_depth (table_view t) ≤ 2) }
     ensures valid { IsValid table.now }
 {
-    let version = match table.edition() {
-        Edition::One => 1,
-        Edition::Two => 2,
-    };
+    let version = number(version_of(table.edition()));
     let softwire = softwire_value(alloc, table.softwire())?;
     let bindings = bindings_value(alloc, table.bindings())?;
     let mut document = toml::Table::new(alloc);
-    put(alloc, &mut document, Name::Version, Value::Integer(version))?;
+    put(alloc, &mut document, Name::Version, version)?;
     put(alloc, &mut document, Name::Softwire, softwire)?;
     put(alloc, &mut document, Name::Binding, bindings)?;
     Ok(document)
+}
+
+fn version_of(edition: Edition) -> u16
+    ensures { result ≡ edition_number edition }
+{
+    match edition {
+        Edition::One => 1,
+        Edition::Two => 2,
+    }
+}
+
+fn number(number: u16) -> Value
+    ensures view { view result ≡ integer (pos number) }
+    ensures fits { number < 2 ^ 16 }
+{
+    Value::Integer(i64::from(number))
+}
+
+fn byte(number: u8) -> Value
+    ensures view { view result ≡ integer (pos number) }
+    ensures fits { number < 2 ^ 8 }
+{
+    Value::Integer(i64::from(number))
+}
+
+fn flag(flag: bool) -> Value
+    ensures { view result ≡ boolean flag }
+{
+    Value::Boolean(flag)
 }
 
 /// Puts a value at a key.
@@ -62,47 +88,17 @@ fn softwire_value(alloc: Global, softwire: Softwire) -> Result<Value, OutOfMemor
     let mut table = toml::Table::new(alloc);
     put(alloc, &mut table, Name::Aftr, aftr)?;
     put(alloc, &mut table, Name::Own, own)?;
-    put(
-        alloc,
-        &mut table,
-        Name::Mtu6,
-        Value::Integer(i64::from(softwire.mtu6)),
-    )?;
-    put(
-        alloc,
-        &mut table,
-        Name::Mtu4,
-        Value::Integer(i64::from(softwire.mtu4)),
-    )?;
-    put(
-        alloc,
-        &mut table,
-        Name::HopLimit,
-        Value::Integer(i64::from(softwire.hop_limit)),
-    )?;
-    put(
-        alloc,
-        &mut table,
-        Name::Hairpin,
-        Value::Boolean(softwire.hairpin),
-    )?;
-    put(
-        alloc,
-        &mut table,
-        Name::IcmpIn,
-        Value::Boolean(softwire.icmp_in),
-    )?;
-    put(
-        alloc,
-        &mut table,
-        Name::ErrorsUp,
-        Value::Boolean(softwire.errors_up),
-    )?;
+    put(alloc, &mut table, Name::Mtu6, number(softwire.mtu6))?;
+    put(alloc, &mut table, Name::Mtu4, number(softwire.mtu4))?;
+    put(alloc, &mut table, Name::HopLimit, byte(softwire.hop_limit))?;
+    put(alloc, &mut table, Name::Hairpin, flag(softwire.hairpin))?;
+    put(alloc, &mut table, Name::IcmpIn, flag(softwire.icmp_in))?;
+    put(alloc, &mut table, Name::ErrorsUp, flag(softwire.errors_up))?;
     put(
         alloc,
         &mut table,
         Name::ErrorsDown,
-        Value::Boolean(softwire.errors_down),
+        flag(softwire.errors_down),
     )?;
     Ok(Value::Table(table))
 }
@@ -125,23 +121,8 @@ fn binding_value(alloc: Global, binding: Binding) -> Result<Value, OutOfMemory>
     let mut table = toml::Table::new(alloc);
     put(alloc, &mut table, Name::B4, b4)?;
     put(alloc, &mut table, Name::Ipv4, v4)?;
-    put(
-        alloc,
-        &mut table,
-        Name::Offset,
-        Value::Integer(i64::from(binding.offset)),
-    )?;
-    put(
-        alloc,
-        &mut table,
-        Name::Length,
-        Value::Integer(i64::from(binding.length)),
-    )?;
-    put(
-        alloc,
-        &mut table,
-        Name::Psid,
-        Value::Integer(i64::from(binding.psid)),
-    )?;
+    put(alloc, &mut table, Name::Offset, byte(binding.offset))?;
+    put(alloc, &mut table, Name::Length, byte(binding.length))?;
+    put(alloc, &mut table, Name::Psid, number(binding.psid))?;
     Ok(Value::Table(table))
 }
