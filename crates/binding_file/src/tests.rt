@@ -2,6 +2,7 @@
 use crate::{FileError, FileRefused, Name, Place, RuleText, read_table, write_table};
 use aftr_base::{V4, V6};
 use binding_rules::{Binding, Edition, Refused, Softwire, Table, table_of};
+use std::alloc::Global;
 use std::test::Fail;
 
 const SOUND: &str = "version = 1
@@ -27,7 +28,7 @@ ipv4 = \"203.0.113.2\"
 ";
 
 // A line has a piece of the sound file, what stands there in its place, and the answer. `|` ends a line of the file.
-const EDITS: &str = "# ~ # ~ valid 2
+const EDITS: &str = "version ~ version ~ valid 2
 version = 1 ~ version = 2 ~ valid 2
 version = 1 ~ # a comment|version = 0x1 # another ~ valid 2
 version = 1| ~  ~ missing version
@@ -149,34 +150,208 @@ version = 1|[softwire]|aftr = \"::1\"|own = \"1.2.3.4\"|[[binding]] ~ missing bi
 version = 1|[softwire]|aftr = \"::1\"|own = \"1.2.3.4\"|[bindings] ~ unknown-key
 ";
 
-// The file with `to` for the first `from`; `|` ends a line.
-fn edited(alloc: Global, from: &str, to: &str, end: &str) -> Result<String, Fail> {
-    let mut piece = String::new(alloc);
-    for (at, part) in from.split('|').enumerate() {
-        if at > 0 {
-            piece.push('\n')?;
-        }
-        piece.push_str(part)?;
-    }
-    let (before, after) = SOUND.split_once(piece.as_str()).unwrap_or((SOUND, ""));
-    let mut text = String::from_str(alloc, before)?;
-    for (at, part) in to.split('|').enumerate() {
+// The lines of a piece of a file.
+fn lines_of(alloc: Global, piece: &str, end: &str) -> Result<String, Fail> {
+    let mut text = String::new(alloc);
+    for (at, line) in piece.split('|').enumerate() {
         if at > 0 {
             text.push_str(end)?;
         }
-        text.push_str(part)?;
+        text.push_str(line)?;
     }
-    text.push_str(after)?;
     Ok(text)
 }
 
 // What reading says of a file, as a text.
-fn answer(alloc: Global, text: &[u8]) -> Result<String, Fail> {
-    Ok(match read_table(alloc, text) {
+fn answer(alloc: Global, file: &[u8]) -> Result<String, Fail> {
+    Ok(match read_table(alloc, file) {
         Ok(table) => {
             let count = table.bindings().len();
             format!(in alloc; "valid {count}")?
         }
         Err(error) => format!(in alloc; "{error}")?,
     })
+}
+
+#[test]
+fn names_the_first_thing_that_is_wrong(rt: HostRuntime) -> Result<(), Fail> {
+    let alloc = rt.alloc();
+    for line in EDITS.lines() {
+        let (from, rest) = line.split_once(" ~ ").ok_or("an edit")?;
+        let (to, wanted) = rest.split_once(" ~ ").ok_or("an answer")?;
+        let old = lines_of(alloc, from, "\n")?;
+        let new = lines_of(alloc, to, "\n")?;
+        let (before, after) = SOUND.split_once(old.as_str()).ok_or("a piece of the file")?;
+        let file = format!(in alloc; "{before}{new}{after}")?;
+        let said = answer(alloc, file.as_bytes())?;
+        assert!(rt; said.as_str() == wanted, "{line}");
+    }
+    for line in FILES.lines() {
+        let (file, wanted) = line.split_once(" ~ ").ok_or("an answer")?;
+        let file = lines_of(alloc, file, "\n")?;
+        let said = answer(alloc, file.as_bytes())?;
+        assert!(rt; said.as_str() == wanted, "{line}");
+    }
+    Ok(())
+}
+
+#[test]
+fn reads_other_line_ends_and_no_other_coding(rt: HostRuntime) -> Result<(), Fail> {
+    let alloc = rt.alloc();
+    let mut file = String::new(alloc);
+    for line in SOUND.lines() {
+        file.push_str(line)?;
+        file.push_str("\r\n")?;
+    }
+    assert!(rt; answer(alloc, file.as_bytes())?.as_str() == "valid 2");
+    assert!(rt; answer(alloc, SOUND.trim_end().as_bytes())?.as_str() == "valid 2");
+    assert!(rt; answer(alloc, &[0xef, 0xbb, 0xbf])?.as_str() == "missing version");
+    assert!(rt; answer(alloc, &[0xff])?.as_str() == "not-toml");
+    assert!(rt; answer(alloc, &[b'#', 0xc3])?.as_str() == "not-toml");
+    assert!(rt; answer(alloc, &[0])?.as_str() == "not-toml");
+    Ok(())
+}
+
+#[test]
+fn the_greatest_file_has_16_777_216_bytes(rt: HostRuntime) -> Result<(), Fail> {
+    let alloc = rt.alloc();
+    let file = vec![in alloc; b'\n'; 16_777_217]?;
+    assert!(rt; answer(alloc, &file)?.as_str() == "too-big");
+    assert!(rt; answer(alloc, &file[1..])?.as_str() == "missing version");
+    Ok(())
+}
+
+fn binding(b4: u128, v4: u32, offset: u8, length: u8, psid: u16) -> Binding {
+    Binding {
+        b4: V6(b4),
+        v4: V4(v4),
+        offset,
+        length,
+        psid,
+    }
+}
+
+fn same(x: &Table, y: &Table) -> bool {
+    x.edition() == y.edition() && x.softwire() == y.softwire() && x.bindings() == y.bindings()
+}
+
+#[test]
+fn a_table_that_is_written_reads_as_the_same(rt: HostRuntime) -> Result<(), Fail> {
+    let alloc = rt.alloc();
+    let usual = Softwire {
+        aftr: V6(0x2001_0db8_0000_0000_0000_0000_0000_0001),
+        own: V4(0xc000_0201),
+        mtu6: 1500,
+        mtu4: 1500,
+        hop_limit: 64,
+        hairpin: true,
+        icmp_in: true,
+        errors_up: false,
+        errors_down: false,
+    };
+    let unusual = Softwire {
+        mtu6: 65535,
+        mtu4: 576,
+        hop_limit: 1,
+        hairpin: false,
+        icmp_in: false,
+        errors_up: true,
+        errors_down: true,
+        ..usual
+    };
+    let one = binding(
+        0x2001_0db8_0001_0000_0000_0000_0000_0001,
+        0xcb00_7101,
+        6,
+        8,
+        52,
+    );
+    let two = binding(
+        0x2001_0db8_0001_0000_0000_0000_0000_0002,
+        0xcb00_7101,
+        0,
+        16,
+        80,
+    );
+    let whole = binding(0, 0xcb00_7102, 0, 0, 0);
+    let tables = [
+        table_of(alloc, Edition::One, usual, vec![in alloc; one]?)?,
+        table_of(alloc, Edition::One, unusual, Vec::new(alloc))?,
+        table_of(
+            alloc,
+            Edition::Two,
+            unusual,
+            vec![in alloc; one, two, whole]?,
+        )?,
+    ];
+    for table in &tables {
+        let text = write_table(alloc, table)?;
+        let back = read_table(alloc, text.as_slice())?;
+        assert!(rt; same(&back, table), "{text}", text = text.as_str());
+    }
+    let sound = read_table(alloc, SOUND.as_bytes())?;
+    assert!(rt; sound.bindings()[0] == one);
+    assert!(rt;
+        sound.bindings()[1]
+            == binding(
+                0x2001_0db8_0001_0000_0000_0000_0000_0002,
+                0xcb00_7102,
+                0,
+                0,
+                0
+            )
+    );
+    assert!(rt;
+        sound.softwire()
+            == Softwire {
+                mtu4: 1400,
+                icmp_in: false,
+                errors_up: true,
+                ..usual
+            }
+    );
+    Ok(())
+}
+
+#[test]
+fn refusals_have_texts_and_numbers(rt: HostRuntime) -> Result<(), Fail> {
+    let alloc = rt.alloc();
+    let place = Place::Binding {
+        at: 3,
+        name: Name::Psid,
+    };
+    let refusals = [
+        (FileRefused::TooBig, "too-big"),
+        (FileRefused::NotToml, "not-toml"),
+        (
+            FileRefused::Missing(Place::Softwire(Name::Aftr)),
+            "missing softwire aftr",
+        ),
+        (FileRefused::Kind(Place::Top(Name::Version)), "kind version"),
+        (FileRefused::UnknownKey, "unknown-key"),
+        (
+            FileRefused::Address(Place::Softwire(Name::Own)),
+            "address softwire own",
+        ),
+        (FileRefused::Range(place), "range binding 3 psid"),
+        (
+            FileRefused::Rules(Refused::TooMany { count: 65537 }),
+            "rules too-many 65537",
+        ),
+        (FileRefused::Version, "version"),
+    ];
+    for (at, (refused, wanted)) in refusals.iter().enumerate() {
+        assert!(rt; usize::from(refused.number()) == at + 1, "{wanted}");
+        assert!(rt;
+            format!(in alloc; "{refused}")?.as_str() == *wanted,
+            "{wanted}"
+        );
+    }
+    let rule = RuleText(Refused::MixedShape {
+        first: 0,
+        second: 64,
+    });
+    assert!(rt; format!(in alloc; "{rule}")?.as_str() == "mixed-shape 0 64");
+    assert!(rt; format!(in alloc; "{}", FileError::OutOfMemory)?.as_str() == "out of memory");
+    Ok(())
 }

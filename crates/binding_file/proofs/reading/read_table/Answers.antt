@@ -2,6 +2,7 @@ use Rattle.std.proofs.Common.{rules}
 use Rattle.binding_rules.specs.Tables.{rules as rules_of}
 use Rattle.toml.specs.View.{table_view}
 use Rattle.binding_file.specs.Files.{IsCause}
+use Rattle.binding_file.specs.declared.reading.Spelled.{Spelled}
 use Rattle.binding_file.specs.Steps.{error_of}
 use Rattle.binding_file.proofs.Trees.{cause_document, cause_tree, cause_rules, table_file}
 use Rattle.binding_file.proofs.reading.read_table.Goals as goal
@@ -15,7 +16,7 @@ returns-in_err-document-clause-cause c =
 pub returns-in_err-spelled-clause-cause : goal.returns-in_err-spelled-clause-cause
 returns-in_err-spelled-clause-cause c =
     let cause : IsCause c.args.text.now c.in_err-spelled.field-0.0 =
-    cause_tree _ (λ s. rules_of s.edition s.softwire s.bindings.items) c.args.text.now (table_view c.in_ok-document.document) c.in_err-spelled.field-0.0 c.if-text-gt-MOST_BYTES.false c.in_ok-document.ensures c.in_err-spelled.ensures.read in
+    cause_tree Spelled (λ (s : Spelled). rules_of s.edition s.softwire s.bindings.items) c.args.text.now (table_view c.in_ok-document.document) c.in_err-spelled.field-0.0 c.if-text-gt-MOST_BYTES.false c.in_ok-document.ensures c.in_err-spelled.ensures.read in
     search rules
 
 pub returns-in_err-table_of-clause-cause : goal.returns-in_err-table_of-clause-cause
