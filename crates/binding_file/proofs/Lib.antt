@@ -2,3 +2,4 @@ mod Elements
 mod Trees
 mod Members
 mod Written
+mod Unique

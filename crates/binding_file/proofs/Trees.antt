@@ -84,3 +84,6 @@ table_text bytes ms t d h valid = record { gives = Ok t; given = said bytes ms t
 
 pub table_file : (bytes : List ℕ) (ms : Members) (t : Rules) → length bytes ≤ 16777216 → IsDocument bytes (Ok ms) → IsTree ms (Ok t) → IsValid t → TableOf bytes (Ok t)
 table_file bytes ms t small d h valid = then_ok (fits bytes) bytes _ _ (fits_small bytes small) (table_text bytes ms t d h valid)
+
+pub text_file : (bytes : List ℕ) (t : Rules) → length bytes ≤ 16777216 → TextOf bytes (Ok t) → TableOf bytes (Ok t)
+text_file bytes t small h = then_ok (fits bytes) bytes _ _ (fits_small bytes small) h

@@ -3,6 +3,7 @@
 #![tactic(auto)]
 
 mod keys;
+mod laws;
 mod names;
 mod reading;
 mod refusals;
@@ -10,6 +11,7 @@ mod refusals;
 mod tests;
 mod writing;
 
+pub use laws::one_table;
 pub use names::{Name, Place};
 pub use reading::read_table;
 pub use refusals::{FileError, FileRefused, RuleText};
