@@ -1,0 +1,5 @@
+mod Elements
+mod Trees
+mod Members
+mod Written
+mod Unique

@@ -1,0 +1,89 @@
+-- The tree that the writer makes, and the first refusals of the reader.
+use Rattle.std.proofs.Common.{◌≡◌, ℕ, ◌+◌, ◌≤◌, ◌<◌, length, pos, BTreeMap, String, Global, List, [], ◌∷◌, ◌++◌, Bool, true, false, ◌&&◌, is_some, Result, Ok, Err, refl, ap, sym, ◌∙◌, subst, arith, max}
+use Rattle.std.proofs.lemmas.Bool.Decides.{nat_tests}
+use Rattle.binding_rules.specs.Tables.{Rules, rules, IsValid}
+use Rattle.binding_rules.specs.declared.binding.Binding.{Binding}
+use Rattle.binding_rules.specs.declared.settings.Edition.{Edition}
+use Rattle.binding_rules.specs.declared.settings.Edition.TheVariants as edition
+use Rattle.binding_rules.specs.declared.settings.Softwire.{Softwire}
+use Rattle.toml.specs.Data.{Data, integer, array, table, Items, no_items, item, Members, depth, items_depth, as_table, push_item}
+use Rattle.binding_file.specs.Keys.{Then, After}
+use Rattle.binding_file.specs.Files.{IsElement, AreElements, are_tables, fits, IsDocument, IsTree, Says, TextOf, TableOf, IsCause}
+use Rattle.binding_file.specs.Steps.{IsSpelled, AreSpelled, IsRead, error_of}
+use Rattle.binding_file.specs.declared.refusals.FileRefused.{FileRefused}
+use Rattle.binding_file.specs.declared.refusals.FileRefused.TheVariants as refused
+use Rattle.binding_file.specs.declared.refusals.FileError.{FileError}
+use Rattle.binding_file.specs.declared.refusals.FileError.TheVariants as file_error
+use Rattle.binding_rules.specs.declared.refused.TableError.{TableError}
+use Rattle.binding_rules.specs.declared.refused.TableError.TheVariants as table_error
+use Rattle.binding_rules.specs.Refusals.{IsCause as IsRulesCause}
+use Rattle.toml.specs.View.{table_view}
+use Rattle.toml.specs.declared.value.Value.{Value}
+
+abbrev pub Document : Type 0
+Document = BTreeMap (String Global) Value
+
+pub then_ok : {A B : Type 0} (x : Result A FileRefused) (a : A) (Q : A → Type 0) (r : Result B FileRefused) → x ≡ Ok a → Q a → Then x Q r
+then_ok x a Q r e q = subst (λ y. Then y Q r) (sym e) q
+
+pub then_err : {A : Type 0} (B : Type 0) (x : Result A FileRefused) (f : FileRefused) (Q : A → Type 0) → x ≡ Err f → Then {A = A} {B = B} x Q (Err f)
+then_err B x f Q e = subst (λ y. Then {B = B} y Q (Err f)) (sym e) refl
+
+-- spelled elements are elements from any place on
+pub spelled_elements : (at : ℕ) (ds : Items) (bs : List Binding) → AreSpelled ds bs → AreElements at ds (Ok bs)
+spelled_elements at no_items [] h = refl
+spelled_elements at no_items (b ∷ bs) h = absurd h
+spelled_elements at (item d ds) [] h = absurd h
+spelled_elements at (item d ds) (b ∷ bs) h = record { gives = Ok b; given = h.0.element at; rest = record { gives = Ok bs; given = spelled_elements (at + 1) ds bs h.1; rest = refl } }
+
+pub spelled_tables : (ds : Items) (bs : List Binding) → AreSpelled ds bs → are_tables ds ≡ true
+spelled_tables no_items [] h = refl
+spelled_tables no_items (b ∷ bs) h = absurd h
+spelled_tables (item d ds) [] h = absurd h
+spelled_tables (item d ds) (b ∷ bs) h = rw (h.0.is_table, spelled_tables ds bs h.1) refl
+
+pub spelled_depth : (ds : Items) (bs : List Binding) → AreSpelled ds bs → items_depth ds ≤ 1
+spelled_depth no_items [] h = omega arith
+spelled_depth no_items (b ∷ bs) h = absurd h
+spelled_depth (item d ds) [] h = absurd h
+spelled_depth (item d ds) (b ∷ bs) h = omega (arith, h.0.flat, spelled_depth ds bs h.1)
+
+pub spelled_push : (ds : Items) (bs : List Binding) (d : Data) (b : Binding) → AreSpelled ds bs → IsSpelled d b → AreSpelled (push_item ds d) (bs ++ b ∷ [])
+spelled_push no_items [] d b h k = (k, tt)
+spelled_push no_items (c ∷ bs) d b h k = absurd h
+spelled_push (item e ds) [] d b h k = absurd h
+spelled_push (item e ds) (c ∷ bs) d b h k = (h.0, spelled_push ds bs d b h.1 k)
+
+fits_small : (bytes : List ℕ) → length bytes ≤ 16777216 → fits bytes ≡ Ok bytes
+fits_small bytes small = grind (arith, nat_tests)
+
+-- the causes of the reader's errors
+pub cause_big : (bytes : List ℕ) → 16777216 < length bytes → TableOf bytes (Err refused.TooBig)
+cause_big bytes big = let e : fits bytes ≡ Err refused.TooBig = grind (arith, nat_tests) in then_err Rules (fits bytes) refused.TooBig _ e
+
+refused_text : (bytes : List ℕ) (r : FileRefused) → length bytes ≤ 16777216 → Says bytes (Err r) → TableOf bytes (Err r)
+refused_text bytes r small said = then_ok (fits bytes) bytes _ _ (fits_small bytes small) (record { gives = Err r; given = said; rest = refl })
+
+pub cause_document : (bytes : List ℕ) (e : FileError) → length bytes ≤ 16777216 → IsRead (λ (t : Document). table_view t) (IsDocument bytes) (Err e) → IsCause bytes e
+cause_document bytes (file_error.Refused r) small h = refused_text bytes r small (record { gives = Err r; given = h; rest = refl })
+cause_document bytes file_error.OutOfMemory small h = tt
+
+pub cause_tree : (S : Type 0) (f : S → Rules) (bytes : List ℕ) (ms : Members) (e : FileError) → length bytes ≤ 16777216 → IsDocument bytes (Ok ms) → IsRead f (IsTree ms) (Err e) → IsCause bytes e
+cause_tree S f bytes ms (file_error.Refused r) small d h = refused_text bytes r small (record { gives = Ok ms; given = d; rest = h })
+cause_tree S f bytes ms file_error.OutOfMemory small d h = tt
+
+said : (bytes : List ℕ) (ms : Members) (t : Rules) → IsDocument bytes (Ok ms) → IsTree ms (Ok t) → Says bytes (Ok t)
+said bytes ms t d h = record { gives = Ok ms; given = d; rest = h }
+
+pub cause_rules : (bytes : List ℕ) (ms : Members) (t : Rules) (e : TableError) → length bytes ≤ 16777216 → IsDocument bytes (Ok ms) → IsTree ms (Ok t) → IsRulesCause t.edition t.softwire t.bindings e → IsCause bytes (error_of e)
+cause_rules bytes ms t (table_error.Refused q) small d h k = then_ok (fits bytes) bytes _ _ (fits_small bytes small) (record { gives = Ok t; given = said bytes ms t d h; rest = (q, refl, k) })
+cause_rules bytes ms t table_error.OutOfMemory small d h k = tt
+
+pub table_text : (bytes : List ℕ) (ms : Members) (t : Rules) → IsDocument bytes (Ok ms) → IsTree ms (Ok t) → IsValid t → TextOf bytes (Ok t)
+table_text bytes ms t d h valid = record { gives = Ok t; given = said bytes ms t d h; rest = (refl, valid) }
+
+pub table_file : (bytes : List ℕ) (ms : Members) (t : Rules) → length bytes ≤ 16777216 → IsDocument bytes (Ok ms) → IsTree ms (Ok t) → IsValid t → TableOf bytes (Ok t)
+table_file bytes ms t small d h valid = then_ok (fits bytes) bytes _ _ (fits_small bytes small) (table_text bytes ms t d h valid)
+
+pub text_file : (bytes : List ℕ) (t : Rules) → length bytes ≤ 16777216 → TextOf bytes (Ok t) → TableOf bytes (Ok t)
+text_file bytes t small h = then_ok (fits bytes) bytes _ _ (fits_small bytes small) h

@@ -1,0 +1,16 @@
+// What holds of table files, whoever reads or writes them.
+ghost use Rattle.std.specs.Prelude.{◌≡◌, ◌≤◌, ℕ, List, length, Result, Ok};
+ghost use Rattle.binding_rules.specs.Tables.{Rules};
+ghost use Rattle.binding_file.specs.Files.{TableOf, TextOf};
+ghost use Rattle.binding_file.specs.declared.refusals.FileRefused.{FileRefused};
+
+use addr_text::one_address;
+
+/// A file that spells a table spells no other, and is not refused. A text within the size of a file that spells a table is
+/// such a file. So reading what `write_table` writes gives the table again.
+pub fn one_table()
+    ensures one { (bytes : List ℕ) (t : Rules) (answer : Result Rules FileRefused) → TableOf bytes (Ok t) → TableOf bytes answer → answer ≡ Ok t }
+    ensures text { (bytes : List ℕ) (t : Rules) → length bytes ≤ 16777216 → TextOf bytes (Ok t) → TableOf bytes (Ok t) }
+{
+    one_address();
+}

@@ -1,0 +1,18 @@
+//! Binding tables as TOML files: a reader that names the first thing that is wrong and its place, and a writer whose texts
+//! the reader reads as the same table. TOML itself is read and printed by `toml`.
+#![tactic(auto)]
+
+mod keys;
+mod laws;
+mod names;
+mod reading;
+mod refusals;
+#[cfg(test)]
+mod tests;
+mod writing;
+
+pub use laws::one_table;
+pub use names::{Name, Place};
+pub use reading::read_table;
+pub use refusals::{FileError, FileRefused, RuleText};
+pub use writing::write_table;

@@ -1,0 +1,214 @@
+// Reads a table file: the document's tree first, then the keys in their order, then the rules of tables.
+ghost use Rattle.std.specs.Prelude.{◌≡◌, ◌≤◌, IfOk, IfErr, vec_len};
+ghost use Rattle.toml.specs.View.{view, table_view, items_view};
+ghost use Rattle.binding_rules.specs.Tables.{rules};
+ghost use Rattle.binding_file.specs.Files.{top_edition, settings_of, port_set_of, elements_of, are_tables, IsSoftwire, IsElement, AreBindings, IsDocument, IsTree, TableOf, IsCause};
+ghost use Rattle.binding_file.specs.Steps.{IsRead, outcome};
+
+use crate::keys::{
+    address4_at, address6_at, byte_at, flag_at, has_other, member_at, number_at, required, table_at,
+};
+use crate::names::{Name, Place};
+use crate::refusals::{FileError, FileRefused};
+use aftr_base::{V4, V6};
+use binding_rules::{Binding, Edition, Softwire, Table, table_of};
+use std::alloc::Global;
+use toml::Value;
+
+const MOST_BYTES: usize = 16_777_216;
+
+const TOP_NAMES: [Name; 3] = [Name::Version, Name::Softwire, Name::Binding];
+
+const SOFTWIRE_NAMES: [Name; 9] = [
+    Name::Aftr,
+    Name::Own,
+    Name::Mtu6,
+    Name::Mtu4,
+    Name::HopLimit,
+    Name::Hairpin,
+    Name::IcmpIn,
+    Name::ErrorsUp,
+    Name::ErrorsDown,
+];
+
+const BINDING_NAMES: [Name; 5] = [Name::B4, Name::Ipv4, Name::Offset, Name::Length, Name::Psid];
+
+/// The table that a file spells. A refusal is the first in this order: `TooBig`; `NotToml`; of the key `version`
+/// `Missing`, `Kind`, `Version`; `UnknownKey` at the top; of `softwire` `Missing`, `Kind`, then its keys in the order of
+/// `Name`, each with `Missing`, `Kind` and then `Address` or `Range`, then `UnknownKey` in it; `Kind` of `binding` where it
+/// is no array of tables; then each of its elements in order, its keys like those of `softwire`; and last the first
+/// refusal by the rules of tables. `OutOfMemory` comes where the allocator has no room for the document, the bindings or
+/// the test of the rules.
+pub fn read_table(alloc: Global, text: &[u8]) -> Result<Table, FileError>
+    ensures table { IfOk result (λ t. TableOf text.now (Ok t)) }
+    ensures cause { IfErr result (IsCause text.now) }
+{
+    if text.len() > MOST_BYTES {
+        return Err(FileError::Refused(FileRefused::TooBig));
+    }
+    let document = document_of(alloc, text)?;
+    let spelled = tree_of(alloc, &document)?;
+    Ok(table_of(alloc, spelled.edition, spelled.softwire, spelled.bindings)?)
+}
+
+/// What a tree says, before the rules of tables.
+#[derive(Drop)]
+struct Spelled {
+    edition: Edition,
+    softwire: Softwire,
+    bindings: Vec<Binding>,
+}
+
+fn document_of(alloc: Global, text: &[u8]) -> Result<toml::Table, FileError>
+    ensures { IsRead (λ t. table_view t) (IsDocument text.now) result }
+{
+    match toml::table_from_slice(alloc, text) {
+        Ok(document) => Ok(document),
+        Err(error) if error.is_memory() => Err(FileError::OutOfMemory),
+        Err(_) => Err(FileError::Refused(FileRefused::NotToml)),
+    }
+}
+
+fn tree_of(alloc: Global, document: &toml::Table) -> Result<Spelled, FileError>
+    ensures read { IsRead (λ s. rules s.edition s.softwire s.bindings.items) (IsTree (table_view document.now)) result }
+    ensures few { IfOk result (λ s. vec_len s.bindings ≤ 16777216) }
+{
+    let edition = edition_of(document)?;
+    let softwire = softwire_of(table_at(document, Place::Top(Name::Softwire))?)?;
+    let bindings = bindings_of(alloc, document)?;
+    Ok(Spelled {
+        edition,
+        softwire,
+        bindings,
+    })
+}
+
+/// The edition, of a top that has no unknown key.
+fn edition_of(document: &toml::Table) -> Result<Edition, FileRefused>
+    ensures { result ≡ top_edition (table_view document.now) }
+{
+    let place = Place::Top(Name::Version);
+    let edition = match required(document, place)?.as_integer() {
+        Some(1) => Edition::One,
+        Some(2) => Edition::Two,
+        Some(_) => return Err(FileRefused::Version),
+        None => return Err(FileRefused::Kind(place)),
+    };
+    if has_other(&TOP_NAMES, document) {
+        return Err(FileRefused::UnknownKey);
+    }
+    Ok(edition)
+}
+
+fn softwire_of(table: &toml::Table) -> Result<Softwire, FileRefused>
+    ensures { IsSoftwire (table_view table.now) result }
+{
+    let aftr = address6_at(table, Place::Softwire(Name::Aftr))?;
+    let own = address4_at(table, Place::Softwire(Name::Own))?;
+    settings_of(table, aftr, own)
+}
+
+/// The settings behind the two addresses.
+#[tactic(auto, unfolding(crate::specs::Files::settings_of))]
+fn settings_of(table: &toml::Table, aftr: V6, own: V4) -> Result<Softwire, FileRefused>
+    ensures { result ≡ settings_of (table_view table.now) aftr own }
+{
+    let softwire = Softwire {
+        aftr,
+        own,
+        mtu6: number_at(table, Place::Softwire(Name::Mtu6), 65535, 1500)?,
+        mtu4: number_at(table, Place::Softwire(Name::Mtu4), 65535, 1500)?,
+        hop_limit: byte_at(table, Place::Softwire(Name::HopLimit), 64)?,
+        hairpin: flag_at(table, Place::Softwire(Name::Hairpin), true)?,
+        icmp_in: flag_at(table, Place::Softwire(Name::IcmpIn), true)?,
+        errors_up: flag_at(table, Place::Softwire(Name::ErrorsUp), false)?,
+        errors_down: flag_at(table, Place::Softwire(Name::ErrorsDown), false)?,
+    };
+    if has_other(&SOFTWIRE_NAMES, table) {
+        return Err(FileRefused::UnknownKey);
+    }
+    Ok(softwire)
+}
+
+/// The elements of `binding`, none where the key is not there.
+fn elements_of(document: &toml::Table) -> Result<&[Value], FileRefused>
+    ensures { outcome (λ values. items_view values.now) result ≡ elements_of (table_view document.now) }
+{
+    let place = Place::Top(Name::Binding);
+    let Some(value) = member_at(document, place) else {
+        return Ok(&[]);
+    };
+    match value.as_array() {
+        Some(array) if are_tables(array) => Ok(array),
+        _ => Err(FileRefused::Kind(place)),
+    }
+}
+
+fn are_tables(values: &[Value]) -> bool
+    ensures { result ≡ are_tables (items_view values.now) }
+{
+    values.iter().all(|value| value.is_table())
+}
+
+/// The bindings. An array of 2^32 elements or more, which is more than a file has bytes, is answered by `OutOfMemory`.
+fn bindings_of(alloc: Global, document: &toml::Table) -> Result<Vec<Binding>, FileError>
+    ensures read { IsRead (λ v. v.items) (AreBindings (table_view document.now)) result }
+    ensures few { IfOk result (λ v. vec_len v ≤ 16777216) }
+{
+    let values = elements_of(document)?;
+    if values.len() > MOST_BYTES {
+        return Err(FileError::OutOfMemory);
+    }
+    let mut bindings = Vec::with_capacity(alloc, values.len())?;
+    'elements: for at in 0..values.len() {
+        bindings.push(element_of(at as u32, &values[at])?)?;
+    }
+    Ok(bindings)
+}
+
+fn element_of(at: u32, value: &Value) -> Result<Binding, FileRefused>
+    ensures { IsElement at (view value.now) result }
+{
+    let Some(table) = value.as_table() else {
+        return Err(FileRefused::Kind(Place::Top(Name::Binding)));
+    };
+    let b4 = address6_at(table, Place::Binding { at, name: Name::B4 })?;
+    let v4 = address4_at(
+        table,
+        Place::Binding {
+            at,
+            name: Name::Ipv4,
+        },
+    )?;
+    port_set_of(at, table, b4, v4)
+}
+
+/// A binding's port set, behind its two addresses.
+#[tactic(auto, unfolding(crate::specs::Files::port_set_of))]
+fn port_set_of(at: u32, table: &toml::Table, b4: V6, v4: V4) -> Result<Binding, FileRefused>
+    ensures { result ≡ port_set_of at (table_view table.now) b4 v4 }
+{
+    let offset = Place::Binding {
+        at,
+        name: Name::Offset,
+    };
+    let length = Place::Binding {
+        at,
+        name: Name::Length,
+    };
+    let psid = Place::Binding {
+        at,
+        name: Name::Psid,
+    };
+    let binding = Binding {
+        b4,
+        v4,
+        offset: byte_at(table, offset, 0)?,
+        length: byte_at(table, length, 0)?,
+        psid: number_at(table, psid, 65535, 0)?,
+    };
+    if has_other(&BINDING_NAMES, table) {
+        return Err(FileRefused::UnknownKey);
+    }
+    Ok(binding)
+}
