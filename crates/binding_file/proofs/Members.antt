@@ -5,7 +5,7 @@ use Rattle.std.specs.List.{list_any, list_all}
 use Rattle.std.specs.Map.{keys_of as map_keys}
 use Rattle.std.specs.String.{string_cmp}
 use Rattle.std.specs.Ordering.{match_ordering}
-use Rattle.toml.specs.Data.{Members, no_members, as_table}
+use Rattle.toml.specs.Data.{no_members, as_table}
 use Rattle.toml.specs.View.{view, members_view, table_view, items_view}
 use Rattle.toml.specs.declared.value.Value.{Value}
 use Rattle.binding_file.specs.Files.{are_tables}

@@ -1,14 +1,11 @@
 -- The tree that the writer makes, and the first refusals of the reader.
-use Rattle.std.proofs.Common.{◌≡◌, ℕ, ◌+◌, ◌≤◌, ◌<◌, length, pos, BTreeMap, String, Global, List, [], ◌∷◌, ◌++◌, Bool, true, false, ◌&&◌, is_some, Result, Ok, Err, refl, ap, sym, ◌∙◌, subst, arith, max}
+use Rattle.std.proofs.Common.{◌≡◌, ℕ, ◌+◌, ◌≤◌, ◌<◌, length, BTreeMap, String, Global, List, [], ◌∷◌, ◌++◌, true, Result, Ok, Err, refl, sym, subst, arith}
 use Rattle.std.proofs.lemmas.Bool.Decides.{nat_tests}
-use Rattle.binding_rules.specs.Tables.{Rules, rules, IsValid}
+use Rattle.binding_rules.specs.Tables.{Rules, IsValid}
 use Rattle.binding_rules.specs.declared.binding.Binding.{Binding}
-use Rattle.binding_rules.specs.declared.settings.Edition.{Edition}
-use Rattle.binding_rules.specs.declared.settings.Edition.TheVariants as edition
-use Rattle.binding_rules.specs.declared.settings.Softwire.{Softwire}
-use Rattle.toml.specs.Data.{Data, integer, array, table, Items, no_items, item, Members, depth, items_depth, as_table, push_item}
-use Rattle.binding_file.specs.Keys.{Then, After}
-use Rattle.binding_file.specs.Files.{IsElement, AreElements, are_tables, fits, IsDocument, IsTree, Says, TextOf, TableOf, IsCause}
+use Rattle.toml.specs.Data.{Data, Items, no_items, item, Members, items_depth, push_item}
+use Rattle.binding_file.specs.Keys.{Then}
+use Rattle.binding_file.specs.Files.{AreElements, are_tables, fits, IsDocument, IsTree, Says, TextOf, TableOf, IsCause}
 use Rattle.binding_file.specs.Steps.{IsSpelled, AreSpelled, IsRead, error_of}
 use Rattle.binding_file.specs.declared.refusals.FileRefused.{FileRefused}
 use Rattle.binding_file.specs.declared.refusals.FileRefused.TheVariants as refused

@@ -1,21 +1,15 @@
 -- A file has one answer, up to the choice of a refusal by the rules of tables.
-use Rattle.std.proofs.Common.{◌≡◌, ℕ, ◌+◌, List, [], ◌∷◌, Option, Some, None, Result, Ok, Err, refl, ap, sym, ◌∙◌, subst}
-use Rattle.aftr_base.specs.declared.numbers.V4.{V4}
-use Rattle.aftr_base.specs.declared.numbers.V6.{V6}
+use Rattle.std.proofs.Common.{◌≡◌, ℕ, ◌+◌, List, [], ◌∷◌, Some, None, Result, Ok, Err, ap, sym, ◌∙◌, subst}
 use Rattle.addr_text.specs.Ipv4.{IsV4Text}
 use Rattle.addr_text.specs.Ipv6.{IsV6Text}
-use Rattle.binding_rules.specs.Tables.{Rules, rules, IsValid}
-use Rattle.binding_rules.specs.declared.binding.Binding.{Binding}
-use Rattle.binding_rules.specs.declared.settings.Softwire.{Softwire}
+use Rattle.binding_rules.specs.Tables.{Rules, rules}
 use Rattle.toml.specs.Data.{Data, Members, Items, no_items, item, as_table}
-use Rattle.toml.specs.Parse.{parse_document}
 use Rattle.binding_file.specs.Keys.{Then, After, of_kind, table_at, text_at, IsAddress6, IsAddress4, IsAddress6At, IsAddress4At}
 use Rattle.binding_file.specs.Files.{top_edition, elements_of, settings_of, port_set_of, IsSoftwire, IsBinding, IsElement, AreElements, AreBindings, IsTree, IsDocument, Says, IsJudged, TextOf, TableOf, fits}
 use Rattle.binding_file.specs.declared.names.Name.TheVariants as name
 use Rattle.binding_file.specs.declared.names.Place.{Place}
 use Rattle.binding_file.specs.declared.names.Place.TheVariants as place
 use Rattle.binding_file.specs.declared.refusals.FileRefused.{FileRefused}
-use Rattle.binding_file.specs.declared.refusals.FileRefused.TheVariants as refused
 
 abbrev pub Unique : {A : Type 0} → (Result A FileRefused → Type 0) → Type 0
 Unique {A} P = (x y : Result A FileRefused) → P x → P y → x ≡ y

@@ -1,5 +1,5 @@
 -- The tables that the writer makes. The keys of a table ascend.
-use Rattle.std.proofs.Common.{◌≡◌, ℕ, ◌<◌, ◌≤◌, ◌^◌, pos, max, List, [], ◌∷◌, ◌++◌, ◌+◌, length, take, get_or, Bool, true, Option, Some, Result, Ok, Err, codes, refl, ap, sym, ◌∙◌, subst, arith}
+use Rattle.std.proofs.Common.{◌≡◌, ℕ, ◌<◌, ◌≤◌, ◌^◌, pos, List, [], ◌∷◌, ◌++◌, ◌+◌, length, take, get_or, Ok, codes, refl, ap, sym, ◌∙◌, subst, arith}
 use Rattle.std.proofs.lemmas.Bool.{le-leb}
 use Rattle.std.proofs.lemmas.List.{take_more}
 use Rattle.toml.specs.View.{view, items_view}
@@ -7,16 +7,16 @@ use Rattle.toml.specs.declared.value.Value.{Value}
 use Rattle.toml.proofs.Views.{items_view-push}
 use Rattle.addr_text.specs.Ipv4.{IsV4Text}
 use Rattle.addr_text.specs.Ipv6.{IsV6Text}
-use Rattle.binding_rules.specs.Tables.{Rules, rules, IsValid}
+use Rattle.binding_rules.specs.Tables.{Rules, rules}
 use Rattle.binding_rules.specs.declared.binding.Binding.{Binding}
 use Rattle.binding_rules.specs.declared.settings.Edition.{Edition}
 use Rattle.binding_rules.specs.declared.settings.Edition.TheVariants as edition
 use Rattle.binding_rules.specs.declared.settings.Softwire.{Softwire}
-use Rattle.toml.specs.Data.{Data, string, integer, boolean, array, table, Items, Members, no_members, member, members_depth, depth, items_depth, push_item}
-use Rattle.binding_file.specs.Keys.{Then, After, number_at, flag_at, has_other}
-use Rattle.binding_file.specs.Files.{settings_of, port_set_of, IsSoftwire, IsBinding, IsElement, IsTree, AreBindings}
+use Rattle.toml.specs.Data.{Data, string, integer, boolean, array, table, Items, Members, no_members, member, members_depth, push_item}
+use Rattle.binding_file.specs.Keys.{number_at, flag_at, has_other}
+use Rattle.binding_file.specs.Files.{settings_of, port_set_of, IsSoftwire, IsElement, IsTree, AreBindings}
 use Rattle.binding_file.specs.Steps.{with_member, edition_number, IsSpelled, AreSpelled, IsSoftwireData, AreBindingsData}
-use Rattle.binding_file.proofs.Trees.{spelled_elements, spelled_tables, spelled_depth, spelled_push, then_ok}
+use Rattle.binding_file.proofs.Trees.{spelled_elements, spelled_tables, spelled_depth, spelled_push}
 
 -- a table's settings, as a tree
 abbrev pub softwire_members : List ℕ → List ℕ → Softwire → Members

@@ -15,7 +15,6 @@ use Rattle.toml.specs.Parse.{parse_document}
 use Rattle.binding_file.specs.Keys.{◌>>=◌, Then, After, member_at, required, of_kind, table_at, number_at, flag_at, IsAddress6At, IsAddress4At, known}
 use Rattle.binding_file.specs.declared.names.Name.{Name}
 use Rattle.binding_file.specs.declared.names.Name.TheVariants as name
-use Rattle.binding_file.specs.declared.names.Place.{Place}
 use Rattle.binding_file.specs.declared.names.Place.TheVariants as place
 use Rattle.binding_file.specs.declared.refusals.FileRefused.{FileRefused}
 use Rattle.binding_file.specs.declared.refusals.FileRefused.TheVariants as refused

@@ -1,4 +1,4 @@
-use Rattle.std.proofs.Common.{◌+◌, Ok, Err, rules, sym, subst, arith}
+use Rattle.std.proofs.Common.{◌+◌, Err, rules, sym, subst}
 use Rattle.toml.specs.View.{table_view, items_view}
 use Rattle.binding_file.specs.Files.{AreBindings}
 use Rattle.binding_file.proofs.Elements.{Ready, ready_first, ready_more, ready_refused, ready_done}

@@ -3,7 +3,7 @@ use Rattle.toml.specs.Data.{string, table}
 use Rattle.toml.specs.View.{view, table_view}
 use Rattle.toml.proofs.Views.{view-Table}
 use Rattle.binding_file.proofs.Members.{no_entries}
-use Rattle.binding_file.proofs.Written.{softwire_members, softwire_written, softwire_put}
+use Rattle.binding_file.proofs.Written.{softwire_written, softwire_put}
 use Rattle.binding_file.proofs.writing.softwire_value.Goals as goal
 
 pub returns : goal.returns
