@@ -1,5 +1,5 @@
 -- The first true refusal, put together from the first of each stage.
-use Rattle.std.proofs.Common.{◌≡◌, ℕ, ◌+◌, ◌^◌, ◌<◌, ◌≤◌, ◌⊎◌, inl, inr, false, true, Option, Some, None, List, length, subst, refl, sym, ap, ◌∙◌, arith}
+use Rattle.std.proofs.Common.{◌≡◌, ℕ, ◌+◌, ◌^◌, ◌<◌, ◌≤◌, ◌⊎◌, inl, inr, false, Option, Some, None, List, length, subst, refl, sym, arith}
 use Rattle.std.specs.Prelude.{slice_get, is_some, IfNone, IfSome}
 use Rattle.std.proofs.lemmas.Bool.{cases_lt, true≢false}
 use Rattle.std.proofs.lemmas.Option.{slice_get_within}
@@ -11,8 +11,8 @@ use Rattle.binding_rules.specs.declared.settings.Softwire.{Softwire}
 use Rattle.binding_rules.specs.declared.refused.Refused.{Refused}
 use Rattle.binding_rules.specs.declared.refused.Refused.TheVariants as refused
 use Rattle.binding_rules.specs.Conflicts.{Conflict}
-use Rattle.binding_rules.specs.Refusals.{At, AtBoth, Applies, turn, IsEarlier, IsFirstRefusal, IsMixed, IsTwice, Turn}
-use Rattle.binding_rules.specs.Steps.{IsFine, IsSound, AreSound, IsOwnRefusal, IsPlaceRefusal, IsFirstPair, IsConflictRefusal, IsNotAfter}
+use Rattle.binding_rules.specs.Refusals.{AtBoth, Applies, turn, IsEarlier, IsFirstRefusal, IsMixed, IsTwice, Turn}
+use Rattle.binding_rules.specs.Steps.{IsFine, IsSound, AreSound, IsPlaceRefusal, IsFirstPair, IsConflictRefusal, IsNotAfter}
 use Rattle.binding_rules.specs.Tables.{IsValid, rules}
 use Rattle.binding_rules.proofs.Keys.{both_map}
 use Rattle.binding_rules.proofs.Laws.{shape_not_both}
@@ -22,10 +22,10 @@ pub sound_more : (own : ℕ) (bs : List Binding) (i : ℕ) (x : Binding) (o : Op
     → IfNone o (IsSound own x) → AreSound own bs i → AreSound own bs (i + 1)
 sound_more own bs i x (Some r) e t sound before = absurd (true≢false t)
 sound_more own bs i x None e t sound before = λ n y l g. elim (cases_lt n i) [
-      | inl less ↦ before n y less g
-      | inr more ↦ (let same : n ≡ i = omega arith in
-          subst (IsSound own) (same_binding bs i x y e (subst (λ (m : ℕ). slice_get bs m ≡ Some y) same g)) sound)
-    ]
+  | inl less ↦ before n y less g
+  | inr more ↦ (let same : n ≡ i = omega arith in
+      subst (IsSound own) (same_binding bs i x y e (subst (λ (m : ℕ). slice_get bs m ≡ Some y) same g)) sound)
+]
 
 -- what holds where an optional refusal is none, or of the one that there is
 pub when_none : (o : Option Refused) (P : Type 0) → is_some o ≡ false → IfNone o P → P

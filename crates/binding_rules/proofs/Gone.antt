@@ -8,8 +8,7 @@ use Rattle.binding_rules.specs.declared.binding.Binding.{Binding}
 use Rattle.binding_rules.specs.declared.conflicts.Pair.{Pair}
 use Rattle.binding_rules.specs.declared.settings.Edition.{Edition}
 use Rattle.binding_rules.specs.Conflicts.{Conflict}
-use Rattle.binding_rules.specs.Refusals.{At, AtBoth}
-use Rattle.binding_rules.specs.Steps.{IsLeastPair, IsFirstPair, ArePair, IsNearest, IsLast, HasAddress, IsOwnersOf, AreFresh, counted, has_address, slot, earlier_of}
+use Rattle.binding_rules.specs.Steps.{IsFirstPair, ArePair, IsNearest, IsLast, HasAddress, IsOwnersOf, AreFresh, counted, has_address, slot, earlier_of}
 use Rattle.binding_rules.proofs.Leasts.{pair_iff, pair_or}
 use Rattle.binding_rules.proofs.Links.{has_address_of, same_binding}
 
@@ -35,12 +34,12 @@ gone_before bs i f y x here there gone =
     elim (cases_eq x.v4.0 y.v4.0) [
       | inl same ↦ inr (x, there, same)
       | inr apart ↦ inl (λ z e m l h. elim (cases_lt i m) [
-          | inl less ↦ gone z e m (omega arith) h
-          | inr more ↦ (let same : m ≡ i = omega arith in
-              let z_is : z ≡ x = same_binding bs f z x e there in
-              apart (sym (ap (λ (b : Binding). b.v4.0) z_is)
-              ∙ sym (has_address_of bs z.v4.0 i y here (subst (HasAddress bs z.v4.0) same h))))
-        ])
+        | inl less ↦ gone z e m (omega arith) h
+        | inr more ↦ (let same : m ≡ i = omega arith in
+            let z_is : z ≡ x = same_binding bs f z x e there in
+            apart (sym (ap (λ (b : Binding). b.v4.0) z_is)
+            ∙ sym (has_address_of bs z.v4.0 i y here (subst (HasAddress bs z.v4.0) same h))))
+      ])
     ]
 
 -- the place i is not the last of its address: nothing more is gone after it
@@ -60,9 +59,9 @@ gone_same bs i f y o here nearest not_last gone x e m l h =
         elim (cases_lt p i) [
           | inl less ↦ near.1.1 i less (slice_get_within bs i y here) (y, here, refl)
           | inr not_less ↦ elim (cases_eq p i) [
-              | inl same ↦ not_last (is ∙ ap (λ (n : ℕ). Some n) same)
-              | inr apart ↦ gone x e p (omega arith) (subst (λ (b : ℕ). HasAddress bs b p) address near.1.0)
-            ]
+            | inl same ↦ not_last (is ∙ ap (λ (n : ℕ). Some n) same)
+            | inr apart ↦ gone x e p (omega arith) (subst (λ (b : ℕ). HasAddress bs b p) address near.1.0)
+          ]
         ]
 
 pub last_of : (bs : List Binding) (a i : ℕ) → IsNearest bs a (length bs) (Some i) → IsLast bs a i

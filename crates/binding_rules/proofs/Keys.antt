@@ -1,5 +1,5 @@
 -- Conflicts in terms of the keys: ports, or identifiers where the shapes are one.
-use Rattle.std.proofs.Common.{◌≡◌, ℕ, zero, suc, ◌+◌, ◌-◌, ◌*◌, ◌^◌, ◌<◌, ◌≤◌, ◌⊎◌, min, inl, inr, Bool, true, false, Option, Some, None, List, [], ◌∷◌, Contains, length, subst, refl, sym, ap, ◌∙◌, arith}
+use Rattle.std.proofs.Common.{◌≡◌, ℕ, zero, suc, ◌-◌, ◌*◌, ◌^◌, ◌<◌, ◌≤◌, ◌⊎◌, min, inl, inr, Bool, true, false, Option, Some, None, List, [], ◌∷◌, Contains, length, subst, refl, sym, ap, ◌∙◌, arith}
 use Rattle.std.specs.Prelude.{slice_get, is_some}
 use Rattle.std.proofs.Math.Nat.{le-mul_of_pos_right, pow-le-pow_right}
 use Rattle.std.proofs.Math.Pow.{pow-lt}
@@ -15,8 +15,8 @@ use Rattle.binding_rules.specs.declared.binding.Binding.{Binding}
 use Rattle.binding_rules.specs.declared.conflicts.Pair.{Pair}
 use Rattle.binding_rules.specs.declared.settings.Edition.TheVariants as edition
 use Rattle.binding_rules.specs.Conflicts.{HaveCommonPort, HaveOneShape, Conflict}
-use Rattle.binding_rules.specs.Refusals.{At, AtBoth}
-use Rattle.binding_rules.specs.Steps.{IsLeast, IsLeastPair, IsFirstPair, ArePair, IsLeastUnlike, IsLater, HasAddress, HaveCommonKey, AreShared, AreUnlike, IsWell, AreWell, paired, earlier_of}
+use Rattle.binding_rules.specs.Refusals.{AtBoth}
+use Rattle.binding_rules.specs.Steps.{IsLeast, IsFirstPair, ArePair, IsLeastUnlike, HasAddress, HaveCommonKey, AreShared, AreUnlike, IsWell, AreWell, paired, earlier_of}
 use Rattle.binding_rules.proofs.Leasts.{pair_iff, pair_or}
 use Rattle.binding_rules.proofs.Links.{has_address_of, same_binding}
 
@@ -92,10 +92,16 @@ both_map bs f s R S turns both = record {
 pub two_by_port : (bs : List Binding) (G : ℕ → Type 0) (o : Option Pair) → IsFirstPair bs (AreShared true) G o → IsFirstPair bs (Conflict edition.Two) G o
 two_by_port bs G o =
     pair_iff (ArePair bs (AreShared true) G) (ArePair bs (Conflict edition.Two) G) o
-    (λ f s h. (h.0, both_map bs f s (AreShared true) (Conflict edition.Two)
-      (λ x y e g r. record { address = r.address; cause = inr (key_is_port x y r.common) }) h.1))
-    (λ f s h. (h.0, both_map bs f s (Conflict edition.Two) (AreShared true)
-      (λ x y e g r. record { address = r.address; common = elim r.cause [ inl mixed ↦ absurd mixed | inr common ↦ port_is_key x y common ] }) h.1))
+    (λ f s h. (
+      h.0,
+      both_map bs f s (AreShared true) (Conflict edition.Two)
+          (λ x y e g r. record { address = r.address; cause = inr (key_is_port x y r.common) }) h.1,
+    ))
+    (λ f s h. (
+      h.0,
+      both_map bs f s (Conflict edition.Two) (AreShared true)
+          (λ x y e g r. record { address = r.address; common = elim r.cause [ inl mixed ↦ absurd mixed | inr common ↦ port_is_key x y common ] }) h.1,
+    ))
 
 all_alike : (bs : List Binding) (a : ℕ) (like : Binding) → IsLeastUnlike bs a like None → (n : ℕ) (y : Binding)
     → slice_get bs n ≡ Some y → y.v4.0 ≡ a → HaveOneShape like y
@@ -113,19 +119,25 @@ pub two_by_identifier : (bs : List Binding) (a : ℕ) (like : Binding) (o : Opti
     → IsFirstPair bs (AreShared false) (HasAddress bs a) o → IsFirstPair bs (Conflict edition.Two) (HasAddress bs a) o
 two_by_identifier bs a like o well none =
     pair_iff (ArePair bs (AreShared false) (HasAddress bs a)) (ArePair bs (Conflict edition.Two) (HasAddress bs a)) o
-    (λ f s h. (h.0, both_map bs f s (AreShared false) (Conflict edition.Two)
-      (λ x y e g r. record {
-        address = r.address;
-        cause = inr (equal_is_common x y (well f x e) (alike f s h.0 x y e g r.address) (key_is_identifier x y r.common));
-      }) h.1))
-    (λ f s h. (h.0, both_map bs f s (Conflict edition.Two) (AreShared false)
-      (λ x y e g r. record {
-        address = r.address;
-        common = elim r.cause [
-          | inl mixed ↦ absurd mixed
-          | inr common ↦ identifier_is_key x y (psid_small x (well f x e)) (common_is_equal x y (alike f s h.0 x y e g r.address) common)
-        ];
-      }) h.1))
+    (λ f s h. (
+      h.0,
+      both_map bs f s (AreShared false) (Conflict edition.Two)
+          (λ x y e g r. record {
+            address = r.address;
+            cause = inr (equal_is_common x y (well f x e) (alike f s h.0 x y e g r.address) (key_is_identifier x y r.common));
+          }) h.1,
+    ))
+    (λ f s h. (
+      h.0,
+      both_map bs f s (Conflict edition.Two) (AreShared false)
+          (λ x y e g r. record {
+            address = r.address;
+            common = elim r.cause [
+              | inl mixed ↦ absurd mixed
+              | inr common ↦ identifier_is_key x y (psid_small x (well f x e)) (common_is_equal x y (alike f s h.0 x y e g r.address) common)
+            ];
+          }) h.1,
+    ))
   where
     alike : (f s : ℕ) → HasAddress bs a f → (x y : Binding) → slice_get bs f ≡ Some x → slice_get bs s ≡ Some y → x.v4.0 ≡ y.v4.0 → HaveOneShape x y
     alike f s h x y e g same =
@@ -145,21 +157,22 @@ unlike_first bs a head z (Some u) first there least =
     let apart : head ≡ u → ⊥ =
     (λ e. g.2.1 (subst (HaveOneShape z) (same_binding bs u z g.0 (subst (λ (n : ℕ). slice_get bs n ≡ Some z) e there) g.1) (refl, refl))) in
     let at_head = has_address_of bs a head z there first.0 in
-    let behind : head ≤ u = first.1 u (g.0, g.1, g.2.0) in
-    ((first.0, record { ordered = omega arith; there = (z, there, (g.0, g.1, record { address = at_head ∙ sym g.2.0; unlike = g.2.1 })) }),
-    λ f s h.
-    let x = h.1.there.0 in
-    let k = h.1.there.2 in
-    let at_f = has_address_of bs a f x h.1.there.1 h.0 in
-    let at_s = sym k.2.address ∙ at_f in
-    let not_before : head ≤ f = first.1 f h.0 in
-    elim (shape_cases z k.0) [
-      | inr un ↦ (let le : u ≤ s = least.1 s (record { above = tt; there = (k.0, k.1, (at_s, un)) }) in
-          elim (cases_lt u s) [ inl l ↦ inl l | inr m ↦ inr (omega arith, not_before) ])
-      | inl same ↦ (let un : HaveOneShape z x → ⊥ = (λ e. k.2.unlike (alike_both z x k.0 e same)) in
-          let le : u ≤ f = least.1 f (record { above = tt; there = (x, h.1.there.1, (at_f, un)) }) in
-          inl (omega (arith, h.1.ordered)))
-    ])
+    let behind : head ≤ u = first.1 u (g.0, g.1, g.2.0) in (
+      (first.0, record { ordered = omega arith; there = (z, there, (g.0, g.1, record { address = at_head ∙ sym g.2.0; unlike = g.2.1 })) }),
+      λ f s h.
+          let x = h.1.there.0 in
+          let k = h.1.there.2 in
+          let at_f = has_address_of bs a f x h.1.there.1 h.0 in
+          let at_s = sym k.2.address ∙ at_f in
+          let not_before : head ≤ f = first.1 f h.0 in
+          elim (shape_cases z k.0) [
+            | inr un ↦ (let le : u ≤ s = least.1 s (record { above = tt; there = (k.0, k.1, (at_s, un)) }) in
+                elim (cases_lt u s) [ inl l ↦ inl l | inr m ↦ inr (omega arith, not_before) ])
+            | inl same ↦ (let un : HaveOneShape z x → ⊥ = (λ e. k.2.unlike (alike_both z x k.0 e same)) in
+                let le : u ≤ f = least.1 f (record { above = tt; there = (x, h.1.there.1, (at_f, un)) }) in
+                inl (omega (arith, h.1.ordered)))
+          ],
+    )
 
 -- in edition One a conflict is two unlike shapes or an equal identifier
 pub one_by_identifier : (bs : List Binding) (a : ℕ) (u o : Option Pair) → AreWell bs → IsFirstPair bs AreUnlike (HasAddress bs a) u
@@ -169,13 +182,16 @@ one_by_identifier bs a u o well unlike shared =
     (ArePair bs (Conflict edition.One) (HasAddress bs a)) (earlier_of u o)
     (λ f s e. elim e [
       | inl h ↦ (h.0, both_map bs f s AreUnlike (Conflict edition.One) (λ x y e g r. record { address = r.address; cause = inl r.unlike }) h.1)
-      | inr h ↦ (h.0, both_map bs f s (AreShared false) (Conflict edition.One) (λ x y e g r. record {
+      | inr h ↦ (
+        h.0,
+        both_map bs f s (AreShared false) (Conflict edition.One) (λ x y e g r. record {
           address = r.address;
           cause = elim (shape_cases x y) [
             | inl same ↦ inr (equal_is_common x y (well f x e) same (key_is_identifier x y r.common))
             | inr un ↦ inl un
           ];
-        }) h.1)
+        }) h.1,
+      )
     ])
     (λ f s h. split f s h.0 h.1)
     (pair_or (ArePair bs AreUnlike (HasAddress bs a)) (ArePair bs (AreShared false) (HasAddress bs a)) u o unlike shared)
@@ -187,14 +203,25 @@ one_by_identifier bs a u o well unlike shared =
         let h = both.there.2 in
         elim (shape_cases x h.0) [
           | inr un ↦ inl (at_f, record { ordered = both.ordered; there = (x, both.there.1, (h.0, h.1, record { address = h.2.address; unlike = un })) })
-          | inl same ↦ inr (at_f, record {
+          | inl same ↦ inr (
+            at_f,
+            record {
               ordered = both.ordered;
-              there = (x, both.there.1, (h.0, h.1, record {
-                address = h.2.address;
-                common = identifier_is_key x h.0 (psid_small x (well f x both.there.1)) (common_is_equal x h.0 same
-                    (elim h.2.cause [ inl un ↦ absurd (un same) | inr common ↦ common ]));
-              }));
-            })
+              there = (
+                x,
+                both.there.1,
+                (
+                  h.0,
+                  h.1,
+                  record {
+                    address = h.2.address;
+                    common = identifier_is_key x h.0 (psid_small x (well f x both.there.1)) (common_is_equal x h.0 same
+                        (elim h.2.cause [ inl un ↦ absurd (un same) | inr common ↦ common ]));
+                  },
+                ),
+              );
+            },
+          )
         ]
 
 pub two_by_test : (bs : List Binding) (a : ℕ) (like : Binding) (unlike : Option ℕ) (by_port : Bool) (o : Option Pair) → AreWell bs

@@ -13,9 +13,9 @@ use Rattle.binding_rules.specs.declared.binding.Want.TheVariants as want
 use Rattle.binding_rules.specs.declared.refused.Refused.TheVariants as refused
 use Rattle.binding_rules.specs.declared.settings.Edition.{Edition}
 use Rattle.binding_rules.specs.declared.settings.Edition.TheVariants as edition
-use Rattle.binding_rules.specs.Bindings.{bound, is_bound, owns, IsPlaceOf}
+use Rattle.binding_rules.specs.Bindings.{is_bound, owns, IsPlaceOf}
 use Rattle.binding_rules.specs.Conflicts.{Conflict, HaveCommonPort, AreMixed}
-use Rattle.binding_rules.specs.Tables.{Rules, IsValid, IsLawful}
+use Rattle.binding_rules.specs.Tables.{Rules, IsValid, IsLawful, rules}
 use Rattle.binding_rules.proofs.Keys.{shape_cases}
 
 -- a filter of which no element, exactly that at one place, or at most one passes the test
@@ -83,13 +83,21 @@ module _ (t : Rules) (valid : IsValid t) where
         | inl mixed ↦ valid (refused.MixedShape f s)
             (record { ordered = l; there = (x, e, (y, g, record { address = conflict.address; mixed = mixed })) })
         | inr allowed ↦ valid (refused.Twice f s) (record {
-            ordered = l;
-            there = (x, e, (y, g, record {
-              address = conflict.address;
-              allowed = allowed;
-              common = elim conflict.cause [ inl mixed ↦ absurd (allowed mixed) | inr common ↦ common ];
-            }));
-          })
+          ordered = l;
+          there = (
+            x,
+            e,
+            (
+              y,
+              g,
+              record {
+                address = conflict.address;
+                allowed = allowed;
+                common = elim conflict.cause [ inl mixed ↦ absurd (allowed mixed) | inr common ↦ common ];
+              },
+            ),
+          );
+        })
       ]
 
   psids : (at : ℕ) (x : Binding) → slice_get t.bindings at ≡ Some x → x.psid < 2 ^ x.length
@@ -117,6 +125,18 @@ module _ (t : Rules) (valid : IsValid t) where
         cause = inr (common_owned w x y (psids m x e) (psids n y g) u.1 v.1);
       })
 
+  in_two : IsValid (rules edition.Two t.softwire t.bindings)
+  in_two refused.Mtu h = valid refused.Mtu h
+  in_two refused.Hop h = valid refused.Hop h
+  in_two (refused.TooMany n) h = valid (refused.TooMany n) h
+  in_two (refused.Shape p) h = valid (refused.Shape p) h
+  in_two (refused.Psid p) h = valid (refused.Psid p) h
+  in_two (refused.OwnAddress p) h = valid (refused.OwnAddress p) h
+  in_two (refused.MixedShape f s) h = h.there.2.2.mixed
+  in_two (refused.Twice f s) h =
+      let y = h.there.2 in
+      apart f s h.there.0 y.0 h.ordered h.there.1 y.1 (record { address = y.2.address; cause = inr y.2.common })
+
   pub lawful : IsLawful t
   lawful = record {
     mtu6 = at_least t.softwire.mtu6 1280 (λ l. valid refused.Mtu (inl l));
@@ -128,6 +148,7 @@ module _ (t : Rules) (valid : IsValid t) where
     not_own = λ at x e own. valid (refused.OwnAddress at) (x, e, own);
     apart = apart;
     at_most_one = λ v4 w. filter_few (is_bound v4 w) t.bindings (bound_apart v4 w);
+    valid_in_two = in_two;
   }
 
   -- the place of a binding that is bound, where none before it is
@@ -144,9 +165,9 @@ module _ (t : Rules) (valid : IsValid t) where
           elim (cases_order other at) [
             | inl same ↦ same
             | inr c ↦ elim c [
-                | inl less ↦ absurd (bound_apart v4 w other at y x less g e k h)
-                | inr more ↦ absurd (bound_apart v4 w at other x y more e g h k)
-              ]
+              | inl less ↦ absurd (bound_apart v4 w other at y x less g e k h)
+              | inr more ↦ absurd (bound_apart v4 w at other x y more e g h k)
+            ]
           ]
 
 -- one more place whose binding is not bound

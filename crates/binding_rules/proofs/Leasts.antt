@@ -1,5 +1,5 @@
 -- The least number with a property, and the least pair.
-use Rattle.std.proofs.Common.{◌≡◌, ℕ, ◌<◌, ◌≤◌, ◌⊎◌, inl, inr, true, false, Option, Some, None, refl, arith}
+use Rattle.std.proofs.Common.{◌≡◌, ℕ, ◌<◌, ◌≤◌, ◌⊎◌, inl, inr, true, false, Option, Some, None, arith}
 use Rattle.std.proofs.lemmas.Bool.{cases_Bool, cases_lt, ltb-true, ltb-false, or_cases, or_parts, and_parts, and_cases, eqb-true, eqb-false}
 use Rattle.std.specs.Prelude.{nat_lt, ◌||◌, ◌==◌, ◌&&◌}
 use Rattle.binding_rules.specs.declared.conflicts.Pair.{Pair}

@@ -1,5 +1,5 @@
 -- A step down the places of an address.
-use Rattle.std.proofs.Common.{◌≡◌, ℕ, ◌+◌, ◌<◌, ◌≤◌, ◌⊎◌, inl, inr, Option, Some, None, false, List, [], ◌∷◌, ◌++◌, length, subst, sym, ap, ◌∙◌, arith}
+use Rattle.std.proofs.Common.{◌≡◌, ℕ, ◌+◌, ◌<◌, ◌⊎◌, inl, inr, Option, Some, None, false, List, [], ◌∷◌, ◌++◌, length, subst, sym, ap, ◌∙◌, arith}
 use Rattle.std.proofs.lemmas.Bool.{cases_order, cases_lt, cases_eq}
 use Rattle.std.specs.Prelude.{slice_get, slice_index_or}
 use Rattle.std.proofs.lemmas.Option.{slice_get_within, slice_get_cases, slice_get-get_or, same_Some}
@@ -49,11 +49,13 @@ later_here bs a p (Some q) P nearest h = record { above = nearest.0; there = h }
 
 pub least_here : (bs : List Binding) (a p : ℕ) (o : Option ℕ) (P : Binding → Type 0) → IsNearest bs a p o
     → At bs p (λ x. (x.v4.0 ≡ a) × P x) → IsLeast (IsLater bs a o P) (Some p)
-least_here bs a p o P nearest h =
-    (later_here bs a p o P nearest h, λ n l. elim (later_split bs a p o P n nearest l) [
-      | inl behind ↦ omega (arith, behind.above)
-      | inr same ↦ omega (arith, same.0)
-    ])
+least_here bs a p o P nearest h = (
+  later_here bs a p o P nearest h,
+  λ n l. elim (later_split bs a p o P n nearest l) [
+    | inl behind ↦ omega (arith, behind.above)
+    | inr same ↦ omega (arith, same.0)
+  ],
+)
 
 pub least_kept : (bs : List Binding) (a p : ℕ) (o : Option ℕ) (P : Binding → Type 0) (found : Option ℕ) → IsNearest bs a p o
     → (At bs p (λ x. (x.v4.0 ≡ a) × P x) → ⊥) → IsLeast (IsLater bs a (Some p) P) found → IsLeast (IsLater bs a o P) found
@@ -102,9 +104,10 @@ there_is bs p l = elim (slice_get_cases bs p).1 [ inl h ↦ (h.0, h.2) | inr h �
 pub head_down : (bs : List Binding) (previous : List (Option ℕ)) (p q : ℕ) → IsLinked bs previous → p < length bs
     → slot previous p ≡ Some q → (q < p) × ((a : ℕ) → HasAddress bs a p → HasAddress bs a q)
 head_down bs previous p q linked l e =
-    let x = there_is bs p l in
-    ((nearest_below bs x.0.v4.0 p q _ (linked.nearest p x.0 x.1) e).0,
-     λ a h. (nearest_below bs a p q _ (near_of bs previous a p linked h) e).1)
+    let x = there_is bs p l in (
+      (nearest_below bs x.0.v4.0 p q _ (linked.nearest p x.0 x.1) e).0,
+      λ a h. (nearest_below bs a p q _ (near_of bs previous a p linked h) e).1,
+    )
 
 pub same_binding : (bs : List Binding) (p : ℕ) (x y : Binding) → slice_get bs p ≡ Some x → slice_get bs p ≡ Some y → x ≡ y
 same_binding bs p x y e f = same_Some x y (sym e ∙ f)
@@ -134,9 +137,9 @@ not_at k q n =
     elim (cases_order k q) [
       | inl e ↦ absurd (n e)
       | inr c ↦ elim c [
-          | inl l ↦ sym (ap is_eq (nat_cmp_is k q Less l))
-          | inr l ↦ sym (ap is_eq (nat_cmp_is k q Greater l))
-        ]
+        | inl l ↦ sym (ap is_eq (nat_cmp_is k q Less l))
+        | inr l ↦ sym (ap is_eq (nat_cmp_is k q Greater l))
+      ]
     ]
 
 -- the nearest places below the next place, after the place i has been taken for its address
@@ -157,10 +160,16 @@ nearest_next bs i a y old new e here others before =
       | inl less ↦ near n less h
       | inr more ↦ (let same : n ≡ i = omega arith in not_here (subst (HasAddress bs a) same h))
     ]
-    kept (Some q) near not_here = (omega (arith, near.0), (near.1.0, λ n l m h. elim (cases_lt n i) [
-      | inl less ↦ near.1.1 n l less h
-      | inr more ↦ (let same : n ≡ i = omega arith in not_here (subst (HasAddress bs a) same h))
-    ]))
+    kept (Some q) near not_here = (
+      omega (arith, near.0),
+      (
+        near.1.0,
+        λ n l m h. elim (cases_lt n i) [
+          | inl less ↦ near.1.1 n l less h
+          | inr more ↦ (let same : n ≡ i = omega arith in not_here (subst (HasAddress bs a) same h))
+        ],
+      ),
+    )
 
 -- the earlier places of the next place are put behind those of the places before it
 pub linked_next : (bs : List Binding) (i : ℕ) (y : Binding) (previous : List (Option ℕ)) (o : Option ℕ) → length previous ≡ i

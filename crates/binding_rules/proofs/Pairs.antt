@@ -1,14 +1,14 @@
 -- A step of the walk over the places of an address, from the last one down: p is the place, x the binding there.
-use Rattle.std.proofs.Common.{◌≡◌, ℕ, ◌<◌, ◌≤◌, ◌⊎◌, inl, inr, Bool, true, false, Option, Some, None, List, subst, refl, sym, ap, ◌∙◌, arith}
+use Rattle.std.proofs.Common.{◌≡◌, ℕ, ◌<◌, ◌≤◌, ◌⊎◌, inl, inr, Bool, true, Option, Some, None, List, subst, refl, sym, ap, ◌∙◌, arith}
 use Rattle.std.specs.Prelude.{slice_get}
 use Rattle.std.proofs.lemmas.Bool.{cases_Bool, cases_lt, true≢false, eq-eqb}
 use Rattle.std.proofs.lemmas.Option.{same_Some}
 use Rattle.binding_rules.specs.declared.binding.Binding.{Binding}
 use Rattle.binding_rules.specs.declared.conflicts.Pair.{Pair}
-use Rattle.binding_rules.specs.Refusals.{At, AtBoth}
+use Rattle.binding_rules.specs.Refusals.{AtBoth}
 use Rattle.binding_rules.specs.Steps.{IsLeast, IsLeastPair, IsFirstPair, ArePair, IsNearest, IsLinked, IsLast, IsLater, HasAddress, HaveCommonKey, AreShared, AreFresh, IsMet, IsTaken, IsOwnersOf, has_key, counted, slot, paired, earlier_of}
-use Rattle.binding_rules.proofs.Leasts.{least_iff, pair_iff, pair_or}
-use Rattle.binding_rules.proofs.Links.{IsOf, later_split, later_behind, later_here, least_here, least_kept, none_later, near_of, nearest_is_of, has_address_of, same_binding}
+use Rattle.binding_rules.proofs.Leasts.{pair_iff, pair_or}
+use Rattle.binding_rules.proofs.Links.{IsOf, later_split, later_behind, later_here, least_here, least_kept, none_later, near_of, nearest_is_of, same_binding}
 
 -- a binding of the address behind the place
 abbrev pub IsBehind : List Binding → ℕ → Option ℕ → ℕ → Type 0
@@ -54,10 +54,13 @@ module _ (bp : Bool) (bs : List Binding) (a p : ℕ) (x : Binding) (owners : Lis
       let common = h.there.2.1 in
       let r = reached common.0 n common.1 common.2 (record { above = h.above; there = (h.there.0, h.there.1, (h.there.2.0, common.3)) }) in
       least r.0 r.1
-  shared_least (Some m) least = (met_is_later m least.0, λ n h.
-      let common = h.there.2.1 in
-      let r = reached common.0 n common.1 common.2 (record { above = h.above; there = (h.there.0, h.there.1, (h.there.2.0, common.3)) }) in
-      omega (arith, least.1 r.0 r.1, r.2))
+  shared_least (Some m) least = (
+    met_is_later m least.0,
+    λ n h.
+        let common = h.there.2.1 in
+        let r = reached common.0 n common.1 common.2 (record { above = h.above; there = (h.there.0, h.there.1, (h.there.2.0, common.3)) }) in
+        omega (arith, least.1 r.0 r.1, r.2),
+  )
 
   to_later : (f s : ℕ) → f ≡ p → AtBoth bs f s (AreShared bp) → IsLater bs a (Some p) (HaveCommonKey bp x) s
   to_later f s e both =
@@ -71,14 +74,18 @@ module _ (bp : Bool) (bs : List Binding) (a p : ℕ) (x : Binding) (owners : Lis
       → IsLeastPair (λ f s. (f ≡ p) × AtBoth bs f s (AreShared bp)) (paired p met)
   pair_here None least = λ f s q. least s (to_later f s q.0 q.1)
   pair_here (Some m) least =
-      let h = least.0.there in
-      ((refl, record {
-        ordered = least.0.above;
-        there = (x, there, (h.0, h.1, record { address = address ∙ sym h.2.0; common = h.2.1 }));
-      }),
-      λ f s q.
-      let m_le : m ≤ s = least.1 s (to_later f s q.0 q.1) in
-      elim (cases_lt m s) [ inl l ↦ inl l | inr g ↦ inr (omega arith, omega (arith, q.0)) ])
+      let h = least.0.there in (
+        (
+          refl,
+          record {
+            ordered = least.0.above;
+            there = (x, there, (h.0, h.1, record { address = address ∙ sym h.2.0; common = h.2.1 }));
+          },
+        ),
+        λ f s q.
+            let m_le : m ≤ s = least.1 s (to_later f s q.0 q.1) in
+            elim (cases_lt m s) [ inl l ↦ inl l | inr g ↦ inr (omega arith, omega (arith, q.0)) ],
+      )
 
   pub best_next : (o : Option ℕ) (best : Option Pair) (met : Option ℕ) → IsNearest bs a p o
       → IsFirstPair bs (AreShared bp) (IsBehind bs a (Some p)) best

@@ -1,5 +1,5 @@
 -- The slots of the keys of a binding, read and written.
-use Rattle.std.proofs.Common.{◌≡◌, ℕ, zero, suc, ◌<◌, ◌⊎◌, ◌↔◌, inl, inr, Bool, true, false, Option, Some, None, List, [], ◌∷◌, ◌++◌, Contains, length, slice_set, refl, sym, ap, ◌∙◌, append_assoc, arith}
+use Rattle.std.proofs.Common.{◌≡◌, ℕ, zero, suc, ◌<◌, ◌⊎◌, ◌↔◌, inl, inr, true, false, Option, Some, None, List, [], ◌∷◌, ◌++◌, Contains, length, slice_set, refl, sym, ap, ◌∙◌, append_assoc, arith}
 use Rattle.std.proofs.lemmas.Bool.{eqb-true, eqb-false, eq-eqb, true≢false, cases_eq}
 use Rattle.std.proofs.lemmas.List.{append-nil, get_or-set_same, get_or-set_other}
 use Rattle.std.proofs.lemmas.List.Elements.{Contains-append_left, Contains-append_right, Contains-append_cases}
@@ -7,7 +7,7 @@ use Rattle.std.proofs.lemmas.Option.{none-some, same_Some}
 use Rattle.port_set.specs.PortSets.{InSet}
 use Rattle.port_set.proofs.Members.{in_set_true, in_set_from}
 use Rattle.binding_rules.specs.declared.binding.Binding.{Binding}
-use Rattle.binding_rules.specs.Steps.{IsLeast, IsMet, IsTaken, slot, counted, has_key, lesser_of}
+use Rattle.binding_rules.specs.Steps.{IsLeast, IsMet, IsTaken, slot, counted, lesser_of}
 use Rattle.binding_rules.proofs.Leasts.{least_iff, least_or}
 
 pub contains_one : (p q : ℕ) → Contains (p ∷ []) q → q ≡ p
@@ -92,7 +92,7 @@ taken_more ports p place before now l t = record {
   taken = λ key c. elim (cases_eq key p) [
     | inl e ↦ rw e (get_or-set_same now p (Some place) None l)
     | inr n ↦ get_or-set_other now p key (Some place) None n
-      ∙ t.taken key (elim (Contains-append_cases ports (p ∷ []) key c) [ inl h ↦ h | inr h ↦ absurd (n (contains_one p key h)) ])
+        ∙ t.taken key (elim (Contains-append_cases ports (p ∷ []) key c) [ inl h ↦ h | inr h ↦ absurd (n (contains_one p key h)) ])
   ];
   kept = λ key c. elim (cases_eq key p) [
     | inl e ↦ absurd (c (rw e (Contains-append_right ports (p ∷ []) p (one_contains p))))

@@ -8,6 +8,7 @@ use Rattle.binding_rules.specs.Refusals.{Applies}
 use Rattle.binding_rules.specs.declared.binding.Binding.{Binding}
 use Rattle.binding_rules.specs.declared.binding.Want.{Want}
 use Rattle.binding_rules.specs.declared.settings.Edition.{Edition}
+use Rattle.binding_rules.specs.declared.settings.Edition.TheVariants as edition
 use Rattle.binding_rules.specs.declared.settings.Softwire.{Softwire}
 use Rattle.binding_rules.specs.declared.refused.Refused.{Refused}
 
@@ -36,3 +37,5 @@ pub record IsLawful (t : Rules) : Type 0 where
       → slice_get t.bindings second ≡ Some y → Conflict t.edition x y → ⊥
   -- an address and a port have at most one owner, and so has a whole address
   pub at_most_one : (v4 : V4) (w : Want) → length (bound t.bindings v4 w) ≤ 1
+  -- what one edition takes, edition Two takes
+  pub valid_in_two : IsValid (rules edition.Two t.softwire t.bindings)

@@ -1,5 +1,3 @@
-use Rattle.std.proofs.Common.{ℕ, ◌<◌, length}
-use Rattle.std.specs.Option.{option_map_or}
 use Rattle.binding_rules.specs.Conflicts.{HaveOneShape}
 use Rattle.binding_rules.specs.Steps.{IsLeast, IsLater}
 use Rattle.binding_rules.proofs.Links.{IsOf, reach}

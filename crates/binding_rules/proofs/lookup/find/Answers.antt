@@ -1,8 +1,7 @@
-use Rattle.std.proofs.Common.{◌≡◌, ℕ, length, subst, sym, ap, ◌∙◌, arith, Some, true, false}
-use Rattle.std.specs.Prelude.{slice_get}
+use Rattle.std.proofs.Common.{sym, ◌∙◌, arith}
 use Rattle.std.proofs.lemmas.Option.{slice_get_within}
 use Rattle.binding_rules.specs.Bindings.{is_bound}
-use Rattle.binding_rules.proofs.Links.{read, read_is}
+use Rattle.binding_rules.proofs.Links.{read_is}
 use Rattle.binding_rules.proofs.Laws.{filter_none, place_of, bound_more}
 use Rattle.binding_rules.proofs.lookup.find.Goals as goal
 

@@ -1,4 +1,4 @@
-use Rattle.std.proofs.Common.{◌≡◌, ◌++◌, length}
+use Rattle.std.proofs.Common.{◌≡◌, ◌++◌}
 use Rattle.binding_rules.proofs.Slots.{IsTakenBy}
 use Rattle.binding_rules.proofs.owners.take_ports.Given as goal
 

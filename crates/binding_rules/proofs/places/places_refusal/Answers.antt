@@ -1,6 +1,5 @@
 use Rattle.std.proofs.Common.{sym, ◌∙◌, arith}
-use Rattle.std.proofs.lemmas.Option.{slice_get_within}
-use Rattle.binding_rules.proofs.Links.{read, read_is}
+use Rattle.binding_rules.proofs.Links.{read_is}
 use Rattle.binding_rules.proofs.Firsts.{sound_more}
 use Rattle.binding_rules.proofs.places.places_refusal.Goals as goal
 
