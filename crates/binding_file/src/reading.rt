@@ -150,7 +150,7 @@ fn are_tables(values: &[Value]) -> bool
     values.iter().all(|value| value.is_table())
 }
 
-/// The bindings. An array of 2^32 elements or more, which is more than a file has bytes, is answered by `OutOfMemory`.
+/// The bindings. An array with more elements than a file has bytes never comes from one; `OutOfMemory` would answer it.
 fn bindings_of(alloc: Global, document: &toml::Table) -> Result<Vec<Binding>, FileError>
     ensures read { IsRead (λ v. v.items) (AreBindings (table_view document.now)) result }
     ensures few { IfOk result (λ v. vec_len v ≤ 16777216) }
