@@ -88,6 +88,14 @@ packet4 view = record {
   payload = view.payload.now;
 }
 
+-- a fragment of a datagram: more of them follow, or some come before it (RFC 791, section 3.2)
+abbrev pub is_fragment : Packet4 → Bool
+is_fragment packet = packet.mf || not (packet.offset == 0)
+
+-- how many bytes the packet has, header and payload
+abbrev pub packet_len : Packet4 → ℕ
+packet_len packet = length packet.header + length packet.payload
+
 -- an answer of reading, held against what the bytes spell
 abbrev pub Reads4 : Result Ip4View Ip4Bad → Result Packet4 Ip4Bad → Type 0
 Reads4 (Ok view) read = read ≡ Ok (packet4 view)

@@ -1,6 +1,6 @@
 // IPv4 packets, read and written.
 ghost use Rattle.std.specs.Prelude.{◌≡◌, ◌+◌, ◌%◌, ◌^◌, ◌<◌, ◌≤◌, ◌++◌, length, take, drop, IfOk, Ok};
-ghost use Rattle.ip_codec.specs.Packet4.{ip4_of, packet4, Reads4, IsBounded4, fields4, header4, fixed4, flags_of, flag_worth, made4};
+ghost use Rattle.ip_codec.specs.Packet4.{ip4_of, packet4, Reads4, IsBounded4, fields4, header4, fixed4, flags_of, flag_worth, made4, is_fragment, packet_len};
 
 use aftr_base::{Bytes, OutOfMemory, V4, be16, be32, put_checksum, sum16};
 use std::alloc::Global;
@@ -29,6 +29,23 @@ pub struct Ip4View<'a> {
     pub header: &'a [u8],
     /// What stands behind the header, up to the total length.
     pub payload: &'a [u8],
+}
+
+impl<'a> Ip4View<'a> {
+    /// Whether the packet is a fragment of a datagram: more of them follow, or some come before it.
+    pub fn is_fragment(&self) -> bool
+        ensures { result ≡ is_fragment (packet4 self.now) }
+    {
+        self.mf || self.offset != 0
+    }
+
+    /// How many bytes the packet has, header and payload.
+    pub fn total_len(&self) -> usize
+        requires { length self.now.header.now + length self.now.payload.now ≤ 65535 }
+        ensures { result ≡ packet_len (packet4 self.now) }
+    {
+        self.header.len() + self.payload.len()
+    }
 }
 
 /// Why bytes are no IPv4 packet: the first of these that is true.

@@ -1,0 +1,39 @@
+// What a packet asks of the binding table.
+ghost use Rattle.std.specs.Prelude.{◌≡◌, ◌≢◌, ◌≤◌, length};
+ghost use Rattle.ip_codec.specs.Packet4.{packet4};
+ghost use Rattle.port_locate.specs.Keys.{downstream_key, upstream_key};
+
+use aftr_base::be16;
+use binding_rules::Want;
+use ip_codec::Ip4View;
+
+/// What a binding must own for a packet to be its subscriber's (RFC 7596, section 8.1).
+#[derive(Clone, Copy, Debug, PartialEq, Eq)]
+pub enum Key {
+    /// The port, or the whole address where the protocol has none.
+    At(Want),
+    /// The packet names no port: it is a fragment, or too short for its protocol.
+    NoPort,
+    /// An ICMP message that is cut off, has a wrong checksum, or quotes no IPv4 header.
+    IcmpBad,
+}
+
+const PORT_BYTES: usize = 4;
+
+/// The key of a packet from a subscriber: its source port. Protocols without ports ask for the whole address. The
+/// protocol is not ICMP (1).
+pub fn key_up(p: &Ip4View<'_>) -> Key
+    requires not_icmp { p.now.protocol ≢ 1 }
+    ensures { result ≡ upstream_key (packet4 p.now) }
+{
+    key_at(p, 0)
+}
+
+/// The key of a packet to a subscriber: its destination port. Protocols without ports ask for the whole address. The
+/// protocol is not ICMP (1).
+pub fn key_down(p: &Ip4View<'_>) -> Key
+    requires not_icmp { p.now.protocol ≢ 1 }
+    ensures { result ≡ downstream_key (packet4 p.now) }
+{
+    key_at(p, 2)
+}

@@ -1,0 +1,7 @@
+//! The key of a packet: what a binding must own for the packet to be its subscriber's, a port, a whole address, or
+//! nothing that can be told.
+#![tactic(auto)]
+
+mod keys;
+
+pub use keys::{Key, key_down, key_up};

@@ -1,0 +1,44 @@
+-- Who may send: the sender's tunnel address, IPv4 address and port stand in one binding (RFC 7596, section 6.2).
+use Rattle.std.specs.Prelude.{◌≡◌, ℕ, false, List, [], ◌∷◌, Result, Ok, Err}
+use Rattle.binding_rules.specs.Bindings.{bound}
+use Rattle.binding_rules.specs.Tables.{Rules}
+use Rattle.binding_rules.specs.declared.binding.Binding.{Binding}
+use Rattle.binding_rules.specs.declared.binding.Want.{Want}
+use Rattle.ip_codec.specs.Packet4.{Packet4, ip4_of}
+use Rattle.ip_codec.specs.declared.items.Outer.{Outer}
+use Rattle.ip_codec.specs.declared.packet4.Ip4Bad.{Ip4Bad}
+use Rattle.port_locate.specs.Keys.{upstream_key}
+use Rattle.port_locate.specs.declared.keys.Key.TheVariants as key
+use Rattle.verdict_core.specs.Verdicts.{is_not_built}
+use Rattle.verdict_core.specs.declared.verdicts.Verdict.{Verdict}
+use Rattle.verdict_core.specs.declared.verdicts.Verdict.TheVariants as verdict
+
+-- the packet is for the router's tunnel address, its inner bytes are a packet, and one binding has its IPv4 source, owns
+-- its key, and ends its tunnel where the packet came from
+pub record Permits (t : Rules) (outer : Outer) (inner : List ℕ) : Type 0 where
+  pub ours : outer.dst.0 ≡ t.softwire.aftr.0
+  pub packet : Packet4
+  pub read : ip4_of inner ≡ Ok packet
+  pub want : Want
+  pub key : upstream_key packet ≡ key.At want
+  pub binding : Binding
+  pub owner : bound t.bindings (record { 0 = packet.src }) want ≡ binding ∷ []
+  pub sender : binding.b4.0 ≡ outer.src.0
+
+-- a named rule keeps the packet although its sender may send: it is for the router itself
+pub record Forbids (t : Rules) (inner : List ℕ) : Type 0 where
+  pub packet : Packet4
+  pub read : ip4_of inner ≡ Ok packet
+  pub to_self : packet.dst ≡ t.softwire.own.0
+
+-- packets of this kind are judged
+abbrev pub IsBuilt : Rules → Result Packet4 Ip4Bad → Type 0
+IsBuilt t (Ok p) = is_not_built t p ≡ false
+IsBuilt t (Err refusal) = Unit {0}
+
+-- the packet goes on, out or back to a subscriber
+abbrev pub IsForwarded : Verdict → Type 0
+IsForwarded (verdict.Outward mtu) = Unit {0}
+IsForwarded (verdict.Inward from to hop mtu back) = back ≡ true
+IsForwarded (verdict.Drop why reply) = ⊥
+IsForwarded verdict.Held = ⊥

@@ -1,0 +1,55 @@
+-- Which verdicts an item can have.
+use Rattle.std.specs.Prelude.{◌≡◌, ℕ, ◌+◌, ◌≤◌, Bool, true, false, List, Option, Some, None, Result, Ok, Err}
+use Rattle.ip_codec.specs.Packet4.{Packet4, ip4_of, is_fragment, packet_len}
+use Rattle.ip_codec.specs.declared.items.Item.{Item}
+use Rattle.ip_codec.specs.declared.items.Item.TheVariants as item
+use Rattle.verdict_core.specs.declared.verdicts.Reply.{Reply}
+use Rattle.verdict_core.specs.declared.verdicts.Reply.TheVariants as reply
+use Rattle.verdict_core.specs.declared.verdicts.Verdict.{Verdict}
+use Rattle.verdict_core.specs.declared.verdicts.Verdict.TheVariants as verdict
+
+-- the bytes of the item's IPv4 packet
+abbrev pub ipv4_bytes : Item → Option (List ℕ)
+ipv4_bytes (item.Down packet) = Some packet
+ipv4_bytes (item.Up outer inner) = Some inner
+ipv4_bytes _ = None
+
+-- the item has an IPv4 packet that is read as this one
+abbrev pub Carries : Item → Packet4 → Type 0
+Carries i p = (bytes : List ℕ) × (ipv4_bytes i ≡ Some bytes) × (ip4_of bytes ≡ Ok p)
+
+-- the item's packet can be sent on: it is whole, its time to live is not used up, and it has DF clear or fits
+pub record IsSendable (i : Item) (room : ℕ) : Type 0 where
+  pub packet : Packet4
+  pub carried : Carries i packet
+  pub whole : is_fragment packet ≡ false
+  pub alive : 2 ≤ packet.ttl
+  pub fits : packet.df ≡ true → packet_len packet ≤ room
+
+abbrev pub IsUp : Item → Type 0
+IsUp (item.Up outer inner) = Unit {0}
+IsUp _ = ⊥
+
+abbrev pub IsDown : Item → Type 0
+IsDown (item.Down packet) = Unit {0}
+IsDown _ = ⊥
+
+abbrev pub FitsReply : Item → Reply → Type 0
+FitsReply i reply.Silent = Unit {0}
+FitsReply i (reply.Policy from to hop) = IsUp i × ((p : Packet4) × Carries i p)
+FitsReply i _ = (p : Packet4) × Carries i p
+
+-- the verdict fits the item
+abbrev pub Fits : Item → Verdict → Type 0
+Fits i verdict.Held = i ≡ item.Held
+Fits i (verdict.Drop why reply) = FitsReply i reply
+Fits i (verdict.Outward mtu) = IsUp i × IsSendable i mtu
+Fits i (verdict.Inward from to hop mtu true) = IsUp i × IsSendable i (mtu - 40)
+Fits i (verdict.Inward from to hop mtu false) = IsDown i × IsSendable i (mtu - 40)
+
+-- a verdict whose packets need no cutting and that asks for no ICMP message
+abbrev pub IsPlain : Item → Verdict → Type 0
+IsPlain i (verdict.Drop why reply) = reply ≡ reply.Silent
+IsPlain i (verdict.Outward mtu) = (p : Packet4) → Carries i p → packet_len p ≤ mtu
+IsPlain i (verdict.Inward from to hop mtu back) = (p : Packet4) → Carries i p → packet_len p + 40 ≤ mtu
+IsPlain i verdict.Held = Unit {0}

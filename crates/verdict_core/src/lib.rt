@@ -1,0 +1,9 @@
+//! Verdicts: what becomes of an item under a binding table. A verdict is the first line of one list whose condition is
+//! true (RFC 7596, section 6.2).
+#![tactic(auto)]
+
+mod judging;
+mod verdicts;
+
+pub use judging::judge;
+pub use verdicts::{Path, Reply, Verdict};

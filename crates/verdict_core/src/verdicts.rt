@@ -1,0 +1,38 @@
+// What becomes of an item.
+use aftr_base::{V4, V6};
+use ip_codec::Rule;
+
+/// How a reply goes back: as it is, or in the tunnel to the sender.
+#[derive(Clone, Copy, Debug, PartialEq, Eq)]
+pub enum Path {
+    Plain,
+    Tunnel { from: V6, to: V6, hop: u8 },
+}
+
+/// What the sender of a dropped packet is told.
+#[derive(Clone, Copy, Debug, PartialEq, Eq)]
+pub enum Reply {
+    /// Nothing.
+    Silent,
+    /// ICMP host unreachable, from the router's address `own` (RFC 792).
+    Unreachable { own: V4, path: Path },
+    /// ICMP fragmentation needed, with the greatest size in bytes (RFC 1191).
+    TooBig { own: V4, mtu: u16, path: Path },
+    /// ICMP time exceeded (RFC 792).
+    Exceeded { own: V4, path: Path },
+    /// ICMPv6 source address failed the policy (RFC 4443, section 3.1).
+    Policy { from: V6, to: V6, hop: u8 },
+}
+
+/// What becomes of an item.
+#[derive(Clone, Copy, Debug, PartialEq, Eq)]
+pub enum Verdict {
+    /// A fragment that is kept until its datagram is whole.
+    Held,
+    /// It goes nowhere, for this rule.
+    Drop { why: Rule, reply: Reply },
+    /// Into the tunnel to a subscriber, in packets of at most `mtu` bytes; `back` for a packet that came from one.
+    Inward { from: V6, to: V6, hop: u8, mtu: u16, back: bool },
+    /// Out to the IPv4 network, in packets of at most `mtu` bytes.
+    Outward { mtu: u16 },
+}
