@@ -1,6 +1,7 @@
 -- The verdict on an item under a table: the first line whose condition is true (RFC 7596, section 6.2).
-use Rattle.std.specs.Prelude.{◌≡◌, ℕ, ◌==◌, nat_lt, Bool, true, false, not, ◌||◌, List, [], ◌∷◌, ◌++◌, Result, Ok, Err}
+use Rattle.std.specs.Prelude.{◌≡◌, ℕ, ◌==◌, nat_lt, Bool, true, false, not, ◌||◌, List, [], ◌∷◌, ◌++◌, Result, Ok, Err, unwrap_or}
 use Rattle.std.specs.List.{list_any, All}
+use Rattle.aftr_base.specs.First.{first_true}
 use Rattle.binding_rules.specs.Bindings.{bound}
 use Rattle.binding_rules.specs.Tables.{Rules}
 use Rattle.binding_rules.specs.declared.binding.Binding.{Binding}
@@ -87,3 +88,8 @@ pub record Judged (t : Rules) (i : Item) (v : Verdict) : Type 0 where
   pub later : List Line
   pub whole : lines t i ≡ earlier ++ (true, v) ∷ later
   pub all_false : All (λ line. line.0 ≡ false) earlier
+
+-- The verdict as a function: what the first line with a true condition gives. The last line of every list is true, so the
+-- verdict in the place of none is never taken.
+abbrev pub verdict_of : Rules → Item → Verdict
+verdict_of t i = unwrap_or (first_true (lines t i)) verdict.Held
