@@ -122,9 +122,7 @@ fn judge_up<W: Words, L: Ledger>(
     if packet.dst == settings.own {
         return silent(Rule::ToSelf);
     }
-    Verdict::Outward {
-        mtu: settings.mtu4,
-    }
+    Verdict::Outward { mtu: settings.mtu4 }
 }
 
 // The verdict where the inner bytes are no IPv4 packet.
