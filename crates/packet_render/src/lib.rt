@@ -4,3 +4,6 @@
 mod rendering;
 
 pub use rendering::packets;
+
+#[cfg(test)]
+mod tests;

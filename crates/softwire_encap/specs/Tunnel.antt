@@ -1,4 +1,4 @@
--- IPv4 packets in IPv6 packets: the header of the tunnel (RFC 2473, sections 3.1 and 6; RFC 8200, section 3).
+-- IPv4 packets in IPv6 packets: the header of the tunnel (RFC 2473, sections 5 and 6; RFC 8200, section 3).
 use Rattle.std.specs.Prelude.{◌≡◌, ℕ, ◌+◌, ◌*◌, ◌/◌, ◌%◌, List, slice_index}
 use Rattle.aftr_base.specs.declared.numbers.V6.{V6}
 use Rattle.ip_codec.specs.Packet6.{Packet6, bytes6, made6, version6}

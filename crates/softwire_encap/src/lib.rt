@@ -7,3 +7,6 @@ mod tunnel;
 
 pub use passing::lower;
 pub use tunnel::encap;
+
+#[cfg(test)]
+mod tests;

@@ -9,6 +9,7 @@ use std::alloc::Global;
 
 // Where the time to live and the checksum stand in a header (RFC 791, section 3.1).
 const TTL: usize = 8;
+
 const CHECKSUM: usize = 10;
 
 /// The packet as a router passes it on, in memory of its own final size: the time to live is one less, and the header's
