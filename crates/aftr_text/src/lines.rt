@@ -2,7 +2,7 @@
 ghost use Rattle.std.specs.Prelude.{◌≡◌, ◌++◌, IfOk, string_bytes};
 ghost use Rattle.aftr_text.specs.Lines.{ended_text, initial_text, outcome, verdict_text};
 
-use crate::numbers::push_number;
+use crate::numbers::{push_count, push_number};
 use aftr_base::{OutOfMemory, Text};
 use std::alloc::Global;
 use verdict_core::Verdict;
@@ -29,12 +29,10 @@ pub fn verdict_line(
 {
     let mut line = String::with_capacity(alloc, VERDICT_ROOM)?;
     push_number(&mut line, u64::from(number))?;
-    line.push_str(" ")?;
-    push_number(&mut line, u64::from(version))?;
+    push_count(&mut line, " ", u64::from(version))?;
     line.push_str(" ")?;
     push_outcome(&mut line, verdict)?;
-    line.push_str(" ")?;
-    push_number(&mut line, u64::from(packets))?;
+    push_count(&mut line, " ", u64::from(packets))?;
     line.push_str("\n")?;
     Ok(Text::of(line))
 }
@@ -60,8 +58,8 @@ pub fn ended_line(alloc: Global, expired: bool, number: u32) -> Result<Text, Out
     ensures { IfOk result (λ line. line ≡ ended_text expired number) }
 {
     let mut line = String::with_capacity(alloc, ENDED_ROOM)?;
-    line.push_str(if expired { "expired " } else { "unfinished " })?;
-    push_number(&mut line, u64::from(number))?;
+    let ending = if expired { "expired " } else { "unfinished " };
+    push_count(&mut line, ending, u64::from(number))?;
     line.push_str("\n")?;
     Ok(Text::of(line))
 }

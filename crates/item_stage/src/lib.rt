@@ -5,6 +5,8 @@
 mod entries;
 mod reading;
 mod stage;
+#[cfg(test)]
+mod tests;
 
 pub use entries::{Entries, Entry};
 pub use stage::Stage;

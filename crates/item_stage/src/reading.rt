@@ -17,7 +17,11 @@ const IPV4_IN_IPV6: u8 = 4;
 const ICMP: u8 = 1;
 
 /// The entries of records, in memory of its own final size.
-pub(crate) fn read_entries(alloc: Global, form: Form, records: &[Rec]) -> Result<Vec<Entry>, OutOfMemory>
+pub(crate) fn read_entries(
+    alloc: Global,
+    form: Form,
+    records: &[Rec],
+) -> Result<Vec<Entry>, OutOfMemory>
     ensures { IfOk result (λ list. list.items ≡ entries_of form records.now) }
 {
     let mut list = Vec::with_capacity(alloc, records.len())?;

@@ -4,8 +4,8 @@ ghost use Rattle.capture_io.specs.declared.forms.Rec.{Rec};
 ghost use Rattle.item_stage.specs.Items.{entries_of, unfinished_of};
 ghost use Rattle.item_stage.specs.Stages.{HasFailed, Stands};
 
-use crate::reading::read_entries;
 use crate::Entries;
+use crate::reading::read_entries;
 use aftr_base::{Numbers, OutOfMemory};
 use capture_io::{Form, Rec};
 use std::alloc::Global;
