@@ -1,0 +1,71 @@
+// A table, read from a file.
+ghost use Rattle.std.specs.Prelude.{◌≡◌, ◌≤◌, ◌<◌, ◌+◌, ◌^◌, ◌×◌, ℕ, IfOk, IfErr, Ok, Err, Some, length, take};
+ghost use Rattle.aftr_base.specs.Faults.{Counted, LastWithin};
+ghost use Rattle.aftr_base.specs.Held.{content, Told};
+ghost use Rattle.binding_file.specs.Files.{TableOf};
+ghost use Rattle.lwaftr_engine.specs.Tables.{IsNoTable, TableCounts, TableLast};
+
+use aftr_base::{Bytes, Fault, Files, fill};
+use binding_file::{FileError, FileRefused, read_table};
+use binding_rules::Table;
+use std::alloc::Global;
+
+/// How many bytes are enough to judge a table file: one more than it may have.
+const ENOUGH: usize = 16_777_217;
+
+/// How many bytes are asked for at first.
+const PIECE: usize = 65_536;
+
+/// Why there is no table.
+#[derive(Clone, Copy, Debug)]
+pub enum NoTable {
+    ReadFault,
+    Refused(FileRefused),
+    OutOfMemory,
+}
+
+/// The table that the file spells.
+pub fn table_in<F: Files>(alloc: Global, files: &mut F, name: &str) -> Result<Table, NoTable>
+    ensures table { IfOk result (λ t. Told (F.held files.old) (λ m. TableOf (content m name.now) (Ok t))) }
+    ensures refused { IfErr result (λ why. Told (F.held files.old) (λ m. IsNoTable (content m name.now) why)) }
+    ensures held { F.held files.new ≡ F.held files.old }
+    ensures faults { TableCounts result (F.faults files.old) (F.faults files.new) }
+    ensures lost { TableCounts result (F.lost files.old) (F.lost files.new) }
+    ensures spoiled { F.spoiled files.new ≡ F.spoiled files.old }
+    ensures last { TableLast result name.now (F.last files.old) (F.last files.new) }
+{
+    let bytes = match file_front(alloc, files, name, ENOUGH) {
+        Ok(bytes) => bytes,
+        Err(Fault::Failed) => return Err(NoTable::ReadFault),
+        Err(Fault::OutOfMemory) => return Err(NoTable::OutOfMemory),
+    };
+    match read_table(alloc, bytes.as_slice()) {
+        Ok(table) => Ok(table),
+        Err(FileError::Refused(refusal)) => Err(NoTable::Refused(refusal)),
+        Err(FileError::OutOfMemory) => Err(NoTable::OutOfMemory),
+    }
+}
+
+/// The first bytes of a file, at most so many, in pieces that double.
+fn file_front<F: Files>(alloc: Global, files: &mut F, name: &str, most: usize) -> Result<Bytes, Fault>
+    requires { most ≤ 2 ^ 32 }
+    ensures bytes { IfOk result (λ bytes. Told (F.held files.old) (λ m. bytes ≡ take most (content m name.now))) }
+    ensures held { F.held files.new ≡ F.held files.old }
+    ensures faults { Counted result (F.faults files.old) (F.faults files.new) }
+    ensures lost { Counted result (F.lost files.old) (F.lost files.new) }
+    ensures spoiled { F.spoiled files.new ≡ F.spoiled files.old }
+    ensures last { LastWithin result name.now 0 most (F.last files.old) (F.last files.new) }
+{
+    let mut list = Vec::new(alloc);
+    'pieces: while list.len() < most {
+        let have = list.len();
+        let piece = (most - have).min(PIECE.max(have));
+        list.resize(have + piece, 0)?;
+        let got = fill(alloc, files, name, have as u64, &mut list[have..])?;
+        list.truncate(have + got);
+        if got < piece {
+            return Ok(Bytes::of(list));
+        }
+    }
+    Ok(Bytes::of(list))
+}

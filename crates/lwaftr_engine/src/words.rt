@@ -1,0 +1,58 @@
+// The command words.
+ghost use Rattle.std.specs.Prelude.{◌≡◌, Some};
+ghost use Rattle.std.specs.Option.{option_map};
+ghost use Rattle.lwaftr_engine.specs.Jobs.{are_apart, is_name, names_of, run_of, texts};
+
+/// The files of a run, by their names.
+#[derive(Clone, Copy, Debug)]
+pub struct RunJob<'a> {
+    /// The capture that is read.
+    pub input: &'a str,
+    /// The capture of the packets sent.
+    pub output: &'a str,
+    /// One line for each record.
+    pub verdicts: &'a str,
+    /// One line for each table.
+    pub versions: &'a str,
+    /// The table file.
+    pub table: &'a str,
+}
+
+/// The run that the words ask for, if they do.
+pub fn read_words<'a>(words: &[&'a str]) -> Option<RunJob<'a>>
+    ensures { option_map names_of result ≡ run_of (texts words.now) }
+{
+    let [word, input, output, verdicts, versions, table] = *words else {
+        return None;
+    };
+    let job = RunJob { input, output, verdicts, versions, table };
+    let named = is_file(input) && is_file(output) && is_file(verdicts) && is_file(versions) && is_file(table);
+    if word == "run" && named && are_outputs_apart(job) {
+        Some(job)
+    } else {
+        None
+    }
+}
+
+// A word that can name a file: it has a byte and is no option.
+fn is_file(word: &str) -> bool
+    ensures { result ≡ is_name word.now }
+{
+    let bytes = word.as_bytes();
+    bytes.len() > 0 && !(bytes.len() > 1 && bytes[0] == b'-')
+}
+
+// No output has the name of another file of the run.
+fn are_outputs_apart(job: RunJob<'_>) -> bool
+    ensures { result ≡ are_apart (names_of job) }
+{
+    job.output != job.verdicts
+        && job.output != job.versions
+        && job.verdicts != job.versions
+        && job.output != job.input
+        && job.output != job.table
+        && job.verdicts != job.input
+        && job.verdicts != job.table
+        && job.versions != job.input
+        && job.versions != job.table
+}
