@@ -1,5 +1,5 @@
 -- What the command words ask for.
-use Rattle.std.specs.Prelude.{◌≡◌, ℕ, ◌==◌, nat_lt, Bool, true, false, not, ◌&&◌, ◌||◌, if◌then◌else◌, List, [], ◌∷◌, codes, length, map, slice_index, Option, Some, None, IfSome}
+use Rattle.std.specs.Prelude.{◌≡◌, ℕ, ◌==◌, nat_lt, Bool, true, false, not, ◌&&◌, ◌||◌, if◌then◌else◌, List, [], ◌∷◌, bytes_eq, codes, length, map, slice_index, Option, Some, None, IfSome}
 use Rattle.std.specs.List.{list_all, list_any}
 use Rattle.std.specs.Borrow.{Bor}
 use Rattle.lwaftr_engine.specs.declared.words.RunJob.{RunJob}
@@ -27,6 +27,10 @@ same a b = bytes_eq a b
 abbrev pub is_name : List ℕ → Bool
 is_name word = nat_lt 0 (length word) && not (nat_lt 1 (length word) && (slice_index word 0 == 45))
 
+-- each of the five can name a file
+abbrev pub are_names : RunNames → Bool
+are_names n = is_name n.input && is_name n.output && is_name n.verdicts && is_name n.versions && is_name n.table
+
 -- no output has the name of another file of the run
 abbrev pub are_apart : RunNames → Bool
 are_apart n =
@@ -39,8 +43,7 @@ are_apart n =
 abbrev pub run_of : List (List ℕ) → Option RunNames
 run_of (word ∷ input ∷ output ∷ verdicts ∷ versions ∷ table ∷ []) =
     let names : RunNames = record { input = input; output = output; verdicts = verdicts; versions = versions; table = table } in
-    if same word (codes "run") && is_name input && is_name output && is_name verdicts && is_name versions && is_name table && are_apart names
-    then Some names else None
+    if same word (codes "run") && are_names names && are_apart names then Some names else None
 run_of _ = None
 
 -- P of the names of the run that the words ask for

@@ -1,7 +1,10 @@
 // The command words.
 ghost use Rattle.std.specs.Prelude.{◌≡◌, Some};
 ghost use Rattle.std.specs.Option.{option_map};
-ghost use Rattle.lwaftr_engine.specs.Jobs.{are_apart, is_name, names_of, run_of, texts};
+ghost use Rattle.lwaftr_engine.specs.Jobs.{are_apart, are_names, is_name, names_of, run_of, texts};
+
+/// The word `run`, and the names of five files.
+const WORDS: usize = 6;
 
 /// The files of a run, by their names.
 #[derive(Clone, Copy, Debug)]
@@ -22,16 +25,28 @@ pub struct RunJob<'a> {
 pub fn read_words<'a>(words: &[&'a str]) -> Option<RunJob<'a>>
     ensures { option_map names_of result ≡ run_of (texts words.now) }
 {
-    let [word, input, output, verdicts, versions, table] = *words else {
+    if words.len() != WORDS {
         return None;
+    }
+    let job = RunJob {
+        input: words[1],
+        output: words[2],
+        verdicts: words[3],
+        versions: words[4],
+        table: words[5],
     };
-    let job = RunJob { input, output, verdicts, versions, table };
-    let named = is_file(input) && is_file(output) && is_file(verdicts) && is_file(versions) && is_file(table);
-    if word == "run" && named && are_outputs_apart(job) {
+    if words[0] == "run" && are_files(job) && are_outputs_apart(job) {
         Some(job)
     } else {
         None
     }
+}
+
+// Each of the words can name a file.
+fn are_files(job: RunJob<'_>) -> bool
+    ensures { result ≡ are_names (names_of job.entry) }
+{
+    is_file(job.input) && is_file(job.output) && is_file(job.verdicts) && is_file(job.versions) && is_file(job.table)
 }
 
 // A word that can name a file: it has a byte and is no option.
@@ -44,7 +59,7 @@ fn is_file(word: &str) -> bool
 
 // No output has the name of another file of the run.
 fn are_outputs_apart(job: RunJob<'_>) -> bool
-    ensures { result ≡ are_apart (names_of job) }
+    ensures { result ≡ are_apart (names_of job.entry) }
 {
     job.output != job.verdicts
         && job.output != job.versions
