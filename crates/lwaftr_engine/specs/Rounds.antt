@@ -1,6 +1,6 @@
 -- Some records of a capture, and how they ended.
 use Rattle.std.specs.Prelude.{◌≡◌, ℕ, ◌+◌, ◌*◌, ◌^◌, ◌<◌, ◌≤◌, Bool, List, [], ◌++◌, length, drop, Option, Some, None, Result, Ok, Err}
-use Rattle.aftr_base.specs.declared.memory_errors.OutOfMemory.{OutOfMemory}
+use Rattle.aftr_base.specs.declared.lists.OutOfMemory.{OutOfMemory}
 use Rattle.aftr_base.specs.Faults.{Rose}
 use Rattle.aftr_base.specs.Held.{Held}
 use Rattle.capture_io.specs.Answers.{IsBeforeEnd}
@@ -30,19 +30,19 @@ pub record IsRoundOf (big : Bool) (bytes : List ℕ) (at number : ℕ) (round : 
 
 -- how many there are
 pub record IsCount (at number : ℕ) (round : Round) : Type 0 where
-  pub number : round.number ≡ number + length round.records.items
+  pub numbered : round.number ≡ number + length round.records.items
   pub most : round.number ≤ 2 ^ 31
   pub place : round.at ≤ 24 + 262160 * round.number
   pub some : round.ending ≡ None → 0 < length round.records.items
 
 -- a count of faults rises exactly where the records ended with `ReadFault`
-abbrev pub EndCounts : Result Round OutOfMemory → ℕ → ℕ → Type 0
-EndCounts (Ok round) before now = Ended round.ending before now
-EndCounts (Err _) before now = now ≡ before
-
 abbrev pub Ended : Option Ending → ℕ → ℕ → Type 0
 Ended (Some ending.ReadFault) before now = Rose before now
 Ended _ before now = now ≡ before
+
+abbrev pub EndCounts : Result Round OutOfMemory → ℕ → ℕ → Type 0
+EndCounts (Ok round) before now = Ended round.ending before now
+EndCounts (Err _) before now = now ≡ before
 
 -- the last read that failed, where the records ended with `ReadFault`, is one of this name, in the record that was next
 abbrev pub LastOf : Option Ending → List ℕ → Bool → Option Held → ℕ → ℕ → Option (List ℕ × ℕ) → Option (List ℕ × ℕ) → Type 0
