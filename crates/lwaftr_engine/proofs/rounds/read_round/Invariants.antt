@@ -1,6 +1,6 @@
-use Rattle.std.proofs.Common.{◌≡◌, ◌≤◌, ◌+◌, ◌-◌, ◌*◌, ◌^◌, length}
+use Rattle.std.proofs.Common.{◌≡◌, ◌≤◌, ◌<◌, ◌+◌, ◌-◌, ◌*◌, ◌^◌, length}
 use Rattle.aftr_base.specs.Held.{Told, content}
-use Rattle.lwaftr_engine.specs.Rounds.{Precedes}
+use Rattle.lwaftr_engine.specs.Rounds.{Precedes, captured}
 use Rattle.lwaftr_engine.proofs.rounds.read_round.Given as goal
 
 abbrev pub invariant-records : goal.invariant-records
@@ -9,7 +9,10 @@ invariant-records g l = let f = g.F.Files in record {
   number : l.number ≡ l.initial.number + length l.records.items;
   most : l.number ≤ 2 ^ 31;
   place : l.at ≤ 24 + 262160 * l.number;
-  bytes : l.bytes ≤ 262144 * length l.records.items;
+  bytes : l.bytes ≡ captured l.records.items;
+  some : 0 < l.bytes → 0 < length l.records.items;
+  few : length l.records.items ≤ 16384;
+  within : l.bytes < 67108864 + 262144;
   held : f.held l.files ≡ f.held l.initial.files;
   faults : f.faults l.files ≡ f.faults l.initial.files;
   lost : f.lost l.files ≡ f.lost l.initial.files;
