@@ -1,7 +1,7 @@
 // What a packet asks of the binding table.
-ghost use Rattle.std.specs.Prelude.{◌≡◌, ◌≢◌, ◌≤◌, length};
+ghost use Rattle.std.specs.Prelude.{◌≡◌, ◌≢◌, ◌+◌, ◌≤◌};
 ghost use Rattle.ip_codec.specs.Packet4.{packet4};
-ghost use Rattle.port_locate.specs.Keys.{downstream_key, upstream_key};
+ghost use Rattle.port_locate.specs.Keys.{downstream_key, has_ports, key_at, upstream_key};
 
 use aftr_base::be16;
 use binding_rules::Want;
@@ -18,7 +18,12 @@ pub enum Key {
     IcmpBad,
 }
 
-const PORT_BYTES: usize = 4;
+// The two ports, of 16 bits each.
+const PORTS_LEN: usize = 4;
+
+const SOURCE_PORT: usize = 0;
+
+const DESTINATION_PORT: usize = 2;
 
 /// The key of a packet from a subscriber: its source port. Protocols without ports ask for the whole address. The
 /// protocol is not ICMP (1).
@@ -26,7 +31,7 @@ pub fn key_up(p: &Ip4View<'_>) -> Key
     requires not_icmp { p.now.protocol ≢ 1 }
     ensures { result ≡ upstream_key (packet4 p.now) }
 {
-    key_at(p, 0)
+    key_at(p, SOURCE_PORT)
 }
 
 /// The key of a packet to a subscriber: its destination port. Protocols without ports ask for the whole address. The
@@ -35,5 +40,29 @@ pub fn key_down(p: &Ip4View<'_>) -> Key
     requires not_icmp { p.now.protocol ≢ 1 }
     ensures { result ≡ downstream_key (packet4 p.now) }
 {
-    key_at(p, 2)
+    key_at(p, DESTINATION_PORT)
+}
+
+// The key by the port at a place of the payload.
+fn key_at(p: &Ip4View<'_>, at: usize) -> Key
+    requires within { at ≤ 2 }
+    ensures { result ≡ key_at at (packet4 p.now) }
+{
+    if p.is_fragment() {
+        return Key::NoPort;
+    }
+    if !has_ports(p.protocol) {
+        return Key::At(Want::Whole);
+    }
+    if p.payload.len() < PORTS_LEN {
+        return Key::NoPort;
+    }
+    Key::At(Want::Port(be16(p.payload, at)))
+}
+
+// Whether the payload of the protocol begins with a source port and a destination port.
+fn has_ports(protocol: u8) -> bool
+    ensures { result ≡ has_ports protocol }
+{
+    matches!(protocol, 6 | 17 | 33 | 132 | 136)
 }

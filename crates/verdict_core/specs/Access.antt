@@ -1,15 +1,19 @@
 -- Who may send: the sender's tunnel address, IPv4 address and port stand in one binding (RFC 7596, section 6.2).
-use Rattle.std.specs.Prelude.{◌≡◌, ℕ, false, List, [], ◌∷◌, Result, Ok, Err}
+use Rattle.std.specs.Prelude.{◌≡◌, ℕ, ◌↔◌, ◌⊎◌, false, true, List, [], ◌∷◌, Result, Ok, Err}
 use Rattle.binding_rules.specs.Bindings.{bound}
 use Rattle.binding_rules.specs.Tables.{Rules}
 use Rattle.binding_rules.specs.declared.binding.Binding.{Binding}
 use Rattle.binding_rules.specs.declared.binding.Want.{Want}
 use Rattle.ip_codec.specs.Packet4.{Packet4, ip4_of}
+use Rattle.ip_codec.specs.declared.items.Item.{Item}
+use Rattle.ip_codec.specs.declared.items.Item.TheVariants as item
 use Rattle.ip_codec.specs.declared.items.Outer.{Outer}
 use Rattle.ip_codec.specs.declared.packet4.Ip4Bad.{Ip4Bad}
+use Rattle.ip_codec.specs.declared.rules.Rule.{Rule}
+use Rattle.ip_codec.specs.declared.rules.Rule.TheVariants as rule
 use Rattle.port_locate.specs.Keys.{upstream_key}
 use Rattle.port_locate.specs.declared.keys.Key.TheVariants as key
-use Rattle.verdict_core.specs.Verdicts.{is_not_built}
+use Rattle.verdict_core.specs.Verdicts.{is_not_built, silent}
 use Rattle.verdict_core.specs.declared.verdicts.Verdict.{Verdict}
 use Rattle.verdict_core.specs.declared.verdicts.Verdict.TheVariants as verdict
 
@@ -42,3 +46,29 @@ IsForwarded (verdict.Outward mtu) = Unit {0}
 IsForwarded (verdict.Inward from to hop mtu back) = back ≡ true
 IsForwarded (verdict.Drop why reply) = ⊥
 IsForwarded verdict.Held = ⊥
+
+-- the rules by which a packet is dropped whose sender may not send
+abbrev pub IsRefusal : Rule → Type 0
+IsRefusal rule.NotOurs = Unit {0}
+IsRefusal rule.InnerMalformed = Unit {0}
+IsRefusal rule.InnerChecksum = Unit {0}
+IsRefusal rule.NoPort = Unit {0}
+IsRefusal rule.NoBinding = Unit {0}
+IsRefusal _ = ⊥
+
+-- this holds of the item if it is a packet from a subscriber of a kind that is judged
+abbrev pub IfJudgedUp : Rules → Item → (Outer → List ℕ → Type 0) → Type 0
+IfJudgedUp t (item.Up outer inner) P = IsBuilt t (ip4_of inner) → P outer inner
+IfJudgedUp t _ P = Unit {0}
+
+-- it goes on exactly where its sender may send and no named rule keeps it
+abbrev pub Forwards : Rules → Item → Verdict → Type 0
+Forwards t i v = IfJudgedUp t i (λ outer inner. IsForwarded v ↔ (Permits t outer inner × (Forbids t inner → ⊥)))
+
+-- where its sender may send and a named rule keeps it, it is dropped by that rule
+abbrev pub Forbidden : Rules → Item → Verdict → Type 0
+Forbidden t i v = IfJudgedUp t i (λ outer inner. Permits t outer inner → Forbids t inner → v ≡ silent rule.ToSelf)
+
+-- where its sender may not send, it is dropped by one of these rules
+abbrev pub Refused : Rules → Item → Verdict → Type 0
+Refused t i v = IfJudgedUp t i (λ outer inner. (Permits t outer inner → ⊥) → (why : Rule) × IsRefusal why × (v ≡ silent why))

@@ -1,5 +1,5 @@
 -- Which verdicts an item can have.
-use Rattle.std.specs.Prelude.{◌≡◌, ℕ, ◌+◌, ◌≤◌, Bool, true, false, List, Option, Some, None, Result, Ok, Err}
+use Rattle.std.specs.Prelude.{◌≡◌, ℕ, ◌+◌, ◌-◌, ◌≤◌, Bool, true, false, List, Option, Some, None, Ok}
 use Rattle.ip_codec.specs.Packet4.{Packet4, ip4_of, is_fragment, packet_len}
 use Rattle.ip_codec.specs.declared.items.Item.{Item}
 use Rattle.ip_codec.specs.declared.items.Item.TheVariants as item
@@ -42,14 +42,27 @@ FitsReply i _ = (p : Packet4) × Carries i p
 -- the verdict fits the item
 abbrev pub Fits : Item → Verdict → Type 0
 Fits i verdict.Held = i ≡ item.Held
-Fits i (verdict.Drop why reply) = FitsReply i reply
+Fits i (verdict.Drop why told) = FitsReply i told
 Fits i (verdict.Outward mtu) = IsUp i × IsSendable i mtu
 Fits i (verdict.Inward from to hop mtu true) = IsUp i × IsSendable i (mtu - 40)
 Fits i (verdict.Inward from to hop mtu false) = IsDown i × IsSendable i (mtu - 40)
 
 -- a verdict whose packets need no cutting and that asks for no ICMP message
 abbrev pub IsPlain : Item → Verdict → Type 0
-IsPlain i (verdict.Drop why reply) = reply ≡ reply.Silent
+IsPlain i (verdict.Drop why told) = told ≡ reply.Silent
 IsPlain i (verdict.Outward mtu) = (p : Packet4) → Carries i p → packet_len p ≤ mtu
 IsPlain i (verdict.Inward from to hop mtu back) = (p : Packet4) → Carries i p → packet_len p + 40 ≤ mtu
 IsPlain i verdict.Held = Unit {0}
+
+-- the greatest size that the verdict names is at least what every IPv6 link (RFC 8200, section 5) or every IPv4 host
+-- (RFC 791, section 3.1) takes
+abbrev pub HasRoom : Verdict → Type 0
+HasRoom (verdict.Outward mtu) = 576 ≤ mtu
+HasRoom (verdict.Inward from to hop mtu back) = 1280 ≤ mtu
+HasRoom _ = Unit {0}
+
+-- the table is asked: the item is not held, and is not dropped already
+abbrev pub AsksTable : Item → Type 0
+AsksTable item.Held = ⊥
+AsksTable (item.Bad why) = ⊥
+AsksTable _ = Unit {0}

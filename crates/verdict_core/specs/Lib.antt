@@ -1,3 +1,4 @@
 pub mod Access
+pub mod Bounds
 pub mod Fitting
 pub mod Verdicts

@@ -5,6 +5,7 @@ use Rattle.aftr_base.specs.First.{first_true}
 use Rattle.binding_rules.specs.Bindings.{bound}
 use Rattle.binding_rules.specs.Tables.{Rules}
 use Rattle.binding_rules.specs.declared.binding.Binding.{Binding}
+use Rattle.binding_rules.specs.declared.settings.Softwire.{Softwire}
 use Rattle.ip_codec.specs.Packet4.{Packet4, ip4_of, packet_len}
 use Rattle.ip_codec.specs.declared.items.Item.{Item}
 use Rattle.ip_codec.specs.declared.items.Item.TheVariants as item
@@ -43,16 +44,18 @@ names_no_port key.NoPort = true
 names_no_port (key.At want) = false
 names_no_port key.IcmpBad = false
 
--- a kind of packet that is not judged yet: ICMP, a packet that could ask for an ICMP error or for cutting, or one from
--- subscriber to subscriber
+abbrev pub is_icmp_bad : Key → Bool
+is_icmp_bad key.IcmpBad = true
+is_icmp_bad (key.At want) = false
+is_icmp_bad key.NoPort = false
+
+-- A kind of packet that is not judged yet: ICMP, a packet that could ask for an ICMP error or for cutting ..
+abbrev pub is_not_built_alone : Softwire → Packet4 → Bool
+is_not_built_alone s p = (p.protocol == 1) || s.errors_up || s.errors_down || nat_lt p.ttl 2 || nat_lt s.mtu4 (packet_len p)
+
+-- .. or one from subscriber to subscriber.
 abbrev pub is_not_built : Rules → Packet4 → Bool
-is_not_built t p =
-    (p.protocol == 1)
-    || t.softwire.errors_up
-    || t.softwire.errors_down
-    || has_v4 t.bindings (record { 0 = p.dst })
-    || nat_lt p.ttl 2
-    || nat_lt t.softwire.mtu4 (packet_len p)
+is_not_built t p = is_not_built_alone t.softwire p || has_v4 t.bindings (record { 0 = p.dst })
 
 abbrev pub is_checksum : Ip4Bad → Bool
 is_checksum bad.Checksum = true
@@ -63,6 +66,7 @@ abbrev pub up_lines : Rules → Outer → Result Packet4 Ip4Bad → List Line
 up_lines t outer (Ok p) =
     (is_not_built t p, silent rule.NotBuilt)
     ∷ (not (outer.dst.0 == t.softwire.aftr.0), silent rule.NotOurs)
+    ∷ (is_icmp_bad (upstream_key p), silent rule.IcmpBad)
     ∷ (names_no_port (upstream_key p), silent rule.NoPort)
     ∷ (not (is_softwire t outer p), silent rule.NoBinding)
     ∷ (p.dst == t.softwire.own.0, silent rule.ToSelf)

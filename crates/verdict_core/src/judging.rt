@@ -1,0 +1,202 @@
+// The verdict on an item.
+ghost use Rattle.std.specs.Prelude.{◌≡◌, ◌≢◌, ◌==◌, ◌+◌, ◌-◌, ◌≤◌, length, Some, Err};
+ghost use Rattle.std.specs.List.{list_any};
+ghost use Rattle.aftr_base.specs.First.{first_true};
+ghost use Rattle.binding_rules.specs.Bindings.{bound};
+ghost use Rattle.binding_rules.specs.Tables.{Rules};
+ghost use Rattle.ip_codec.specs.Packet4.{ip4_of, packet4};
+ghost use Rattle.table_words.specs.Bounds.{look_bound, group_digits};
+ghost use Rattle.table_words.specs.Layout.{IsCompiled, AreCompiled};
+ghost use Rattle.table_words.specs.Reads.{read_more};
+ghost use Rattle.verdict_core.specs.Access.{Forbidden, Forwards, Refused};
+ghost use Rattle.verdict_core.specs.Bounds.{judge_bound};
+ghost use Rattle.verdict_core.specs.Fitting.{AsksTable, Fits, HasRoom, IsPlain};
+ghost use Rattle.verdict_core.specs.Verdicts.{Judged, is_not_built, is_not_built_alone, lines, silent, up_lines};
+
+use crate::verdicts::{Reply, Verdict};
+use aftr_base::V4;
+use binding_rules::{Softwire, Want};
+use ip_codec::{Ip4Bad, Ip4View, Item, Outer, Rule, ip4};
+use port_locate::{Key, key_up};
+use std::sync::ledger::Ledger;
+use table_words::{Steps, Words, has_address, look, softwire};
+
+const ICMP: u8 = 1;
+
+// With less a packet's time to live would be used up here.
+const LEAST_TTL: u8 = 2;
+
+/// The verdict on an item under a table, the one that the lines allow (RFC 7596, section 6.2). The condition is that the
+/// words are compiled from a table. It takes no memory. ICMP messages, packets that could ask for an ICMP error or for
+/// cutting, packets from subscriber to subscriber or towards subscribers, and IPv6 packets without an IPv4 packet inside
+/// are not judged yet: they are dropped with `NotBuilt`.
+pub fn judge<W: Words, L: Ledger>(words: &mut W, item: &Item, steps: &mut Steps<L>) -> Verdict
+    requires { AreCompiled (W.list words.old) }
+
+    // Which verdict it is.
+    ensures verdict { (t : Rules) → IsCompiled t (W.list words.old) → Judged t item.now result }
+    ensures only { (t : Rules) → IsCompiled t (W.list words.old) → (v : Verdict) → Judged t item.now v → v ≡ result }
+
+    // What it can be.
+    ensures fits { Fits item.now result }
+    ensures plain { IsPlain item.now result }
+    ensures room { HasRoom result }
+
+    // Who may send.
+    ensures forwards { (t : Rules) → IsCompiled t (W.list words.old) → Forwards t item.now result }
+    ensures forbidden { (t : Rules) → IsCompiled t (W.list words.old) → Forbidden t item.now result }
+    ensures refused { (t : Rules) → IsCompiled t (W.list words.old) → Refused t item.now result }
+
+    // What it reads.
+    ensures list { W.list words.new ≡ W.list words.old }
+    ensures reads { W.reads words.new ≡ read_more (W.reads words.old) (steps.new - steps.old) }
+    ensures goes { W.goes words.old words.new }
+    ensures later { steps.old ≤ steps.new }
+    ensures rises { AsksTable item.now → steps.old + 1 ≤ steps.new }
+    ensures bound { (t : Rules) → IsCompiled t (W.list words.old) → steps.new ≤ steps.old + judge_bound t.bindings }
+{
+    let settings = softwire(words, steps);
+    judge_under(words, &settings, item, steps)
+}
+
+// The verdict under the table's settings and the rest of its words.
+fn judge_under<W: Words, L: Ledger>(
+    words: &mut W,
+    settings: &Softwire,
+    item: &Item,
+    steps: &mut Steps<L>,
+) -> Verdict
+    requires compiled { AreCompiled (W.list words.old) }
+    requires settings { (t : Rules) → IsCompiled t (W.list words.old) → settings.now ≡ t.softwire }
+    ensures verdict { (t : Rules) → IsCompiled t (W.list words.old) → first_true (lines t item.now) ≡ Some result }
+    ensures list { W.list words.new ≡ W.list words.old }
+    ensures reads { W.reads words.new ≡ read_more (W.reads words.old) (steps.new - steps.old) }
+    ensures goes { W.goes words.old words.new }
+    ensures later { steps.old ≤ steps.new }
+    ensures bound { (t : Rules) → IsCompiled t (W.list words.old) → steps.new ≤ steps.old + look_bound t.bindings + group_digits t.bindings + 3 }
+{
+    match item {
+        Item::Held => Verdict::Held,
+        Item::Bad(why) => silent(*why),
+        Item::Up { outer, inner } => judge_up(words, settings, outer, inner.as_slice(), steps),
+        Item::Down { .. } => silent(Rule::NotBuilt),
+        Item::Six { .. } => silent(Rule::NotBuilt),
+    }
+}
+
+// The verdict on a packet from a subscriber.
+fn judge_up<W: Words, L: Ledger>(
+    words: &mut W,
+    settings: &Softwire,
+    outer: &Outer,
+    inner: &[u8],
+    steps: &mut Steps<L>,
+) -> Verdict
+    requires compiled { AreCompiled (W.list words.old) }
+    requires settings { (t : Rules) → IsCompiled t (W.list words.old) → settings.now ≡ t.softwire }
+    ensures verdict { (t : Rules) → IsCompiled t (W.list words.old) → first_true (up_lines t outer.now (ip4_of inner.now)) ≡ Some result }
+    ensures list { W.list words.new ≡ W.list words.old }
+    ensures reads { W.reads words.new ≡ read_more (W.reads words.old) (steps.new - steps.old) }
+    ensures goes { W.goes words.old words.new }
+    ensures later { steps.old ≤ steps.new }
+    ensures bound { (t : Rules) → IsCompiled t (W.list words.old) → steps.new ≤ steps.old + look_bound t.bindings + group_digits t.bindings + 3 }
+{
+    let packet = match ip4(inner) {
+        Ok(packet) => packet,
+        Err(refusal) => return refused(settings, outer, refusal),
+    };
+    if is_not_built(words, settings, &packet, steps) {
+        return silent(Rule::NotBuilt);
+    }
+    if outer.dst != settings.aftr {
+        return silent(Rule::NotOurs);
+    }
+    let want = match key_up(&packet) {
+        Key::At(want) => want,
+        Key::IcmpBad => return silent(Rule::IcmpBad),
+        Key::NoPort => return silent(Rule::NoPort),
+    };
+    if !is_softwire(words, outer, packet.src, want, steps) {
+        return silent(Rule::NoBinding);
+    }
+    if packet.dst == settings.own {
+        return silent(Rule::ToSelf);
+    }
+    Verdict::Outward {
+        mtu: settings.mtu4,
+    }
+}
+
+// The verdict where the inner bytes are no IPv4 packet.
+fn refused(settings: &Softwire, outer: &Outer, refusal: Ip4Bad) -> Verdict
+    ensures { (t : Rules) → settings.now ≡ t.softwire → first_true (up_lines t outer.now (Err refusal)) ≡ Some result }
+{
+    if outer.dst != settings.aftr {
+        return silent(Rule::NotOurs);
+    }
+    match refusal {
+        Ip4Bad::Checksum => silent(Rule::InnerChecksum),
+        _ => silent(Rule::InnerMalformed),
+    }
+}
+
+// Whether the packet is of a kind that is not judged yet.
+fn is_not_built<W: Words, L: Ledger>(
+    words: &mut W,
+    settings: &Softwire,
+    packet: &Ip4View<'_>,
+    steps: &mut Steps<L>,
+) -> bool
+    requires compiled { AreCompiled (W.list words.old) }
+    requires settings { (t : Rules) → IsCompiled t (W.list words.old) → settings.now ≡ t.softwire }
+    requires most { length packet.now.header.now + length packet.now.payload.now ≤ 65535 }
+    ensures answer { (t : Rules) → IsCompiled t (W.list words.old) → result ≡ is_not_built t (packet4 packet.now) }
+    ensures list { W.list words.new ≡ W.list words.old }
+    ensures reads { W.reads words.new ≡ read_more (W.reads words.old) (steps.new - steps.old) }
+    ensures goes { W.goes words.old words.new }
+    ensures later { steps.old ≤ steps.new }
+    ensures bound { (t : Rules) → IsCompiled t (W.list words.old) → steps.new ≤ steps.old + group_digits t.bindings + 3 }
+{
+    is_not_built_alone(settings, packet) || has_address(words, packet.dst, steps)
+}
+
+// The same by the settings alone, where the packet's destination is not looked at.
+fn is_not_built_alone(settings: &Softwire, packet: &Ip4View<'_>) -> bool
+    requires { length packet.now.header.now + length packet.now.payload.now ≤ 65535 }
+    ensures { result ≡ is_not_built_alone settings.now (packet4 packet.now) }
+{
+    packet.protocol == ICMP
+        || settings.errors_up
+        || settings.errors_down
+        || packet.ttl < LEAST_TTL
+        || packet.total_len() > usize::from(settings.mtu4)
+}
+
+// Whether the one binding that owns what is wanted of the address has its tunnel's end where the packet came from.
+fn is_softwire<W: Words, L: Ledger>(
+    words: &mut W,
+    outer: &Outer,
+    v4: V4,
+    want: Want,
+    steps: &mut Steps<L>,
+) -> bool
+    requires { AreCompiled (W.list words.old) }
+    ensures answer { (t : Rules) → IsCompiled t (W.list words.old) →
+        result ≡ list_any (λ b. b.b4.0 == outer.now.src.0) (bound t.bindings v4 want) }
+    ensures list { W.list words.new ≡ W.list words.old }
+    ensures reads { W.reads words.new ≡ read_more (W.reads words.old) (steps.new - steps.old) }
+    ensures goes { W.goes words.old words.new }
+    ensures later { steps.old ≤ steps.new }
+    ensures bound { (t : Rules) → IsCompiled t (W.list words.old) → steps.new ≤ steps.old + look_bound t.bindings }
+{
+    look(words, v4, want, steps) == Some(outer.src)
+}
+
+fn silent(why: Rule) -> Verdict
+    ensures { result ≡ silent why }
+{
+    Verdict::Drop {
+        why,
+        reply: Reply::Silent,
+    }
+}
