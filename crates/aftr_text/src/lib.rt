@@ -1,0 +1,11 @@
+//! The texts of a run: the lines of its verdicts, the lines of the tables in force, and the summary.
+#![tactic(auto)]
+
+mod lines;
+mod numbers;
+mod summaries;
+#[cfg(test)]
+mod tests;
+
+pub use lines::{ended_line, initial_line, verdict_line};
+pub use summaries::{Totals, summary};

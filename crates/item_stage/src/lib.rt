@@ -1,0 +1,12 @@
+//! From records to items: what a record of the capture carries is found frame by frame and header by header, before any
+//! table is asked. Each record has one entry, its item and the datagrams that end with it unfinished.
+#![tactic(auto)]
+
+mod entries;
+mod reading;
+mod stage;
+#[cfg(test)]
+mod tests;
+
+pub use entries::{Entries, Entry};
+pub use stage::Stage;
