@@ -1,0 +1,12 @@
+//! Packets that are passed on: an IPv4 packet with its time to live one less, and the tunnel header before it (RFC 791,
+//! RFC 2473).
+#![tactic(auto)]
+
+mod passing;
+mod tunnel;
+
+pub use passing::lower;
+pub use tunnel::encap;
+
+#[cfg(test)]
+mod tests;
