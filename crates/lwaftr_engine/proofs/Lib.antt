@@ -1,0 +1,5 @@
+pub mod FrontLemmas
+pub mod Going
+pub mod Joining
+pub mod Moving
+pub mod Touching

@@ -64,6 +64,11 @@ abbrev pub GoesOn : RunNames → Form → Course → Held → Held → Progress 
 GoesOn n form c old new before after stop last = (opened : Held) (taken : List Rec) →
     HasTaken n form c opened old before taken → HasGone n form c opened new after stop last
 
+-- the same for rounds behind which the records have not stopped
+abbrev pub TakesOn : RunNames → Form → Course → Held → Held → Progress → Progress → Type 0
+TakesOn n form c old new before after = (opened : Held) (taken : List Rec) →
+    HasTaken n form c opened old before taken → (all : List Rec) × HasTaken n form c opened new after all
+
 -- a count of reads that failed rose exactly where the records stopped with `ReadFault`; nothing is said where writing failed
 abbrev pub ReadCounts : Result (Option Ending) Fault → ℕ → ℕ → Type 0
 ReadCounts (Ok (Some ending.ReadFault)) before now = Rose before now

@@ -1,12 +1,12 @@
 // The run: records are read, judged and written in rounds.
-ghost use Rattle.std.specs.Prelude.{◌≡◌, ◌<◌, IfOk, IsTrue, None};
+ghost use Rattle.std.specs.Prelude.{◌≡◌, ◌<◌, IfOk, IsTrue, None, Some};
 ghost use Rattle.aftr_base.specs.Faults.{Counted};
 ghost use Rattle.aftr_base.specs.Held.{Moves};
 ghost use Rattle.binding_rules.specs.Tables.{Rules};
 ghost use Rattle.lwaftr_engine.specs.Endings.{OthersKept};
 ghost use Rattle.lwaftr_engine.specs.Jobs.{are_apart, names_of};
 ghost use Rattle.lwaftr_engine.specs.Outputs.{steady};
-ghost use Rattle.lwaftr_engine.specs.Progress.{GoesOn, IsBounded, ReadCounts};
+ghost use Rattle.lwaftr_engine.specs.Progress.{EndingCounts, GoesOn, IsBounded, ReadCounts};
 ghost use Rattle.table_words.specs.Layout.{AreCompiled, IsCompiled};
 
 use crate::rendering::render_round;
@@ -71,4 +71,31 @@ fn run_round<F: Files>(
     progress.at = round.at;
     progress.number = round.number;
     Ok(round.ending)
+}
+
+/// Takes all records in rounds, and answers how they ended. A fault is one of writing.
+fn run_records<F: Files>(
+    alloc: Global,
+    files: &mut F,
+    job: RunJob<'_>,
+    form: Form,
+    words: &[u64],
+    progress: &mut Progress,
+) -> Result<Ending, Fault>
+    requires compiled { AreCompiled words.now }
+    requires apart { IsTrue (are_apart (names_of job)) }
+    requires bounded { IsBounded progress.old }
+    ensures went { IfOk result (λ ending. Moves (F.held files.old) (F.held files.new) (λ m n. (t : Rules) → IsCompiled t words.now →
+        GoesOn (names_of job.entry) form (steady t) m n progress.old progress.new (Some ending) (F.last files.new))) }
+    ensures bounded { IfOk result (λ ending. IsBounded progress.new) }
+    ensures others { Moves (F.held files.old) (F.held files.new) (λ m n. OthersKept (names_of job.entry) m n) }
+    ensures faults { EndingCounts result (F.faults files.old) (F.faults files.new) }
+    ensures lost { EndingCounts result (F.lost files.old) (F.lost files.new) }
+    ensures spoiled { Counted result (F.spoiled files.old) (F.spoiled files.new) }
+{
+    'rounds: loop {
+        if let Some(ending) = run_round(alloc, files, job, form, words, progress)? {
+            return Ok(ending);
+        }
+    }
 }
