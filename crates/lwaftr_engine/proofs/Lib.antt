@@ -1,7 +1,8 @@
-pub mod FinishLemmas
-pub mod FrontLemmas
-pub mod Going
-pub mod Joining
-pub mod LineLemmas
-pub mod Moving
-pub mod Touching
+mod FinishLemmas
+mod FrontLemmas
+mod Going
+mod Joining
+mod LineLemmas
+mod Moving
+mod RenderLemmas
+mod Touching

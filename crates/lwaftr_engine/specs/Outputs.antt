@@ -13,7 +13,7 @@ use Rattle.swap_core.specs.Sound.{in_force}
 use Rattle.verdict_core.specs.Verdicts.{verdict_of}
 use Rattle.verdict_core.specs.declared.verdicts.Verdict.{Verdict}
 use Rattle.verdict_core.specs.declared.verdicts.Verdict.TheVariants as verdict
-use Rattle.aftr_text.specs.declared.lines.Totals.{Totals}
+use Rattle.aftr_text.specs.declared.summaries.Totals.{Totals}
 use Rattle.aftr_text.specs.Lines.{verdict_text, ended_text, initial_text}
 
 -- The tables of a run by their versions, and the points: the number of the record before which each later one came into

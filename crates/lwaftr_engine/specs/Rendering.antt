@@ -1,6 +1,6 @@
 -- What some records write, and the totals that they leave.
 use Rattle.std.specs.Prelude.{◌≡◌, ℕ, ◌+◌, ◌≤◌, true, List, ◌++◌, length, flat_map}
-use Rattle.aftr_text.specs.declared.lines.Totals.{Totals}
+use Rattle.aftr_text.specs.declared.summaries.Totals.{Totals}
 use Rattle.aftr_text.specs.Lines.{ended_text, verdict_text}
 use Rattle.capture_io.specs.declared.forms.Rec.{Rec}
 use Rattle.capture_io.specs.Written.{record_bytes}
@@ -17,12 +17,12 @@ pub record IsRendered (c : Course) (start : ℕ) (records : List Rec) (entries :
   pub totals : now ≡ totals_from c before start entries
 
 -- one record with this verdict under the first table writes this behind what was written
-pub record IsRenderedOne (number : ℕ) (record : Rec) (entry : Entry) (verdict : Verdict) (old new : Rendered) (before now : Totals) : Type 0 where
-  pub packets : new.packets.items ≡ old.packets.items ++ flat_map (λ packet. record_bytes record.seconds record.fraction packet) (sent entry.item verdict number)
-  pub lines : new.lines.items ≡ old.lines.items ++ (flat_map (ended_text true) entry.ended ++ verdict_text number 0 verdict (length (sent entry.item verdict number)))
-  pub totals : now ≡ counted before verdict (length (sent entry.item verdict number))
+pub record IsRenderedOne (number : ℕ) (r : Rec) (e : Entry) (v : Verdict) (old new : Rendered) (before now : Totals) : Type 0 where
+  pub packets : new.packets.items ≡ old.packets.items ++ flat_map (λ packet. record_bytes r.seconds r.fraction packet) (sent e.item v number)
+  pub lines : new.lines.items ≡ old.lines.items ++ (flat_map (ended_text true) e.ended ++ verdict_text number 0 v (length (sent e.item v number)))
+  pub totals : now ≡ counted before v (length (sent e.item v number))
 
--- no count is above the number of records
+-- so many records were counted, and no count is above their number
 pub record IsWithin (totals : Totals) (number : ℕ) : Type 0 where
   pub records : totals.records ≡ number
   pub held : totals.held ≤ number
