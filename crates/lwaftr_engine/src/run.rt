@@ -10,6 +10,7 @@ ghost use Rattle.capture_io.specs.declared.forms.Rec.{Rec as Record};
 ghost use Rattle.capture_io.specs.Header.{header_in};
 ghost use Rattle.item_stage.specs.Items.{unfinished_of};
 ghost use Rattle.item_stage.specs.Stages.{Stands};
+ghost use Rattle.lwaftr_engine.specs.Clauses.{FilesAt, HasCause, IsOfRun, counts};
 ghost use Rattle.lwaftr_engine.specs.Endings.{OthersKept};
 ghost use Rattle.lwaftr_engine.specs.Jobs.{are_apart, names_of};
 ghost use Rattle.lwaftr_engine.specs.Outputs.{steady};
@@ -17,16 +18,19 @@ ghost use Rattle.lwaftr_engine.specs.Progress.{EndingCounts, EndsAs, GoesOn, IsB
 ghost use Rattle.table_words.specs.Layout.{AreCompiled, IsCompiled};
 
 use crate::outputs::open_outputs;
-use crate::rendering::render_round;
+use crate::rendering::{put_ended, render_round};
 use crate::rounds::{Ending, read_round};
+use crate::status::Status;
+use crate::table_file::{NoTable, table_in};
 use crate::words::RunJob;
 use aftr_base::{Fault, Files, OutOfMemory, Sink, append_all, put_all};
-use aftr_text::{Totals, ended_line, summary};
-use capture_io::Form;
+use aftr_text::{Totals, summary};
+use capture_io::{CaptureError, Form, read_header};
 use item_stage::Stage;
 use std::alloc::Global;
 use std::marker::Brand;
 use std::sync::ledger::Blank;
+use table_words::compile;
 
 /// The totals before the first record.
 const NONE_YET: Totals = Totals {
@@ -125,11 +129,7 @@ fn unfinished_lines(alloc: Global, stage: &Stage) -> Result<Vec<u8>, OutOfMemory
 {
     let mut lines = Vec::new(alloc);
     let unfinished = stage.unfinished(alloc)?;
-    let numbers = unfinished.as_slice();
-    'numbers: for number in numbers {
-        let line = ended_line(alloc, false, *number)?;
-        lines.extend_from_slice(line.as_str().as_bytes())?;
-    }
+    put_ended(alloc, &mut lines, false, unfinished.as_slice())?;
     Ok(lines)
 }
 
@@ -185,4 +185,39 @@ fn run_capture<F: Files, O: Sink>(
     let ending = run_records(alloc, files, job, form, words, &mut progress)?;
     finish(alloc, files, out, job, &progress)?;
     Ok(ending)
+}
+
+/// Does the run.
+pub fn run_job<F: Files, O: Sink>(alloc: Global, job: RunJob<'_>, files: &mut F, out: &mut O) -> Status
+    requires apart { IsTrue (are_apart (names_of job)) }
+    ensures files { Moves (F.held files.old) (F.held files.new) (λ m n.
+        FilesAt (names_of job.entry) result m n (O.out out.old) (O.out out.new) (F.last files.new)) }
+    ensures cause { HasCause result
+        (counts (F.lost files.old) (F.spoiled files.old) (F.faults files.old) (O.faults out.old))
+        (counts (F.lost files.new) (F.spoiled files.new) (F.faults files.new) (O.faults out.new)) }
+    ensures of_run { IsOfRun result }
+{
+    let table = match table_in(alloc, files, job.table) {
+        Ok(table) => table,
+        Err(NoTable::ReadFault) => return Status::ReadFault,
+        Err(NoTable::Refused(refusal)) => return Status::BadTable(refusal),
+        Err(NoTable::OutOfMemory) => return Status::OutOfMemory,
+    };
+    let words = match compile(alloc, &table) {
+        Ok(words) => words,
+        Err(OutOfMemory) => return Status::OutOfMemory,
+    };
+    let form = match read_header(alloc, files, job.input) {
+        Ok(form) => form,
+        Err(CaptureError::Bad(refusal)) => return Status::BadCapture(refusal),
+        Err(CaptureError::ReadFault) => return Status::ReadFault,
+        Err(CaptureError::OutOfMemory) => return Status::OutOfMemory,
+    };
+    match run_capture(alloc, files, out, job, form, words.as_slice()) {
+        Ok(Ending::End) => Status::Done,
+        Ok(Ending::Bad(refusal)) => Status::BadCapture(refusal),
+        Ok(Ending::ReadFault) => Status::ReadFault,
+        Err(Fault::Failed) => Status::WriteFault,
+        Err(Fault::OutOfMemory) => Status::OutOfMemory,
+    }
 }
