@@ -1,0 +1,60 @@
+-- The front of a file, joined from pieces; and that the front of a table file says what the file says.
+use Rattle.std.proofs.Common.{◌≡◌, ℕ, ◌+◌, ◌<◌, nat_lt, Bool, true, if◌then◌else◌, List, ◌++◌, length, length-take, take, drop, Option, Some, None, Result, Ok, Err, sym, ◌∙◌, ap, inl, inr, subst, arith, length-append}
+use Rattle.std.proofs.Math.Seq.{take-add}
+use Rattle.std.proofs.lemmas.Bool.{cases_lt}
+use Rattle.std.proofs.lemmas.Bool.Decides.{nat_tests}
+use Rattle.std.proofs.lemmas.List.{take_all}
+use Rattle.binding_file.specs.declared.refusals.FileError.{FileError}
+use Rattle.binding_file.specs.declared.refusals.FileError.TheVariants as file_error
+use Rattle.binding_file.specs.Files.{IsCause, TableOf, TextOf, fits, most_bytes}
+use Rattle.binding_file.specs.Keys.{Then}
+use Rattle.binding_file.specs.declared.refusals.FileRefused.{FileRefused}
+use Rattle.binding_file.specs.declared.refusals.FileRefused.TheVariants as refused
+use Rattle.binding_rules.specs.Tables.{Rules}
+use Rattle.aftr_base.specs.Held.{Held, content, Told}
+
+-- what was read of the front, and then right behind it
+pub front_joined : (a b : Option Held) (name list piece : List ℕ) (have count : ℕ) → b ≡ a → have ≡ length list
+    → Told a (λ m. list ≡ take have (content m name))
+    → Told b (λ m. piece ≡ take count (drop have (content m name)))
+    → Told a (λ m. list ++ piece ≡ take (have + count) (content m name))
+front_joined None b name list piece have count same len first second = tt
+front_joined (Some m) b name list piece have count same len first second =
+    let bytes = content m name in
+    let next : piece ≡ take count (drop have bytes) = subst (λ o. Told o (λ m. piece ≡ take count (drop have (content m name)))) same second in
+    ap (λ l. l ++ piece) first ∙ ap (λ l. take have bytes ++ l) next ∙ sym (take-add have count bytes)
+
+-- the same of a list that has so many bytes
+pub front_longer : (a b : Option Held) (name list piece more : List ℕ) (have count : ℕ) → b ≡ a → have ≡ length list → length piece ≡ count → more ≡ list ++ piece
+    → Told a (λ m. list ≡ take (length list) (content m name))
+    → Told b (λ m. piece ≡ take count (drop have (content m name)))
+    → Told a (λ m. more ≡ take (length more) (content m name))
+front_longer None b name list piece more have count same len whole is first second = tt
+front_longer (Some m) b name list piece more have count same len whole is first second =
+    let front : list ≡ take have (content m name) = first ∙ ap (λ n. take n (content m name)) (sym len) in
+    let long : have + count ≡ length more = omega (arith, ap length is, length-append list piece, len, whole) in
+    is ∙ front_joined (Some m) b name list piece have count same len front second ∙ ap (λ n. take n (content m name)) long
+
+-- a list that is too long is refused as too big
+fits_big : (bytes : List ℕ) → most_bytes < length bytes → fits bytes ≡ Err refused.TooBig
+fits_big bytes long =
+    let test : nat_lt most_bytes (length bytes) ≡ true = grind (arith, nat_tests) in
+    ap (λ (t : Bool). let r : Result (List ℕ) FileRefused = if t then Err refused.TooBig else Ok bytes in r) test
+
+-- one byte more than a table file may have is enough to judge it
+pub table_of_front : (bytes : List ℕ) (r : Result Rules FileRefused) → TableOf (take 16777217 bytes) r → TableOf bytes r
+table_of_front bytes r says = elim (cases_lt 16777216 (length bytes)) [
+  | inl long ↦
+      let cut : 16777216 < length (take 16777217 bytes) = omega (arith, long, length-take 16777217 bytes) in
+      subst (λ f. Then f (λ text. TextOf text r) r) (fits_big (take 16777217 bytes) cut ∙ sym (fits_big bytes long)) says
+  | inr short ↦ subst (λ b. TableOf b r) (take_all 16777217 bytes (omega (arith, short))) says
+]
+
+pub table_told : (h : Option Held) (name bytes text : List ℕ) (r : Result Rules FileRefused) → text ≡ bytes
+    → Told h (λ m. bytes ≡ take 16777217 (content m name)) → TableOf text r → Told h (λ m. TableOf (content m name) r)
+table_told None name bytes text r is front says = tt
+table_told (Some m) name bytes text r is front says = table_of_front (content m name) r (subst (λ b. TableOf b r) (is ∙ front) says)
+
+pub refusal_told : (h : Option Held) (name bytes text : List ℕ) (error : FileError) (refusal : FileRefused) → text ≡ bytes → error ≡ file_error.Refused refusal
+    → Told h (λ m. bytes ≡ take 16777217 (content m name)) → IsCause text error → Told h (λ m. TableOf (content m name) (Err refusal))
+refusal_told h name bytes text error refusal is cause front says = table_told h name bytes text (Err refusal) is front (subst (IsCause text) cause says)

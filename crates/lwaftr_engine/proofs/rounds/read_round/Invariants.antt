@@ -1,0 +1,26 @@
+use Rattle.std.proofs.Common.{◌≡◌, ◌≤◌, ◌<◌, ◌+◌, ◌-◌, ◌*◌, ◌^◌, All, length}
+use Rattle.aftr_base.specs.Held.{Told, content}
+use Rattle.lwaftr_engine.specs.Rounds.{Precedes, captured}
+use Rattle.lwaftr_engine.proofs.rounds.read_round.Given as goal
+
+abbrev pub invariant-records : goal.invariant-records
+invariant-records g l = let f = g.F.Files in record {
+  follows : Told (f.held l.initial.files) (λ m. Precedes l.form.big (content m l.name) l.initial.at l.initial.number l.records.items l.at l.number);
+  number : l.number ≡ l.initial.number + length l.records.items;
+  forward : l.initial.at ≤ l.at;
+  placed : All (λ r. r.next_at ≤ l.at) l.records.items;
+  most : l.number ≤ 2 ^ 31;
+  place : l.at ≤ 24 + 262160 * l.number;
+  bytes : l.bytes ≡ captured l.records.items;
+  some : 0 < l.bytes → 0 < length l.records.items;
+  few : length l.records.items ≤ 16384;
+  within : l.bytes < 67108864 + 262144;
+  held : f.held l.files ≡ f.held l.initial.files;
+  faults : f.faults l.files ≡ f.faults l.initial.files;
+  lost : f.lost l.files ≡ f.lost l.initial.files;
+  spoiled : f.spoiled l.files ≡ f.spoiled l.initial.files;
+  last : f.last l.files ≡ f.last l.initial.files;
+}
+
+abbrev pub decreases-records : goal.decreases-records
+decreases-records g l = 16384 - length l.records.items

@@ -1,0 +1,50 @@
+-- What the command words ask for.
+use Rattle.std.specs.Prelude.{ℕ, ◌==◌, nat_lt, Bool, not, ◌&&◌, if◌then◌else◌, List, [], ◌∷◌, bytes_eq, codes, length, map, slice_index, Option, Some, None, IfSome}
+use Rattle.std.specs.Borrow.{Bor}
+use Rattle.lwaftr_engine.specs.declared.words.RunJob.{RunJob}
+
+-- the bytes of each word
+abbrev pub texts : List (Bor (List ℕ)) → List (List ℕ)
+texts words = map (λ w. w.now) words
+
+-- the files of a run, by their names
+pub record RunNames : Type 0 where
+  pub input : List ℕ
+  pub output : List ℕ
+  pub verdicts : List ℕ
+  pub versions : List ℕ
+  pub table : List ℕ
+
+abbrev pub names_of : RunJob → RunNames
+names_of job = record { input = job.input.now; output = job.output.now; verdicts = job.verdicts.now; versions = job.versions.now; table = job.table.now }
+
+-- two lists of bytes are the same
+abbrev pub same : List ℕ → List ℕ → Bool
+same a b = bytes_eq a b
+
+-- the word can name a file: it has a byte, and it is no option (a single `-` is none)
+abbrev pub is_name : List ℕ → Bool
+is_name word = nat_lt 0 (length word) && not (nat_lt 1 (length word) && (slice_index word 0 == 45))
+
+-- each of the five can name a file
+abbrev pub are_names : RunNames → Bool
+are_names n = is_name n.input && is_name n.output && is_name n.verdicts && is_name n.versions && is_name n.table
+
+-- no output has the name of another file of the run
+abbrev pub are_apart : RunNames → Bool
+are_apart n =
+    not (same n.output n.verdicts) && not (same n.output n.versions) && not (same n.verdicts n.versions)
+    && not (same n.output n.input) && not (same n.output n.table)
+    && not (same n.verdicts n.input) && not (same n.verdicts n.table)
+    && not (same n.versions n.input) && not (same n.versions n.table)
+
+-- the run that the words ask for: `run` and five names, of the capture, the packets, the verdicts, the versions and the table
+abbrev pub run_of : List (List ℕ) → Option RunNames
+run_of (word ∷ input ∷ output ∷ verdicts ∷ versions ∷ table ∷ []) =
+    let names : RunNames = record { input = input; output = output; verdicts = verdicts; versions = versions; table = table } in
+    if same word (codes "run") && are_names names && are_apart names then Some names else None
+run_of _ = None
+
+-- P of the names of the run that the words ask for
+abbrev pub ForRun : List (Bor (List ℕ)) → (RunNames → Type 0) → Type 0
+ForRun words P = IfSome (run_of (texts words)) P

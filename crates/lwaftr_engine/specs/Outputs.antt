@@ -1,0 +1,110 @@
+-- What one router writes that takes the records in order, each under the table in force at its number: the packets sent, a
+-- line for each record, and the totals. No worker, area or thread stands here.
+use Rattle.std.specs.Prelude.{ℕ, ◌+◌, Bool, true, false, if◌then◌else◌, List, [], ◌∷◌, ◌++◌, length, flat_map}
+use Rattle.binding_rules.specs.Tables.{Rules}
+use Rattle.capture_io.specs.declared.forms.Form.{Form}
+use Rattle.capture_io.specs.declared.forms.Rec.{Rec}
+use Rattle.capture_io.specs.Written.{header_bytes, record_bytes}
+use Rattle.ip_codec.specs.declared.items.Item.{Item}
+use Rattle.item_stage.specs.declared.entries.Entry.{Entry}
+use Rattle.item_stage.specs.Items.{entries_of, unfinished_of}
+use Rattle.packet_render.specs.Sent.{sent}
+use Rattle.swap_core.specs.Sound.{in_force}
+use Rattle.verdict_core.specs.Verdicts.{verdict_of}
+use Rattle.verdict_core.specs.declared.verdicts.Verdict.{Verdict}
+use Rattle.verdict_core.specs.declared.verdicts.Verdict.TheVariants as verdict
+use Rattle.aftr_text.specs.declared.summaries.Totals.{Totals}
+use Rattle.aftr_text.specs.Lines.{verdict_text, ended_text, initial_text}
+
+-- The tables of a run by their versions, and the points: the number of the record before which each later one came into
+-- force.
+pub record Course : Type 0 where
+  pub tables : ℕ → Rules
+  pub points : List ℕ
+
+-- one table from the first record to the last
+abbrev pub steady : Rules → Course
+steady t = record { tables = λ _. t; points = [] }
+
+abbrev pub version_at : Course → ℕ → ℕ
+version_at c number = in_force c.points number
+
+-- the verdict on the item of the record with this number
+abbrev pub verdict_at : Course → ℕ → Item → Verdict
+verdict_at c number i = verdict_of (c.tables (version_at c number)) i
+
+-- the packets sent for it
+abbrev pub sent_at : Course → ℕ → Item → List (List ℕ)
+sent_at c number i = sent i (verdict_at c number i) number
+
+-- a record of the capture with its entry, as records of the capture that is written: each packet has the time of its record
+abbrev pub packets_at : Course → ℕ → Rec → Entry → List ℕ
+packets_at c number r e = flat_map (λ packet. record_bytes r.seconds r.fraction packet) (sent_at c number e.item)
+
+-- the records written for records from a number on
+abbrev pub packets_from : Course → ℕ → List Rec → List Entry → List ℕ
+packets_from c number (r ∷ rs) (e ∷ es) = packets_at c number r e ++ packets_from c (number + 1) rs es
+packets_from c number _ _ = []
+
+-- the datagrams that ended unfinished at a record, and the record's own line
+abbrev pub lines_at : Course → ℕ → Entry → List ℕ
+lines_at c number e =
+    flat_map (ended_text true) e.ended
+    ++ verdict_text number (version_at c number) (verdict_at c number e.item) (length (sent_at c number e.item))
+
+-- the lines of records from a number on
+abbrev pub lines_from : Course → ℕ → List Entry → List ℕ
+lines_from c number [] = []
+lines_from c number (e ∷ es) = lines_at c number e ++ lines_from c (number + 1) es
+
+abbrev pub is_held : Verdict → Bool
+is_held verdict.Held = true
+is_held _ = false
+
+abbrev pub is_dropped : Verdict → Bool
+is_dropped (verdict.Drop why reply) = true
+is_dropped _ = false
+
+abbrev pub is_forwarded : Verdict → Bool
+is_forwarded (verdict.Inward from to hop mtu back) = true
+is_forwarded (verdict.Outward mtu) = true
+is_forwarded _ = false
+
+abbrev pub one_if : Bool → ℕ
+one_if test = if test then 1 else 0
+
+-- the totals with one record more
+abbrev pub counted : Totals → Verdict → ℕ → Totals
+counted totals v packets = record {
+  records = totals.records + 1;
+  held = totals.held + one_if (is_held v);
+  forwarded = totals.forwarded + one_if (is_forwarded v);
+  dropped = totals.dropped + one_if (is_dropped v);
+  packets = totals.packets + packets;
+  version = totals.version;
+}
+
+-- the totals with these entries more, from a number on
+abbrev pub totals_from : Course → Totals → ℕ → List Entry → Totals
+totals_from c totals number [] = totals
+totals_from c totals number (e ∷ es) =
+    totals_from c (counted totals (verdict_at c number e.item) (length (sent_at c number e.item))) (number + 1) es
+
+abbrev pub no_totals : Totals
+no_totals = record { records = 0; held = 0; forwarded = 0; dropped = 0; packets = 0; version = 0 }
+
+-- the capture that is written: its resolution is that of the capture that was read
+abbrev pub output_of : Course → Form → List Rec → List ℕ
+output_of c form rs = header_bytes form.nano ++ packets_from c 0 rs (entries_of form rs)
+
+-- the lines of all records, and then of the datagrams that were never whole
+abbrev pub verdicts_of : Course → Form → List Rec → List ℕ
+verdicts_of c form rs = lines_from c 0 (entries_of form rs) ++ flat_map (ended_text false) (unfinished_of form rs)
+
+-- the line of the first table
+abbrev pub versions_of : List ℕ → List ℕ
+versions_of table = initial_text table
+
+-- the totals of a run; the version is the number of tables that came into force after the first
+abbrev pub totals_of : Course → Form → List Rec → Totals
+totals_of c form rs = record (totals_from c no_totals 0 (entries_of form rs)) { version = length c.points }

@@ -1,0 +1,67 @@
+-- Some records of a capture, and how they ended.
+use Rattle.std.specs.Prelude.{◌≡◌, ◌⊎◌, ℕ, ◌+◌, ◌*◌, ◌^◌, ◌<◌, ◌≤◌, Bool, List, [], ◌++◌, length, drop, sum_by, All, Option, Some, None, Result, Ok, Err}
+use Rattle.aftr_base.specs.declared.lists.OutOfMemory.{OutOfMemory}
+use Rattle.aftr_base.specs.Faults.{Rose}
+use Rattle.aftr_base.specs.Held.{Held}
+use Rattle.capture_io.specs.Answers.{IsBeforeEnd}
+use Rattle.capture_io.specs.Capture.{Splits}
+use Rattle.capture_io.specs.declared.forms.CaptureBad.{CaptureBad}
+use Rattle.capture_io.specs.declared.forms.Rec.{Rec}
+use Rattle.lwaftr_engine.specs.declared.rounds.Ending.{Ending}
+use Rattle.lwaftr_engine.specs.declared.rounds.Ending.TheVariants as ending
+use Rattle.lwaftr_engine.specs.declared.rounds.Round.{Round}
+
+-- whatever the rest of the bytes is from a place on, it goes behind these records, which stand from another place on
+abbrev pub Precedes : Bool → List ℕ → ℕ → ℕ → List Rec → ℕ → ℕ → Type 0
+Precedes big bytes at number records to next = (rs : List Rec) (e : Option CaptureBad) →
+    Splits big (drop to bytes) to next rs e → Splits big (drop at bytes) at number (records ++ rs) e
+
+-- the records have ended at a place in this way
+abbrev pub IsEnd : Bool → List ℕ → ℕ → ℕ → Option Ending → Type 0
+IsEnd big bytes at number (Some ending.End) = Splits big (drop at bytes) at number [] None
+IsEnd big bytes at number (Some (ending.Bad refusal)) = Splits big (drop at bytes) at number [] (Some refusal)
+IsEnd big bytes at number (Some ending.ReadFault) = Unit {0}
+IsEnd big bytes at number None = Unit {0}
+
+-- the round's records are the next ones of the capture
+pub record IsRoundOf (big : Bool) (bytes : List ℕ) (at number : ℕ) (round : Round) : Type 0 where
+  pub follows : Precedes big bytes at number round.records.items round.at round.number
+  pub ended : IsEnd big bytes round.at round.number round.ending
+
+-- the records end at or before the place of the next one
+pub record IsPlaced (at : ℕ) (round : Round) : Type 0 where
+  pub forward : at ≤ round.at
+  pub within : All (λ r. r.next_at ≤ round.at) round.records.items
+
+-- how many bytes were captured
+abbrev pub captured : List Rec → ℕ
+captured rs = sum_by (λ r. length r.bytes) rs
+
+-- How many there are: a round that is not the last has 16,384 records or 67,108,864 captured bytes. No record stands behind
+-- the one that brings them to that many, and a record has at most 262,144 of them.
+pub record IsCount (at number : ℕ) (round : Round) : Type 0 where
+  pub numbered : round.number ≡ number + length round.records.items
+  pub most : round.number ≤ 2 ^ 31
+  pub place : round.at ≤ 24 + 262160 * round.number
+  pub some : round.ending ≡ None → 0 < length round.records.items
+  pub few : length round.records.items ≤ 16384
+  pub bytes : captured round.records.items < 67108864 + 262144
+  pub full : round.ending ≡ None → (length round.records.items ≡ 16384) ⊎ (67108864 ≤ captured round.records.items)
+
+-- a count of faults rises exactly where the records ended with `ReadFault`
+abbrev pub Ended : Option Ending → ℕ → ℕ → Type 0
+Ended (Some ending.ReadFault) before now = Rose before now
+Ended _ before now = now ≡ before
+
+abbrev pub EndCounts : Result Round OutOfMemory → ℕ → ℕ → Type 0
+EndCounts (Ok round) before now = Ended round.ending before now
+EndCounts (Err _) before now = now ≡ before
+
+-- the last read that failed, where the records ended with `ReadFault`, is one of this name, in the record that was next
+abbrev pub LastOf : Option Ending → List ℕ → Bool → Option Held → ℕ → ℕ → Option (List ℕ × ℕ) → Option (List ℕ × ℕ) → Type 0
+LastOf (Some ending.ReadFault) name big held at number old new = (place : ℕ) × (at ≤ place) × IsBeforeEnd held name big at number place × (new ≡ Some (name, place))
+LastOf _ name big held at number old new = new ≡ old
+
+abbrev pub EndLast : Result Round OutOfMemory → List ℕ → Bool → Option Held → Option (List ℕ × ℕ) → Option (List ℕ × ℕ) → Type 0
+EndLast (Ok round) name big held old new = LastOf round.ending name big held round.at round.number old new
+EndLast (Err _) name big held old new = new ≡ old

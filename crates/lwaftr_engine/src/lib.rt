@@ -1,0 +1,13 @@
+//! The program's call: it reads the command words and does the job that they ask for, over files and a sink that are handed
+//! in.
+#![tactic(auto)]
+
+mod outputs;
+mod rendering;
+mod rounds;
+mod run;
+mod status;
+mod table_file;
+mod words;
+
+pub use status::{Status, code, status_line};

@@ -1,0 +1,31 @@
+// The outputs of a run: made before the first record, and finished behind the last.
+ghost use Rattle.std.specs.Prelude.{◌≡◌, OnOk, IsTrue};
+ghost use Rattle.aftr_base.specs.Faults.{Counted};
+ghost use Rattle.aftr_base.specs.Held.{Moves};
+ghost use Rattle.lwaftr_engine.specs.Endings.{OthersKept};
+ghost use Rattle.lwaftr_engine.specs.Jobs.{are_apart, names_of};
+ghost use Rattle.lwaftr_engine.specs.Opened.{IsOpened};
+
+use crate::words::RunJob;
+use aftr_base::{Fault, Files, append_all};
+use aftr_text::initial_line;
+use capture_io::put_header;
+use std::alloc::Global;
+
+/// Makes the three outputs, and writes the header of the capture and the line of the first table. A fault is one of writing.
+pub fn open_outputs<F: Files>(alloc: Global, files: &mut F, job: RunJob<'_>, nano: bool) -> Result<(), Fault>
+    requires apart { IsTrue (are_apart (names_of job)) }
+    ensures opened { OnOk result (Moves (F.held files.old) (F.held files.new) (λ m n. IsOpened (names_of job.entry) nano m n)) }
+    ensures others { Moves (F.held files.old) (F.held files.new) (λ m n. OthersKept (names_of job.entry) m n) }
+    ensures faults { Counted result (F.faults files.old) (F.faults files.new) }
+    ensures spoiled { Counted result (F.spoiled files.old) (F.spoiled files.new) }
+    ensures lost { F.lost files.new ≡ F.lost files.old }
+    ensures last { F.last files.new ≡ F.last files.old }
+{
+    files.create(alloc, job.output)?;
+    files.create(alloc, job.verdicts)?;
+    files.create(alloc, job.versions)?;
+    append_all(alloc, files, job.output, &put_header(nano))?;
+    let line = initial_line(alloc, job.table)?;
+    append_all(alloc, files, job.versions, line.as_str().as_bytes())
+}

@@ -1,0 +1,131 @@
+// How a job ended.
+ghost use Rattle.std.specs.Prelude.{◌≡◌, IfOk};
+ghost use Rattle.lwaftr_engine.specs.Statuses.{code_of, status_text};
+
+use aftr_base::{OutOfMemory, Text};
+use binding_file::FileRefused;
+use capture_io::CaptureBad;
+use std::alloc::Global;
+
+/// How a job ended.
+#[derive(Clone, Copy, Debug, PartialEq, Eq)]
+pub enum Status {
+    /// All was done.
+    Done,
+    /// All was done, and a later table was refused.
+    DoneRefused,
+    /// The words ask for no job. Nothing was touched.
+    Usage,
+    /// A read failed.
+    ReadFault,
+    /// A file could not be made or written, or the sink not be written to.
+    WriteFault,
+    /// The table file is refused. Nothing was written.
+    BadTable(FileRefused),
+    /// The capture is refused: in its file header, and then nothing was written; or in a record, and then all records
+    /// before it were judged and written.
+    BadCapture(CaptureBad),
+    /// The allocator had no room.
+    OutOfMemory,
+}
+
+/// The program's exit code: 0 to 7, in the order of the statuses.
+pub fn code(status: &Status) -> u8
+    ensures { result ≡ code_of status.now }
+{
+    match status {
+        Status::Done => 0,
+        Status::DoneRefused => 1,
+        Status::Usage => 2,
+        Status::ReadFault => 3,
+        Status::WriteFault => 4,
+        Status::BadTable(_) => 5,
+        Status::BadCapture(_) => 6,
+        Status::OutOfMemory => 7,
+    }
+}
+
+/// The status in words, with a line feed at the end: `done`, `table refused: rules twice 0 64`, `capture refused: link 113`.
+pub fn status_line(alloc: Global, status: &Status) -> Result<Text, OutOfMemory>
+    ensures { IfOk result (λ line. line ≡ status_text status.now) }
+{
+    let line = match status {
+        Status::Done => format!(in alloc; "done\n"),
+        Status::DoneRefused => format!(in alloc; "done, a load was refused\n"),
+        Status::Usage => format!(in alloc; "usage\n"),
+        Status::ReadFault => format!(in alloc; "read fault\n"),
+        Status::WriteFault => format!(in alloc; "write fault\n"),
+        Status::BadTable(refusal) => format!(in alloc; "table refused: {refusal}\n"),
+        Status::BadCapture(refusal) => return refused_capture(alloc, *refusal),
+        Status::OutOfMemory => format!(in alloc; "out of memory\n"),
+    };
+    Ok(Text::of(line?))
+}
+
+fn refused_capture(alloc: Global, refusal: CaptureBad) -> Result<Text, OutOfMemory>
+    ensures { IfOk result (λ line. line ≡ status_text (Status.BadCapture refusal)) }
+{
+    let line = match refusal {
+        CaptureBad::Magic => format!(in alloc; "capture refused: magic\n"),
+        CaptureBad::Version => format!(in alloc; "capture refused: version\n"),
+        CaptureBad::Link { number } => format!(in alloc; "capture refused: link {number}\n"),
+        CaptureBad::CutHeader { at } => format!(in alloc; "capture refused: cut header at {at}\n"),
+        CaptureBad::CutRecord { at } => format!(in alloc; "capture refused: cut record at {at}\n"),
+        CaptureBad::TooLong { at } => format!(in alloc; "capture refused: too long at {at}\n"),
+        CaptureBad::TooMany { at } => format!(in alloc; "capture refused: too many at {at}\n"),
+    };
+    Ok(Text::of(line?))
+}
+
+#[cfg(test)]
+mod tests {
+    use super::*;
+    use binding_rules::Refused;
+    use std::test::Fail;
+
+    #[test]
+    fn statuses_have_codes_and_lines(rt: HostRuntime) -> Result<(), Fail> {
+        let twice = FileRefused::Rules(Refused::Twice {
+            first: 0,
+            second: 64,
+        });
+        let cases = [
+            (Status::Done, 0, "done\n"),
+            (Status::DoneRefused, 1, "done, a load was refused\n"),
+            (Status::Usage, 2, "usage\n"),
+            (Status::ReadFault, 3, "read fault\n"),
+            (Status::WriteFault, 4, "write fault\n"),
+            (
+                Status::BadTable(FileRefused::NotToml),
+                5,
+                "table refused: not-toml\n",
+            ),
+            (
+                Status::BadTable(twice),
+                5,
+                "table refused: rules twice 0 64\n",
+            ),
+            (
+                Status::BadCapture(CaptureBad::Magic),
+                6,
+                "capture refused: magic\n",
+            ),
+            (
+                Status::BadCapture(CaptureBad::Link { number: 113 }),
+                6,
+                "capture refused: link 113\n",
+            ),
+            (
+                Status::BadCapture(CaptureBad::CutRecord { at: 24 }),
+                6,
+                "capture refused: cut record at 24\n",
+            ),
+            (Status::OutOfMemory, 7, "out of memory\n"),
+        ];
+        for (status, number, line) in cases {
+            assert_eq!(rt; code(&status), number);
+            assert_eq!(rt; status_line(rt.alloc(), &status)?.as_str(), line);
+        }
+        Ok(())
+    }
+}

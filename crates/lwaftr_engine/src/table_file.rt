@@ -1,0 +1,103 @@
+// A table, read from a file.
+ghost use Rattle.std.specs.Prelude.{◌≡◌, ◌≤◌, ◌+◌, ◌^◌, IfOk, IfErr, Ok, length, take, drop};
+ghost use Rattle.aftr_base.specs.Faults.{Counted, LastWithin};
+ghost use Rattle.aftr_base.specs.Held.{content, Told};
+ghost use Rattle.binding_file.specs.Files.{TableOf};
+ghost use Rattle.lwaftr_engine.specs.Tables.{IsNoTable, TableCounts, TableLast};
+
+use aftr_base::{Bytes, Fault, Files, fill};
+use binding_file::{FileError, FileRefused, read_table};
+use binding_rules::Table;
+use std::alloc::Global;
+
+/// How many bytes are enough to judge a table file: one more than it may have.
+const ENOUGH: usize = 16_777_217;
+
+/// How many bytes are asked for at first.
+const PIECE: usize = 65_536;
+
+/// Why there is no table.
+#[derive(Clone, Copy, Debug)]
+pub enum NoTable {
+    /// A read of the file failed.
+    ReadFault,
+    /// The file is no table, for this first reason.
+    Refused(FileRefused),
+    /// The allocator had no room.
+    OutOfMemory,
+}
+
+/// The table that the file spells; a file that is not there holds no bytes. It is read from its start on, in pieces that
+/// double, and never more of it than decides that it is too big: one byte more than 16,777,216.
+pub fn table_in<F: Files>(alloc: Global, files: &mut F, name: &str) -> Result<Table, NoTable>
+    ensures table { IfOk result (λ t. Told (F.held files.old) (λ m. TableOf (content m name.now) (Ok t))) }
+    ensures refused { IfErr result (λ why. Told (F.held files.old) (λ m. IsNoTable (content m name.now) why)) }
+    ensures held { F.held files.new ≡ F.held files.old }
+    ensures faults { TableCounts result (F.faults files.old) (F.faults files.new) }
+    ensures lost { TableCounts result (F.lost files.old) (F.lost files.new) }
+    ensures spoiled { F.spoiled files.new ≡ F.spoiled files.old }
+    ensures last { TableLast result name.now (F.last files.old) (F.last files.new) }
+{
+    let bytes = match file_front(alloc, files, name, ENOUGH) {
+        Ok(bytes) => bytes,
+        Err(Fault::Failed) => return Err(NoTable::ReadFault),
+        Err(Fault::OutOfMemory) => return Err(NoTable::OutOfMemory),
+    };
+    match read_table(alloc, bytes.as_slice()) {
+        Ok(table) => Ok(table),
+        Err(FileError::Refused(refusal)) => Err(NoTable::Refused(refusal)),
+        Err(FileError::OutOfMemory) => Err(NoTable::OutOfMemory),
+    }
+}
+
+/// The first bytes of a file, at most so many, in pieces that double.
+fn file_front<F: Files>(
+    alloc: Global,
+    files: &mut F,
+    name: &str,
+    most: usize,
+) -> Result<Bytes, Fault>
+    requires { most ≤ 2 ^ 32 }
+    ensures bytes { IfOk result (λ bytes. Told (F.held files.old) (λ m. bytes ≡ take most (content m name.now))) }
+    ensures held { F.held files.new ≡ F.held files.old }
+    ensures faults { Counted result (F.faults files.old) (F.faults files.new) }
+    ensures lost { Counted result (F.lost files.old) (F.lost files.new) }
+    ensures spoiled { F.spoiled files.new ≡ F.spoiled files.old }
+    ensures last { LastWithin result name.now 0 most (F.last files.old) (F.last files.new) }
+{
+    let mut list = Vec::new(alloc);
+    'pieces: while list.len() < most {
+        let have = list.len();
+        let count = (most - have).min(PIECE.max(have));
+        let piece = bytes_at(alloc, files, name, have as u64, count)?;
+        list.extend_from_slice(&piece)?;
+        if piece.len() < count {
+            return Ok(Bytes::of(list));
+        }
+    }
+    Ok(Bytes::of(list))
+}
+
+/// So many bytes of a file from a place on, or as many as there are.
+fn bytes_at<F: Files>(
+    alloc: Global,
+    files: &mut F,
+    name: &str,
+    at: u64,
+    count: usize,
+) -> Result<Vec<u8>, Fault>
+    requires { at + count ≤ 2 ^ 64 }
+    ensures bytes { IfOk result (λ bytes. Told (F.held files.old)
+        (λ m. bytes.items ≡ take count (drop at (content m name.now)))) }
+    ensures within { IfOk result (λ bytes. length bytes.items ≤ count) }
+    ensures held { F.held files.new ≡ F.held files.old }
+    ensures faults { Counted result (F.faults files.old) (F.faults files.new) }
+    ensures lost { Counted result (F.lost files.old) (F.lost files.new) }
+    ensures spoiled { F.spoiled files.new ≡ F.spoiled files.old }
+    ensures last { LastWithin result name.now at (at + count) (F.last files.old) (F.last files.new) }
+{
+    let mut list = vec![in alloc; 0; count]?;
+    let got = fill(alloc, files, name, at, &mut list)?;
+    list.truncate(got);
+    Ok(list)
+}
