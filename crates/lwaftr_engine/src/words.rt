@@ -1,5 +1,5 @@
 // The command words.
-ghost use Rattle.std.specs.Prelude.{◌≡◌};
+ghost use Rattle.std.specs.Prelude.{◌≡◌, IfSome, IsTrue};
 ghost use Rattle.std.specs.Option.{option_map};
 ghost use Rattle.lwaftr_engine.specs.Jobs.{are_apart, are_names, is_name, names_of, run_of, texts};
 
@@ -23,7 +23,8 @@ pub struct RunJob<'a> {
 
 /// The run that the words ask for, if they do.
 pub fn read_words<'a>(words: &[&'a str]) -> Option<RunJob<'a>>
-    ensures { option_map names_of result ≡ run_of (texts words.now) }
+    ensures read { option_map names_of result ≡ run_of (texts words.now) }
+    ensures apart { IfSome result (λ job. IsTrue (are_apart (names_of job))) }
 {
     if words.len() != WORDS {
         return None;
