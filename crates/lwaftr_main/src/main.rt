@@ -5,12 +5,22 @@
 use aftr_base::{RealFiles, RealSink};
 use lwaftr_engine::{Status, code, lwaftr, status_line};
 use std::alloc::Global;
-use std::env;
 use std::io::ErrorKind;
 use std::process::ExitCode;
 use std::rt::{Env, Files};
+use std::{env, fs};
+
+// A file that can always be opened, and takes nothing where it is open for reading.
+const NOTHING: &str = "/dev/null";
 
 fn main(rt: HostRuntime) -> ExitCode {
+    // A standard stream that was closed would give its number to the first file that is opened, and the summary would be
+    // written into that. So each such number is taken first, by something that cannot be written to.
+    let _streams = [
+        fs::open(&rt, NOTHING),
+        fs::open(&rt, NOTHING),
+        fs::open(&rt, NOTHING),
+    ];
     let status = run(&rt);
     report(&rt, &status);
     ExitCode::from(code(&status))
