@@ -7,6 +7,8 @@ mod compiler;
 mod counter;
 mod entries;
 mod lookups;
+mod owners;
+mod probes;
 mod reader;
 mod searches;
 

@@ -1,17 +1,18 @@
 // What the words of a table say of an address and of the settings.
-ghost use Rattle.std.specs.Prelude.{◌≡◌, ℕ, ◌+◌, ◌-◌, ◌*◌, ◌/◌, ◌^◌, ◌<◌, ◌≤◌, IfSome, IfNone};
+ghost use Rattle.std.specs.Prelude.{◌≡◌, ◌+◌, ◌-◌, ◌≤◌, IfSome};
 ghost use Rattle.binding_rules.specs.Bindings.{bound};
 ghost use Rattle.binding_rules.specs.Tables.{Rules};
+ghost use Rattle.binding_rules.specs.declared.settings.Edition.TheVariants as edition;
 ghost use Rattle.table_words.specs.Answers.{first_b4, has_v4};
-ghost use Rattle.table_words.specs.Bounds.{found_bound, look_bound, group_digits};
+ghost use Rattle.table_words.specs.Bounds.{found_bound, look_bound, most_shapes, group_digits};
 ghost use Rattle.table_words.specs.Layout.{IsCompiled, AreCompiled};
 ghost use Rattle.table_words.specs.Reads.{read_more};
-ghost use Rattle.table_words.specs.Spans.{IsSpan, IsGroup, IsFound, IsNotFound, first_at};
 
 use crate::counter::Steps;
-use crate::entries::{first_word, key_of, tunnel_end};
+use crate::entries::first_word;
+use crate::owners::{owner_alike, owner_like};
 use crate::reader::Words;
-use crate::searches::{group_of, lower_bound, place_of};
+use crate::searches::{group_of, lower_bound};
 use aftr_base::{V4, V6};
 use binding_rules::{Softwire, Want};
 use std::sync::ledger::Ledger;
@@ -20,7 +21,7 @@ use std::sync::ledger::Ledger;
 /// and length are both 0; None exactly where the table has none. The condition is that the words are compiled from a
 /// table. With B binary digits in the greatest number of bindings that agree in the top 16 bits of their addresses, and
 /// at most G different shapes at one address, it reads at most `G * (2 * B + 4) + B + 4` words, and B fewer where it
-/// finds an owner.
+/// finds an owner, and where G is 1 as it is in every table of edition One.
 pub fn look<W: Words, L: Ledger>(
     words: &mut W,
     v4: V4,
@@ -31,12 +32,17 @@ pub fn look<W: Words, L: Ledger>(
     ensures owner { (t : Rules) → IsCompiled t (W.list words.old) → result ≡ first_b4 (bound t.bindings v4 want) }
     ensures bound { (t : Rules) → IsCompiled t (W.list words.old) → steps.new ≤ steps.old + look_bound t.bindings }
     ensures found { IfSome result (λ _. (t : Rules) → IsCompiled t (W.list words.old) → steps.new ≤ steps.old + found_bound t.bindings) }
+    ensures one_shape { (t : Rules) → IsCompiled t (W.list words.old) → most_shapes t.bindings ≡ 1 → steps.new ≤ steps.old + found_bound t.bindings }
+    ensures edition_one { (t : Rules) → IsCompiled t (W.list words.old) → t.edition ≡ edition.One → steps.new ≤ steps.old + found_bound t.bindings }
     ensures list { W.list words.new ≡ W.list words.old }
     ensures reads { W.reads words.new ≡ read_more (W.reads words.old) (steps.new - steps.old) }
     ensures goes { W.goes words.old words.new }
     ensures later { steps.old ≤ steps.new }
 {
     let group = group_of(words, v4, steps);
+    if words.word(5, steps) == 0 {
+        return owner_alike(words, group.from, group.to, v4, want, steps);
+    }
     let address = u64::from(v4.0);
     let mut from = group.from;
     let mut least = address * 0x1_0000_0000;
@@ -55,35 +61,6 @@ pub fn look<W: Words, L: Ledger>(
         }
         least = first - first % 0x1_0000 + 0x1_0000;
     }
-}
-
-/// Of these entries the tunnel's end of the one with the address and shape of this first word that owns what is wanted.
-fn owner_like<W: Words, L: Ledger>(
-    words: &mut W,
-    from: u32,
-    to: u32,
-    first: u64,
-    want: Want,
-    steps: &mut Steps<L>,
-) -> Option<V6>
-    requires span { IsSpan (W.list words.old) from to }
-    requires here { first ≡ first_at (W.list words.old) from }
-    requires some { from < to }
-    ensures owner { IfSome result (λ b4. IsFound (W.list words.old) from to first want b4.0) }
-    ensures none { IfNone result (IsNotFound (W.list words.old) from to first want) }
-    ensures bound { (d : ℕ) → to - from < 2 ^ d → steps.new ≤ steps.old + d + 3 }
-    ensures bound_none { IfNone result ((d : ℕ) → to - from < 2 ^ d → steps.new ≤ steps.old + d + 1) }
-    ensures list { W.list words.new ≡ W.list words.old }
-    ensures reads { W.reads words.new ≡ read_more (W.reads words.old) (steps.new - steps.old) }
-    ensures goes { W.goes words.old words.new }
-    ensures later { steps.old ≤ steps.new }
-{
-    let key = key_of(first, want)?;
-    let at = place_of(words, from, to, first, key, steps);
-    if at >= to || first_word(words, at, steps) != key {
-        return None;
-    }
-    Some(tunnel_end(words, at, steps))
 }
 
 /// Whether some binding of the table has the address. The condition is that of `look`. It reads at most B + 3 words.
