@@ -1,5 +1,5 @@
 // What the words of a table say of an address and of the settings.
-ghost use Rattle.std.specs.Prelude.{◌≡◌, ◌+◌, ◌-◌, ◌≤◌, IfSome};
+ghost use Rattle.std.specs.Prelude.{◌≡◌, ◌+◌, ◌-◌, ◌<◌, ◌≤◌, IfSome};
 ghost use Rattle.binding_rules.specs.Bindings.{bound};
 ghost use Rattle.binding_rules.specs.Tables.{Rules};
 ghost use Rattle.binding_rules.specs.declared.settings.Edition.TheVariants as edition;
