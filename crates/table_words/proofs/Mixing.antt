@@ -294,8 +294,9 @@ module _ (t : Rules) (words : List ℕ) (h : IsCompiled t words) (word : ℕ) (w
   mixed : is_mixed t.bindings ≡ true
   mixed = mixed_word t words h (λ e. other (word_is ∙ e))
 
-  pub not_one_shape : most_shapes t.bindings ≡ 1 → ⊥
-  not_one_shape one = omega (arith, mixed_counts t h.lawful mixed, one)
+  -- so nothing is claimed of it that holds of other tables alone
+  pub not_one_shape : most_shapes t.bindings ≡ 1 → (m n : ℕ) → m ≤ n
+  not_one_shape one m n = absurd (omega (arith, mixed_counts t h.lawful mixed, one))
 
-  pub not_edition_one : t.edition ≡ edition.One → ⊥
-  not_edition_one one = one_unmixed t h.lawful one mixed
+  pub not_edition_one : t.edition ≡ edition.One → (m n : ℕ) → m ≤ n
+  not_edition_one one m n = absurd (one_unmixed t h.lawful one mixed)

@@ -11,8 +11,10 @@ mod owners;
 mod probes;
 mod reader;
 mod searches;
+mod settings;
 
 pub use compiler::compile;
 pub use counter::Steps;
-pub use lookups::{has_address, look, softwire};
+pub use lookups::{has_address, look};
 pub use reader::{SliceWords, Words};
+pub use settings::softwire;

@@ -1,6 +1,6 @@
-use Rattle.std.proofs.Common.{◌≡◌, ◌≢◌, ◌-◌, ◌/◌, ◌%◌, ◌≤◌, List, ℕ, length, subst, sym, ap, ◌∙◌, arith}
+use Rattle.std.proofs.Common.{◌≡◌, ◌≢◌, ◌+◌, ◌-◌, ◌/◌, ◌%◌, ◌≤◌, List, ℕ, length, subst, sym, ap, ◌∙◌, arith}
 use Rattle.std.specs.Prelude.{IfSome, IfNone, slice_index}
-use Rattle.table_words.specs.Bounds.{group_digits}
+use Rattle.table_words.specs.Bounds.{group_digits, found_bound}
 use Rattle.table_words.specs.Spans.{first_at, IsBoundary, IsSpan, IsFound, IsNotFound, AreAlike, IsOwner, HasNoOwner}
 use Rattle.table_words.proofs.Mixing.{are_alike, not_one_shape, not_edition_one}
 use Rattle.table_words.proofs.Halving.{reads_on}
@@ -12,13 +12,13 @@ owner_alike-requires-clause-alike g c =
     let grouped = c.group_of-group.ensures in
     let read = c.word.ensures in
     let table = c.requires.of_table in
-    let told = sym read.value ∙ c.if-word-eq0.true in
+    let told = sym read.value ∙ c.if-word-eq-ONE_SHAPE.true in
     let none = sym (ap (λ (ws : List ℕ). slice_index ws 5) grouped.list) ∙ told in
     subst (λ (ws : List ℕ). AreAlike ws c.group_of-group.result.from c.group_of-group.result.to c.args.v4.0) (sym (read.list ∙ grouped.list))
     (are_alike c.requires.table (g.W.Words.list c.args.words.now) table none c.args.v4.0 _ _ (grouped.group c.requires.table table))
 
-pub returns-then-word-eq0-clause-owner : goal.returns-then-word-eq0-clause-owner
-returns-then-word-eq0-clause-owner g c = λ t h.
+pub returns-then-word-eq-ONE_SHAPE-clause-owner : goal.returns-then-word-eq-ONE_SHAPE-clause-owner
+returns-then-word-eq-ONE_SHAPE-clause-owner g c = λ t h.
     let grouped = c.group_of-group.ensures in
     let list = c.word.ensures.list ∙ grouped.list in
     let from = c.group_of-group.result.from in
@@ -29,28 +29,28 @@ returns-then-word-eq0-clause-owner g c = λ t h.
     let none = subst (λ (ws : List ℕ). IfNone o (HasNoOwner ws from to a c.args.want)) list c.owner_alike.ensures.none in
     alike_answer t (g.W.Words.list c.args.words.now) h c.args.v4 c.args.want from to (grouped.group t h) o owner none
 
-pub returns-then-word-eq0-clause-bound : goal.returns-then-word-eq0-clause-bound
-returns-then-word-eq0-clause-bound g c = λ t h.
+pub returns-then-word-eq-ONE_SHAPE-clause-bound : goal.returns-then-word-eq-ONE_SHAPE-clause-bound
+returns-then-word-eq-ONE_SHAPE-clause-bound g c = λ t h.
     let few = c.owner_alike.ensures.bound (group_digits t.bindings) (c.group_of-group.ensures.group t h).size in
     omega (arith, few, alike_cost t, found_below t, c.word.ensures.steps, c.group_of-group.ensures.steps)
 
-pub returns-then-word-eq0-clause-found : goal.returns-then-word-eq0-clause-found
-returns-then-word-eq0-clause-found g c = if_some c.owner_alike.result _ (λ t h.
+pub returns-then-word-eq-ONE_SHAPE-clause-found : goal.returns-then-word-eq-ONE_SHAPE-clause-found
+returns-then-word-eq-ONE_SHAPE-clause-found g c = if_some c.owner_alike.result _ (λ t h.
     let few = c.owner_alike.ensures.bound (group_digits t.bindings) (c.group_of-group.ensures.group t h).size in
     omega (arith, few, alike_cost t, c.word.ensures.steps, c.group_of-group.ensures.steps))
 
-pub returns-then-word-eq0-clause-one_shape : goal.returns-then-word-eq0-clause-one_shape
-returns-then-word-eq0-clause-one_shape g c = λ t h one.
+pub returns-then-word-eq-ONE_SHAPE-clause-one_shape : goal.returns-then-word-eq-ONE_SHAPE-clause-one_shape
+returns-then-word-eq-ONE_SHAPE-clause-one_shape g c = λ t h one.
     let few = c.owner_alike.ensures.bound (group_digits t.bindings) (c.group_of-group.ensures.group t h).size in
     omega (arith, few, alike_cost t, c.word.ensures.steps, c.group_of-group.ensures.steps)
 
-pub returns-then-word-eq0-clause-edition_one : goal.returns-then-word-eq0-clause-edition_one
-returns-then-word-eq0-clause-edition_one g c = λ t h one.
+pub returns-then-word-eq-ONE_SHAPE-clause-edition_one : goal.returns-then-word-eq-ONE_SHAPE-clause-edition_one
+returns-then-word-eq-ONE_SHAPE-clause-edition_one g c = λ t h one.
     let few = c.owner_alike.ensures.bound (group_digits t.bindings) (c.group_of-group.ensures.group t h).size in
     omega (arith, few, alike_cost t, c.word.ensures.steps, c.group_of-group.ensures.steps)
 
-pub returns-then-word-eq0-clause-goes : goal.returns-then-word-eq0-clause-goes
-returns-then-word-eq0-clause-goes g c =
+pub returns-then-word-eq-ONE_SHAPE-clause-goes : goal.returns-then-word-eq-ONE_SHAPE-clause-goes
+returns-then-word-eq-ONE_SHAPE-clause-goes g c =
     let on = g.met.W.Words.goes_on in
     on _ _ _ (on _ _ _ c.group_of-group.ensures.goes c.word.ensures.goes) c.owner_alike.ensures.goes
 
@@ -93,8 +93,8 @@ returns-then-from-group g c =
           (c.lower_bound-from.new.steps - c.args.steps.now) (omega (arith, cost, bounded.later, i.later)) in
           omega (arith, most, bounded.later, i.later);
       found = tt;
-      one_shape = λ t h one. absurd (not_one_shape t words h c.word.result told c.if-word-eq0.false one);
-      edition_one = λ t h one. absurd (not_edition_one t words h c.word.result told c.if-word-eq0.false one);
+      one_shape = λ t h one. not_one_shape t words h c.word.result told c.if-word-eq-ONE_SHAPE.false one c.lower_bound-from.new.steps (c.args.steps.now + found_bound t.bindings);
+      edition_one = λ t h one. not_edition_one t words h c.word.result told c.if-word-eq-ONE_SHAPE.false one c.lower_bound-from.new.steps (c.args.steps.now + found_bound t.bindings);
       list = bounded.list ∙ i.list;
       reads = reads_on _ _ _ spent _ _ (omega (arith, bounded.later, i.later)) i.reads bounded.reads;
       goes = g.met.W.Words.goes_on _ _ _ i.goes bounded.goes;
@@ -131,8 +131,8 @@ returns-then-first-address g c =
           (c.first_word-first.new.steps - c.args.steps.now) (omega (arith, cost, bounded.later, i.later, read.steps)) in
           omega (arith, most, bounded.later, i.later, read.steps);
       found = tt;
-      one_shape = λ t h one. absurd (not_one_shape t words h c.word.result told c.if-word-eq0.false one);
-      edition_one = λ t h one. absurd (not_edition_one t words h c.word.result told c.if-word-eq0.false one);
+      one_shape = λ t h one. not_one_shape t words h c.word.result told c.if-word-eq-ONE_SHAPE.false one c.first_word-first.new.steps (c.args.steps.now + found_bound t.bindings);
+      edition_one = λ t h one. not_edition_one t words h c.word.result told c.if-word-eq-ONE_SHAPE.false one c.first_word-first.new.steps (c.args.steps.now + found_bound t.bindings);
       list = read.list ∙ bounded.list ∙ i.list;
       reads = reads_on _ _ _ (c.lower_bound-from.new.steps - c.args.steps.now) 1 _ (omega (arith, bounded.later, i.later, read.steps))
           (reads_on _ _ _ spent _ _ (omega (arith, bounded.later, i.later)) i.reads bounded.reads) read.reads;
@@ -183,8 +183,8 @@ returns-then-is_some g c =
           let most = found_cost words c.args.v4 c.args.want first to c.shapes.from c.shapes.least spent at i.tried i.span place c.if-from-group.false word word_is address t h
           now (omega (arith, cost, tries, bounded.later, i.later, read.steps, tested.later)) in
           omega (arith, most, bounded.later, i.later, read.steps, tested.later));
-      one_shape = λ t h one. absurd (not_one_shape t words h c.word.result told c.if-word-eq0.false one);
-      edition_one = λ t h one. absurd (not_edition_one t words h c.word.result told c.if-word-eq0.false one);
+      one_shape = λ t h one. not_one_shape t words h c.word.result told c.if-word-eq-ONE_SHAPE.false one c.owner_like-owner.new.steps (c.args.steps.now + found_bound t.bindings);
+      edition_one = λ t h one. not_edition_one t words h c.word.result told c.if-word-eq-ONE_SHAPE.false one c.owner_like-owner.new.steps (c.args.steps.now + found_bound t.bindings);
       list = tested.list ∙ list;
       reads = reads_on _ _ _ (c.first_word-first.new.steps - c.args.steps.now) _ _ (omega (arith, bounded.later, i.later, read.steps, tested.later))
           (reads_on _ _ _ (c.lower_bound-from.new.steps - c.args.steps.now) 1 _ (omega (arith, bounded.later, i.later, read.steps))

@@ -1,4 +1,4 @@
-use Rattle.table_words.proofs.lookups.softwire.Goals as goal
+use Rattle.table_words.proofs.settings.softwire.Goals as goal
 
 pub returns-clause-goes : goal.returns-clause-goes
 returns-clause-goes g c =
