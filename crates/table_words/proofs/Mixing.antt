@@ -290,11 +290,11 @@ are_alike t words h none a from to group d e l m n k same_d same_e =
     words_alike t h.lawful b.0 c.0 b.1 c.1 _ _ b.2.first c.2.first address
     (one_shape t.bindings (unmixed_word t words h none) b.0 c.0 b.1 c.1 address)
 
+-- where the words tell of two shapes, the table is none of one shape an address, and none of edition One
 module _ (t : Rules) (words : List ℕ) (h : IsCompiled t words) (word : ℕ) (word_is : word ≡ slice_index words 5) (other : word ≢ 0) where
   mixed : is_mixed t.bindings ≡ true
   mixed = mixed_word t words h (λ e. other (word_is ∙ e))
 
-  -- so nothing is claimed of it that holds of other tables alone
   pub not_one_shape : most_shapes t.bindings ≡ 1 → (m n : ℕ) → m ≤ n
   not_one_shape one m n = absurd (omega (arith, mixed_counts t h.lawful mixed, one))
 

@@ -8,9 +8,9 @@ use aftr_base::{OutOfMemory, WordList};
 use binding_rules::{Binding, Softwire, Table};
 use std::alloc::Global;
 
-/// The words of the table, which `look`, `has_address` and `softwire` read: eight words of settings, an index by the top
-/// 16 bits of an address in 65,537 words, and an entry of three words for each binding. `OutOfMemory` comes where the
-/// allocator has no room for them.
+/// The words of the table, which `look`, `has_address` and `softwire` read: the settings in eight words, which also tell
+/// whether some address has bindings of two shapes; an index by the top 16 bits of an address in 65,537 words; and an
+/// entry of three words for each binding. `OutOfMemory` comes where the allocator has no room for them.
 pub fn compile(alloc: Global, table: &Table) -> Result<WordList, OutOfMemory>
     ensures words { IfOk result (λ words. IsCompiled table.now words) }
     ensures some_table { IfOk result (λ words. AreCompiled words) }
