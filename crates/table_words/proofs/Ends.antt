@@ -7,7 +7,7 @@ use Rattle.binding_rules.specs.declared.binding.Want.{Want}
 use Rattle.table_words.specs.Layout.{row}
 use Rattle.table_words.specs.Spans.{first_at, IsSpan, IsBoundary, IsEnd, IsKey, IsLike, IsNotFound}
 
-rises_by : (words : List ℕ) (from to k : ℕ) → IsSpan words from to → from + k < to → first_at words from + k ≤ first_at words (from + k)
+pub rises_by : (words : List ℕ) (from to k : ℕ) → IsSpan words from to → from + k < to → first_at words from + k ≤ first_at words (from + k)
 rises_by words from to zero s l = let e : from + 0 ≡ from = omega arith in rw e (omega arith)
 rises_by words from to (suc k) s l =
     let before : first_at words from + k ≤ first_at words (from + k) = rises_by words from to k s (omega arith) in

@@ -1,5 +1,7 @@
 -- A search that halves what is left, and a count of reads over several calls.
-use Rattle.std.proofs.Common.{◌≡◌, ℕ, suc, ◌+◌, ◌-◌, ◌*◌, ◌^◌, ◌<◌, ◌≤◌, List, Option, Some, None, refl, ap, ◌∙◌, arith, mul_assoc, mul_comm}
+use Rattle.std.proofs.Common.{◌≡◌, ◌≢◌, ℕ, suc, ◌+◌, ◌-◌, ◌*◌, ◌^◌, ◌<◌, ◌≤◌, List, Option, Some, None, refl, ap, ◌∙◌, inl, inr, arith, mul_assoc, mul_comm, pow-add}
+use Rattle.std.proofs.lemmas.Bool.{cases_lt, cases_eq}
+use Rattle.std.proofs.Math.Pow.{pow_mono}
 use Rattle.std.proofs.lemmas.Nat.{mul-le}
 use Rattle.table_words.specs.Reads.{read_more}
 use Rattle.table_words.specs.Spans.{first_at, IsSpan}
@@ -21,6 +23,34 @@ halved_more s s0 w v n later some half h =
     let t = twice_more (2 ^ (s - s0)) w v n some half h in
     let p : 2 ^ suc (s - s0) ≡ 2 * 2 ^ (s - s0) = omega arith in
     record { halved = rw (e, p) t.0; cost = rw (e, p) t.1 }
+
+-- the same where the first probe is anywhere, and does not halve
+pub probed_more : (s s0 w v n : ℕ) → s0 ≤ s → 1 ≤ w → v ≤ w → (s ≢ s0 → 2 * v ≤ w) → 2 ^ (s - (s0 + 1)) * w ≤ n
+    → IsHalved (s + 1) (s0 + 1) v n
+probed_more s s0 w v n later some most half h = elim (cases_eq s s0) [
+  | inl none ↦
+      (let before : s - (s0 + 1) ≡ 0 = omega (arith, none) in
+      let after : s + 1 - (s0 + 1) ≡ 0 = omega (arith, none) in
+      let whole : 2 ^ 0 * w ≤ n = rw before at h in
+      record { halved = rw after (omega (arith, whole, most)); cost = rw after (omega (arith)) })
+  | inr probed ↦ halved_more s (s0 + 1) w v n (omega (arith, later, probed)) some (half probed) h
+]
+
+-- two searches, the second among what the first has left
+pub joined_halvings : (s c w n d : ℕ) → 1 ≤ w → 2 ^ s * w ≤ n → 2 ^ c ≤ 2 * w + 1 → n < 2 ^ d → s + c ≤ d + 1
+joined_halvings s c w n d some first second few = elim (cases_lt (d + 1) (s + c)) [
+  | inl more ↦ absurd (
+      let most : 2 ^ (suc (suc d)) ≤ 2 ^ (s + c) = pow_mono (omega (arith, more)) in
+      let split : 2 ^ (s + c) ≡ 2 ^ s * 2 ^ c = pow-add 2 s c in
+      let product : 2 ^ s * 2 ^ c ≤ 2 ^ s * (3 * w) = mul-le (2 ^ s) (2 ^ c) (2 ^ s) (3 * w) (omega arith) (omega (arith, second, some)) in
+      let moved : 2 ^ s * (3 * w) ≡ 3 * (2 ^ s * w) = triple (2 ^ s) w in
+      let powers : 2 ^ suc (suc d) ≡ 4 * 2 ^ d = omega arith in
+      omega (arith, most, split, product, moved, powers, first, few))
+  | inr less ↦ omega (arith, less)
+]
+  where
+    triple : (p w : ℕ) → p * (3 * w) ≡ 3 * (p * w)
+    triple p w = omega arith
 
 pub reads_on : (r0 r1 r2 : Option ℕ) (m k n : ℕ) → m + k ≡ n → r1 ≡ read_more r0 m → r2 ≡ read_more r1 k → r2 ≡ read_more r0 n
 reads_on r0 r1 r2 m k n e f g = g ∙ ap (λ (r : Option ℕ). read_more r k) f ∙ joined r0

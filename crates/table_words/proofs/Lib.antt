@@ -1,3 +1,4 @@
+pub mod Alike
 pub mod Compiling
 pub mod Counts
 pub mod Digits
@@ -7,4 +8,5 @@ pub mod Groups
 pub mod Halving
 pub mod Keys
 pub mod Members
+pub mod Mixing
 pub mod Trying

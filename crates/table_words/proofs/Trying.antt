@@ -1,7 +1,6 @@
 -- The shapes of an address, tried one after the other.
 use Rattle.std.proofs.Common.{◌≡◌, ℕ, suc, ◌+◌, ◌-◌, ◌*◌, ◌/◌, ◌%◌, ◌^◌, ◌<◌, ◌≤◌, true, false, eqb, ◌&&◌, List, Some, None, Contains, refl, sym, ap, ◌∙◌, inl, inr, arith}
 use Rattle.std.proofs.Math.Nat.{mul-le-mul_right}
-use Rattle.std.proofs.lemmas.Nat.{mul-le}
 use Rattle.std.proofs.lemmas.Bool.{true≢false, false≢true, cases_lt, cases_eq, eq-eqb, ne_eqb, and_from, and_left, and_right}
 use Rattle.aftr_base.specs.declared.numbers.V4.{V4}
 use Rattle.aftr_base.specs.declared.numbers.V6.{V6}
@@ -13,12 +12,12 @@ use Rattle.std.specs.Prelude.{Option, is_some, IfSome, IfNone}
 use Rattle.table_words.specs.Answers.{first_b4, has_v4}
 use Rattle.table_words.specs.Bounds.{count_below, has_shape, shape_end, shape_count, group_digits, most_shapes, greatest, look_bound, found_bound}
 use Rattle.table_words.specs.Layout.{IsCompiled, row}
-use Rattle.table_words.specs.Spans.{first_at, IsSpan, IsBoundary, IsEntry, IsGroup, IsLike, IsFound, IsNotFound}
+use Rattle.table_words.specs.Spans.{first_at, IsSpan, IsBoundary, IsEntry, IsGroup, IsLike, IsFound, IsNotFound, IsOwner, HasNoOwner}
 use Rattle.table_words.specs.Tried.{tried_shapes, AreTried}
 use Rattle.table_words.proofs.Counts.{le_greatest}
 use Rattle.table_words.proofs.Digits.{count_below_mono, count_below_more, few_halvings}
 use Rattle.table_words.proofs.Filters.{any_passes, any_fails, filter_fails, filter_contains, only_one}
-use Rattle.table_words.proofs.Groups.{AreFields, fields}
+use Rattle.table_words.proofs.Groups.{AreFields, fields, like}
 use Rattle.table_words.proofs.Members.{IsKnown, known}
 
 pub shape_end_is : shape_end ≡ 65536
@@ -53,8 +52,18 @@ row_from a o l p n e = omega arith
 add_one_mul : (n d : ℕ) → (n + 1) * d ≡ n * d + d
 add_one_mul n d = omega arith
 
-wider : (g b : ℕ) → g * (2 * b + 2) ≤ g * (2 * b + 4)
-wider g b = mul-le g (2 * b + 2) g (2 * b + 4) (omega arith) (omega arith)
+wider : (g b : ℕ) → 1 ≤ g → g * (2 * b + 2) + 2 ≤ g * (2 * b + 4)
+wider g b some = omega (arith, some)
+
+some_shape : (t : Rules) → 1 ≤ most_shapes t.bindings
+some_shape t = omega arith
+
+-- one search in each of two ways, where addresses have one shape each
+pub alike_cost : (t : Rules) → 2 * group_digits t.bindings + 8 ≤ found_bound t.bindings
+alike_cost t =
+    let d : ℕ = 2 * group_digits t.bindings + 4 in
+    let least : 1 * d ≤ most_shapes t.bindings * d = mul-le-mul_right d (some_shape t) in
+    omega (arith, least)
 
 code_next : (n a : ℕ) → n / 4294967296 ≡ a → (n - n % 65536 + 65536 - a * 4294967296) / 65536 ≡ suc ((n - a * 4294967296) / 65536)
 code_next n a e = omega arith
@@ -76,10 +85,35 @@ like_parts x k n m e alike =
 like_word : (x : Binding) → IsKnown x → (m : ℕ) → (row x).0 / 65536 ≡ m / 65536 → IsLike m x
 like_word x k m alike = like_parts x k (row x).0 m refl alike
 
+-- the end of the tunnel of an entry with the address that owns it
+owner_is : (t : Rules) (words : List ℕ) → IsCompiled t words → (v4 : V4) (w : Want) (first to : ℕ) → IsGroup t words v4.0 first to
+    → (word : ℕ) → word / 4294967296 ≡ v4.0 → (from : ℕ) → first ≤ from → (b4 : V6) → IsFound words from to word w b4.0
+    → first_b4 (bound t.bindings v4 w) ≡ Some b4
+owner_is t words h v4 w first to group word same_address from within b4 found =
+    let b = group.entries found.at (omega (arith, within, found.from_on)) found.up_to in
+    let x = b.0 in
+    let k = known t h.lawful x b.1 in
+    let alike : (row x).0 / 65536 ≡ word / 65536 = ap (λ (n : ℕ). n / 65536) (sym b.2.first) ∙ found.alike in
+    let is_like : IsLike word x = like_word x k word alike in
+    let owned = found.owned x is_like b.2.first in
+    let end_is : x.b4.0 ≡ b4.0 = sym b.2.b4 ∙ sym found.b4_is in
+    somebody t words h v4 w x b.1 (is_like.v4 ∙ same_address) owned ∙ ap Some (same_end x.b4 b4 end_is)
+
+-- what a lookup among entries of one shape an address answers
+pub alike_answer : (t : Rules) (words : List ℕ) → IsCompiled t words → (v4 : V4) (w : Want) (from to : ℕ) → IsGroup t words v4.0 from to
+    → (o : Option V6) → IfSome o (λ b4. IsOwner words from to v4.0 w b4.0) → IfNone o (HasNoOwner words from to v4.0 w)
+    → o ≡ first_b4 (bound t.bindings v4 w)
+alike_answer t words h v4 w from to group (Some b4) found none =
+    sym (owner_is t words h v4 w from to group found.first found.address from (omega arith) b4 found.found)
+alike_answer t words h v4 w from to group None found none = sym (nobody t v4 w (λ x m same.
+    let c = group.members x m same in
+    let k = known t h.lawful x m in
+    none c.0 x c.1 c.2 c.3.first (like x k (first_at words c.0) (fields x k (first_at words c.0) c.3.first)) same))
+
 module _ (words : List ℕ) (v4 : V4) (w : Want) (first to : ℕ) where
-  pub tried_none : (spent : ℕ) → spent ≡ 2 → ((t : Rules) → IsCompiled t words → IsGroup t words v4.0 first to)
+  pub tried_none : (spent : ℕ) → spent ≡ 3 → ((t : Rules) → IsCompiled t words → IsGroup t words v4.0 first to)
       → AreTried words v4.0 w first to first (v4.0 * 4294967296) spent
-  tried_none spent two group = record {
+  tried_none spent three group = record {
     within = omega arith;
     at_least = omega arith;
     at_most = omega arith;
@@ -197,14 +231,7 @@ module _ (words : List ℕ) (v4 : V4) (w : Want) (first to : ℕ) where
       -- the owner is found
       pub found_here : (t : Rules) → IsCompiled t words → (b4 : V6) → IsFound words at to word w b4.0 → first_b4 (bound t.bindings v4 w) ≡ Some b4
       found_here t h b4 found =
-          let b = (tried.group t h).entries found.at (omega (arith, tried.within, place.from_on, found.from_on)) found.up_to in
-          let x = b.0 in
-          let k = known t h.lawful x b.1 in
-          let alike : (row x).0 / 65536 ≡ word / 65536 = ap (λ (n : ℕ). n / 65536) (sym b.2.first) ∙ found.alike in
-          let is_like : IsLike word x = like_word x k word alike in
-          let owned = found.owned x is_like b.2.first in
-          let end_is : x.b4.0 ≡ b4.0 = sym b.2.b4 ∙ sym found.b4_is in
-          somebody t words h v4 w x b.1 (is_like.v4 ∙ same_address) owned ∙ ap Some (same_end x.b4 b4 end_is)
+          owner_is t words h v4 w first to (tried.group t h) word same_address at (omega (arith, tried.within, place.from_on)) b4 found
 
       pub found_cost : (t : Rules) → IsCompiled t words → (now : ℕ) → now ≤ spent + (2 * group_digits t.bindings + 4) → now ≤ found_bound t.bindings
       found_cost t h now cost =
@@ -212,13 +239,13 @@ module _ (words : List ℕ) (v4 : V4) (w : Want) (first to : ℕ) where
           let enough : tried_shapes t v4.0 least + 1 ≤ most_shapes t.bindings = omega (arith, one_more t h, few_shapes t h) in
           let product : (tried_shapes t v4.0 least + 1) * d ≤ most_shapes t.bindings * d = mul-le-mul_right d enough in
           let split : (tried_shapes t v4.0 least + 1) * d ≡ tried_shapes t v4.0 least * d + d = add_one_mul (tried_shapes t v4.0 least) d in
-          omega (arith, product, split, cost, (tried.tried t h).cost, wider (most_shapes t.bindings) (group_digits t.bindings))
+          omega (arith, product, split, cost, (tried.tried t h).cost, wider (most_shapes t.bindings) (group_digits t.bindings) (some_shape t))
 
     pub none_cost : (t : Rules) → IsCompiled t words → (now : ℕ) → now ≤ spent + (group_digits t.bindings + 1) → now ≤ look_bound t.bindings
     none_cost t h now cost =
         let d : ℕ = 2 * group_digits t.bindings + 2 in
         let product : tried_shapes t v4.0 least * d ≤ most_shapes t.bindings * d = mul-le-mul_right d (tried.tried t h).few in
-        omega (arith, product, cost, (tried.tried t h).cost, wider (most_shapes t.bindings) (group_digits t.bindings))
+        omega (arith, product, cost, (tried.tried t h).cost, wider (most_shapes t.bindings) (group_digits t.bindings) (some_shape t))
 
 -- whether some binding has the address
 module _ (t : Rules) (words : List ℕ) (h : IsCompiled t words) (v4 : V4) (from to at : ℕ) (span : IsSpan words from to)

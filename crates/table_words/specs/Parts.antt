@@ -1,15 +1,24 @@
 -- The parts of the words, as they are written one after the other. No public contract cites these.
-use Rattle.std.specs.Prelude.{ℕ, ◌/◌, ◌+◌, ◌*◌, ◌%◌, ◌≤◌, ◌<◌, List, [], ◌∷◌, length, map}
+use Rattle.std.specs.Prelude.{◌≡◌, ◌≢◌, ℕ, ◌/◌, ◌+◌, ◌*◌, ◌%◌, ◌≤◌, ◌<◌, Bool, List, [], ◌∷◌, length, map}
 use Rattle.std.specs.List.{range_with_len}
 use Rattle.binding_rules.specs.declared.settings.Softwire.{Softwire}
-use Rattle.table_words.specs.Layout.{row_at, rows_below, flags}
+use Rattle.table_words.specs.Layout.{row_at, rows_below, flag, flags}
 
 abbrev pub IsAscending : List (ℕ × ℕ) → Type 0
 IsAscending rows = (d e : ℕ) → d ≤ e → e < length rows → (row_at rows d).0 ≤ (row_at rows e).0
 
-abbrev pub settings_words : Softwire → ℕ → List ℕ
-settings_words s n = n ∷ s.aftr.0 / 18446744073709551616 ∷ s.aftr.0 % 18446744073709551616
-    ∷ (s.own.0 * 4294967296 + flags s) ∷ (s.mtu6 * 4294967296 + s.mtu4 * 65536 + s.hop_limit) ∷ 0 ∷ 0 ∷ 0 ∷ []
+-- two rows have one address and two shapes
+pub record AreMixed (rows : List (ℕ × ℕ)) : Type 0 where
+  pub d : ℕ
+  pub e : ℕ
+  pub d_within : d < length rows
+  pub e_within : e < length rows
+  pub address : (row_at rows d).0 / 4294967296 ≡ (row_at rows e).0 / 4294967296
+  pub shapes : (row_at rows d).0 / 65536 ≢ (row_at rows e).0 / 65536
+
+abbrev pub settings_words : Softwire → ℕ → Bool → List ℕ
+settings_words s n mixed = n ∷ s.aftr.0 / 18446744073709551616 ∷ s.aftr.0 % 18446744073709551616
+    ∷ (s.own.0 * 4294967296 + flags s) ∷ (s.mtu6 * 4294967296 + s.mtu4 * 65536 + s.hop_limit) ∷ flag mixed 1 ∷ 0 ∷ 0 ∷ []
 
 -- the first n words of the index; not an `abbrev`, so that no proof writes them out
 unfoldable pub index_words : List (ℕ × ℕ) → ℕ → List ℕ

@@ -76,3 +76,46 @@ pub record IsEnd (from to first key end : ℕ) : Type 0 where
   pub some : from < end
   pub within : end ≤ to
   pub enough : end < to → key < first + (end - from)
+
+-- a place of these entries whose first word is from `least` to `most`, and the entries that are left around it
+pub record IsSpot (words : List ℕ) (from to least most low high at first : ℕ) : Type 0 where
+  pub from_on : from ≤ low
+  pub low_on : low ≤ at
+  pub before_high : at < high
+  pub up_to : high ≤ to
+  pub here : first ≡ first_at words at
+  pub at_least : least ≤ first
+  pub at_most : first ≤ most
+  pub below : (e : ℕ) → from ≤ e → e < low → first_at words e < least
+  pub above : (e : ℕ) → high ≤ e → e < to → most < first_at words e
+
+-- the first word of none of these entries is from `least` to `most`
+abbrev pub HasNoSpot : List ℕ → ℕ → ℕ → ℕ → ℕ → Type 0
+HasNoSpot words from to least most = (e : ℕ) → from ≤ e → e < to → least ≤ first_at words e → most < first_at words e
+
+-- the entries from `low` up to `high` are all that can have the key where the entry at a place has this first word, and
+-- `guess` is one of them
+pub record IsReach (from to at first key low high guess : ℕ) : Type 0 where
+  pub from_on : from ≤ low
+  pub ordered : low ≤ high
+  pub up_to : high ≤ to
+  pub low_guess : low < high → low ≤ guess
+  pub high_guess : low < high → guess < high
+  pub before : (e : ℕ) → from ≤ e → e < low → (e < at) × (first < key + (at - e))
+  pub behind : (e : ℕ) → high ≤ e → e < to → (at ≤ e) × (key < first + (e - at))
+
+-- all entries of the address have one shape
+abbrev pub AreAlike : List ℕ → ℕ → ℕ → ℕ → Type 0
+AreAlike words from to a = (d e : ℕ) → from ≤ d → d < to → from ≤ e → e < to → first_at words d / 4294967296 ≡ a
+    → first_at words e / 4294967296 ≡ a → first_at words d / 65536 ≡ first_at words e / 65536
+
+-- the end of the tunnel is that of an entry with the address that owns what is wanted
+pub record IsOwner (words : List ℕ) (from to a : ℕ) (w : Want) (b4 : ℕ) : Type 0 where
+  pub first : ℕ
+  pub address : first / 4294967296 ≡ a
+  pub found : IsFound words from to first w b4
+
+-- no entry with the address owns what is wanted
+abbrev pub HasNoOwner : List ℕ → ℕ → ℕ → ℕ → Want → Type 0
+HasNoOwner words from to a w = (e : ℕ) (x : Binding) → from ≤ e → e < to → first_at words e ≡ (row x).0
+    → IsLike (first_at words e) x → x.v4.0 ≡ a → owns w x ≡ false

@@ -16,7 +16,7 @@ tried_shapes t a least = count_below (has_shape t.bindings a) ((least - a * 4294
 pub record IsTried (t : Rules) (a : ℕ) (w : Want) (least spent : ℕ) : Type 0 where
   pub none_owns : (x : Binding) → Contains t.bindings x → x.v4.0 ≡ a → (row x).0 < least → owns w x ≡ false
   pub few : tried_shapes t a least ≤ most_shapes t.bindings
-  pub cost : spent ≤ 2 + tried_shapes t a least * (2 * group_digits t.bindings + 2)
+  pub cost : spent ≤ 3 + tried_shapes t a least * (2 * group_digits t.bindings + 2)
 
 pub record AreTried (words : List ℕ) (a : ℕ) (w : Want) (first to from least spent : ℕ) : Type 0 where
   pub within : first ≤ from

@@ -1,16 +1,16 @@
 // The words of a table.
-ghost use Rattle.std.specs.Prelude.{◌≡◌, ◌+◌, ◌*◌, ◌/◌, ◌%◌, ◌<◌, ◌≤◌, ◌++◌, IfOk, OnOk, List, ℕ, length, map, vec_len, IsPermutation};
+ghost use Rattle.std.specs.Prelude.{◌≡◌, ◌+◌, ◌*◌, ◌/◌, ◌%◌, ◌<◌, ◌≤◌, ◌++◌, IfOk, OnOk, List, ℕ, length, map, vec_len, IsPermutation, Bool, true, ◌↔◌};
 ghost use Rattle.binding_rules.specs.Tables.{Rules};
 ghost use Rattle.table_words.specs.Layout.{IsCompiled, AreCompiled, row, flag, flags};
-ghost use Rattle.table_words.specs.Parts.{IsAscending, settings_words, index_words, entry_words};
+ghost use Rattle.table_words.specs.Parts.{IsAscending, AreMixed, settings_words, index_words, entry_words};
 
 use aftr_base::{OutOfMemory, WordList};
 use binding_rules::{Binding, Softwire, Table};
 use std::alloc::Global;
 
-/// The words of the table, which `look`, `has_address` and `softwire` read: eight words of settings, an index by the top
-/// 16 bits of an address in 65,537 words, and an entry of three words for each binding. `OutOfMemory` comes where the
-/// allocator has no room for them.
+/// The words of the table, which `look`, `has_address` and `softwire` read: the settings in eight words, which also tell
+/// whether some address has bindings of two shapes; an index by the top 16 bits of an address in 65,537 words; and an
+/// entry of three words for each binding. `OutOfMemory` comes where the allocator has no room for them.
 pub fn compile(alloc: Global, table: &Table) -> Result<WordList, OutOfMemory>
     ensures words { IfOk result (λ words. IsCompiled table.now words) }
     ensures some_table { IfOk result (λ words. AreCompiled words) }
@@ -19,7 +19,7 @@ pub fn compile(alloc: Global, table: &Table) -> Result<WordList, OutOfMemory>
     let bindings = table.bindings();
     let rows = rows_of(alloc, bindings)?;
     let mut words = Vec::with_capacity(alloc, 65545 + 3 * rows.len())?;
-    put_settings(&mut words, rows.len(), table.softwire())?;
+    put_settings(&mut words, rows.len(), table.softwire(), are_mixed(&rows))?;
     put_index(&mut words, &rows)?;
     put_entries(&mut words, &rows)?;
     Ok(WordList::of(words))
@@ -49,9 +49,33 @@ fn row_of(binding: Binding) -> (u64, u128)
     (first, binding.b4.0)
 }
 
-/// Puts the eight words of the settings.
-fn put_settings(words: &mut Vec<u64>, count: usize, softwire: Softwire) -> Result<(), OutOfMemory>
-    ensures { OnOk result (words.new.items ≡ words.old.items ++ settings_words softwire count) }
+/// Whether two rows have one address and two shapes. Ascending rows with one address stand together, and so do those that
+/// have its first shape.
+fn are_mixed(rows: &[(u64, u128)]) -> bool
+    requires { IsAscending rows.now }
+    ensures { (result ≡ true) ↔ AreMixed rows.now }
+{
+    let mut at = 1;
+    'rows: while at < rows.len() {
+        let before = rows[at - 1].0;
+        let here = rows[at].0;
+        let same_address = before / 0x1_0000_0000 == here / 0x1_0000_0000;
+        if same_address && before / 0x1_0000 != here / 0x1_0000 {
+            return true;
+        }
+        at += 1;
+    }
+    false
+}
+
+/// Puts the eight words before the index: the settings, and whether some address has bindings of two shapes.
+fn put_settings(
+    words: &mut Vec<u64>,
+    count: usize,
+    softwire: Softwire,
+    mixed: bool,
+) -> Result<(), OutOfMemory>
+    ensures { OnOk result (words.new.items ≡ words.old.items ++ settings_words softwire count mixed) }
 {
     words.extend_from_slice(&[
         count as u64,
@@ -61,7 +85,7 @@ fn put_settings(words: &mut Vec<u64>, count: usize, softwire: Softwire) -> Resul
         u64::from(softwire.mtu6) * 0x1_0000_0000
             + u64::from(softwire.mtu4) * 0x1_0000
             + u64::from(softwire.hop_limit),
-        0,
+        flag_of(mixed, 1),
         0,
         0,
     ])?;

@@ -7,10 +7,14 @@ mod compiler;
 mod counter;
 mod entries;
 mod lookups;
+mod owners;
+mod probes;
 mod reader;
 mod searches;
+mod settings;
 
 pub use compiler::compile;
 pub use counter::Steps;
-pub use lookups::{has_address, look, softwire};
+pub use lookups::{has_address, look};
 pub use reader::{SliceWords, Words};
+pub use settings::softwire;

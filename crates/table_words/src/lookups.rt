@@ -1,26 +1,30 @@
-// What the words of a table say of an address and of the settings.
-ghost use Rattle.std.specs.Prelude.{◌≡◌, ℕ, ◌+◌, ◌-◌, ◌*◌, ◌/◌, ◌^◌, ◌<◌, ◌≤◌, IfSome, IfNone};
+// What the words of a table say of an address.
+ghost use Rattle.std.specs.Prelude.{◌≡◌, ◌+◌, ◌-◌, ◌<◌, ◌≤◌, IfSome};
 ghost use Rattle.binding_rules.specs.Bindings.{bound};
 ghost use Rattle.binding_rules.specs.Tables.{Rules};
+ghost use Rattle.binding_rules.specs.declared.settings.Edition.TheVariants as edition;
 ghost use Rattle.table_words.specs.Answers.{first_b4, has_v4};
-ghost use Rattle.table_words.specs.Bounds.{found_bound, look_bound, group_digits};
+ghost use Rattle.table_words.specs.Bounds.{found_bound, look_bound, most_shapes, group_digits};
 ghost use Rattle.table_words.specs.Layout.{IsCompiled, AreCompiled};
 ghost use Rattle.table_words.specs.Reads.{read_more};
-ghost use Rattle.table_words.specs.Spans.{IsSpan, IsGroup, IsFound, IsNotFound, first_at};
 
 use crate::counter::Steps;
-use crate::entries::{first_word, key_of, tunnel_end};
+use crate::entries::first_word;
+use crate::owners::{owner_alike, owner_like};
 use crate::reader::Words;
-use crate::searches::{group_of, lower_bound, place_of};
+use crate::searches::{group_of, lower_bound};
 use aftr_base::{V4, V6};
-use binding_rules::{Softwire, Want};
+use binding_rules::Want;
 use std::sync::ledger::Ledger;
+
+// What word 5 is where no address has bindings of two shapes.
+const ONE_SHAPE: u64 = 0;
 
 /// The tunnel's end of the one binding of the table with this address that owns the port, or, for `Whole`, whose offset
 /// and length are both 0; None exactly where the table has none. The condition is that the words are compiled from a
 /// table. With B binary digits in the greatest number of bindings that agree in the top 16 bits of their addresses, and
 /// at most G different shapes at one address, it reads at most `G * (2 * B + 4) + B + 4` words, and B fewer where it
-/// finds an owner.
+/// finds an owner, and where G is 1 as it is in every table of edition One.
 pub fn look<W: Words, L: Ledger>(
     words: &mut W,
     v4: V4,
@@ -31,12 +35,17 @@ pub fn look<W: Words, L: Ledger>(
     ensures owner { (t : Rules) → IsCompiled t (W.list words.old) → result ≡ first_b4 (bound t.bindings v4 want) }
     ensures bound { (t : Rules) → IsCompiled t (W.list words.old) → steps.new ≤ steps.old + look_bound t.bindings }
     ensures found { IfSome result (λ _. (t : Rules) → IsCompiled t (W.list words.old) → steps.new ≤ steps.old + found_bound t.bindings) }
+    ensures one_shape { (t : Rules) → IsCompiled t (W.list words.old) → most_shapes t.bindings ≡ 1 → steps.new ≤ steps.old + found_bound t.bindings }
+    ensures edition_one { (t : Rules) → IsCompiled t (W.list words.old) → t.edition ≡ edition.One → steps.new ≤ steps.old + found_bound t.bindings }
     ensures list { W.list words.new ≡ W.list words.old }
     ensures reads { W.reads words.new ≡ read_more (W.reads words.old) (steps.new - steps.old) }
     ensures goes { W.goes words.old words.new }
     ensures later { steps.old ≤ steps.new }
 {
     let group = group_of(words, v4, steps);
+    if words.word(5, steps) == ONE_SHAPE {
+        return owner_alike(words, group.from, group.to, v4, want, steps);
+    }
     let address = u64::from(v4.0);
     let mut from = group.from;
     let mut least = address * 0x1_0000_0000;
@@ -57,35 +66,6 @@ pub fn look<W: Words, L: Ledger>(
     }
 }
 
-/// Of these entries the tunnel's end of the one with the address and shape of this first word that owns what is wanted.
-fn owner_like<W: Words, L: Ledger>(
-    words: &mut W,
-    from: u32,
-    to: u32,
-    first: u64,
-    want: Want,
-    steps: &mut Steps<L>,
-) -> Option<V6>
-    requires span { IsSpan (W.list words.old) from to }
-    requires here { first ≡ first_at (W.list words.old) from }
-    requires some { from < to }
-    ensures owner { IfSome result (λ b4. IsFound (W.list words.old) from to first want b4.0) }
-    ensures none { IfNone result (IsNotFound (W.list words.old) from to first want) }
-    ensures bound { (d : ℕ) → to - from < 2 ^ d → steps.new ≤ steps.old + d + 3 }
-    ensures bound_none { IfNone result ((d : ℕ) → to - from < 2 ^ d → steps.new ≤ steps.old + d + 1) }
-    ensures list { W.list words.new ≡ W.list words.old }
-    ensures reads { W.reads words.new ≡ read_more (W.reads words.old) (steps.new - steps.old) }
-    ensures goes { W.goes words.old words.new }
-    ensures later { steps.old ≤ steps.new }
-{
-    let key = key_of(first, want)?;
-    let at = place_of(words, from, to, first, key, steps);
-    if at >= to || first_word(words, at, steps) != key {
-        return None;
-    }
-    Some(tunnel_end(words, at, steps))
-}
-
 /// Whether some binding of the table has the address. The condition is that of `look`. It reads at most B + 3 words.
 pub fn has_address<W: Words, L: Ledger>(words: &mut W, v4: V4, steps: &mut Steps<L>) -> bool
     requires { AreCompiled (W.list words.old) }
@@ -102,39 +82,14 @@ pub fn has_address<W: Words, L: Ledger>(words: &mut W, v4: V4, steps: &mut Steps
     at < group.to && first_word(words, at, steps) / 0x1_0000_0000 == address
 }
 
-/// The settings of the table. The condition is that of `look`. It reads four words.
-pub fn softwire<W: Words, L: Ledger>(words: &mut W, steps: &mut Steps<L>) -> Softwire
-    requires { AreCompiled (W.list words.old) }
-    ensures value { (t : Rules) → IsCompiled t (W.list words.old) → result ≡ t.softwire }
-    ensures list { W.list words.new ≡ W.list words.old }
-    ensures reads { W.reads words.new ≡ read_more (W.reads words.old) 4 }
-    ensures goes { W.goes words.old words.new }
-    ensures steps { steps.new ≡ steps.old + 4 }
-{
-    let high = words.word(1, steps);
-    let low = words.word(2, steps);
-    let own = words.word(3, steps);
-    let sizes = words.word(4, steps);
-    Softwire {
-        aftr: V6(u128::from(high) * 0x1_0000_0000_0000_0000 + u128::from(low)),
-        own: V4((own / 0x1_0000_0000) as u32),
-        mtu6: (sizes / 0x1_0000_0000) as u16,
-        mtu4: (sizes / 0x1_0000 % 0x1_0000) as u16,
-        hop_limit: (sizes % 0x1_0000) as u8,
-        hairpin: own % 2 == 1,
-        icmp_in: own / 2 % 2 == 1,
-        errors_up: own / 4 % 2 == 1,
-        errors_down: own / 8 % 2 == 1,
-    }
-}
-
 #[cfg(test)]
 mod tests {
     use super::*;
     use crate::compiler::compile;
     use crate::reader::SliceWords;
+    use crate::settings::softwire;
     use aftr_base::WordList;
-    use binding_rules::{Binding, Edition, Table, TableError, find, table_of};
+    use binding_rules::{Binding, Edition, Softwire, Table, TableError, find, table_of};
     use std::alloc::Global;
     use std::marker::Brand;
     use std::sync::ledger::Blank;
@@ -310,6 +265,26 @@ mod tests {
         Ok(())
     }
 
+    #[test]
+    fn tells_where_an_address_has_two_shapes(rt: HostRuntime) -> Result<(), Fail> {
+        let alloc = rt.alloc();
+        let shared = SHARED.0;
+        let cases = [
+            ([(shared, 6, 8, 52), (shared, 6, 8, 53)], 0),
+            ([(shared, 6, 8, 52), (shared + 1, 6, 10, 5)], 0),
+            ([(shared, 6, 8, 52), (shared, 6, 10, 5)], 1),
+            ([(shared, 6, 8, 52), (shared, 0, 16, 80)], 1),
+        ];
+        for (rows, told) in cases {
+            let words = compile(alloc, &table(alloc, Edition::Two, &rows)?)?;
+            let list = words.as_slice();
+            assert_eq!(rt; list.get(5).copied(), Some(told));
+            assert_eq!(rt; list.get(6).copied(), Some(0));
+            assert_eq!(rt; list.get(7).copied(), Some(0));
+        }
+        Ok(())
+    }
+
     // The owner by a reading of the list.
     fn owner_in_list(table: &Table, v4: V4, want: Want) -> Option<V6> {
         let place = find(table, v4, want)?;
@@ -353,9 +328,22 @@ mod tests {
             (0xffff_0000, 0, 1, 0),
             (1, 0, 0, 0),
         ];
+        let one_group = [
+            (0xcb00_7102, 6, 8, 255),
+            (0xcb00_7102, 6, 8, 53),
+            (0xcb00_7102, 6, 8, 52),
+            (0xcb00_7102, 6, 8, 5),
+            (0xcb00_7102, 6, 8, 0),
+            (0xcb00_7100, 0, 0, 0),
+            (0xcb00_7101, 2, 2, 2),
+            (0xcb00_7101, 2, 2, 0),
+            (0xcb00_ffff, 15, 1, 1),
+            (0xcb00_ffff, 15, 1, 0),
+        ];
         for (edition, rows) in [
             (Edition::Two, many_shapes.as_slice()),
             (Edition::One, one_shape.as_slice()),
+            (Edition::One, one_group.as_slice()),
             (Edition::One, [].as_slice()),
         ] {
             let table = table(alloc, edition, rows)?;

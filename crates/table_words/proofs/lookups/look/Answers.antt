@@ -1,24 +1,72 @@
-use Rattle.std.proofs.Common.{◌≡◌, ◌≢◌, ◌-◌, ◌/◌, ◌%◌, ◌≤◌, List, ℕ, length, subst, sym, ap, ◌∙◌, arith}
-use Rattle.std.specs.Prelude.{IfSome}
-use Rattle.table_words.specs.Bounds.{group_digits}
-use Rattle.table_words.specs.Spans.{first_at, IsBoundary, IsSpan, IsFound, IsNotFound}
+use Rattle.std.proofs.Common.{◌≡◌, ◌≢◌, ◌+◌, ◌-◌, ◌/◌, ◌%◌, ◌≤◌, List, ℕ, length, subst, sym, ap, ◌∙◌, arith}
+use Rattle.std.specs.Prelude.{IfSome, IfNone, slice_index}
+use Rattle.table_words.specs.Bounds.{group_digits, found_bound}
+use Rattle.table_words.specs.Spans.{first_at, IsBoundary, IsSpan, IsFound, IsNotFound, AreAlike, IsOwner, HasNoOwner}
+use Rattle.table_words.proofs.Mixing.{are_alike, not_one_shape, not_edition_one}
 use Rattle.table_words.proofs.Halving.{reads_on}
-use Rattle.table_words.proofs.Trying.{tried_none, none_left, none_cost, search_cost, rest_small, tried_more, found_here, found_cost, some_is, if_some, when_none, span_rest, next_fits, above_address, found_below}
+use Rattle.table_words.proofs.Trying.{tried_none, none_left, none_cost, search_cost, rest_small, tried_more, found_here, found_cost, some_is, if_some, when_none, span_rest, next_fits, above_address, found_below, alike_answer, alike_cost}
 use Rattle.table_words.proofs.lookups.look.Goals as goal
+
+pub owner_alike-requires-clause-alike : goal.owner_alike-requires-clause-alike
+owner_alike-requires-clause-alike g c =
+    let grouped = c.group_of-group.ensures in
+    let read = c.word.ensures in
+    let table = c.requires.of_table in
+    let told = sym read.value ∙ c.if-word-eq-ONE_SHAPE.true in
+    let none = sym (ap (λ (ws : List ℕ). slice_index ws 5) grouped.list) ∙ told in
+    subst (λ (ws : List ℕ). AreAlike ws c.group_of-group.result.from c.group_of-group.result.to c.args.v4.0) (sym (read.list ∙ grouped.list))
+    (are_alike c.requires.table (g.W.Words.list c.args.words.now) table none c.args.v4.0 _ _ (grouped.group c.requires.table table))
+
+pub returns-then-word-eq-ONE_SHAPE-clause-owner : goal.returns-then-word-eq-ONE_SHAPE-clause-owner
+returns-then-word-eq-ONE_SHAPE-clause-owner g c = λ t h.
+    let grouped = c.group_of-group.ensures in
+    let list = c.word.ensures.list ∙ grouped.list in
+    let from = c.group_of-group.result.from in
+    let to = c.group_of-group.result.to in
+    let a = c.args.v4.0 in
+    let o = c.owner_alike.result in
+    let owner = subst (λ (ws : List ℕ). IfSome o (λ b4. IsOwner ws from to a c.args.want b4.0)) list c.owner_alike.ensures.owner in
+    let none = subst (λ (ws : List ℕ). IfNone o (HasNoOwner ws from to a c.args.want)) list c.owner_alike.ensures.none in
+    alike_answer t (g.W.Words.list c.args.words.now) h c.args.v4 c.args.want from to (grouped.group t h) o owner none
+
+pub returns-then-word-eq-ONE_SHAPE-clause-bound : goal.returns-then-word-eq-ONE_SHAPE-clause-bound
+returns-then-word-eq-ONE_SHAPE-clause-bound g c = λ t h.
+    let few = c.owner_alike.ensures.bound (group_digits t.bindings) (c.group_of-group.ensures.group t h).size in
+    omega (arith, few, alike_cost t, found_below t, c.word.ensures.steps, c.group_of-group.ensures.steps)
+
+pub returns-then-word-eq-ONE_SHAPE-clause-found : goal.returns-then-word-eq-ONE_SHAPE-clause-found
+returns-then-word-eq-ONE_SHAPE-clause-found g c = if_some c.owner_alike.result _ (λ t h.
+    let few = c.owner_alike.ensures.bound (group_digits t.bindings) (c.group_of-group.ensures.group t h).size in
+    omega (arith, few, alike_cost t, c.word.ensures.steps, c.group_of-group.ensures.steps))
+
+pub returns-then-word-eq-ONE_SHAPE-clause-one_shape : goal.returns-then-word-eq-ONE_SHAPE-clause-one_shape
+returns-then-word-eq-ONE_SHAPE-clause-one_shape g c = λ t h one.
+    let few = c.owner_alike.ensures.bound (group_digits t.bindings) (c.group_of-group.ensures.group t h).size in
+    omega (arith, few, alike_cost t, c.word.ensures.steps, c.group_of-group.ensures.steps)
+
+pub returns-then-word-eq-ONE_SHAPE-clause-edition_one : goal.returns-then-word-eq-ONE_SHAPE-clause-edition_one
+returns-then-word-eq-ONE_SHAPE-clause-edition_one g c = λ t h one.
+    let few = c.owner_alike.ensures.bound (group_digits t.bindings) (c.group_of-group.ensures.group t h).size in
+    omega (arith, few, alike_cost t, c.word.ensures.steps, c.group_of-group.ensures.steps)
+
+pub returns-then-word-eq-ONE_SHAPE-clause-goes : goal.returns-then-word-eq-ONE_SHAPE-clause-goes
+returns-then-word-eq-ONE_SHAPE-clause-goes g c =
+    let on = g.met.W.Words.goes_on in
+    on _ _ _ (on _ _ _ c.group_of-group.ensures.goes c.word.ensures.goes) c.owner_alike.ensures.goes
 
 pub shapes-init : goal.shapes-init
 shapes-init g c =
     let grouped = c.group_of-group.ensures in
+    let read = c.word.ensures in
     let words = g.W.Words.list c.args.words.now in
-    let steps_are : c.group_of-group.new.steps - c.args.steps.now ≡ 2 = omega (arith, grouped.steps) in
     record {
       span = grouped.span;
       tried = rw c.from-address.ensures
-          (tried_none words c.args.v4 c.args.want c.group_of-group.result.from c.group_of-group.result.to _ (omega (arith, grouped.steps)) grouped.group);
-      list = grouped.list;
-      reads = rw steps_are grouped.reads;
-      goes = grouped.goes;
-      later = omega (arith, grouped.steps);
+          (tried_none words c.args.v4 c.args.want c.group_of-group.result.from c.group_of-group.result.to _ (omega (arith, grouped.steps, read.steps)) grouped.group);
+      list = read.list ∙ grouped.list;
+      reads = reads_on _ _ _ 2 1 _ (omega (arith, grouped.steps, read.steps)) grouped.reads read.reads;
+      goes = g.met.W.Words.goes_on _ _ _ grouped.goes read.goes;
+      later = omega (arith, grouped.steps, read.steps);
     }
 
 pub lower_bound-from-requires : goal.lower_bound-from-requires
@@ -34,6 +82,7 @@ returns-then-from-group g c =
     let to = c.group_of-group.result.to in
     let at = c.lower_bound-from.result in
     let spent = c.shapes.steps - c.args.steps.now in
+    let told = c.word.ensures.value ∙ ap (λ (ws : List ℕ). slice_index ws 5) c.group_of-group.ensures.list in
     let place = subst (λ (ws : List ℕ). IsBoundary ws c.shapes.from to c.shapes.least at) i.list bounded.place in
     record {
       owner = λ t h. sym (none_left words c.args.v4 c.args.want first to c.shapes.from c.shapes.least spent at i.tried i.span place t h
@@ -44,6 +93,8 @@ returns-then-from-group g c =
           (c.lower_bound-from.new.steps - c.args.steps.now) (omega (arith, cost, bounded.later, i.later)) in
           omega (arith, most, bounded.later, i.later);
       found = tt;
+      one_shape = λ t h one. not_one_shape t words h c.word.result told c.if-word-eq-ONE_SHAPE.false one c.lower_bound-from.new.steps (c.args.steps.now + found_bound t.bindings);
+      edition_one = λ t h one. not_edition_one t words h c.word.result told c.if-word-eq-ONE_SHAPE.false one c.lower_bound-from.new.steps (c.args.steps.now + found_bound t.bindings);
       list = bounded.list ∙ i.list;
       reads = reads_on _ _ _ spent _ _ (omega (arith, bounded.later, i.later)) i.reads bounded.reads;
       goes = g.met.W.Words.goes_on _ _ _ i.goes bounded.goes;
@@ -66,6 +117,7 @@ returns-then-first-address g c =
     let to = c.group_of-group.result.to in
     let at = c.lower_bound-from.result in
     let spent = c.shapes.steps - c.args.steps.now in
+    let told = c.word.ensures.value ∙ ap (λ (ws : List ℕ). slice_index ws 5) c.group_of-group.ensures.list in
     let place = subst (λ (ws : List ℕ). IsBoundary ws c.shapes.from to c.shapes.least at) i.list bounded.place in
     let word = read.value ∙ ap (λ (ws : List ℕ). first_at ws at) (bounded.list ∙ i.list) in
     let other : c.first_word-first.result / 4294967296 ≢ c.args.v4.0 = λ e. c.if-first-address.true (e ∙ sym c.from-address.ensures) in
@@ -79,6 +131,8 @@ returns-then-first-address g c =
           (c.first_word-first.new.steps - c.args.steps.now) (omega (arith, cost, bounded.later, i.later, read.steps)) in
           omega (arith, most, bounded.later, i.later, read.steps);
       found = tt;
+      one_shape = λ t h one. not_one_shape t words h c.word.result told c.if-word-eq-ONE_SHAPE.false one c.first_word-first.new.steps (c.args.steps.now + found_bound t.bindings);
+      edition_one = λ t h one. not_edition_one t words h c.word.result told c.if-word-eq-ONE_SHAPE.false one c.first_word-first.new.steps (c.args.steps.now + found_bound t.bindings);
       list = read.list ∙ bounded.list ∙ i.list;
       reads = reads_on _ _ _ (c.lower_bound-from.new.steps - c.args.steps.now) 1 _ (omega (arith, bounded.later, i.later, read.steps))
           (reads_on _ _ _ spent _ _ (omega (arith, bounded.later, i.later)) i.reads bounded.reads) read.reads;
@@ -104,6 +158,7 @@ returns-then-is_some g c =
     let to = c.group_of-group.result.to in
     let at = c.lower_bound-from.result in
     let spent = c.shapes.steps - c.args.steps.now in
+    let told = c.word.ensures.value ∙ ap (λ (ws : List ℕ). slice_index ws 5) c.group_of-group.ensures.list in
     let word = c.first_word-first.result in
     let list = read.list ∙ bounded.list ∙ i.list in
     let place = subst (λ (ws : List ℕ). IsBoundary ws c.shapes.from to c.shapes.least at) i.list bounded.place in
@@ -128,6 +183,8 @@ returns-then-is_some g c =
           let most = found_cost words c.args.v4 c.args.want first to c.shapes.from c.shapes.least spent at i.tried i.span place c.if-from-group.false word word_is address t h
           now (omega (arith, cost, tries, bounded.later, i.later, read.steps, tested.later)) in
           omega (arith, most, bounded.later, i.later, read.steps, tested.later));
+      one_shape = λ t h one. not_one_shape t words h c.word.result told c.if-word-eq-ONE_SHAPE.false one c.owner_like-owner.new.steps (c.args.steps.now + found_bound t.bindings);
+      edition_one = λ t h one. not_edition_one t words h c.word.result told c.if-word-eq-ONE_SHAPE.false one c.owner_like-owner.new.steps (c.args.steps.now + found_bound t.bindings);
       list = tested.list ∙ list;
       reads = reads_on _ _ _ (c.first_word-first.new.steps - c.args.steps.now) _ _ (omega (arith, bounded.later, i.later, read.steps, tested.later))
           (reads_on _ _ _ (c.lower_bound-from.new.steps - c.args.steps.now) 1 _ (omega (arith, bounded.later, i.later, read.steps))

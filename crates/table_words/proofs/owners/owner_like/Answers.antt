@@ -2,8 +2,8 @@ use Rattle.std.proofs.Common.{List, ℕ, ap, ◌∙◌, arith}
 use Rattle.table_words.specs.Spans.{first_at}
 use Rattle.table_words.proofs.Ends.{none_before}
 use Rattle.table_words.proofs.Digits.{few_halvings}
-use Rattle.table_words.proofs.lookups.owner_like.Goals as goal
-use Rattle.table_words.proofs.lookups.owner_like.Goals.{then-at-to-via-then-at-to, then-at-to-via-else-at-to+then-first_word-key}
+use Rattle.table_words.proofs.owners.owner_like.Goals as goal
+use Rattle.table_words.proofs.owners.owner_like.Goals.{then-at-to-via-then-at-to, then-at-to-via-else-at-to+then-first_word-key}
 
 pub returns-then-at-to-clause-bound_none : goal.returns-then-at-to-clause-bound_none
 returns-then-at-to-clause-bound_none g c = λ d l.

@@ -1,0 +1,31 @@
+#!/usr/bin/env bash
+# Times `compile`, and random looks over tables of 65,536 bindings: builds the program in a temporary repository, which
+# proves it first, and runs it three times. The crates are those of this repository, or of the one that is named.
+#     bench/table_lookups/run.sh [REPOSITORY]
+set -e
+here="$(cd "$(dirname "$0")" && pwd)"
+top="$(cd "${1:-$here/../..}" && pwd)"
+work="/tmp/table_lookups_bench$(echo "$top" | tr / _)"
+repository="$work/repository"
+mkdir -p "$repository/crates"
+cp "$top/HANDLES" "$repository/"
+for crate in aftr_base port_set binding_rules table_words; do
+    rm -rf "$repository/crates/$crate"
+    cp -r "$top/crates/$crate" "$repository/crates/"
+done
+mkdir -p "$repository/crates/lookups_bench/src" "$repository/crates/lookups_bench/proofs/found_in"
+cp "$here/program/main.rt.txt" "$repository/crates/lookups_bench/src/main.rt"
+cp "$here/program/Invariants.antt.txt" "$repository/crates/lookups_bench/proofs/found_in/Invariants.antt"
+cat > "$repository/crates.txt" <<'C'
+aftr_base:
+port_set:
+binding_rules: aftr_base port_set thiserror
+table_words: aftr_base port_set binding_rules
+lookups_bench: aftr_base binding_rules table_words
+C
+(cd "$repository/crates/lookups_bench" && rt run > "$work/build.txt" 2>&1) || true
+program="$repository/crates/lookups_bench/out/lookups_bench"
+[ -x "$program" ] || { tail "$work/build.txt"; exit 1; }
+for turn in 1 2 3; do
+    "$program"
+done
