@@ -49,14 +49,14 @@ fn records_are_written_in_rounds(rt: HostRuntime) -> Result<(), Fail> {
         said,
         "records 40000 held 0 forwarded 26666 dropped 13334 packets 26666 version 0\n"
     );
-    // A packet of 32 bytes for each that was forwarded, with the record's time.
+    // A packet of 32 bytes for each that was forwarded, with the time of its record: the last one is record 39,998.
     let written = files.files.get("out.pcap").unwrap_or(&[]);
     assert_eq!(rt; written.len(), 24 + 26_666 * 48);
     assert_eq!(rt;
         written
             .get(24 + 48 * 26_665..)
             .and_then(|last| last.get(..8)),
-        Some([0x3f, 0x9c, 0, 0, 5, 0, 0, 0].as_slice())
+        Some([0x3e, 0x9c, 0, 0, 5, 0, 0, 0].as_slice())
     );
     Ok(())
 }
