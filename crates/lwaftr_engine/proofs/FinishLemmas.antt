@@ -1,5 +1,6 @@
 -- What a run leaves, from what its parts left.
-use Rattle.std.proofs.Common.{◌≡◌, ◌≢◌, ℕ, suc, ◌+◌, ◌<◌, ◌≤◌, nat_le, Bool, true, false, List, [], ◌∷◌, ◌++◌, filter, flat_map, length, drop, All, Option, Some, None, Result, Ok, Err, refl, sym, ◌∙◌, ap, subst, append_assoc, append-nil, arith}
+use Rattle.std.proofs.Common.{◌≡◌, ◌≢◌, ℕ, suc, ◌+◌, ◌<◌, ◌≤◌, nat_le, Bool, true, false, List, [], ◌∷◌, ◌++◌, filter, flat_map, length, take, drop, All, Option, Some, None, Result, Ok, Err, refl, sym, ◌∙◌, ap, subst, append_assoc, append-nil, arith}
+use Rattle.std.proofs.Math.Seq.{take-append_seam}
 use Rattle.std.proofs.lemmas.Bool.{le-leb, leb-true}
 use Rattle.std.proofs.lemmas.List.Elements.{filter-append}
 use Rattle.std.specs.Option.{option_map}
@@ -19,7 +20,7 @@ use Rattle.capture_io.proofs.RecordLemmas.{header_end}
 use Rattle.capture_io.proofs.SplitLemmas.{Split, some_way}
 use Rattle.item_stage.specs.Items.{entries_of, unfinished_of}
 use Rattle.item_stage.specs.Stages.{Staged, Stands}
-use Rattle.lwaftr_engine.specs.Endings.{IsCutRun, IsRun, IsWholeRun, OthersKept}
+use Rattle.lwaftr_engine.specs.Endings.{ended_by, IsCutRun, IsRun, IsWholeRun, OthersKept}
 use Rattle.lwaftr_engine.specs.Jobs.{RunNames}
 use Rattle.lwaftr_engine.specs.Opened.{IsOpened}
 use Rattle.lwaftr_engine.specs.Outputs.{Course, lines_from, no_totals, packets_from, steady, totals_from, totals_of}
@@ -124,6 +125,8 @@ cut_short : (n : RunNames) (form : Form) (t : Rules) (a d : Held) (said now : Op
 cut_short n form t a d said now rs at number last header behind within follows stopped run =
     let rest : Split form.big (drop at (content a n.input)) at number = some_way form.big (drop at (content a n.input)) at number in
     let P : List Rec → Type 0 = λ l. IsRun n a d said now t form l in
+    let F : List Rec → Type 0 = λ l. take (length l) (rs ++ rest.0) ≡ l in
+    let same : rs ≡ ended_by stopped.place (rs ++ rest.0) = sym (cut stopped.place form.big (drop at (content a n.input)) at number rs rest.0 rest.1 within stopped.begun rest.2 stopped.before) in
     record {
       rules = t;
       form = form;
@@ -133,7 +136,8 @@ cut_short n form t a d said now rs at number last header behind within follows s
       place = stopped.place;
       last_is = stopped.last_is;
       in_records = omega (arith, stopped.begun);
-      run = subst P (sym (cut stopped.place form.big (drop at (content a n.input)) at number rs rest.0 rest.1 within stopped.begun rest.2 stopped.before)) run;
+      first_ones = subst F same (take-append_seam rs rest.0);
+      run = subst P same run;
     }
 
 ends_by : (n : RunNames) (form : Form) (t : Rules) (a b d : Held) (said now : Option (List ℕ)) (rs : List Rec) (p : Progress) (stop : Ending) (last : Option (List ℕ × ℕ)) →

@@ -1,7 +1,7 @@
 // The program's call.
 ghost use Rattle.std.specs.Prelude.{◌≡◌, ◌⊎◌, ◌↔◌, None};
 ghost use Rattle.aftr_base.specs.Held.{Moves, Told};
-ghost use Rattle.lwaftr_engine.specs.Clauses.{FilesAt, HasCause, IsDue, IsFault, NothingFailed, counts};
+ghost use Rattle.lwaftr_engine.specs.Clauses.{FailedAt, FilesAt, HasCause, IsDue, IsFault, NothingFailed, counts};
 ghost use Rattle.lwaftr_engine.specs.Endings.{OthersKept};
 ghost use Rattle.lwaftr_engine.specs.Jobs.{ForRun, run_of, texts};
 ghost use Rattle.lwaftr_engine.specs.declared.status.Status.{Status as Ended};
@@ -44,6 +44,7 @@ pub fn lwaftr<F: Files, O: Sink>(
     ensures cause { HasCause result
         (counts (F.lost files.old) (F.spoiled files.old) (F.faults files.old) (O.faults out.old))
         (counts (F.lost files.new) (F.spoiled files.new) (F.faults files.new) (O.faults out.new)) }
+    ensures failed_read { ForRun words.now (λ n. FailedAt n result (F.last files.old) (F.last files.new)) }
     ensures complete { ForRun words.now (λ n. Told (F.held files.old) (λ m. IsDue n m Status.Done →
         NothingFailed
             (counts (F.lost files.old) (F.spoiled files.old) (F.faults files.old) (O.faults out.old))

@@ -16,6 +16,7 @@ invariant-rounds g l = let f = g.F.Files in record {
   others : Moves (f.held l.initial.files) (f.held l.files) (λ m n. OthersKept (names_of l.job) m n);
   faults : f.faults l.files ≡ f.faults l.initial.files;
   lost : f.lost l.files ≡ f.lost l.initial.files;
+  last : f.last l.files ≡ f.last l.initial.files;
   spoiled : f.spoiled l.files ≡ f.spoiled l.initial.files;
 }
 
