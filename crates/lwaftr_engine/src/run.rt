@@ -191,7 +191,12 @@ fn run_capture<F: Files, O: Sink>(
 }
 
 /// Does the run.
-pub fn run_job<F: Files, O: Sink>(alloc: Global, job: RunJob<'_>, files: &mut F, out: &mut O) -> Status
+pub fn run_job<F: Files, O: Sink>(
+    alloc: Global,
+    job: RunJob<'_>,
+    files: &mut F,
+    out: &mut O,
+) -> Status
     requires apart { IsTrue (are_apart (names_of job)) }
     ensures files { Moves (F.held files.old) (F.held files.new) (λ m n.
         FilesAt (names_of job.entry) result m n (O.out out.old) (O.out out.new) (F.last files.new)) }
