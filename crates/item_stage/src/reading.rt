@@ -1,6 +1,7 @@
 // The item of one record.
 ghost use Rattle.std.specs.Prelude.{◌≡◌, IfOk};
-ghost use Rattle.item_stage.specs.Items.{entries_of, entry_of, item_of, outer_of, six_item, up_item};
+ghost use Rattle.capture_io.specs.Frames.{said};
+ghost use Rattle.item_stage.specs.Items.{carried_item, entries_of, entry_of, item_of, outer_of, six_item, up_item};
 ghost use Rattle.ip_codec.specs.Packet4.{ip4_of};
 ghost use Rattle.ip_codec.specs.Packet6.{ip6_of, packet6};
 
@@ -43,7 +44,13 @@ fn read_entry(alloc: Global, form: Form, rec: &Rec) -> Result<Entry, OutOfMemory
 fn read_item(alloc: Global, form: Form, bytes: &[u8]) -> Result<Item, OutOfMemory>
     ensures { IfOk result (λ item. item ≡ item_of form bytes.now) }
 {
-    match frame_of(form.link, bytes) {
+    read_frame(alloc, frame_of(form.link, bytes))
+}
+
+fn read_frame(alloc: Global, frame: Frame<'_>) -> Result<Item, OutOfMemory>
+    ensures { IfOk result (λ item. item ≡ carried_item (said frame.entry)) }
+{
+    match frame {
         Frame::V4(_) => Ok(Item::Bad(Rule::NotBuilt)),
         Frame::V6(packet) => read_six(alloc, packet),
         Frame::Short => Ok(Item::Bad(Rule::FrameShort)),

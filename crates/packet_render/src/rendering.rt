@@ -54,7 +54,8 @@ fn outward(alloc: Global, item: &Item) -> Result<Packets, OutOfMemory>
 // The item's packet in the tunnel to a subscriber.
 fn inward(alloc: Global, item: &Item, from: V6, to: V6, hop: u8) -> Result<Packets, OutOfMemory>
     requires alive { IfSome (carried item.now) (λ packet. 1 ≤ packet.ttl) }
-    ensures packets { IfOk result (λ list. list ≡ map (λ packet. wrapped from to hop (lowered packet)) (all_carried item.now)) }
+    ensures packets { IfOk result (λ list.
+        list ≡ map (λ packet. wrapped from to hop (lowered packet)) (all_carried item.now)) }
     ensures sizes { IfOk result (λ list. All (λ packet. length packet ≤ 65575) list) }
     ensures count { IfOk result (λ list. length list ≤ 1) }
 {

@@ -66,3 +66,43 @@ fn has_ports(protocol: u8) -> bool
 {
     matches!(protocol, 6 | 17 | 33 | 132 | 136)
 }
+
+#[cfg(test)]
+mod tests {
+    use super::*;
+    use ip_codec::ip4;
+    use std::test::Fail;
+
+    // A UDP datagram from port 1232 to port 53; of the same header the first fragment, and one with three bytes behind
+    // it; the same bytes as of a protocol without ports.
+    const UDP: &[u8; 32] =
+        b"\x45\0\0\x20\0\x01\0\0\x40\x11\x14\x90\xcb\0\x71\x01\xc6\x33\x64\x07\x04\xd0\0\x35\0\x0c\0\0test";
+
+    const FRAGMENT: &[u8; 32] =
+        b"\x45\0\0\x20\0\x01\x20\0\x40\x11\xf4\x8f\xcb\0\x71\x01\xc6\x33\x64\x07\x04\xd0\0\x35\0\x0c\0\0test";
+
+    const THREE: &[u8; 23] =
+        b"\x45\0\0\x17\0\x01\0\0\x40\x11\x14\x99\xcb\0\x71\x01\xc6\x33\x64\x07\x04\xd0\0";
+
+    const TUNNEL: &[u8; 32] =
+        b"\x45\0\0\x20\0\x01\0\0\x40\x2f\x14\x72\xcb\0\x71\x01\xc6\x33\x64\x07\x04\xd0\0\x35\0\x0c\0\0test";
+
+    #[test]
+    fn keys_are_the_ports_of_whole_packets(rt: HostRuntime) -> Result<(), Fail> {
+        let whole = Key::At(Want::Whole);
+        let cases: [(&[u8], Key, Key); 4] = [
+            (UDP, Key::At(Want::Port(1232)), Key::At(Want::Port(53))),
+            (FRAGMENT, Key::NoPort, Key::NoPort),
+            (THREE, Key::NoPort, Key::NoPort),
+            (TUNNEL, whole, whole),
+        ];
+        for (bytes, up, down) in cases {
+            let packet = ip4(bytes).ok().ok_or("a packet")?;
+            if packet.protocol == 1 {
+                return Err("not ICMP".into());
+            }
+            assert_eq!(rt; (key_up(&packet), key_down(&packet)), (up, down));
+        }
+        Ok(())
+    }
+}

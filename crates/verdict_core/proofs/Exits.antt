@@ -1,5 +1,5 @@
 -- The ways out of the judgement of a packet from a subscriber, each with the line that it stands for.
-use Rattle.std.proofs.Common.{◌≡◌, ℕ, ◌==◌, ◌||◌, if◌then◌else◌, Bool, not, true, false, List, Option, Some, Result, Ok, refl, ap, sym, ◌∙◌}
+use Rattle.std.proofs.Common.{◌≡◌, ℕ, ◌==◌, ◌||◌, if◌then◌else◌, Bool, not, true, false, List, Option, Some, Ok, ap, sym, ◌∙◌}
 use Rattle.std.specs.List.{list_any}
 use Rattle.std.proofs.lemmas.Bool.{or_left, or_parts, not_from_true, not_from_false, eqb-false}
 use Rattle.aftr_base.specs.First.{first_true}
@@ -92,7 +92,7 @@ module _ (t : Rules) (outer : Outer) (inner : List ℕ) (s : Softwire) (p : Pack
         pub at_no_binding : sends ≡ false → v ≡ silent rule.NoBinding → Gives v
         at_no_binding is gives =
             by_packet v (skipped _ _ _ _ judged (skipped _ _ _ _ ours_of (skipped _ _ _ _ icmp_false (skipped _ _ _ _ port_false
-                (taken _ _ _ _ (not_from_false _ (sends_of ∙ is)) gives)))))
+            (taken _ _ _ _ (not_from_false _ (sends_of ∙ is)) gives)))))
 
         module _ (sender : sends ≡ true) (self : Bool) (self_is : self ≡ (p.dst == s.own.0)) where
           self_of : (p.dst == t.softwire.own.0) ≡ self
@@ -104,10 +104,10 @@ module _ (t : Rules) (outer : Outer) (inner : List ℕ) (s : Softwire) (p : Pack
           pub at_self : self ≡ true → v ≡ silent rule.ToSelf → Gives v
           at_self is gives =
               by_packet v (skipped _ _ _ _ judged (skipped _ _ _ _ ours_of (skipped _ _ _ _ icmp_false (skipped _ _ _ _ port_false (skipped _ _ _ _ sender_of
-                  (taken _ _ _ _ (self_of ∙ is) gives))))))
+              (taken _ _ _ _ (self_of ∙ is) gives))))))
 
           pub at_end : self ≡ false → Gives (verdict.Outward s.mtu4)
           at_end is =
               by_packet (verdict.Outward s.mtu4)
-                  (skipped _ _ _ _ judged (skipped _ _ _ _ ours_of (skipped _ _ _ _ icmp_false (skipped _ _ _ _ port_false (skipped _ _ _ _ sender_of
-                  (skipped _ _ _ _ (self_of ∙ is) (ap (λ (x : Softwire). Some (verdict.Outward x.mtu4)) (sym same))))))))
+              (skipped _ _ _ _ judged (skipped _ _ _ _ ours_of (skipped _ _ _ _ icmp_false (skipped _ _ _ _ port_false (skipped _ _ _ _ sender_of
+              (skipped _ _ _ _ (self_of ∙ is) (ap (λ (x : Softwire). Some (verdict.Outward x.mtu4)) (sym same))))))))

@@ -1,5 +1,5 @@
 -- What the lines say of a packet from a subscriber: who may send, and which verdicts there are.
-use Rattle.std.proofs.Common.{◌≡◌, ℕ, ◌+◌, ◌-◌, ◌<◌, ◌≤◌, ◌==◌, ◌||◌, ◌↔◌, nat_lt, if◌then◌else◌, Bool, not, true, false, List, [], ◌∷◌, length, Option, Some, None, Result, Ok, Err, refl, ap, sym, ◌∙◌, subst, ◌⊎◌, inl, inr, arith}
+use Rattle.std.proofs.Common.{◌≡◌, ℕ, ◌≤◌, ◌==◌, ◌||◌, ◌↔◌, nat_lt, if◌then◌else◌, Bool, not, true, false, List, [], ◌∷◌, length, Some, Result, Ok, Err, refl, ap, sym, ◌∙◌, subst, ◌⊎◌, inl, inr, arith}
 use Rattle.std.specs.List.{list_any}
 use Rattle.std.proofs.lemmas.Bool.{not-true, not-false, eqb-true, eqb-false, eq-eqb, ltb-false, or_parts, both_ways}
 use Rattle.aftr_base.specs.First.{first_true}
@@ -16,11 +16,11 @@ use Rattle.ip_codec.specs.declared.items.Outer.{Outer}
 use Rattle.ip_codec.specs.declared.packet4.Ip4Bad.{Ip4Bad}
 use Rattle.ip_codec.specs.declared.rules.Rule.{Rule}
 use Rattle.ip_codec.specs.declared.rules.Rule.TheVariants as rule
-use Rattle.port_locate.specs.Keys.{has_ports, key_at, port_key, upstream_key}
+use Rattle.port_locate.specs.Keys.{has_ports, port_key, upstream_key}
 use Rattle.port_locate.specs.declared.keys.Key.{Key}
 use Rattle.port_locate.specs.declared.keys.Key.TheVariants as key
 use Rattle.verdict_core.specs.Access.{Forbids, Forbidden, Forwards, IsBuilt, IsForwarded, IsRefusal, Permits, Refused}
-use Rattle.verdict_core.specs.Fitting.{Carries, Fits, HasRoom, IsPlain, IsSendable}
+use Rattle.verdict_core.specs.Fitting.{Carries, Fits, HasRoom, IsPlain}
 use Rattle.verdict_core.specs.Verdicts.{Judged, Line, is_checksum, is_icmp_bad, is_not_built, is_not_built_alone, is_softwire, lines, names_no_port, owners, silent, up_lines}
 use Rattle.verdict_core.specs.declared.verdicts.Verdict.{Verdict}
 use Rattle.verdict_core.specs.declared.verdicts.Verdict.TheVariants as verdict
@@ -152,13 +152,13 @@ module _ (t : Rules) (outer : Outer) (inner : List ℕ) (v : Verdict) where
         let same = same_packet permitted.packet permitted.read in
         let key_is : upstream_key p ≡ key.At permitted.want = ap (λ (q : Packet4). upstream_key q) (sym same) ∙ permitted.key in
         let owner : owners t p.src (upstream_key p) ≡ permitted.binding ∷ [] =
-            ap (λ (k : Key). owners t p.src k) key_is
-            ∙ ap (λ (a : ℕ). owners t a (key.At permitted.want)) (sym (ap (λ (q : Packet4). q.src) same))
-            ∙ permitted.owner in
+        ap (λ (k : Key). owners t p.src k) key_is
+        ∙ ap (λ (a : ℕ). owners t a (key.At permitted.want)) (sym (ap (λ (q : Packet4). q.src) same))
+        ∙ permitted.owner in
         let sends : (permitted.binding.b4.0 == outer.src.0) ≡ true = eq-eqb _ _ permitted.sender in
         let some : is_softwire t outer p ≡ true =
-            ap (λ (bs : List Binding). list_any (λ b. b.b4.0 == outer.src.0) bs) owner
-            ∙ ap (λ (x : Bool). x || false) sends in
+        ap (λ (bs : List Binding). list_any (λ b. b.b4.0 == outer.src.0) bs) owner
+        ∙ ap (λ (x : Bool). x || false) sends in
         both_ways _ (not-true _ h) some
 
     permit : is_foreign t outer ≡ false → names_no_port (upstream_key p) ≡ false →
@@ -166,9 +166,9 @@ module _ (t : Rules) (outer : Outer) (inner : List ℕ) (v : Verdict) where
     permit ours named softwire =
         let k = wanted (upstream_key p) (not_icmp_bad p) named in
         let some : list_any (λ b. b.b4.0 == outer.src.0) (bound t.bindings (record { 0 = p.src }) k.want) ≡ true =
-            ap (λ (x : Key). list_any (λ b. b.b4.0 == outer.src.0) (owners t p.src x)) (sym k.key) ∙ not-false _ softwire in
+        ap (λ (x : Key). list_any (λ b. b.b4.0 == outer.src.0) (owners t p.src x)) (sym k.key) ∙ not-false _ softwire in
         let one = one_member (λ b. b.b4.0 == outer.src.0) (bound t.bindings (record { 0 = p.src }) k.want)
-            (lawful.at_most_one (record { 0 = p.src }) k.want) some in
+        (lawful.at_most_one (record { 0 = p.src }) k.want) some in
         record {
           ours = eqb-true _ _ (not-false _ ours);
           packet = p;

@@ -1,5 +1,5 @@
 -- Who may send: the sender's tunnel address, IPv4 address and port stand in one binding (RFC 7596, section 6.2).
-use Rattle.std.specs.Prelude.{◌≡◌, ℕ, ◌↔◌, ◌⊎◌, false, true, List, [], ◌∷◌, Result, Ok, Err}
+use Rattle.std.specs.Prelude.{◌≡◌, ℕ, ◌↔◌, false, true, List, [], ◌∷◌, Result, Ok, Err}
 use Rattle.binding_rules.specs.Bindings.{bound}
 use Rattle.binding_rules.specs.Tables.{Rules}
 use Rattle.binding_rules.specs.declared.binding.Binding.{Binding}

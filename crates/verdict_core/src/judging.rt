@@ -11,7 +11,7 @@ ghost use Rattle.table_words.specs.Reads.{read_more};
 ghost use Rattle.verdict_core.specs.Access.{Forbidden, Forwards, Refused};
 ghost use Rattle.verdict_core.specs.Bounds.{judge_bound};
 ghost use Rattle.verdict_core.specs.Fitting.{AsksTable, Fits, HasRoom, IsPlain};
-ghost use Rattle.verdict_core.specs.Verdicts.{Judged, is_not_built, is_not_built_alone, lines, silent, up_lines};
+ghost use Rattle.verdict_core.specs.Verdicts.{Judged, is_not_built, is_not_built_alone, lines, silent, up_lines, verdict_of};
 
 use crate::verdicts::{Reply, Verdict};
 use aftr_base::V4;
@@ -35,6 +35,7 @@ pub fn judge<W: Words, L: Ledger>(words: &mut W, item: &Item, steps: &mut Steps<
 
     // Which verdict it is.
     ensures verdict { (t : Rules) → IsCompiled t (W.list words.old) → Judged t item.now result }
+    ensures value { (t : Rules) → IsCompiled t (W.list words.old) → result ≡ verdict_of t item.now }
     ensures only { (t : Rules) → IsCompiled t (W.list words.old) → (v : Verdict) → Judged t item.now v → v ≡ result }
 
     // What it can be.
@@ -122,9 +123,7 @@ fn judge_up<W: Words, L: Ledger>(
     if packet.dst == settings.own {
         return silent(Rule::ToSelf);
     }
-    Verdict::Outward {
-        mtu: settings.mtu4,
-    }
+    Verdict::Outward { mtu: settings.mtu4 }
 }
 
 // The verdict where the inner bytes are no IPv4 packet.

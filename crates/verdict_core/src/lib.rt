@@ -7,3 +7,6 @@ mod verdicts;
 
 pub use judging::judge;
 pub use verdicts::{Path, Reply, Verdict};
+
+#[cfg(test)]
+mod tests;

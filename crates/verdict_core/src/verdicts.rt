@@ -30,9 +30,20 @@ pub enum Verdict {
     /// A fragment that is kept until its datagram is whole.
     Held,
     /// It goes nowhere, for this rule.
-    Drop { why: Rule, reply: Reply },
+    Drop {
+        why: Rule,
+        reply: Reply,
+    },
     /// Into the tunnel to a subscriber, in packets of at most `mtu` bytes; `back` for a packet that came from one.
-    Inward { from: V6, to: V6, hop: u8, mtu: u16, back: bool },
+    Inward {
+        from: V6,
+        to: V6,
+        hop: u8,
+        mtu: u16,
+        back: bool,
+    },
     /// Out to the IPv4 network, in packets of at most `mtu` bytes.
-    Outward { mtu: u16 },
+    Outward {
+        mtu: u16,
+    },
 }

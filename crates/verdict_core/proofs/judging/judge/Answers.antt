@@ -1,4 +1,4 @@
-use Rattle.std.proofs.Common.{◌≡◌, ℕ, List, subst, sym, ap, ◌∙◌}
+use Rattle.std.proofs.Common.{ℕ, List, subst, sym}
 use Rattle.table_words.specs.Layout.{IsCompiled}
 use Rattle.verdict_core.proofs.Firsts.{judged, only_verdict}
 use Rattle.verdict_core.proofs.Laws.{forbidden, forwards, good, refused}
@@ -7,7 +7,7 @@ use Rattle.verdict_core.proofs.judging.judge.Goals as goal
 first_of : goal.returns-clause-verdict
 first_of g c = λ t h.
     judged t c.args.item.now c.judge_under.result
-        (c.judge_under.ensures.verdict t (subst (λ (ws : List ℕ). IsCompiled t ws) (sym c.softwire-settings.ensures.list) h))
+    (c.judge_under.ensures.verdict t (subst (λ (ws : List ℕ). IsCompiled t ws) (sym c.softwire-settings.ensures.list) h))
 
 pub judge_under-requires-clause-settings : goal.judge_under-requires-clause-settings
 judge_under-requires-clause-settings g c = λ t h.
@@ -19,7 +19,7 @@ returns-clause-verdict g c = first_of g c
 pub returns-clause-only : goal.returns-clause-only
 returns-clause-only g c = λ t h v j.
     only_verdict t c.args.item.now c.judge_under.result v
-        (c.judge_under.ensures.verdict t (subst (λ (ws : List ℕ). IsCompiled t ws) (sym c.softwire-settings.ensures.list) h)) j
+    (c.judge_under.ensures.verdict t (subst (λ (ws : List ℕ). IsCompiled t ws) (sym c.softwire-settings.ensures.list) h)) j
 
 pub returns-clause-fits : goal.returns-clause-fits
 returns-clause-fits g c =

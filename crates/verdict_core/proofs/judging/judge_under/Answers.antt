@@ -1,4 +1,4 @@
-use Rattle.std.proofs.Common.{◌≡◌, ap, sym, ◌∙◌}
+use Rattle.std.proofs.Common.{ap, sym, ◌∙◌}
 use Rattle.aftr_base.specs.First.{first_true}
 use Rattle.ip_codec.specs.Packet4.{ip4_of}
 use Rattle.verdict_core.specs.Verdicts.{lines, up_lines}

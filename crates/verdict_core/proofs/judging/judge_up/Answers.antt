@@ -1,6 +1,5 @@
-use Rattle.std.proofs.Common.{◌≡◌, ℕ, ◌-◌, List, sym, ap, ◌∙◌, subst, arith}
+use Rattle.std.proofs.Common.{ℕ, ◌-◌, List, sym, ap, ◌∙◌, subst, arith}
 use Rattle.aftr_base.specs.First.{first_true}
-use Rattle.binding_rules.specs.Tables.{Rules}
 use Rattle.ip_codec.specs.Packet4.{packet4}
 use Rattle.table_words.specs.Layout.{IsCompiled}
 use Rattle.table_words.proofs.Halving.{reads_on}
@@ -16,12 +15,12 @@ returns-in-Err-clause-verdict g c = λ t h.
 pub returns-then-is_not_built-clause-verdict : goal.returns-then-is_not_built-clause-verdict
 returns-then-is_not_built-clause-verdict g c = λ t h.
     at_not_built t c.args.outer.now c.args.inner.now c.args.settings.now (packet4 c.in-Ok.packet) _ (c.requires.settings t h) c.in-Ok.ensures.reads _ (c.is_not_built.ensures.answer t h)
-        c.if-is_not_built.true c.silent.ensures
+    c.if-is_not_built.true c.silent.ensures
 
 pub returns-then-ne-clause-verdict : goal.returns-then-ne-clause-verdict
 returns-then-ne-clause-verdict g c = λ t h.
     at_foreign t c.args.outer.now c.args.inner.now c.args.settings.now (packet4 c.in-Ok.packet) _ (c.requires.settings t h) c.in-Ok.ensures.reads _ (c.is_not_built.ensures.answer t h)
-        c.if-is_not_built.false _ c.ne.ensures c.if-ne.true c.silent-then-ne.ensures
+    c.if-is_not_built.false _ c.ne.ensures c.if-ne.true c.silent-then-ne.ensures
 
 pub key_up-requires : goal.key_up-requires
 key_up-requires g c =
@@ -32,24 +31,24 @@ key_up-requires g c =
 pub returns-in-IcmpBad-clause-verdict : goal.returns-in-IcmpBad-clause-verdict
 returns-in-IcmpBad-clause-verdict g c = λ t h.
     at_icmp_bad t c.args.outer.now c.args.inner.now c.args.settings.now (packet4 c.in-Ok.packet) _ (c.requires.settings t h) c.in-Ok.ensures.reads _ (c.is_not_built.ensures.answer t h)
-        c.if-is_not_built.false _ c.ne.ensures c.if-ne.false _ c.key_up.ensures c.in-IcmpBad.is c.silent-in-IcmpBad.ensures
+    c.if-is_not_built.false _ c.ne.ensures c.if-ne.false _ c.key_up.ensures c.in-IcmpBad.is c.silent-in-IcmpBad.ensures
 
 pub returns-in-NoPort-clause-verdict : goal.returns-in-NoPort-clause-verdict
 returns-in-NoPort-clause-verdict g c = λ t h.
     at_no_port t c.args.outer.now c.args.inner.now c.args.settings.now (packet4 c.in-Ok.packet) _ (c.requires.settings t h) c.in-Ok.ensures.reads _ (c.is_not_built.ensures.answer t h)
-        c.if-is_not_built.false _ c.ne.ensures c.if-ne.false _ c.key_up.ensures c.in-NoPort.is c.silent-in-NoPort.ensures
+    c.if-is_not_built.false _ c.ne.ensures c.if-ne.false _ c.key_up.ensures c.in-NoPort.is c.silent-in-NoPort.ensures
 
 pub returns-then-not-is_softwire-clause-verdict : goal.returns-then-not-is_softwire-clause-verdict
 returns-then-not-is_softwire-clause-verdict g c = λ t h.
     let here = subst (λ (ws : List ℕ). IsCompiled t ws) (sym c.is_not_built.ensures.list) h in
     at_no_binding t c.args.outer.now c.args.inner.now c.args.settings.now (packet4 c.in-Ok.packet) _ (c.requires.settings t h) c.in-Ok.ensures.reads _ (c.is_not_built.ensures.answer t h)
-        c.if-is_not_built.false _ c.ne.ensures c.if-ne.false _ c.key_up.ensures _ c.in-At.is _ (c.is_softwire.ensures.answer t here)
-        c.if-not-is_softwire.true c.silent-then-not-is_softwire.ensures
+    c.if-is_not_built.false _ c.ne.ensures c.if-ne.false _ c.key_up.ensures _ c.in-At.is _ (c.is_softwire.ensures.answer t here)
+    c.if-not-is_softwire.true c.silent-then-not-is_softwire.ensures
 
 pub returns-then-not-is_softwire-clause-reads : goal.returns-then-not-is_softwire-clause-reads
 returns-then-not-is_softwire-clause-reads g c =
     reads_on _ _ _ (c.is_not_built.new.steps - c.args.steps.now) (c.is_softwire.new.steps - c.is_not_built.new.steps) _
-        (omega (arith, c.is_not_built.ensures.later, c.is_softwire.ensures.later)) c.is_not_built.ensures.reads c.is_softwire.ensures.reads
+    (omega (arith, c.is_not_built.ensures.later, c.is_softwire.ensures.later)) c.is_not_built.ensures.reads c.is_softwire.ensures.reads
 
 pub returns-then-not-is_softwire-clause-goes : goal.returns-then-not-is_softwire-clause-goes
 returns-then-not-is_softwire-clause-goes g c = g.met.W.Words.goes_on _ _ _ c.is_not_built.ensures.goes c.is_softwire.ensures.goes
@@ -63,13 +62,13 @@ pub returns-then-eq-clause-verdict : goal.returns-then-eq-clause-verdict
 returns-then-eq-clause-verdict g c = λ t h.
     let here = subst (λ (ws : List ℕ). IsCompiled t ws) (sym c.is_not_built.ensures.list) h in
     at_self t c.args.outer.now c.args.inner.now c.args.settings.now (packet4 c.in-Ok.packet) _ (c.requires.settings t h) c.in-Ok.ensures.reads _ (c.is_not_built.ensures.answer t h)
-        c.if-is_not_built.false _ c.ne.ensures c.if-ne.false _ c.key_up.ensures _ c.in-At.is _ (c.is_softwire.ensures.answer t here)
-        c.if-not-is_softwire.false _ c.eq.ensures c.if-eq.true c.silent-then-eq.ensures
+    c.if-is_not_built.false _ c.ne.ensures c.if-ne.false _ c.key_up.ensures _ c.in-At.is _ (c.is_softwire.ensures.answer t here)
+    c.if-not-is_softwire.false _ c.eq.ensures c.if-eq.true c.silent-then-eq.ensures
 
 pub returns-then-eq-clause-reads : goal.returns-then-eq-clause-reads
 returns-then-eq-clause-reads g c =
     reads_on _ _ _ (c.is_not_built.new.steps - c.args.steps.now) (c.is_softwire.new.steps - c.is_not_built.new.steps) _
-        (omega (arith, c.is_not_built.ensures.later, c.is_softwire.ensures.later)) c.is_not_built.ensures.reads c.is_softwire.ensures.reads
+    (omega (arith, c.is_not_built.ensures.later, c.is_softwire.ensures.later)) c.is_not_built.ensures.reads c.is_softwire.ensures.reads
 
 pub returns-then-eq-clause-goes : goal.returns-then-eq-clause-goes
 returns-then-eq-clause-goes g c = g.met.W.Words.goes_on _ _ _ c.is_not_built.ensures.goes c.is_softwire.ensures.goes
@@ -83,13 +82,13 @@ pub returns-clause-verdict : goal.returns-clause-verdict
 returns-clause-verdict g c = λ t h.
     let here = subst (λ (ws : List ℕ). IsCompiled t ws) (sym c.is_not_built.ensures.list) h in
     at_end t c.args.outer.now c.args.inner.now c.args.settings.now (packet4 c.in-Ok.packet) (verdict.Outward c.args.settings.now.mtu4) (c.requires.settings t h) c.in-Ok.ensures.reads _ (c.is_not_built.ensures.answer t h)
-        c.if-is_not_built.false _ c.ne.ensures c.if-ne.false _ c.key_up.ensures _ c.in-At.is _ (c.is_softwire.ensures.answer t here)
-        c.if-not-is_softwire.false _ c.eq.ensures c.if-eq.false
+    c.if-is_not_built.false _ c.ne.ensures c.if-ne.false _ c.key_up.ensures _ c.in-At.is _ (c.is_softwire.ensures.answer t here)
+    c.if-not-is_softwire.false _ c.eq.ensures c.if-eq.false
 
 pub returns-clause-reads : goal.returns-clause-reads
 returns-clause-reads g c =
     reads_on _ _ _ (c.is_not_built.new.steps - c.args.steps.now) (c.is_softwire.new.steps - c.is_not_built.new.steps) _
-        (omega (arith, c.is_not_built.ensures.later, c.is_softwire.ensures.later)) c.is_not_built.ensures.reads c.is_softwire.ensures.reads
+    (omega (arith, c.is_not_built.ensures.later, c.is_softwire.ensures.later)) c.is_not_built.ensures.reads c.is_softwire.ensures.reads
 
 pub returns-clause-goes : goal.returns-clause-goes
 returns-clause-goes g c = g.met.W.Words.goes_on _ _ _ c.is_not_built.ensures.goes c.is_softwire.ensures.goes

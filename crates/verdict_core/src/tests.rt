@@ -1,0 +1,214 @@
+// Packets of subscribers, hand-made, with checksums by an independent program, under compiled tables.
+ghost use Rattle.std.specs.Prelude.{◌≡◌, ◌<◌};
+ghost use Rattle.table_words.specs.Layout.{AreCompiled};
+
+use super::*;
+use aftr_base::{Bytes, OutOfMemory, V4, V6, WordList};
+use binding_rules::{Binding, Edition, Softwire, Table, TableError, table_of};
+use ip_codec::{Item, Outer, Rule};
+use std::alloc::Global;
+use std::marker::Brand;
+use std::sync::ledger::{Blank, Ledger};
+use std::test::Fail;
+use table_words::{SliceWords, Steps, compile};
+
+const AFTR: V6 = V6(0x2001_0db8_0000_0000_0000_0000_0000_0001);
+
+const SHARED: V4 = V4(0xcb00_7101);
+
+const SETTINGS: Softwire = Softwire {
+    aftr: AFTR,
+    own: V4(0xc000_0201),
+    mtu6: 1500,
+    mtu4: 1500,
+    hop_limit: 64,
+    hairpin: true,
+    icmp_in: true,
+    errors_up: false,
+    errors_down: false,
+};
+
+// A UDP datagram of four bytes from 203.0.113.1 port 1232 to 198.51.100.7 port 53.
+const UP: &[u8; 32] =
+    b"\x45\0\0\x20\0\x01\0\0\x40\x11\x14\x90\xcb\0\x71\x01\xc6\x33\x64\x07\x04\xd0\0\x35\0\x0c\0\0test";
+// The same to the router's own address.
+const TO_OWN: &[u8; 32] =
+    b"\x45\0\0\x20\0\x01\0\0\x40\x11\x7c\xc9\xcb\0\x71\x01\xc0\0\x02\x01\x04\xd0\0\x35\0\x0c\0\0test";
+// The same to an address of subscribers.
+const TO_SHARED: &[u8; 32] =
+    b"\x45\0\0\x20\0\x01\0\0\x40\x11\x02\xc9\xcb\0\x71\x01\xcb\0\x71\x01\x04\xd0\0\x35\0\x0c\0\0test";
+// The same with its time to live used up.
+const LAST_HOP: &[u8; 32] =
+    b"\x45\0\0\x20\0\x01\0\0\x01\x11\x53\x90\xcb\0\x71\x01\xc6\x33\x64\x07\x04\xd0\0\x35\0\x0c\0\0test";
+// The same as the first fragment of a datagram.
+const FRAGMENT: &[u8; 32] =
+    b"\x45\0\0\x20\0\x01\x20\0\x40\x11\xf4\x8f\xcb\0\x71\x01\xc6\x33\x64\x07\x04\xd0\0\x35\0\x0c\0\0test";
+// The same as an ICMP message, and of a protocol without ports.
+const ICMP: &[u8; 32] =
+    b"\x45\0\0\x20\0\x01\0\0\x40\x01\x14\xa0\xcb\0\x71\x01\xc6\x33\x64\x07\x04\xd0\0\x35\0\x0c\0\0test";
+
+const TUNNEL: &[u8; 32] =
+    b"\x45\0\0\x20\0\x01\0\0\x40\x2f\x14\x72\xcb\0\x71\x01\xc6\x33\x64\x07\x04\xd0\0\x35\0\x0c\0\0test";
+// Three bytes behind the header.
+const THREE: &[u8; 23] =
+    b"\x45\0\0\x17\0\x01\0\0\x40\x11\x14\x99\xcb\0\x71\x01\xc6\x33\x64\x07\x04\xd0\0";
+// The first packet with a wrong checksum.
+const CHECKSUM: &[u8; 32] =
+    b"\x45\0\0\x20\0\x01\0\0\x40\x11\x14\x91\xcb\0\x71\x01\xc6\x33\x64\x07\x04\xd0\0\x35\0\x0c\0\0test";
+
+const FORWARDED: Verdict = Verdict::Outward { mtu: 1500 };
+
+fn dropped(why: Rule) -> Verdict {
+    Verdict::Drop {
+        why,
+        reply: Reply::Silent,
+    }
+}
+
+// The end of the tunnel of the subscriber with this number.
+fn b4(number: u16) -> V6 {
+    V6(0x2001_0db8_0001_0000_0000_0000_0000_0000 + u128::from(number))
+}
+
+// A table of bindings of the shared address (offset, length, identifier), of subscribers from 1 on.
+fn table(alloc: Global, rows: &[(u8, u8, u16)]) -> Result<Table, TableError> {
+    let mut bindings = Vec::new(alloc);
+    let mut number = 0u16;
+    for (offset, length, psid) in rows {
+        number = number.wrapping_add(1);
+        let binding = Binding {
+            b4: b4(number),
+            v4: SHARED,
+            offset: *offset,
+            length: *length,
+            psid: *psid,
+        };
+        if bindings.push(binding).is_err() {
+            return Err(TableError::OutOfMemory);
+        }
+    }
+    if bindings.len() > 65_536 {
+        return Err(TableError::OutOfMemory);
+    }
+    table_of(alloc, Edition::One, SETTINGS, bindings)
+}
+
+fn judged_in<L: Ledger>(words: &[u64], item: &Item, blank: Blank) -> Verdict
+    requires compiled { AreCompiled words.now }
+    requires name { blank.name ≡ L.name }
+    requires parts { blank.parts ≡ L.parts }
+    requires some { 0 < blank.parts }
+{
+    let mut words = SliceWords(words);
+    let mut steps = Steps::<L>::start(blank);
+    judge(&mut words, item, &mut steps)
+}
+
+fn judged(words: &WordList, item: &Item) -> Verdict
+    requires { AreCompiled words.now }
+{
+    judged_in::<Brand>(words.as_slice(), item, Blank::new(1))
+}
+
+// An upstream packet from a tunnel's end to an address of the router.
+fn up(alloc: Global, src: V6, dst: V6, inner: &[u8]) -> Result<Item, OutOfMemory> {
+    let outer = Outer {
+        word: 0x6000_0000,
+        hop: 64,
+        src,
+        dst,
+    };
+    Ok(Item::Up {
+        outer,
+        inner: Bytes::copy(alloc, inner)?,
+    })
+}
+
+// The verdict on the first packet from another source port, in the tunnel of the subscriber with this number.
+fn judged_from(
+    alloc: Global,
+    words: &WordList,
+    number: u16,
+    port: u16,
+) -> Result<Verdict, OutOfMemory>
+    requires { AreCompiled words.now }
+{
+    let mut packet = *UP;
+    packet[20..22].copy_from_slice(&port.to_be_bytes());
+    Ok(judged(words, &up(alloc, b4(number), AFTR, &packet)?))
+}
+
+#[test]
+fn forwards_the_ports_of_the_sender(rt: HostRuntime) -> Result<(), Fail> {
+    let alloc = rt.alloc();
+    // The identifiers 52 and 53 of the shared address (RFC 7597, appendix A).
+    let one = compile(alloc, &table(alloc, &[(6, 8, 52)])?)?;
+    let two = compile(alloc, &table(alloc, &[(6, 8, 52), (6, 8, 53)])?)?;
+    let no_binding = dropped(Rule::NoBinding);
+    for port in [1232, 1235, 2256, 64_723] {
+        assert_eq!(rt; judged_from(alloc, &one, 1, port)?, FORWARDED, "{port}");
+        assert_eq!(rt; judged_from(alloc, &two, 1, port)?, FORWARDED, "{port}");
+        assert_eq!(rt; judged_from(alloc, &two, 2, port)?, no_binding, "{port}");
+    }
+    assert_eq!(rt; judged_from(alloc, &two, 2, 1236)?, FORWARDED);
+    for port in [1236, 208] {
+        assert_eq!(rt; judged_from(alloc, &one, 1, port)?, no_binding, "{port}");
+        assert_eq!(rt; judged_from(alloc, &two, 1, port)?, no_binding, "{port}");
+    }
+    Ok(())
+}
+
+#[test]
+fn names_the_rule_of_each_drop(rt: HostRuntime) -> Result<(), Fail> {
+    let alloc = rt.alloc();
+    let words = compile(alloc, &table(alloc, &[(6, 8, 52)])?)?;
+    let cases: [(V6, V6, &[u8], Rule); 12] = [
+        (b4(2), AFTR, UP, Rule::NoBinding),
+        (b4(1), V6(AFTR.0 + 1), UP, Rule::NotOurs),
+        (b4(1), V6(AFTR.0 + 1), CHECKSUM, Rule::NotOurs),
+        (b4(1), AFTR, TO_OWN, Rule::ToSelf),
+        (b4(1), AFTR, CHECKSUM, Rule::InnerChecksum),
+        (b4(1), AFTR, &UP[..31], Rule::InnerMalformed),
+        (b4(1), AFTR, THREE, Rule::NoPort),
+        (b4(1), AFTR, FRAGMENT, Rule::NoPort),
+        (b4(1), AFTR, TUNNEL, Rule::NoBinding),
+        (b4(1), AFTR, TO_SHARED, Rule::NotBuilt),
+        (b4(1), AFTR, LAST_HOP, Rule::NotBuilt),
+        (b4(1), AFTR, ICMP, Rule::NotBuilt),
+    ];
+    for (src, dst, inner, rule) in cases {
+        let item = up(alloc, src, dst, inner)?;
+        assert_eq!(rt; judged(&words, &item), dropped(rule), "{rule}");
+    }
+    Ok(())
+}
+
+#[test]
+fn forwards_a_whole_address(rt: HostRuntime) -> Result<(), Fail> {
+    let alloc = rt.alloc();
+    let words = compile(alloc, &table(alloc, &[(0, 0, 0)])?)?;
+    for inner in [UP, TUNNEL] {
+        let item = up(alloc, b4(1), AFTR, inner)?;
+        assert_eq!(rt; judged(&words, &item), FORWARDED);
+    }
+    Ok(())
+}
+
+#[test]
+fn keeps_what_the_stage_said(rt: HostRuntime) -> Result<(), Fail> {
+    let alloc = rt.alloc();
+    let words = compile(alloc, &table(alloc, &[])?)?;
+    let down = Item::Down {
+        packet: Bytes::copy(alloc, UP)?,
+    };
+    let cases = [
+        (Item::Held, Verdict::Held),
+        (Item::Bad(Rule::FrameShort), dropped(Rule::FrameShort)),
+        (Item::Six { dst: AFTR }, dropped(Rule::NotBuilt)),
+        (down, dropped(Rule::NotBuilt)),
+    ];
+    for (item, expected) in &cases {
+        assert_eq!(rt; judged(&words, item), *expected);
+    }
+    Ok(())
+}
