@@ -1,5 +1,6 @@
 -- What a run leaves, from what its parts left.
-use Rattle.std.proofs.Common.{◌≡◌, ◌≢◌, ℕ, suc, ◌+◌, ◌<◌, ◌≤◌, nat_le, Bool, true, false, List, [], ◌∷◌, ◌++◌, filter, flat_map, length, drop, All, Option, Some, None, Result, Ok, Err, refl, sym, ◌∙◌, ap, subst, append_assoc, append-nil, arith}
+use Rattle.std.proofs.Common.{◌≡◌, ◌≢◌, ℕ, suc, ◌+◌, ◌<◌, ◌≤◌, nat_le, Bool, true, false, List, [], ◌∷◌, ◌++◌, filter, flat_map, length, take, drop, All, Option, Some, None, Result, Ok, Err, refl, sym, ◌∙◌, ap, subst, append_assoc, append-nil, arith}
+use Rattle.std.proofs.Math.Seq.{take-append_seam}
 use Rattle.std.proofs.lemmas.Bool.{le-leb, leb-true}
 use Rattle.std.proofs.lemmas.List.Elements.{filter-append}
 use Rattle.std.specs.Option.{option_map}
@@ -19,7 +20,7 @@ use Rattle.capture_io.proofs.RecordLemmas.{header_end}
 use Rattle.capture_io.proofs.SplitLemmas.{Split, some_way}
 use Rattle.item_stage.specs.Items.{entries_of, unfinished_of}
 use Rattle.item_stage.specs.Stages.{Staged, Stands}
-use Rattle.lwaftr_engine.specs.Endings.{IsCutRun, IsRun, IsWholeRun, OthersKept}
+use Rattle.lwaftr_engine.specs.Endings.{ended_by, IsCutRun, IsRun, IsWholeRun, OthersKept}
 use Rattle.lwaftr_engine.specs.Jobs.{RunNames}
 use Rattle.lwaftr_engine.specs.Opened.{IsOpened}
 use Rattle.lwaftr_engine.specs.Outputs.{Course, lines_from, no_totals, packets_from, steady, totals_from, totals_of}
@@ -68,7 +69,7 @@ is_run n form t far a b c d said now p rs table opened bounded h wrote summary =
       table = table;
       output = wrote.others n.output far.output_verdicts ∙ (h.output ∙ ap (λ (l : List ℕ). l ++ packets_from (steady t) 0 rs (entries_of form rs)) opened.output);
       verdicts = wrote.here ∙ (ap (λ (l : List ℕ). l ++ flat_map (ended_text false) (unfinished_of p.stage.form rs)) (h.verdicts ∙ ap (λ (l : List ℕ). l ++ lines_from (steady t) 0 (entries_of form rs)) opened.verdicts)
-        ∙ ap (λ (f : Form). lines_from (steady t) 0 (entries_of form rs) ++ flat_map (ended_text false) (unfinished_of f rs)) h.stage_form);
+          ∙ ap (λ (f : Form). lines_from (steady t) 0 (entries_of form rs) ++ flat_map (ended_text false) (unfinished_of f rs)) h.stage_form);
       versions = wrote.others n.versions (λ e. far.verdicts_versions (sym e)) ∙ (h.others n.versions (λ e. far.output_versions (sym e)) (λ e. far.verdicts_versions (sym e)) ∙ opened.versions);
       others = λ name x y z. wrote.others name y ∙ (h.others name x y ∙ opened.others name x y z);
       summary = summary ∙ ap (λ (k : Totals). option_map (λ taken. taken ++ summary_text k) said) (sym totals);
@@ -92,8 +93,8 @@ none_of big left at number place [] e splits before = refl
 none_of big left at number place (r ∷ rs) e splits before =
     let here : place < r.next_at = before r splits.0 in
     let rest : filter (λ r. nat_le r.next_at place) rs ≡ [] =
-        none_of big (drop (16 + length r.bytes) left) r.next_at (number + 1) place rs e splits.1
-        (λ x is. let later : r.next_at < x.next_at = header_end big (drop (16 + length r.bytes) left) r.next_at (number + 1) r.next_at x (omega arith) is in omega arith) in
+    none_of big (drop (16 + length r.bytes) left) r.next_at (number + 1) place rs e splits.1
+    (λ x is. let later : r.next_at < x.next_at = header_end big (drop (16 + length r.bytes) left) r.next_at (number + 1) r.next_at x (omega arith) is in omega arith) in
     rw (above r.next_at place (nat_le r.next_at place) refl here) rest
 
 -- the records that were taken are those that end at or before the place of the read that failed
@@ -124,6 +125,8 @@ cut_short : (n : RunNames) (form : Form) (t : Rules) (a d : Held) (said now : Op
 cut_short n form t a d said now rs at number last header behind within follows stopped run =
     let rest : Split form.big (drop at (content a n.input)) at number = some_way form.big (drop at (content a n.input)) at number in
     let P : List Rec → Type 0 = λ l. IsRun n a d said now t form l in
+    let F : List Rec → Type 0 = λ l. take (length l) (rs ++ rest.0) ≡ l in
+    let same : rs ≡ ended_by stopped.place (rs ++ rest.0) = sym (cut stopped.place form.big (drop at (content a n.input)) at number rs rest.0 rest.1 within stopped.begun rest.2 stopped.before) in
     record {
       rules = t;
       form = form;
@@ -133,7 +136,8 @@ cut_short n form t a d said now rs at number last header behind within follows s
       place = stopped.place;
       last_is = stopped.last_is;
       in_records = omega (arith, stopped.begun);
-      run = subst P (sym (cut stopped.place form.big (drop at (content a n.input)) at number rs rest.0 rest.1 within stopped.begun rest.2 stopped.before)) run;
+      first_ones = subst F same (take-append_seam rs rest.0);
+      run = subst P same run;
     }
 
 ends_by : (n : RunNames) (form : Form) (t : Rules) (a b d : Held) (said now : Option (List ℕ)) (rs : List Rec) (p : Progress) (stop : Ending) (last : Option (List ℕ × ℕ)) →
@@ -182,10 +186,10 @@ ran n form words far h0 h1 h2 h3 said now stage p stop before last stands is bou
     let L : Option (List ℕ × ℕ) → Type 0 = λ l. Moves h1 h2 (λ m o. (t : Rules) → IsCompiled t words → GoesOn n form (steady t) m o q p (Some stop) l) in
     let second : Moves h1 h2 (λ m o. (t : Rules) → IsCompiled t words → GoesOn n form (steady t) m o q p (Some stop) last) = subst L (sym same) going in
     let half : Moves h0 h2 (λ m o. IsHalfDone n form words p stop last m o) =
-        moves_join h0 h1 h2 (λ m o. IsOpened n form.nano m o) (λ m o. (t : Rules) → IsCompiled t words → GoesOn n form (steady t) m o q p (Some stop) last) (λ m o. IsHalfDone n form words p stop last m o)
-        (λ m b o x y. record { middle = b; opened = x; gone = λ t compiled. y t compiled b [] (none_taken n form (steady t) b stage stands is) }) first second in
+    moves_join h0 h1 h2 (λ m o. IsOpened n form.nano m o) (λ m o. (t : Rules) → IsCompiled t words → GoesOn n form (steady t) m o q p (Some stop) last) (λ m o. IsHalfDone n form words p stop last m o)
+    (λ m b o x y. record { middle = b; opened = x; gone = λ t compiled. y t compiled b [] (none_taken n form (steady t) b stage stands is) }) first second in
     moves_join h0 h2 h3 (λ m o. IsHalfDone n form words p stop last m o)
-        (λ m o. (taken : List Rec) → Stands p.stage taken → Writes m o n.verdicts (content m n.verdicts ++ flat_map (ended_text false) (unfinished_of p.stage.form taken)))
-        (λ m o. (t : Rules) → IsCompiled t words → TableOf (content m n.table) (Ok t) → header_in (content m n.input) ≡ Ok form → EndsAs n stop m o said now last)
-        (λ m c o x y t compiled table header. ends n form t far m x.middle c o said now p stop last table header x.opened bounded (x.gone t compiled) y summary)
-        half third
+    (λ m o. (taken : List Rec) → Stands p.stage taken → Writes m o n.verdicts (content m n.verdicts ++ flat_map (ended_text false) (unfinished_of p.stage.form taken)))
+    (λ m o. (t : Rules) → IsCompiled t words → TableOf (content m n.table) (Ok t) → header_in (content m n.input) ≡ Ok form → EndsAs n stop m o said now last)
+    (λ m c o x y t compiled table header. ends n form t far m x.middle c o said now p stop last table header x.opened bounded (x.gone t compiled) y summary)
+    half third

@@ -73,22 +73,22 @@ taken_more n form c far opened a b d p round es stage totals r taken count place
       behind = omega (arith, h.behind, placed.forward);
       within = All-append (λ x. x.next_at ≤ round.at) taken records (no_further taken p.at round.at placed.forward h.within) placed.within;
       follows = follows_more form.big (content opened n.input) taken records p.at p.number round.at round.number h.follows
-        (let P : List ℕ → Type 0 = λ l. Precedes form.big l p.at p.number records round.at round.number in subst P input follows);
+          (let P : List ℕ → Type 0 = λ l. Precedes form.big l p.at p.number records round.at round.number in subst P input follows);
       totals = rendered.totals ∙ (ap (λ (t : Totals). totals_from c t p.number es) h.totals
-        ∙ (sym (totals_join c no_totals 0 p.number (entries_of form taken) es behind) ∙ ap (λ (l : List Entry). totals_from c no_totals 0 l) (sym more)));
+          ∙ (sym (totals_join c no_totals 0 p.number (entries_of form taken) es behind) ∙ ap (λ (l : List Entry). totals_from c no_totals 0 l) (sym more)));
       output = second.others n.output far.output_verdicts ∙ (first.here
-        ∙ (ap (λ (l : List ℕ). l ++ r.packets.items) h.output
-        ∙ (append_assoc (content opened n.output) (packets_from c 0 taken (entries_of form taken)) r.packets.items
-        ∙ ap (λ (l : List ℕ). content opened n.output ++ l)
-            (ap (λ (l : List ℕ). packets_from c 0 taken (entries_of form taken) ++ l) rendered.packets
-            ∙ (sym (packets_join c 0 p.number taken records (entries_of form taken) es h.entries here)
-            ∙ ap (λ (l : List Entry). packets_from c 0 (taken ++ records) l) (sym more))))));
+          ∙ (ap (λ (l : List ℕ). l ++ r.packets.items) h.output
+          ∙ (append_assoc (content opened n.output) (packets_from c 0 taken (entries_of form taken)) r.packets.items
+          ∙ ap (λ (l : List ℕ). content opened n.output ++ l)
+          (ap (λ (l : List ℕ). packets_from c 0 taken (entries_of form taken) ++ l) rendered.packets
+          ∙ (sym (packets_join c 0 p.number taken records (entries_of form taken) es h.entries here)
+          ∙ ap (λ (l : List Entry). packets_from c 0 (taken ++ records) l) (sym more))))));
       verdicts = second.here ∙ (ap (λ (l : List ℕ). l ++ r.lines.items) (first.others n.verdicts (λ e. far.output_verdicts (sym e)) ∙ h.verdicts)
-        ∙ (append_assoc (content opened n.verdicts) (lines_from c 0 (entries_of form taken)) r.lines.items
-        ∙ ap (λ (l : List ℕ). content opened n.verdicts ++ l)
-            (ap (λ (l : List ℕ). lines_from c 0 (entries_of form taken) ++ l) rendered.lines
-            ∙ (sym (lines_join c 0 p.number (entries_of form taken) es behind)
-            ∙ ap (λ (l : List Entry). lines_from c 0 l) (sym more)))));
+          ∙ (append_assoc (content opened n.verdicts) (lines_from c 0 (entries_of form taken)) r.lines.items
+          ∙ ap (λ (l : List ℕ). content opened n.verdicts ++ l)
+          (ap (λ (l : List ℕ). lines_from c 0 (entries_of form taken) ++ l) rendered.lines
+          ∙ (sym (lines_join c 0 p.number (entries_of form taken) es behind)
+          ∙ ap (λ (l : List Entry). lines_from c 0 l) (sym more)))));
       others = λ name x y. kept n far a b d _ _ first second name x y ∙ h.others name x y;
     }
 
@@ -148,13 +148,13 @@ pub went : (n : RunNames) (form : Form) (words : List ℕ) → AreApart n → (p
     Moves h0 h3 (λ a d. (t : Rules) → IsCompiled t words → GoesOn n form (steady t) a d p (record { stage = stage; at = round.at; number = round.number; totals = totals }) round.ending now)
 went n form words far p round es stage totals r old last now count placed staged rendered h0 h1 h2 h3 same told stopped first second last_is =
     let half : Moves h0 h2 (λ a b. IsHalf n form.big p.at p.number round last r.packets.items a b) =
-        told_then h0 h1 h2 (λ m. IsNext n.input form.big (content m n.input) p.at p.number round last) _ (λ a b. IsHalf n form.big p.at p.number round last r.packets.items a b)
-        (λ a b x w. record { taken = x; wrote = w }) same (next_told h0 n.input form.big p.at p.number round old last told stopped) first in
+    told_then h0 h1 h2 (λ m. IsNext n.input form.big (content m n.input) p.at p.number round last) _ (λ a b. IsHalf n form.big p.at p.number round last r.packets.items a b)
+    (λ a b x w. record { taken = x; wrote = w }) same (next_told h0 n.input form.big p.at p.number round old last told stopped) first in
     let M : Option (List ℕ × ℕ) → Type 0 = λ l. Moves h0 h3 (λ a d. (t : Rules) → IsCompiled t words → GoesOn n form (steady t) a d p (record { stage = stage; at = round.at; number = round.number; totals = totals }) round.ending l) in
     subst M (sym last_is) (moves_join h0 h2 h3 (λ a b. IsHalf n form.big p.at p.number round last r.packets.items a b) _
-        (λ a d. (t : Rules) → IsCompiled t words → GoesOn n form (steady t) a d p (record { stage = stage; at = round.at; number = round.number; totals = totals }) round.ending last)
-        (λ a b d x w t compiled. gone n form (steady t) far p round es stage totals r last count placed staged (rendered t compiled) a d (record { middle = b; half = x; wrote = w }))
-        half second)
+    (λ a d. (t : Rules) → IsCompiled t words → GoesOn n form (steady t) a d p (record { stage = stage; at = round.at; number = round.number; totals = totals }) round.ending last)
+    (λ a b d x w t compiled. gone n form (steady t) far p round es stage totals r last count placed staged (rendered t compiled) a d (record { middle = b; half = x; wrote = w }))
+    half second)
 
 -- the same, as the code's calls say it: over slices of the lists
 pub went_seen : (n : RunNames) (form : Form) (words : List ℕ) → AreApart n → (p : Progress) (round : Round) (es : List Entry) (stage : Staged) (totals : Totals) (r : Rendered) (old last now : Option (List ℕ × ℕ)) →

@@ -20,5 +20,5 @@ pub lines_written : (r : Result Unit Fault) (a b : Option Held) (name lines : Li
 lines_written (Err fault) a b name lines stage are step = tt
 lines_written (Ok done) a b name lines stage are step =
     moves_by a b (λ m n. Writes m n name (content m name ++ lines))
-      (λ m n. (taken : List Rec) → Stands stage taken → Writes m n name (content m name ++ flat_map (ended_text false) (unfinished_of stage.form taken)))
-      (λ m n w taken stands. let P : List ℕ → Type 0 = λ l. Writes m n name (content m name ++ l) in subst P (are taken stands) w) step
+    (λ m n. (taken : List Rec) → Stands stage taken → Writes m n name (content m name ++ flat_map (ended_text false) (unfinished_of stage.form taken)))
+    (λ m n w taken stands. let P : List ℕ → Type 0 = λ l. Writes m n name (content m name ++ l) in subst P (are taken stands) w) step

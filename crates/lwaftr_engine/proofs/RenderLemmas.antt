@@ -16,21 +16,18 @@ use Rattle.verdict_core.specs.Verdicts.{verdict_of}
 use Rattle.verdict_core.specs.declared.verdicts.Verdict.{Verdict}
 
 -- the parts that a record wrote, put together
-pub one_rendered : (number : ℕ) (r : Rec) (e : Entry) (v : Verdict) (old new : Rendered) (before now : Totals) (list : List (List ℕ)) (ended line : List ℕ) (count : ℕ)
+pub one_rendered : (number : ℕ) (r : Rec) (e : Entry) (v : Verdict) (old new : Rendered) (before now : Totals) (list : List (List ℕ)) (line : List ℕ) (count : ℕ)
     → list ≡ sent e.item v number
     → count ≡ length list
     → new.packets.items ≡ old.packets.items ++ flat_map (λ packet. record_bytes r.seconds r.fraction packet) list
-    → ended ≡ old.lines.items ++ flat_map (ended_text true) e.ended
     → line ≡ verdict_text number 0 v count
-    → new.lines.items ≡ ended ++ line
+    → new.lines.items ≡ old.lines.items ++ (flat_map (ended_text true) e.ended ++ line)
     → now ≡ counted before v count
     → IsRenderedOne number r e v old new before now
-one_rendered number r e v old new before now list ended line count is many packets first text lines totals =
+one_rendered number r e v old new before now list line count is many packets text lines totals =
     let n : count ≡ length (sent e.item v number) = many ∙ ap length is in record {
       packets = packets ∙ ap (λ l. old.packets.items ++ flat_map (λ packet. record_bytes r.seconds r.fraction packet) l) is;
-      lines = lines ∙ ap (λ l. l ++ line) first
-          ∙ ap (λ l. (old.lines.items ++ flat_map (ended_text true) e.ended) ++ l) (text ∙ ap (verdict_text number 0 v) n)
-          ∙ append_assoc old.lines.items (flat_map (ended_text true) e.ended) (verdict_text number 0 v (length (sent e.item v number)));
+      lines = lines ∙ ap (λ l. old.lines.items ++ (flat_map (ended_text true) e.ended ++ l)) (text ∙ ap (verdict_text number 0 v) n);
       totals = totals ∙ ap (counted before v) n;
     }
 

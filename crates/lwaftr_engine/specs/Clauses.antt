@@ -44,6 +44,18 @@ HasCause status.Usage before now = AreSame before now
 HasCause (status.BadTable refusal) before now = AreSame before now
 HasCause (status.BadCapture refusal) before now = AreSame before now
 
+-- At `ReadFault` the last read that failed is one of the table or of the capture. Nothing is said of it where writing failed
+-- or memory was short, and at every other status no read failed.
+abbrev pub FailedAt : RunNames → Status → Option (List ℕ × ℕ) → Option (List ℕ × ℕ) → Type 0
+FailedAt n status.ReadFault old new = (place : ℕ) × ((new ≡ Some (n.table, place)) ⊎ (new ≡ Some (n.input, place)))
+FailedAt n status.WriteFault old new = Unit {0}
+FailedAt n status.OutOfMemory old new = Unit {0}
+FailedAt n status.Done old new = new ≡ old
+FailedAt n status.DoneRefused old new = new ≡ old
+FailedAt n status.Usage old new = new ≡ old
+FailedAt n (status.BadTable refusal) old new = new ≡ old
+FailedAt n (status.BadCapture refusal) old new = new ≡ old
+
 -- no count rose of reads, of creates and appends, and of puts that failed
 pub record NothingFailed (before now : Counts) : Type 0 where
   pub lost : Rose before.lost now.lost → ⊥

@@ -1,5 +1,5 @@
 -- What a run leaves: the files of its records, by how the reading ended.
-use Rattle.std.specs.Prelude.{◌≡◌, ◌≢◌, ℕ, ◌≤◌, nat_le, List, ◌++◌, length, filter, Option, Some, Result, Ok}
+use Rattle.std.specs.Prelude.{◌≡◌, ◌≢◌, ℕ, ◌≤◌, nat_le, List, ◌++◌, length, take, filter, Option, Some, Result, Ok}
 use Rattle.std.specs.Option.{option_map}
 use Rattle.aftr_base.specs.Held.{Held, content}
 use Rattle.aftr_text.specs.Lines.{summary_text}
@@ -41,7 +41,12 @@ pub record IsWholeRun (n : RunNames) (old new : Held) (said now : Option (List �
   pub capture : IsCapture (content old n.input) (Ok form) records ending
   pub run : IsRun n old new said now rules form records
 
--- a run cut short by a read that failed at a place of the capture: it took the records that end at or before it
+-- the records that end at or before a place
+abbrev pub ended_by : ℕ → List Rec → List Rec
+ended_by place all = filter (λ r. nat_le r.next_at place) all
+
+-- A run cut short by a read that failed at a place of the capture: it took the records that end at or before it, which are
+-- the first ones.
 pub record IsCutRun (n : RunNames) (old new : Held) (said now : Option (List ℕ)) (last : Option (List ℕ × ℕ)) : Type 0 where
   pub rules : Rules
   pub form : Form
@@ -51,7 +56,8 @@ pub record IsCutRun (n : RunNames) (old new : Held) (said now : Option (List ℕ
   pub place : ℕ
   pub last_is : last ≡ Some (n.input, place)
   pub in_records : 24 ≤ place
-  pub run : IsRun n old new said now rules form (filter (λ r. nat_le r.next_at place) all)
+  pub first_ones : take (length (ended_by place all)) all ≡ ended_by place all
+  pub run : IsRun n old new said now rules form (ended_by place all)
 
 -- nothing was written: every name holds what it held, and the sink took nothing
 pub record IsUntouched (old new : Held) (said now : Option (List ℕ)) : Type 0 where

@@ -85,6 +85,20 @@ EndingCounts (Ok ending.End) before now = now ≡ before
 EndingCounts (Ok (ending.Bad refusal)) before now = now ≡ before
 EndingCounts (Err _) before now = Unit {0}
 
+-- the last read that failed, where the records stopped with `ReadFault`, is one of this name
+abbrev pub LastStop : Result (Option Ending) Fault → List ℕ → Option (List ℕ × ℕ) → Option (List ℕ × ℕ) → Type 0
+LastStop (Ok (Some ending.ReadFault)) name old new = (place : ℕ) × (new ≡ Some (name, place))
+LastStop (Ok (Some ending.End)) name old new = new ≡ old
+LastStop (Ok (Some (ending.Bad refusal))) name old new = new ≡ old
+LastStop (Ok None) name old new = new ≡ old
+LastStop (Err _) name old new = Unit {0}
+
+abbrev pub LastEnding : Result Ending Fault → List ℕ → Option (List ℕ × ℕ) → Option (List ℕ × ℕ) → Type 0
+LastEnding (Ok ending.ReadFault) name old new = (place : ℕ) × (new ≡ Some (name, place))
+LastEnding (Ok ending.End) name old new = new ≡ old
+LastEnding (Ok (ending.Bad refusal)) name old new = new ≡ old
+LastEnding (Err _) name old new = Unit {0}
+
 -- what the run leaves, by how the records ended
 abbrev pub EndsAs : RunNames → Ending → Held → Held → Option (List ℕ) → Option (List ℕ) → Option (List ℕ × ℕ) → Type 0
 EndsAs n ending.End old new said now last = IsWholeRun n old new said now None

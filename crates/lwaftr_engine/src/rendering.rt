@@ -1,5 +1,5 @@
 // What a round of records writes.
-ghost use Rattle.std.specs.Prelude.{◌≡◌, ◌≤◌, ◌<◌, ◌+◌, ◌++◌, ◌^◌, IfOk, flat_map, length};
+ghost use Rattle.std.specs.Prelude.{◌≡◌, ◌≤◌, ◌<◌, ◌+◌, ◌++◌, ◌^◌, IfOk, flat_map, length, true};
 ghost use Rattle.std.specs.List.{All};
 ghost use Rattle.aftr_text.specs.Lines.{ended_text};
 ghost use Rattle.binding_rules.specs.Tables.{Rules};
@@ -98,9 +98,13 @@ fn render_record(
 {
     let sent = packets(alloc, &entry.item, verdict, number)?;
     put_packets(alloc, &mut rendered.packets, rec, &sent)?;
-    put_ended(alloc, &mut rendered.lines, true, entry.ended.as_slice())?;
     let line = verdict_line(alloc, number, 0, verdict, sent.len() as u32)?;
-    rendered.lines.extend_from_slice(line.as_slice())?;
+    put_lines(
+        alloc,
+        &mut rendered.lines,
+        entry.ended.as_slice(),
+        line.as_slice(),
+    )?;
     count(totals, verdict, sent.len() as u64);
     Ok(())
 }
@@ -120,6 +124,20 @@ fn put_packets(
         let spelled = put_record(alloc, rec.seconds, rec.fraction, packet.as_slice())?;
         list.extend_from_slice(spelled.as_slice())?;
     }
+    Ok(())
+}
+
+// The lines of the datagrams whose time was up with a record, and then the record's own, behind others.
+fn put_lines(
+    alloc: Global,
+    list: &mut Vec<u8>,
+    ended: &[u32],
+    line: &[u8],
+) -> Result<(), OutOfMemory>
+    ensures { IfOk result (λ _. list.new.items ≡ list.old.items ++ (flat_map (ended_text true) ended.now ++ line.now)) }
+{
+    put_ended(alloc, list, true, ended)?;
+    list.extend_from_slice(line)?;
     Ok(())
 }
 

@@ -10,11 +10,11 @@ ghost use Rattle.capture_io.specs.declared.forms.Rec.{Rec as Record};
 ghost use Rattle.capture_io.specs.Header.{header_in};
 ghost use Rattle.item_stage.specs.Items.{unfinished_of};
 ghost use Rattle.item_stage.specs.Stages.{Stands};
-ghost use Rattle.lwaftr_engine.specs.Clauses.{FilesAt, HasCause, IsOfRun, counts};
+ghost use Rattle.lwaftr_engine.specs.Clauses.{FailedAt, FilesAt, HasCause, IsOfRun, counts};
 ghost use Rattle.lwaftr_engine.specs.Endings.{OthersKept};
 ghost use Rattle.lwaftr_engine.specs.Jobs.{are_apart, names_of};
 ghost use Rattle.lwaftr_engine.specs.Outputs.{steady};
-ghost use Rattle.lwaftr_engine.specs.Progress.{EndingCounts, EndsAs, GoesOn, IsBounded, ReadCounts, WriteCounts};
+ghost use Rattle.lwaftr_engine.specs.Progress.{EndingCounts, EndsAs, GoesOn, IsBounded, LastEnding, LastStop, ReadCounts, WriteCounts};
 ghost use Rattle.table_words.specs.Layout.{AreCompiled, IsCompiled};
 
 use crate::outputs::open_outputs;
@@ -75,6 +75,7 @@ fn run_round<F: Files>(
     ensures faults { ReadCounts result (F.faults files.old) (F.faults files.new) }
     ensures lost { ReadCounts result (F.lost files.old) (F.lost files.new) }
     ensures spoiled { Counted result (F.spoiled files.old) (F.spoiled files.new) }
+    ensures last { LastStop result (names_of job.entry).input (F.last files.old) (F.last files.new) }
 {
     let start = progress.number;
     let round = read_round(alloc, files, job.input, form, progress.at, start)?;
@@ -114,6 +115,7 @@ fn run_records<F: Files>(
     ensures faults { EndingCounts result (F.faults files.old) (F.faults files.new) }
     ensures lost { EndingCounts result (F.lost files.old) (F.lost files.new) }
     ensures spoiled { Counted result (F.spoiled files.old) (F.spoiled files.new) }
+    ensures last { LastEnding result (names_of job.entry).input (F.last files.old) (F.last files.new) }
 {
     'rounds: loop {
         if let Some(ending) = run_round(alloc, files, job, form, words, progress)? {
@@ -173,6 +175,7 @@ fn run_capture<F: Files, O: Sink>(
     ensures others { Moves (F.held files.old) (F.held files.new) (λ m n. OthersKept (names_of job.entry) m n) }
     ensures faults { EndingCounts result (F.faults files.old) (F.faults files.new) }
     ensures lost { EndingCounts result (F.lost files.old) (F.lost files.new) }
+    ensures last { LastEnding result (names_of job.entry).input (F.last files.old) (F.last files.new) }
     ensures writing { WriteCounts result (F.spoiled files.old) (F.spoiled files.new) (O.faults out.old) (O.faults out.new) }
 {
     let mut progress = Progress {
@@ -188,13 +191,19 @@ fn run_capture<F: Files, O: Sink>(
 }
 
 /// Does the run.
-pub fn run_job<F: Files, O: Sink>(alloc: Global, job: RunJob<'_>, files: &mut F, out: &mut O) -> Status
+pub fn run_job<F: Files, O: Sink>(
+    alloc: Global,
+    job: RunJob<'_>,
+    files: &mut F,
+    out: &mut O,
+) -> Status
     requires apart { IsTrue (are_apart (names_of job)) }
     ensures files { Moves (F.held files.old) (F.held files.new) (λ m n.
         FilesAt (names_of job.entry) result m n (O.out out.old) (O.out out.new) (F.last files.new)) }
     ensures cause { HasCause result
         (counts (F.lost files.old) (F.spoiled files.old) (F.faults files.old) (O.faults out.old))
         (counts (F.lost files.new) (F.spoiled files.new) (F.faults files.new) (O.faults out.new)) }
+    ensures place { FailedAt (names_of job.entry) result (F.last files.old) (F.last files.new) }
     ensures of_run { IsOfRun result }
 {
     let table = match table_in(alloc, files, job.table) {

@@ -14,9 +14,9 @@ returns-in-Some-clause-due g c =
     let n = names_of c.in-Some.job in
     let result = c.run_job.result in
     for_run c.args.words.now n (λ n. Told (f.held c.args.files.now) (λ m. (s : Status) → IsDue n m s → (c.run_job.result ≡ s) ⊎ IsFault c.run_job.result))
-      c.in-Some.ensures.read
-      (due_told c.one_table.ensures.answer n result (f.held c.args.files.now) (f.held c.run_job.new.files) (o.out c.args.out.now) (o.out c.run_job.new.out) (f.last c.run_job.new.files)
-        c.run_job.ensures.files)
+    c.in-Some.ensures.read
+    (due_told c.one_table.ensures.answer n result (f.held c.args.files.now) (f.held c.run_job.new.files) (o.out c.args.out.now) (o.out c.run_job.new.out) (f.last c.run_job.new.files)
+    c.run_job.ensures.files)
 
 pub returns-in-Some-clause-complete : goal.returns-in-Some-clause-complete
 returns-in-Some-clause-complete g c =
@@ -27,7 +27,7 @@ returns-in-Some-clause-complete g c =
     let before = counts (f.lost c.args.files.now) (f.spoiled c.args.files.now) (f.faults c.args.files.now) (o.faults c.args.out.now) in
     let after = counts (f.lost c.run_job.new.files) (f.spoiled c.run_job.new.files) (f.faults c.run_job.new.files) (o.faults c.run_job.new.out) in
     for_run c.args.words.now n
-      (λ n. Told (f.held c.args.files.now) (λ m. IsDue n m status.Done → NothingFailed before after → (c.run_job.result ≡ status.Done) ⊎ (c.run_job.result ≡ status.OutOfMemory)))
-      c.in-Some.ensures.read
-      (complete_told c.one_table.ensures.answer n result (f.held c.args.files.now) (f.held c.run_job.new.files) (o.out c.args.out.now) (o.out c.run_job.new.out) (f.last c.run_job.new.files)
-        before after c.run_job.ensures.files c.run_job.ensures.cause)
+    (λ n. Told (f.held c.args.files.now) (λ m. IsDue n m status.Done → NothingFailed before after → (c.run_job.result ≡ status.Done) ⊎ (c.run_job.result ≡ status.OutOfMemory)))
+    c.in-Some.ensures.read
+    (complete_told c.one_table.ensures.answer n result (f.held c.args.files.now) (f.held c.run_job.new.files) (o.out c.args.out.now) (o.out c.run_job.new.out) (f.last c.run_job.new.files)
+    before after c.run_job.ensures.files c.run_job.ensures.cause)
