@@ -1,11 +1,12 @@
 -- What a run leaves: the files of its records, by how the reading ended.
-use Rattle.std.specs.Prelude.{◌≡◌, ◌≢◌, ℕ, ◌≤◌, nat_le, Bool, List, [], ◌++◌, drop, filter, Option, Some, None, Result, Ok, Err}
+use Rattle.std.specs.Prelude.{◌≡◌, ◌≢◌, ℕ, ◌≤◌, nat_le, List, ◌++◌, length, filter, Option, Some, Result, Ok}
 use Rattle.std.specs.Option.{option_map}
 use Rattle.aftr_base.specs.Held.{Held, content}
 use Rattle.aftr_text.specs.Lines.{summary_text}
 use Rattle.binding_rules.specs.Tables.{Rules}
 use Rattle.binding_file.specs.Files.{TableOf}
 use Rattle.capture_io.specs.Capture.{IsCapture}
+use Rattle.capture_io.specs.Header.{header_in}
 use Rattle.capture_io.specs.declared.forms.CaptureBad.{CaptureBad}
 use Rattle.capture_io.specs.declared.forms.Form.{Form}
 use Rattle.capture_io.specs.declared.forms.Rec.{Rec}
@@ -29,40 +30,40 @@ pub record IsRun (n : RunNames) (old new : Held) (said now : Option (List ℕ)) 
   pub versions : content new n.versions ≡ versions_of n.table
   pub others : OthersKept n old new
   pub summary : now ≡ option_map (λ taken. taken ++ summary_text (totals_of (steady t) form rs)) said
+  -- the number of records that the summary says
+  pub number : (totals_of (steady t) form rs).records ≡ length rs
 
 -- a run of all whole records of the capture, which ends so
 pub record IsWholeRun (n : RunNames) (old new : Held) (said now : Option (List ℕ)) (ending : Option CaptureBad) : Type 0 where
-  pub table : Rules
+  pub rules : Rules
   pub form : Form
   pub records : List Rec
   pub capture : IsCapture (content old n.input) (Ok form) records ending
-  pub run : IsRun n old new said now table form records
+  pub run : IsRun n old new said now rules form records
 
 -- a run cut short by a read that failed at a place of the capture: it took the records that end at or before it
 pub record IsCutRun (n : RunNames) (old new : Held) (said now : Option (List ℕ)) (last : Option (List ℕ × ℕ)) : Type 0 where
-  pub table : Rules
+  pub rules : Rules
   pub form : Form
   pub all : List Rec
   pub ending : Option CaptureBad
   pub capture : IsCapture (content old n.input) (Ok form) all ending
   pub place : ℕ
-  pub last : last ≡ Some (n.input, place)
+  pub last_is : last ≡ Some (n.input, place)
   pub in_records : 24 ≤ place
-  pub run : IsRun n old new said now table form (filter (λ r. nat_le r.next_at place) all)
+  pub run : IsRun n old new said now rules form (filter (λ r. nat_le r.next_at place) all)
 
 -- nothing was written: every name holds what it held, and the sink took nothing
 pub record IsUntouched (old new : Held) (said now : Option (List ℕ)) : Type 0 where
   pub files : AllKept old new
   pub sink : now ≡ said
 
--- The read that failed was of the table or of the capture's header. So it was no read of a record: the capture has another
--- name than the table, its header is sound, and the place lies behind the header.
+-- The read that failed is one of a record, and of nothing else: the last place is one of the capture behind its header,
+-- the header is sound, and no table is read from the capture's file.
 pub record IsInRecords (n : RunNames) (old : Held) (last : Option (List ℕ × ℕ)) : Type 0 where
   pub form : Form
-  pub records : List Rec
-  pub ending : Option CaptureBad
-  pub capture : IsCapture (content old n.input) (Ok form) records ending
+  pub header : header_in (content old n.input) ≡ Ok form
   pub place : ℕ
-  pub last : last ≡ Some (n.input, place)
+  pub last_is : last ≡ Some (n.input, place)
   pub behind : 24 ≤ place
   pub apart : n.input ≢ n.table

@@ -1,7 +1,10 @@
 pub mod Clauses
 pub mod Endings
 pub mod Jobs
+pub mod Opened
 pub mod Outputs
+pub mod Progress
+pub mod Rendering
 pub mod Rounds
 pub mod Statuses
 pub mod Tables

@@ -1,19 +1,23 @@
 -- How far a run has come, and what its outputs hold by then.
-use Rattle.std.specs.Prelude.{◌≡◌, ◌≢◌, ℕ, ◌+◌, ◌*◌, ◌^◌, ◌≤◌, List, ◌++◌, length, Option, Some, None, Result, Ok, Err}
+use Rattle.std.specs.Prelude.{◌≡◌, ◌≢◌, ℕ, ◌+◌, ◌*◌, ◌^◌, ◌<◌, ◌≤◌, Bool, List, [], ◌++◌, length, drop, All, Option, Some, None, Result, Ok, Err}
 use Rattle.aftr_base.specs.declared.outside.Fault.{Fault}
+use Rattle.aftr_base.specs.declared.outside.Fault.TheVariants as fault
 use Rattle.aftr_base.specs.Faults.{Rose}
 use Rattle.aftr_base.specs.Held.{Held, content}
-use Rattle.capture_io.specs.Answers.{..}
+use Rattle.capture_io.specs.Capture.{Splits}
 use Rattle.capture_io.specs.declared.forms.Form.{Form}
+use Rattle.capture_io.specs.declared.forms.Next.TheVariants as next
 use Rattle.capture_io.specs.declared.forms.Rec.{Rec}
-use Rattle.item_stage.specs.Items.{entries_of, Stands}
+use Rattle.capture_io.specs.Record.{next_in}
+use Rattle.item_stage.specs.Items.{entries_of}
+use Rattle.item_stage.specs.Stages.{Stands}
 use Rattle.lwaftr_engine.specs.declared.rounds.Ending.{Ending}
 use Rattle.lwaftr_engine.specs.declared.rounds.Ending.TheVariants as ending
 use Rattle.lwaftr_engine.specs.declared.run.Progress.{Progress}
 use Rattle.lwaftr_engine.specs.Jobs.{RunNames}
 use Rattle.lwaftr_engine.specs.Outputs.{Course, packets_from, lines_from, totals_from, no_totals}
 use Rattle.lwaftr_engine.specs.Rendering.{IsWithin}
-use Rattle.lwaftr_engine.specs.Rounds.{Precedes, IsEnd}
+use Rattle.lwaftr_engine.specs.Rounds.{Precedes}
 
 -- the places and counts are in their ranges
 pub record IsBounded (p : Progress) : Type 0 where
@@ -24,10 +28,58 @@ pub record IsBounded (p : Progress) : Type 0 where
 -- since the outputs were opened, these records were taken, and their packets and lines stand behind what was there
 pub record HasTaken (n : RunNames) (form : Form) (c : Course) (opened now : Held) (p : Progress) (taken : List Rec) : Type 0 where
   pub stands : Stands p.stage taken
-  pub form : p.stage.form ≡ form
+  pub stage_form : p.stage.form ≡ form
   pub number : p.number ≡ length taken
+  pub entries : length (entries_of form taken) ≡ length taken
+  pub behind : 24 ≤ p.at
+  pub within : All (λ r. r.next_at ≤ p.at) taken
   pub follows : Precedes form.big (content opened n.input) 24 0 taken p.at p.number
   pub totals : p.totals ≡ totals_from c no_totals 0 (entries_of form taken)
   pub output : content now n.output ≡ content opened n.output ++ packets_from c 0 taken (entries_of form taken)
   pub verdicts : content now n.verdicts ≡ content opened n.verdicts ++ lines_from c 0 (entries_of form taken)
   pub others : (name : List ℕ) → name ≢ n.output → name ≢ n.verdicts → content now name ≡ content opened name
+
+-- a read of the record at a place failed, at a place from its beginning on and before its end
+pub record IsCutAt (name : List ℕ) (big : Bool) (bytes : List ℕ) (at number : ℕ) (last : Option (List ℕ × ℕ)) : Type 0 where
+  pub place : ℕ
+  pub last_is : last ≡ Some (name, place)
+  pub begun : at ≤ place
+  pub before : (r : Rec) → next_in big (drop at bytes) at number ≡ Ok (next.Rec r) → place < r.next_at
+
+-- how the records stopped at a place of a file with these bytes, if they did
+abbrev pub Stops : List ℕ → Bool → List ℕ → ℕ → ℕ → Option Ending → Option (List ℕ × ℕ) → Type 0
+Stops name big bytes at number (Some ending.End) last = Splits big (drop at bytes) at number [] None
+Stops name big bytes at number (Some (ending.Bad refusal)) last = Splits big (drop at bytes) at number [] (Some refusal)
+Stops name big bytes at number (Some ending.ReadFault) last = IsCutAt name big bytes at number last
+Stops name big bytes at number None last = Unit {0}
+
+-- some records are taken by now, and this is how they stopped
+pub record HasGone (n : RunNames) (form : Form) (c : Course) (opened now : Held) (p : Progress) (stop : Option Ending) (last : Option (List ℕ × ℕ)) : Type 0 where
+  pub records : List Rec
+  pub taken : HasTaken n form c opened now p records
+  pub stopped : Stops n.input form.big (content opened n.input) p.at p.number stop last
+
+-- whatever was taken before, more is taken now
+abbrev pub GoesOn : RunNames → Form → Course → Held → Held → Progress → Progress → Option Ending → Option (List ℕ × ℕ) → Type 0
+GoesOn n form c old new before after stop last = (opened : Held) (taken : List Rec) →
+    HasTaken n form c opened old before taken → HasGone n form c opened new after stop last
+
+-- the same for rounds behind which the records have not stopped
+abbrev pub TakesOn : RunNames → Form → Course → Held → Held → Progress → Progress → Type 0
+TakesOn n form c old new before after = (opened : Held) (taken : List Rec) →
+    HasTaken n form c opened old before taken → (all : List Rec) × HasTaken n form c opened new after all
+
+-- a count of reads that failed rose exactly where the records stopped with `ReadFault`; nothing is said where writing failed
+abbrev pub ReadCounts : Result (Option Ending) Fault → ℕ → ℕ → Type 0
+ReadCounts (Ok (Some ending.ReadFault)) before now = Rose before now
+ReadCounts (Ok (Some ending.End)) before now = now ≡ before
+ReadCounts (Ok (Some (ending.Bad refusal))) before now = now ≡ before
+ReadCounts (Ok None) before now = now ≡ before
+ReadCounts (Err _) before now = Unit {0}
+
+-- the same where the records have stopped
+abbrev pub EndingCounts : Result Ending Fault → ℕ → ℕ → Type 0
+EndingCounts (Ok ending.ReadFault) before now = Rose before now
+EndingCounts (Ok ending.End) before now = now ≡ before
+EndingCounts (Ok (ending.Bad refusal)) before now = now ≡ before
+EndingCounts (Err _) before now = Unit {0}

@@ -1,5 +1,5 @@
 -- Some records of a capture, and how they ended.
-use Rattle.std.specs.Prelude.{◌≡◌, ◌⊎◌, ℕ, ◌+◌, ◌*◌, ◌^◌, ◌<◌, ◌≤◌, Bool, List, [], ◌++◌, length, drop, sum_by, Option, Some, None, Result, Ok, Err}
+use Rattle.std.specs.Prelude.{◌≡◌, ◌⊎◌, ℕ, ◌+◌, ◌*◌, ◌^◌, ◌<◌, ◌≤◌, Bool, List, [], ◌++◌, length, drop, sum_by, All, Option, Some, None, Result, Ok, Err}
 use Rattle.aftr_base.specs.declared.lists.OutOfMemory.{OutOfMemory}
 use Rattle.aftr_base.specs.Faults.{Rose}
 use Rattle.aftr_base.specs.Held.{Held}
@@ -27,6 +27,11 @@ IsEnd big bytes at number None = Unit {0}
 pub record IsRoundOf (big : Bool) (bytes : List ℕ) (at number : ℕ) (round : Round) : Type 0 where
   pub follows : Precedes big bytes at number round.records.items round.at round.number
   pub ended : IsEnd big bytes round.at round.number round.ending
+
+-- the records end at or before the place of the next one
+pub record IsPlaced (at : ℕ) (round : Round) : Type 0 where
+  pub forward : at ≤ round.at
+  pub within : All (λ r. r.next_at ≤ round.at) round.records.items
 
 -- how many bytes were captured
 abbrev pub captured : List Rec → ℕ

@@ -15,8 +15,8 @@ use std::alloc::Global;
 /// Makes the three outputs, and writes the header of the capture and the line of the first table. A fault is one of writing.
 pub fn open_outputs<F: Files>(alloc: Global, files: &mut F, job: RunJob<'_>, nano: bool) -> Result<(), Fault>
     requires apart { IsTrue (are_apart (names_of job)) }
-    ensures opened { OnOk result (Moves (F.held files.old) (F.held files.new) (λ m n. IsOpened (names_of job) nano m n)) }
-    ensures others { Moves (F.held files.old) (F.held files.new) (λ m n. OthersKept (names_of job) m n) }
+    ensures opened { OnOk result (Moves (F.held files.old) (F.held files.new) (λ m n. IsOpened (names_of job.entry) nano m n)) }
+    ensures others { Moves (F.held files.old) (F.held files.new) (λ m n. OthersKept (names_of job.entry) m n) }
     ensures faults { Counted result (F.faults files.old) (F.faults files.new) }
     ensures spoiled { Counted result (F.spoiled files.old) (F.spoiled files.new) }
     ensures lost { F.lost files.new ≡ F.lost files.old }

@@ -1,4 +1,4 @@
-use Rattle.std.proofs.Common.{◌≡◌, ◌≤◌, ◌<◌, ◌+◌, ◌-◌, ◌*◌, ◌^◌, length}
+use Rattle.std.proofs.Common.{◌≡◌, ◌≤◌, ◌<◌, ◌+◌, ◌-◌, ◌*◌, ◌^◌, All, length}
 use Rattle.aftr_base.specs.Held.{Told, content}
 use Rattle.lwaftr_engine.specs.Rounds.{Precedes, captured}
 use Rattle.lwaftr_engine.proofs.rounds.read_round.Given as goal
@@ -7,6 +7,8 @@ abbrev pub invariant-records : goal.invariant-records
 invariant-records g l = let f = g.F.Files in record {
   follows : Told (f.held l.initial.files) (λ m. Precedes l.form.big (content m l.name) l.initial.at l.initial.number l.records.items l.at l.number);
   number : l.number ≡ l.initial.number + length l.records.items;
+  forward : l.initial.at ≤ l.at;
+  placed : All (λ r. r.next_at ≤ l.at) l.records.items;
   most : l.number ≤ 2 ^ 31;
   place : l.at ≤ 24 + 262160 * l.number;
   bytes : l.bytes ≡ captured l.records.items;
