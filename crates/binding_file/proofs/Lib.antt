@@ -1,4 +1,5 @@
 mod Elements
+mod FirstRefusals
 mod Trees
 mod Members
 mod Written

@@ -1,4 +1,4 @@
--- A file has one answer, up to the choice of a refusal by the rules of tables.
+-- A file has one answer.
 use Rattle.std.proofs.Common.{◌≡◌, ℕ, ◌+◌, List, [], ◌∷◌, Some, None, Result, Ok, Err, ap, sym, ◌∙◌, subst}
 use Rattle.addr_text.specs.Ipv4.{IsV4Text}
 use Rattle.addr_text.specs.Ipv6.{IsV6Text}
@@ -10,6 +10,8 @@ use Rattle.binding_file.specs.declared.names.Name.TheVariants as name
 use Rattle.binding_file.specs.declared.names.Place.{Place}
 use Rattle.binding_file.specs.declared.names.Place.TheVariants as place
 use Rattle.binding_file.specs.declared.refusals.FileRefused.{FileRefused}
+use Rattle.binding_file.specs.declared.refusals.FileRefused.TheVariants as refused
+use Rattle.binding_file.proofs.FirstRefusals.{one_first}
 
 abbrev pub Unique : {A : Type 0} → (Result A FileRefused → Type 0) → Type 0
 Unique {A} P = (x y : Result A FileRefused) → P x → P y → x ≡ y
@@ -95,22 +97,14 @@ document_unique bytes (Err e) (Err f) h k = ap Err (h.0 ∙ sym k.0)
 says_unique : One6 → One4 → (bytes : List ℕ) → Unique (Says bytes)
 says_unique six four bytes = after_unique (IsDocument bytes) (λ ms r. IsTree ms r) (document_unique bytes) (λ ms. tree_unique six four ms)
 
--- a table that keeps the rules is the only answer
-judged_table : (t u : Rules) (r : Result Rules FileRefused) → IsJudged t (Ok u) → IsJudged t r → r ≡ Ok u
-judged_table t u (Ok v) h k = ap Ok (k.0 ∙ sym h.0)
-judged_table t u (Err e) h k = absurd (h.1 k.0 k.2.applies)
+-- a table has one judgement
+judged_unique : (t : Rules) → Unique (IsJudged t)
+judged_unique t (Ok u) (Ok v) h k = ap Ok (h.0 ∙ sym k.0)
+judged_unique t (Ok u) (Err f) h k = absurd (h.1 k.0 k.2.applies)
+judged_unique t (Err e) (Ok v) h k = absurd (k.1 h.0 h.2.applies)
+judged_unique t (Err e) (Err f) h k = ap Err (h.1 ∙ (ap (λ rule. refused.Rules rule) (one_first t.edition t.softwire t.bindings h.0 k.0 h.2 k.2) ∙ sym k.1))
 
-then_table : (g : Result Rules FileRefused) (t : Rules) (r : Result Rules FileRefused) → Then g (λ u. IsJudged u (Ok t)) (Ok t) → Then g (λ u. IsJudged u r) r → r ≡ Ok t
-then_table (Ok u) t r h k = judged_table u t r h k
-then_table (Err e) t r h k = k ∙ sym h
-
-text_table : One6 → One4 → (bytes : List ℕ) (t : Rules) (r : Result Rules FileRefused) → TextOf bytes (Ok t) → TextOf bytes r → r ≡ Ok t
-text_table six four bytes t r h k =
-    then_table k.gives t r (subst (λ g. Then g (λ u. IsJudged u (Ok t)) (Ok t)) (says_unique six four bytes h.gives k.gives h.given k.given) h.rest) k.rest
-
-sized_table : One6 → One4 → (g : Result (List ℕ) FileRefused) (t : Rules) (r : Result Rules FileRefused) → Then g (λ text. TextOf text (Ok t)) (Ok t) → Then g (λ text. TextOf text r) r → r ≡ Ok t
-sized_table six four (Ok text) t r h k = text_table six four text t r h k
-sized_table six four (Err e) t r h k = k ∙ sym h
-
-pub one_table : One6 → One4 → (bytes : List ℕ) (t : Rules) (r : Result Rules FileRefused) → TableOf bytes (Ok t) → TableOf bytes r → r ≡ Ok t
-one_table six four bytes t r h k = sized_table six four (fits bytes) t r h k
+pub one_answer : One6 → One4 → (bytes : List ℕ) → Unique (TableOf bytes)
+one_answer six four bytes =
+    then_unique (fits bytes) (λ text r. TextOf text r)
+    (λ text. after_unique (Says text) (λ t r. IsJudged t r) (says_unique six four text) judged_unique)

@@ -1,7 +1,6 @@
 -- The front of a file, joined from pieces; and that the front of a table file says what the file says.
 use Rattle.std.proofs.Common.{◌≡◌, ℕ, ◌+◌, ◌<◌, nat_lt, Bool, true, if◌then◌else◌, List, ◌++◌, length, length-take, take, drop, Option, Some, None, Result, Ok, Err, sym, ◌∙◌, ap, inl, inr, subst, arith, length-append}
 use Rattle.std.proofs.Math.Seq.{take-add}
-
 use Rattle.std.proofs.lemmas.Bool.{cases_lt}
 use Rattle.std.proofs.lemmas.Bool.Decides.{nat_tests}
 use Rattle.std.proofs.lemmas.List.{take_all}
@@ -45,10 +44,11 @@ fits_big bytes long =
 -- one byte more than a table file may have is enough to judge it
 pub table_of_front : (bytes : List ℕ) (r : Result Rules FileRefused) → TableOf (take 16777217 bytes) r → TableOf bytes r
 table_of_front bytes r says = elim (cases_lt 16777216 (length bytes)) [
-    inl long ↦
+  | inl long ↦
       let cut : 16777216 < length (take 16777217 bytes) = omega (arith, long, length-take 16777217 bytes) in
       subst (λ f. Then f (λ text. TextOf text r) r) (fits_big (take 16777217 bytes) cut ∙ sym (fits_big bytes long)) says
-  | inr short ↦ subst (λ b. TableOf b r) (take_all 16777217 bytes (omega (arith, short))) says ]
+  | inr short ↦ subst (λ b. TableOf b r) (take_all 16777217 bytes (omega (arith, short))) says
+]
 
 pub table_told : (h : Option Held) (name bytes text : List ℕ) (r : Result Rules FileRefused) → text ≡ bytes
     → Told h (λ m. bytes ≡ take 16777217 (content m name)) → TableOf text r → Told h (λ m. TableOf (content m name) r)

@@ -1,6 +1,8 @@
-pub mod FrontLemmas
-pub mod Going
-pub mod Joining
-pub mod Moving
+mod FinishLemmas
+mod FrontLemmas
+mod Going
+mod Joining
+mod LineLemmas
+mod Moving
 mod RenderLemmas
-pub mod Touching
+mod Touching

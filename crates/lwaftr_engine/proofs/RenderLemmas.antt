@@ -1,5 +1,5 @@
 -- What one record writes, and then the records behind it.
-use Rattle.std.proofs.Common.{◌≡◌, ℕ, suc, ◌+◌, ◌<◌, ◌≤◌, true, List, [], ◌∷◌, ◌++◌, length, drop, flat_map, get_or, refl, sym, ◌∙◌, ap, subst, add-one, arith, append_assoc}
+use Rattle.std.proofs.Common.{◌≡◌, ℕ, suc, ◌+◌, ◌<◌, ◌≤◌, true, List, [], ◌∷◌, ◌++◌, length, drop, flat_map, get_or, sym, ◌∙◌, ap, subst, add-one, arith, append_assoc}
 use Rattle.std.proofs.Math.Seq.{drop-cons}
 use Rattle.std.proofs.lemmas.List.{append-nil, drop_all}
 use Rattle.binding_rules.specs.Tables.{Rules}
@@ -27,11 +27,11 @@ pub one_rendered : (number : ℕ) (r : Rec) (e : Entry) (v : Verdict) (old new :
     → IsRenderedOne number r e v old new before now
 one_rendered number r e v old new before now list ended line count is many packets first text lines totals =
     let n : count ≡ length (sent e.item v number) = many ∙ ap length is in record {
-        packets = packets ∙ ap (λ l. old.packets.items ++ flat_map (λ packet. record_bytes r.seconds r.fraction packet) l) is;
-        lines = lines ∙ ap (λ l. l ++ line) first
-            ∙ ap (λ l. (old.lines.items ++ flat_map (ended_text true) e.ended) ++ l) (text ∙ ap (verdict_text number 0 v) n)
-            ∙ append_assoc old.lines.items (flat_map (ended_text true) e.ended) (verdict_text number 0 v (length (sent e.item v number)));
-        totals = totals ∙ ap (counted before v) n;
+      packets = packets ∙ ap (λ l. old.packets.items ++ flat_map (λ packet. record_bytes r.seconds r.fraction packet) l) is;
+      lines = lines ∙ ap (λ l. l ++ line) first
+          ∙ ap (λ l. (old.lines.items ++ flat_map (ended_text true) e.ended) ++ l) (text ∙ ap (verdict_text number 0 v) n)
+          ∙ append_assoc old.lines.items (flat_map (ended_text true) e.ended) (verdict_text number 0 v (length (sent e.item v number)));
+      totals = totals ∙ ap (counted before v) n;
     }
 
 -- with what the records from a place on write, what stands there is what all of them write
@@ -45,9 +45,9 @@ pub remains_first : (c : Course) (start : ℕ) (records : List Rec) (entries : L
     → r.packets.items ≡ [] → r.lines.items ≡ [] → Remains c start 0 records entries before before r
 remains_first c start records entries before r packets lines =
     let same : start + 0 ≡ start = omega arith in record {
-        packets = ap (λ l. l ++ packets_from c (start + 0) records entries) packets ∙ ap (λ n. packets_from c n records entries) same;
-        lines = ap (λ l. l ++ lines_from c (start + 0) entries) lines ∙ ap (λ n. lines_from c n entries) same;
-        totals = ap (λ n. totals_from c before n entries) same;
+      packets = ap (λ l. l ++ packets_from c (start + 0) records entries) packets ∙ ap (λ n. packets_from c n records entries) same;
+      lines = ap (λ l. l ++ lines_from c (start + 0) entries) lines ∙ ap (λ n. lines_from c n entries) same;
+      totals = ap (λ n. totals_from c before n entries) same;
     }
 
 -- behind the last record all was written
@@ -56,9 +56,9 @@ pub remains_last : (c : Course) (start i : ℕ) (records : List Rec) (entries : 
 remains_last c start i records entries before now r same past remains =
     let no_record : drop i records ≡ [] = drop_all i records past in
     let no_entry : drop i entries ≡ [] = drop_all i entries (omega (arith, same, past)) in record {
-        packets = sym (ap (λ l. r.packets.items ++ l) (ap (λ rs. packets_from c (start + i) rs (drop i entries)) no_record) ∙ append-nil r.packets.items) ∙ remains.packets;
-        lines = sym (ap (λ l. r.lines.items ++ l) (ap (lines_from c (start + i)) no_entry) ∙ append-nil r.lines.items) ∙ remains.lines;
-        totals = sym (ap (totals_from c now (start + i)) no_entry) ∙ remains.totals;
+      packets = sym (ap (λ l. r.packets.items ++ l) (ap (λ rs. packets_from c (start + i) rs (drop i entries)) no_record) ∙ append-nil r.packets.items) ∙ remains.packets;
+      lines = sym (ap (λ l. r.lines.items ++ l) (ap (lines_from c (start + i)) no_entry) ∙ append-nil r.lines.items) ∙ remains.lines;
+      totals = sym (ap (totals_from c now (start + i)) no_entry) ∙ remains.totals;
     }
 
 -- the same over the records that are left
@@ -73,9 +73,9 @@ one_of_left : (t : Rules) (number : ℕ) (r : Rec) (e : Entry) (rs : List Rec) (
     → IsLeft (steady t) (number + 1) rs es packets lines totals now new
 one_of_left t number r e rs es v packets lines totals before now old new is one left =
     let one' : IsRenderedOne number r e (verdict_of t e.item) old new before now = subst (λ v. IsRenderedOne number r e v old new before now) is one in record {
-        left_packets = ap (λ l. l ++ packets_from (steady t) (number + 1) rs es) one'.packets ∙ append_assoc old.packets.items _ _ ∙ left.left_packets;
-        left_lines = ap (λ l. l ++ lines_from (steady t) (number + 1) es) one'.lines ∙ append_assoc old.lines.items _ _ ∙ left.left_lines;
-        left_totals = ap (λ totals. totals_from (steady t) totals (number + 1) es) one'.totals ∙ left.left_totals;
+      left_packets = ap (λ l. l ++ packets_from (steady t) (number + 1) rs es) one'.packets ∙ append_assoc old.packets.items _ _ ∙ left.left_packets;
+      left_lines = ap (λ l. l ++ lines_from (steady t) (number + 1) es) one'.lines ∙ append_assoc old.lines.items _ _ ∙ left.left_lines;
+      left_totals = ap (λ totals. totals_from (steady t) totals (number + 1) es) one'.totals ∙ left.left_totals;
     }
 
 -- one record more
@@ -95,7 +95,7 @@ remains_more t start i records entries r e v initial before now old new below sa
     let taken : Left (r ∷ drop (i + 1) records) (e ∷ drop (i + 1) entries) = subst (λ es. Left (r ∷ drop (i + 1) records) es) some_e (subst (λ rs. Left rs (drop i entries)) some_r here) in
     let left = one_of_left t (start + i) r e (drop (i + 1) records) (drop (i + 1) entries) v _ _ _ before now old new is one taken in
     let next : start + (i + 1) ≡ start + i + 1 = omega arith in record {
-        packets = ap (λ n. new.packets.items ++ packets_from (steady t) n (drop (i + 1) records) (drop (i + 1) entries)) next ∙ left.left_packets;
-        lines = ap (λ n. new.lines.items ++ lines_from (steady t) n (drop (i + 1) entries)) next ∙ left.left_lines;
-        totals = ap (λ n. totals_from (steady t) now n (drop (i + 1) entries)) next ∙ left.left_totals;
+      packets = ap (λ n. new.packets.items ++ packets_from (steady t) n (drop (i + 1) records) (drop (i + 1) entries)) next ∙ left.left_packets;
+      lines = ap (λ n. new.lines.items ++ lines_from (steady t) n (drop (i + 1) entries)) next ∙ left.left_lines;
+      totals = ap (λ n. totals_from (steady t) now n (drop (i + 1) entries)) next ∙ left.left_totals;
     }

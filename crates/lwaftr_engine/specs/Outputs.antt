@@ -1,10 +1,10 @@
 -- What one router writes that takes the records in order, each under the table in force at its number: the packets sent, a
 -- line for each record, and the totals. No worker, area or thread stands here.
-use Rattle.std.specs.Prelude.{ℕ, ◌+◌, Bool, true, false, if◌then◌else◌, List, [], ◌∷◌, ◌++◌, length, map, flat_map}
+use Rattle.std.specs.Prelude.{ℕ, ◌+◌, Bool, true, false, if◌then◌else◌, List, [], ◌∷◌, ◌++◌, length, flat_map}
 use Rattle.binding_rules.specs.Tables.{Rules}
 use Rattle.capture_io.specs.declared.forms.Form.{Form}
 use Rattle.capture_io.specs.declared.forms.Rec.{Rec}
-use Rattle.capture_io.specs.Written.{TimedPacket, header_bytes, record_bytes}
+use Rattle.capture_io.specs.Written.{header_bytes, record_bytes}
 use Rattle.ip_codec.specs.declared.items.Item.{Item}
 use Rattle.item_stage.specs.declared.entries.Entry.{Entry}
 use Rattle.item_stage.specs.Items.{entries_of, unfinished_of}

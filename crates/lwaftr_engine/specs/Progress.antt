@@ -1,5 +1,5 @@
 -- How far a run has come, and what its outputs hold by then.
-use Rattle.std.specs.Prelude.{◌≡◌, ◌≢◌, ℕ, ◌+◌, ◌*◌, ◌^◌, ◌<◌, ◌≤◌, Bool, List, [], ◌++◌, length, drop, All, Option, Some, None, Result, Ok, Err}
+use Rattle.std.specs.Prelude.{◌≡◌, ◌≢◌, ℕ, ◌+◌, ◌*◌, ◌^◌, ◌<◌, ◌≤◌, ◌⊎◌, Bool, List, [], ◌++◌, length, drop, All, Option, Some, None, Result, Ok, Err}
 use Rattle.aftr_base.specs.declared.outside.Fault.{Fault}
 use Rattle.aftr_base.specs.declared.outside.Fault.TheVariants as fault
 use Rattle.aftr_base.specs.Faults.{Rose}
@@ -14,6 +14,7 @@ use Rattle.item_stage.specs.Stages.{Stands}
 use Rattle.lwaftr_engine.specs.declared.rounds.Ending.{Ending}
 use Rattle.lwaftr_engine.specs.declared.rounds.Ending.TheVariants as ending
 use Rattle.lwaftr_engine.specs.declared.run.Progress.{Progress}
+use Rattle.lwaftr_engine.specs.Endings.{IsCutRun, IsWholeRun}
 use Rattle.lwaftr_engine.specs.Jobs.{RunNames}
 use Rattle.lwaftr_engine.specs.Outputs.{Course, packets_from, lines_from, totals_from, no_totals}
 use Rattle.lwaftr_engine.specs.Rendering.{IsWithin}
@@ -83,3 +84,15 @@ EndingCounts (Ok ending.ReadFault) before now = Rose before now
 EndingCounts (Ok ending.End) before now = now ≡ before
 EndingCounts (Ok (ending.Bad refusal)) before now = now ≡ before
 EndingCounts (Err _) before now = Unit {0}
+
+-- what the run leaves, by how the records ended
+abbrev pub EndsAs : RunNames → Ending → Held → Held → Option (List ℕ) → Option (List ℕ) → Option (List ℕ × ℕ) → Type 0
+EndsAs n ending.End old new said now last = IsWholeRun n old new said now None
+EndsAs n (ending.Bad refusal) old new said now last = IsWholeRun n old new said now (Some refusal)
+EndsAs n ending.ReadFault old new said now last = IsCutRun n old new said now last
+
+-- counts of writes and puts that failed: one of them rose exactly at the answer `Failed`
+abbrev pub WriteCounts : {T : Type 0} → Result T Fault → ℕ → ℕ → ℕ → ℕ → Type 0
+WriteCounts (Ok _) spoiled spoiled_now puts puts_now = (spoiled_now ≡ spoiled) × (puts_now ≡ puts)
+WriteCounts (Err fault.Failed) spoiled spoiled_now puts puts_now = Rose spoiled spoiled_now ⊎ Rose puts puts_now
+WriteCounts (Err fault.OutOfMemory) spoiled spoiled_now puts puts_now = (spoiled_now ≡ spoiled) × (puts_now ≡ puts)

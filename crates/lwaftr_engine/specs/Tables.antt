@@ -1,8 +1,7 @@
 -- What reading a table file says of the file and of the faults.
-use Rattle.std.specs.Prelude.{◌≡◌, ℕ, List, Option, Some, Result, Ok, Err}
+use Rattle.std.specs.Prelude.{◌≡◌, ℕ, List, Option, Some, Result, Err}
 use Rattle.aftr_base.specs.Faults.{Rose}
 use Rattle.binding_file.specs.Files.{TableOf}
-use Rattle.binding_rules.specs.Tables.{Rules}
 use Rattle.lwaftr_engine.specs.declared.table_file.NoTable.{NoTable}
 use Rattle.lwaftr_engine.specs.declared.table_file.NoTable.TheVariants as none
 

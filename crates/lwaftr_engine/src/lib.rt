@@ -8,8 +8,6 @@ mod rounds;
 mod run;
 mod status;
 mod table_file;
-mod top;
 mod words;
 
 pub use status::{Status, code, status_line};
-pub use top::lwaftr;

@@ -65,7 +65,15 @@ pub fn render_round<L: Ledger>(
     'records: while i < records.len() {
         let entry = &entries[i];
         let verdict = judge(&mut reader, &entry.item, &mut steps);
-        render_record(alloc, &mut rendered, &records[i], entry, start + i as u32, verdict, totals)?;
+        render_record(
+            alloc,
+            &mut rendered,
+            &records[i],
+            entry,
+            start + i as u32,
+            verdict,
+            totals,
+        )?;
         i += 1;
     }
     Ok(rendered)
@@ -98,7 +106,12 @@ fn render_record(
 }
 
 // The packets sent for a record, behind others.
-fn put_packets(alloc: Global, list: &mut Vec<u8>, rec: &Rec, sent: &Packets) -> Result<(), OutOfMemory>
+fn put_packets(
+    alloc: Global,
+    list: &mut Vec<u8>,
+    rec: &Rec,
+    sent: &Packets,
+) -> Result<(), OutOfMemory>
     requires { All (λ packet. length packet ≤ 65575) sent.now }
     ensures { IfOk result (λ _. list.new.items ≡ list.old.items
         ++ flat_map (λ packet. record_bytes rec.now.seconds rec.now.fraction packet) sent.now) }
@@ -112,7 +125,12 @@ fn put_packets(alloc: Global, list: &mut Vec<u8>, rec: &Rec, sent: &Packets) -> 
 
 /// Puts the lines of datagrams that ended unfinished behind others: those whose time was up, or those that the capture's
 /// end left.
-pub fn put_ended(alloc: Global, list: &mut Vec<u8>, expired: bool, numbers: &[u32]) -> Result<(), OutOfMemory>
+pub fn put_ended(
+    alloc: Global,
+    list: &mut Vec<u8>,
+    expired: bool,
+    numbers: &[u32],
+) -> Result<(), OutOfMemory>
     ensures { IfOk result (λ _. list.new.items ≡ list.old.items ++ flat_map (ended_text expired) numbers.now) }
 {
     'numbers: for number in numbers {

@@ -1,5 +1,5 @@
 // The records of a capture, read in rounds.
-ghost use Rattle.std.specs.Prelude.{◌≡◌, ◌≤◌, ◌<◌, ◌+◌, ◌*◌, ◌^◌, ℕ, IfOk, OnErr, length};
+ghost use Rattle.std.specs.Prelude.{◌≡◌, ◌≤◌, ◌+◌, ◌*◌, ◌^◌, IfOk};
 ghost use Rattle.aftr_base.specs.Held.{content, Told};
 ghost use Rattle.lwaftr_engine.specs.Rounds.{IsRoundOf, IsCount, IsPlaced, EndCounts, EndLast};
 
@@ -64,12 +64,27 @@ pub fn read_round<F: Files>(
     'records: while records.len() < MOST_RECORDS && bytes < ENOUGH_BYTES {
         let record = match next_record(alloc, files, name, form, at, number) {
             Ok(Next::Rec(record)) => record,
-            Ok(Next::End) => return Ok(Round { records, at, number, ending: Some(Ending::End) }),
+            Ok(Next::End) => return Ok(Round {
+                records,
+                at,
+                number,
+                ending: Some(Ending::End),
+            }),
             Err(CaptureError::Bad(refusal)) => {
-                return Ok(Round { records, at, number, ending: Some(Ending::Bad(refusal)) });
+                return Ok(Round {
+                    records,
+                    at,
+                    number,
+                    ending: Some(Ending::Bad(refusal)),
+                });
             }
             Err(CaptureError::ReadFault) => {
-                return Ok(Round { records, at, number, ending: Some(Ending::ReadFault) });
+                return Ok(Round {
+                    records,
+                    at,
+                    number,
+                    ending: Some(Ending::ReadFault),
+                });
             }
             Err(CaptureError::OutOfMemory) => return Err(OutOfMemory),
         };
@@ -78,5 +93,10 @@ pub fn read_round<F: Files>(
         bytes += record.bytes.as_slice().len();
         records.push(record)?;
     }
-    Ok(Round { records, at, number, ending: None })
+    Ok(Round {
+        records,
+        at,
+        number,
+        ending: None,
+    })
 }

@@ -1,5 +1,5 @@
 // A table, read from a file.
-ghost use Rattle.std.specs.Prelude.{◌≡◌, ◌≤◌, ◌<◌, ◌+◌, ◌^◌, ℕ, IfOk, IfErr, Ok, Err, Some, length, take, drop};
+ghost use Rattle.std.specs.Prelude.{◌≡◌, ◌≤◌, ◌+◌, ◌^◌, IfOk, IfErr, Ok, length, take, drop};
 ghost use Rattle.aftr_base.specs.Faults.{Counted, LastWithin};
 ghost use Rattle.aftr_base.specs.Held.{content, Told};
 ghost use Rattle.binding_file.specs.Files.{TableOf};
@@ -19,12 +19,16 @@ const PIECE: usize = 65_536;
 /// Why there is no table.
 #[derive(Clone, Copy, Debug)]
 pub enum NoTable {
+    /// A read of the file failed.
     ReadFault,
+    /// The file is no table, for this first reason.
     Refused(FileRefused),
+    /// The allocator had no room.
     OutOfMemory,
 }
 
-/// The table that the file spells.
+/// The table that the file spells; a file that is not there holds no bytes. It is read from its start on, in pieces that
+/// double, and never more of it than decides that it is too big: one byte more than 16,777,216.
 pub fn table_in<F: Files>(alloc: Global, files: &mut F, name: &str) -> Result<Table, NoTable>
     ensures table { IfOk result (λ t. Told (F.held files.old) (λ m. TableOf (content m name.now) (Ok t))) }
     ensures refused { IfErr result (λ why. Told (F.held files.old) (λ m. IsNoTable (content m name.now) why)) }
@@ -47,7 +51,12 @@ pub fn table_in<F: Files>(alloc: Global, files: &mut F, name: &str) -> Result<Ta
 }
 
 /// The first bytes of a file, at most so many, in pieces that double.
-fn file_front<F: Files>(alloc: Global, files: &mut F, name: &str, most: usize) -> Result<Bytes, Fault>
+fn file_front<F: Files>(
+    alloc: Global,
+    files: &mut F,
+    name: &str,
+    most: usize,
+) -> Result<Bytes, Fault>
     requires { most ≤ 2 ^ 32 }
     ensures bytes { IfOk result (λ bytes. Told (F.held files.old) (λ m. bytes ≡ take most (content m name.now))) }
     ensures held { F.held files.new ≡ F.held files.old }

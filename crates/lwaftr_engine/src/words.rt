@@ -1,5 +1,5 @@
 // The command words.
-ghost use Rattle.std.specs.Prelude.{◌≡◌, Some};
+ghost use Rattle.std.specs.Prelude.{◌≡◌};
 ghost use Rattle.std.specs.Option.{option_map};
 ghost use Rattle.lwaftr_engine.specs.Jobs.{are_apart, are_names, is_name, names_of, run_of, texts};
 
@@ -46,7 +46,11 @@ pub fn read_words<'a>(words: &[&'a str]) -> Option<RunJob<'a>>
 fn are_files(job: RunJob<'_>) -> bool
     ensures { result ≡ are_names (names_of job.entry) }
 {
-    is_file(job.input) && is_file(job.output) && is_file(job.verdicts) && is_file(job.versions) && is_file(job.table)
+    is_file(job.input)
+        && is_file(job.output)
+        && is_file(job.verdicts)
+        && is_file(job.versions)
+        && is_file(job.table)
 }
 
 // A word that can name a file: it has a byte and is no option.
@@ -70,4 +74,61 @@ fn are_outputs_apart(job: RunJob<'_>) -> bool
         && job.verdicts != job.table
         && job.versions != job.input
         && job.versions != job.table
+}
+
+#[cfg(test)]
+mod tests {
+    use super::*;
+    use std::alloc::Global;
+    use std::test::Fail;
+
+    // Words with one blank between them, behind a mark: whether they ask for a run.
+    const WORDS: &str = "\
+yes run in out verdicts versions table
+yes run - out verdicts versions table
+yes run in out verdicts versions in
+yes run run out verdicts versions table
+no run
+no run in out verdicts versions
+no run in out verdicts versions table more
+no RUN in out verdicts versions table
+no check in out verdicts versions table
+no run -- out verdicts versions table
+no run in out verdicts versions --
+no run in -o verdicts versions table
+no run in out verdicts --help table
+no run in  verdicts versions table
+no run in out verdicts versions \n\
+no run in out out versions table
+no run in out verdicts out table
+no run in out verdicts verdicts table
+no run in in verdicts versions table
+no run in out in versions table
+no run in out verdicts in table
+no run in table verdicts versions table
+no run in out table versions table
+no run in out verdicts table table";
+
+    fn is_run(alloc: Global, line: &str) -> Result<bool, Fail> {
+        let words: Vec<&str> = line.split(' ').collect(alloc)?;
+        Ok(read_words(&words[1..]).is_some())
+    }
+
+    #[test]
+    fn only_a_run_of_five_files_is_read(rt: HostRuntime) -> Result<(), Fail> {
+        for line in WORDS.lines() {
+            assert_eq!(rt;
+                is_run(rt.alloc(), line)?,
+                line.starts_with("yes"),
+                "{line}"
+            );
+        }
+        assert!(rt; read_words(&[]).is_none());
+        let job = read_words(&["run", "a", "b", "c", "d", "e"]).ok_or("a job")?;
+        assert_eq!(rt;
+            [job.input, job.output, job.verdicts, job.versions, job.table],
+            ["a", "b", "c", "d", "e"]
+        );
+        Ok(())
+    }
 }

@@ -1,0 +1,10 @@
+use Rattle.std.proofs.Common.{◌∙◌}
+use Rattle.lwaftr_engine.specs.Jobs.{names_of}
+use Rattle.lwaftr_engine.proofs.LineLemmas.{lines_written}
+use Rattle.lwaftr_engine.proofs.run.finish.Goals as goal
+
+pub returns-clause-verdicts : goal.returns-clause-verdicts
+returns-clause-verdicts g c =
+    let f = g.F.Files in
+    lines_written c.put_all.result (f.held c.args.files.now) (f.held c.append_all.new.files) (names_of c.args.job).verdicts c.deref.result.now c.args.progress.now.stage
+      (λ taken stands. c.deref.ensures.value ∙ c.in_ok-lines.ensures taken stands) c.in_ok-append_all.ensures.held

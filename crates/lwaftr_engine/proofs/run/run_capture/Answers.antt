@@ -1,0 +1,16 @@
+use Rattle.lwaftr_engine.specs.Jobs.{names_of}
+use Rattle.lwaftr_engine.proofs.FinishLemmas.{ran}
+use Rattle.lwaftr_engine.proofs.Touching.{apart}
+use Rattle.lwaftr_engine.proofs.run.run_capture.Goals as goal
+
+pub returns-clause-ran : goal.returns-clause-ran
+returns-clause-ran g c =
+    let f = g.F.Files in
+    let o = g.O.Sink in
+    let n = names_of c.args.job in
+    ran n c.args.form c.args.words.now (apart n c.requires.apart)
+      (f.held c.args.files.now) (f.held c.open_outputs.new.files) (f.held c.run_records.new.files) (f.held c.finish.new.files)
+      (o.out c.args.out.now) (o.out c.finish.new.out) c.in_ok-new.field-0 c.run_records.new.progress c.in_ok-ending.ending
+      (f.last c.run_records.new.files) (f.last c.finish.new.files)
+      (c.in_ok-new.ensures.stands) (c.in_ok-new.ensures.form) c.in_ok-ending.ensures.bounded
+      c.in_ok-open_outputs.ensures.opened c.in_ok-ending.ensures.went c.in_ok-finish.ensures.verdicts c.in_ok-finish.ensures.summary c.in_ok-finish.ensures.last
