@@ -4,5 +4,7 @@ mod Going
 mod Joining
 mod LineLemmas
 mod Moving
+mod QueryLemmas
 mod RenderLemmas
 mod Touching
+mod WordLemmas

@@ -3,6 +3,7 @@
 #![tactic(auto)]
 
 mod outputs;
+mod queries;
 mod rendering;
 mod rounds;
 mod run;
@@ -10,4 +11,6 @@ mod status;
 mod table_file;
 mod words;
 
+pub use queries::{check_table, who_owns};
+pub use words::{Job, read_words};
 pub use status::{Status, code, status_line};
