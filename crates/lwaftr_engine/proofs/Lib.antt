@@ -1,3 +1,4 @@
+mod DueLemmas
 mod FinishLemmas
 mod FrontLemmas
 mod Going

@@ -1,9 +1,9 @@
 -- What command words ask for.
-use Rattle.std.proofs.Common.{◌≡◌, ℕ, ◌<◌, ◌^◌, Bool, true, false, not, List, [], ◌∷◌, length, Result, Ok, refl, sym, ◌∙◌, ap, arith}
-use Rattle.std.specs.Prelude.{IsTrue, bytes_eq, codes, decimal, slice_index_or}
+use Rattle.std.proofs.Common.{◌≡◌, ℕ, ◌<◌, ◌^◌, Bool, true, false, not, List, [], ◌∷◌, length, Result, Ok, refl, sym, ◌∙◌, ap, subst, arith}
+use Rattle.std.specs.Prelude.{◌↔◌, IsTrue, bytes_eq, codes, decimal, slice_index_or}
 use Rattle.std.specs.Borrow.{Bor}
 use Rattle.std.specs.Str.Parse.{ParsesUnsigned}
-use Rattle.std.proofs.lemmas.Fmt.{parse-decimal}
+use Rattle.std.proofs.lemmas.Fmt.{decimal_injective, parse-decimal}
 use Rattle.std.proofs.lemmas.Slice.Eq.{bytes_eq-Decides}
 use Rattle.addr_text.specs.Ipv4.{IsV4Text}
 use Rattle.aftr_base.specs.declared.numbers.V4.{V4}
@@ -45,3 +45,22 @@ not_written text shown r number equal parses ok written test unequal port is =
     let n : number ≡ port = same_ok r number port ok (parsed text r port parses is) in
     let e : shown ≡ text = written ∙ (ap decimal n ∙ sym is.spelled) in
     absurd (cc ((bytes_eq-Decides shown text).1 e, test, unequal))
+
+one_port : (text : List ℕ) (x y : ℕ) → IsPortText text x → IsPortText text y → x ≡ y
+one_port text x y h k = decimal_injective x y (omega (arith, h.fits)) (omega (arith, k.fits)) (sym h.spelled ∙ k.spelled)
+
+-- a text spells one IPv4 address
+abbrev pub OneAddress : Type 0
+OneAddress = (text : List ℕ) (a b : ℕ) → IsV4Text text a → IsV4Text text b → a ≡ b
+
+-- they ask for one owner
+pub one_who : OneAddress → (ws : List (List ℕ)) (file name : List ℕ) (v4 address : V4) (port number : ℕ) → AsksWho ws file address number
+    → AsksWho ws name v4 port ↔ ((name ≡ file) × (v4 ≡ address) × (port ≡ number))
+one_who one [] file name v4 address port number asked = absurd asked
+one_who one (a ∷ []) file name v4 address port number asked = absurd asked
+one_who one (a ∷ b ∷ []) file name v4 address port number asked = absurd asked
+one_who one (a ∷ b ∷ d ∷ []) file name v4 address port number asked = absurd asked
+one_who one (a ∷ b ∷ d ∷ f ∷ h ∷ ws) file name v4 address port number asked = absurd asked
+one_who one (a ∷ b ∷ d ∷ f ∷ []) file name v4 address port number asked =
+    (λ other. (other.2 ∙ sym asked.2, ap (λ n. record { 0 = n }) (one d v4.0 address.0 other.3 asked.3), one_port f port number other.4 asked.4),
+     λ same. (asked.0, asked.1, same.0 ∙ asked.2, subst (λ (x : V4). IsV4Text d x.0) (sym same.1) asked.3, subst (λ n. IsPortText f n) (sym same.2) asked.4))

@@ -66,11 +66,32 @@ AsksWho (word ∷ file ∷ address ∷ number ∷ []) name v4 port =
     IsTrue (same word (codes "who")) × IsTrue (is_name file) × (name ≡ file) × IsV4Text address v4.0 × IsPortText number port
 AsksWho _ name v4 port = ⊥
 
--- the words ask for this job
-abbrev pub AsksFor : List (List ℕ) → Job → Type 0
-AsksFor words (asked.Run run) = run_of words ≡ Some (names_of run)
-AsksFor words (asked.Check name) = check_of words ≡ Some name.now
-AsksFor words (asked.Who name v4 port) = AsksWho words name.now v4 port
+-- the run that a job is, if it is one
+abbrev pub run_in : Option Job → Option RunNames
+run_in None = None
+run_in (Some (asked.Run run)) = Some (names_of run)
+run_in (Some (asked.Check name)) = None
+run_in (Some (asked.Who name v4 port)) = None
+
+-- the file that a job checks, if it does
+abbrev pub check_in : Option Job → Option (List ℕ)
+check_in None = None
+check_in (Some (asked.Run run)) = None
+check_in (Some (asked.Check name)) = Some name.now
+check_in (Some (asked.Who name v4 port)) = None
+
+-- the job asks for the owner of this port
+abbrev pub IsWho : Option Job → List ℕ → V4 → ℕ → Type 0
+IsWho None name v4 port = ⊥
+IsWho (Some (asked.Run run)) name v4 port = ⊥
+IsWho (Some (asked.Check file)) name v4 port = ⊥
+IsWho (Some (asked.Who file address number)) name v4 port = (name ≡ file.now) × (v4 ≡ address) × (port ≡ number)
+
+-- no output of a run has the name of another of its files
+abbrev pub AreOutputsApart : Job → Type 0
+AreOutputsApart (asked.Run run) = IsTrue (are_apart (names_of run))
+AreOutputsApart (asked.Check name) = Unit {0}
+AreOutputsApart (asked.Who name v4 port) = Unit {0}
 
 -- the words ask for no job
 pub record AskNothing (words : List (List ℕ)) : Type 0 where

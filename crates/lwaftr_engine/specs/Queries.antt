@@ -1,6 +1,7 @@
 -- The two questions about a table file: is it valid, and who owns a port of an address. Each is answered by one line.
 use Rattle.std.specs.Prelude.{◌≡◌, ◌⊎◌, ℕ, ◌≤◌, List, [], ◌∷◌, ◌++◌, codes, decimal, length, take, Option, Some, None, Result, Ok, Err}
 use Rattle.std.specs.Option.{option_map}
+use Rattle.std.specs.Borrow.{Bor}
 use Rattle.addr_text.specs.Canonical.{IsCanonical, groups_of}
 use Rattle.aftr_base.specs.Faults.{Rose}
 use Rattle.aftr_base.specs.Held.{Held, content, Told}
@@ -13,6 +14,7 @@ use Rattle.binding_rules.specs.Tables.{Rules, IsValid}
 use Rattle.binding_rules.specs.declared.binding.Binding.{Binding}
 use Rattle.binding_rules.specs.declared.binding.Want.TheVariants as want
 use Rattle.lwaftr_engine.specs.Clauses.{Counts, NothingFailed}
+use Rattle.lwaftr_engine.specs.Jobs.{ForCheck, ForWho}
 use Rattle.lwaftr_engine.specs.declared.status.Status.{Status}
 use Rattle.lwaftr_engine.specs.declared.status.Status.TheVariants as status
 
@@ -75,6 +77,16 @@ RefusesAs bytes result = (refusal : FileRefused) →
 abbrev pub IsComplete : List ℕ → Status → Counts → Counts → Type 0
 IsComplete bytes result before now = (t : Rules) → TableOf bytes (Ok t) → NothingFailed before now →
     (result ≡ status.Done) ⊎ (result ≡ status.OutOfMemory)
+
+-- What a question leaves: every name holds what it held, and the sink took the line; `BadTable` has its cause.
+pub record IsAnswered (Asks : Rules → List ℕ → Type 0) (name : List ℕ) (result : Status) (old new : Option Held) (said now : Option (List ℕ)) : Type 0 where
+  pub kept : new ≡ old
+  pub line : Answers (λ line. IsLineOf Asks old name line) result said now
+  pub refused : Told old (λ m. RefusesAs (content m name) result)
+
+-- P of the question that the words ask: of the line that it asks for, and of the name of the file
+abbrev pub ForQuery : List (Bor (List ℕ)) → ((Rules → List ℕ → Type 0) → List ℕ → Type 0) → Type 0
+ForQuery words P = ForCheck words (λ name. P IsValidLine name) × ForWho words (λ name v4 port. P (IsOwnerLine v4 port) name)
 
 -- the line of an owner, if there is one
 abbrev pub IsOwnerText : Option V6 → List ℕ → Type 0

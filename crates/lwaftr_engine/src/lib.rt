@@ -9,8 +9,10 @@ mod rounds;
 mod run;
 mod status;
 mod table_file;
+mod top;
 mod words;
 
 pub use queries::{check_table, who_owns};
 pub use words::{Job, read_words};
 pub use status::{Status, code, status_line};
+pub use top::lwaftr;

@@ -1,10 +1,10 @@
 // The command words.
-ghost use Rattle.std.specs.Prelude.{◌≡◌, ℕ, List, IfNone, IfSome};
+ghost use Rattle.std.specs.Prelude.{◌≡◌, ◌↔◌, ℕ, List, IfNone, IfSome, IsTrue};
 ghost use Rattle.std.specs.Option.{option_map};
 ghost use Rattle.aftr_base.specs.declared.numbers.V4.{V4 as Address};
-ghost use Rattle.lwaftr_engine.specs.Jobs.{AskNothing, AsksFor, AsksWho, IsPortText, are_apart, are_names, check_of, is_name, names_of, run_of, texts};
+ghost use Rattle.lwaftr_engine.specs.Jobs.{AreOutputsApart, AsksWho, IsPortText, IsWho, are_apart, are_names, check_in, check_of, is_name, names_of, run_in, run_of, texts};
 
-use addr_text::read_v4;
+use addr_text::{one_address, read_v4};
 use aftr_base::V4;
 use itoa::Buffer;
 
@@ -41,9 +41,12 @@ pub struct RunJob<'a> {
 /// address in dotted decimal and a port, `0` or digits without a leading zero. A name has a byte, and if it has more than one
 /// it does not begin with `-`. No output of a run has the name of another of its files. Other words ask for nothing.
 pub fn read_words<'a>(words: &[&'a str]) -> Option<Job<'a>>
-    ensures job { IfSome result (AsksFor (texts words.now)) }
-    ensures none { IfNone result (AskNothing (texts words.now)) }
+    ensures run { run_in result ≡ run_of (texts words.now) }
+    ensures apart { IfSome result AreOutputsApart }
+    ensures check { check_in result ≡ check_of (texts words.now) }
+    ensures who { (name : List ℕ) (v4 : Address) (port : ℕ) → AsksWho (texts words.now) name v4 port ↔ IsWho result name v4 port }
 {
+    one_address();
     if let Some(run) = read_run(words) {
         return Some(Job::Run(run));
     }
@@ -56,7 +59,8 @@ pub fn read_words<'a>(words: &[&'a str]) -> Option<Job<'a>>
 
 // The run that the words ask for, if they do.
 fn read_run<'a>(words: &[&'a str]) -> Option<RunJob<'a>>
-    ensures { option_map names_of result ≡ run_of (texts words.now) }
+    ensures read { option_map names_of result ≡ run_of (texts words.now) }
+    ensures apart { IfSome result (λ job. IsTrue (are_apart (names_of job))) }
 {
     if words.len() != WORDS {
         return None;
