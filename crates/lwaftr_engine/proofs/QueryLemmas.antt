@@ -35,9 +35,10 @@ same_error x y e = cc
 
 -- a refused file is answered with its cause
 refuses : OneAnswer → (bytes : List ℕ) (x : FileRefused) → TableOf bytes (Err x) → RefusesAs bytes (status.BadTable x)
-refuses one bytes x is y =
-    (λ same. subst (λ e. TableOf bytes (Err e)) (same_status x y same) is,
-     λ other. inl (ap status.BadTable (same_error x y (one bytes (Err x) (Err y) is other))))
+refuses one bytes x is y = (
+  λ same. subst (λ e. TableOf bytes (Err e)) (same_status x y same) is,
+  λ other. inl (ap status.BadTable (same_error x y (one bytes (Err x) (Err y) is other))),
+)
 
 pub refuses_told : OneAnswer → (h : Option Held) (name : List ℕ) (x : FileRefused) (why : NoTable) → why ≡ none.Refused x
     → Told h (λ m. IsNoTable (content m name) why) → Told h (λ m. RefusesAs (content m name) (status.BadTable x))
@@ -70,7 +71,7 @@ owner_answers h name v4 port t words slice owner line put s said now spelled com
     let owner_is = found t (subst (λ l. IsCompiled t l) (sym is) compiled) in
     let asked : IsOwnerLine v4 port t line = named (bound t.bindings v4 (want.Port port)) owner line (compiled.lawful.at_most_one v4 (want.Port port)) owner_is text in
     answered (λ l. IsLineOf (IsOwnerLine v4 port) h name l) line s said now
-      (record { table = t; valid = compiled.valid; spelled = spelled; asked = asked }) (subst (λ l. Puts s l said now) same puts)
+    (record { table = t; valid = compiled.valid; spelled = spelled; asked = asked }) (subst (λ l. Puts s l said now) same puts)
 
 -- the words of a job that asks for the owner of a port
 pub who_words : (ws : List (List ℕ)) (j : Job) (file : Bor (List ℕ)) (address : V4) (number : ℕ) → j ≡ asked.Who file address number
@@ -81,6 +82,7 @@ who_words ws j file address number is asks =
 -- a question that is answered is one that the words ask
 pub not_usage : (ws : List (List ℕ)) (name : List ℕ) (v4 : V4) (port : ℕ) (IsLine : List ℕ → Type 0) (s : Status) (said now : Option (List ℕ)) → AsksWho ws name v4 port
     → Answers IsLine s said now → (s ≡ status.Usage) ↔ AskNothing ws
-not_usage ws name v4 port IsLine s said now asks answers =
-    (λ usage. let none : Answers IsLine status.Usage said now = subst (λ t. Answers IsLine t said now) usage answers in absurd none,
-     λ nothing. absurd (nothing.who name v4 port asks))
+not_usage ws name v4 port IsLine s said now asks answers = (
+  λ usage. let none : Answers IsLine status.Usage said now = subst (λ t. Answers IsLine t said now) usage answers in absurd none,
+  λ nothing. absurd (nothing.who name v4 port asks),
+)

@@ -61,6 +61,7 @@ one_who one (a ∷ []) file name v4 address port number asked = absurd asked
 one_who one (a ∷ b ∷ []) file name v4 address port number asked = absurd asked
 one_who one (a ∷ b ∷ d ∷ []) file name v4 address port number asked = absurd asked
 one_who one (a ∷ b ∷ d ∷ f ∷ h ∷ ws) file name v4 address port number asked = absurd asked
-one_who one (a ∷ b ∷ d ∷ f ∷ []) file name v4 address port number asked =
-    (λ other. (other.2 ∙ sym asked.2, ap (λ n. record { 0 = n }) (one d v4.0 address.0 other.3 asked.3), one_port f port number other.4 asked.4),
-     λ same. (asked.0, asked.1, same.0 ∙ asked.2, subst (λ (x : V4). IsV4Text d x.0) (sym same.1) asked.3, subst (λ n. IsPortText f n) (sym same.2) asked.4))
+one_who one (a ∷ b ∷ d ∷ f ∷ []) file name v4 address port number asked = (
+  λ other. (other.2 ∙ sym asked.2, ap (λ n. record { 0 = n }) (one d v4.0 address.0 other.3 asked.3), one_port f port number other.4 asked.4),
+  λ same. (asked.0, asked.1, same.0 ∙ asked.2, subst (λ (x : V4). IsV4Text d x.0) (sym same.1) asked.3, subst (λ n. IsPortText f n) (sym same.2) asked.4),
+)

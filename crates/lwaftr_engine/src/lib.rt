@@ -13,6 +13,6 @@ mod top;
 mod words;
 
 pub use queries::{check_table, who_owns};
-pub use words::{Job, read_words};
 pub use status::{Status, code, status_line};
 pub use top::lwaftr;
+pub use words::{Job, read_words};

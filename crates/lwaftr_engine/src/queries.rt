@@ -73,7 +73,7 @@ pub fn who_owns<F: Files, O: Sink>(
     let table = match table_in(alloc, files, name) {
         Ok(table) => table,
         Err(NoTable::ReadFault) => return Status::ReadFault,
-        Err(NoTable::Refused(refusal)) => return Status::BadTable(refusal),
+        Err(NoTable::Refused(cause)) => return Status::BadTable(cause),
         Err(NoTable::OutOfMemory) => return Status::OutOfMemory,
     };
     let words = match compile(alloc, &table) {

@@ -59,8 +59,8 @@ pub fn lwaftr<F: Files, O: Sink>(
         (counts (F.lost files.new) (F.spoiled files.new) (F.faults files.new) (O.faults out.new)) }
     ensures complete { ForRun words.now (λ n. Told (F.held files.old) (λ m. IsDue n m Status.Done →
         NothingFailed
-            (counts (F.lost files.old) (F.spoiled files.old) (F.faults files.old) (O.faults out.old))
-            (counts (F.lost files.new) (F.spoiled files.new) (F.faults files.new) (O.faults out.new)) →
+        (counts (F.lost files.old) (F.spoiled files.old) (F.faults files.old) (O.faults out.old))
+        (counts (F.lost files.new) (F.spoiled files.new) (F.faults files.new) (O.faults out.new)) →
         (result ≡ Status.Done) ⊎ (result ≡ Status.OutOfMemory))) }
 {
     one_table();

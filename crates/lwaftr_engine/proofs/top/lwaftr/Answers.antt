@@ -16,9 +16,9 @@ returns-in-Some-Run-clause-due g c =
     let n = names_of c.in-Some-Run.job in
     let result = c.run_job.result in
     for_run c.args.words.now n (λ n. Told (f.held c.args.files.now) (λ m. (s : Status) → IsDue n m s → (c.run_job.result ≡ s) ⊎ IsFault c.run_job.result))
-      (run_read c.args.words.now c.in-Some-Run.field-0 c.in-Some-Run.job c.in-Some-Run.field-0-is c.in-Some-Run.ensures.run)
-      (due_told c.one_table.ensures.answer n result (f.held c.args.files.now) (f.held c.run_job.new.files) (o.out c.args.out.now) (o.out c.run_job.new.out) (f.last c.run_job.new.files)
-        c.run_job.ensures.files)
+    (run_read c.args.words.now c.in-Some-Run.field-0 c.in-Some-Run.job c.in-Some-Run.field-0-is c.in-Some-Run.ensures.run)
+    (due_told c.one_table.ensures.answer n result (f.held c.args.files.now) (f.held c.run_job.new.files) (o.out c.args.out.now) (o.out c.run_job.new.out) (f.last c.run_job.new.files)
+    c.run_job.ensures.files)
 
 pub returns-in-Some-Run-clause-complete : goal.returns-in-Some-Run-clause-complete
 returns-in-Some-Run-clause-complete g c =
@@ -29,16 +29,16 @@ returns-in-Some-Run-clause-complete g c =
     let before = counts (f.lost c.args.files.now) (f.spoiled c.args.files.now) (f.faults c.args.files.now) (o.faults c.args.out.now) in
     let after = counts (f.lost c.run_job.new.files) (f.spoiled c.run_job.new.files) (f.faults c.run_job.new.files) (o.faults c.run_job.new.out) in
     for_run c.args.words.now n
-      (λ n. Told (f.held c.args.files.now) (λ m. IsDue n m status.Done → NothingFailed before after → (c.run_job.result ≡ status.Done) ⊎ (c.run_job.result ≡ status.OutOfMemory)))
-      (run_read c.args.words.now c.in-Some-Run.field-0 c.in-Some-Run.job c.in-Some-Run.field-0-is c.in-Some-Run.ensures.run)
-      (complete_told c.one_table.ensures.answer n result (f.held c.args.files.now) (f.held c.run_job.new.files) (o.out c.args.out.now) (o.out c.run_job.new.out) (f.last c.run_job.new.files)
-        before after c.run_job.ensures.files c.run_job.ensures.cause)
+    (λ n. Told (f.held c.args.files.now) (λ m. IsDue n m status.Done → NothingFailed before after → (c.run_job.result ≡ status.Done) ⊎ (c.run_job.result ≡ status.OutOfMemory)))
+    (run_read c.args.words.now c.in-Some-Run.field-0 c.in-Some-Run.job c.in-Some-Run.field-0-is c.in-Some-Run.ensures.run)
+    (complete_told c.one_table.ensures.answer n result (f.held c.args.files.now) (f.held c.run_job.new.files) (o.out c.args.out.now) (o.out c.run_job.new.out) (f.last c.run_job.new.files)
+    before after c.run_job.ensures.files c.run_job.ensures.cause)
 
 pub returns-in-Some-Who-clause-usage : goal.returns-in-Some-Who-clause-usage
 returns-in-Some-Who-clause-usage g c =
     let ws = texts c.args.words.now in
     not_usage ws c.in-Some-Who.name.now c.in-Some-Who.v4 c.in-Some-Who.port
-      (λ line. IsLineOf (IsOwnerLine c.in-Some-Who.v4 c.in-Some-Who.port) (g.F.Files.held c.args.files.now) c.in-Some-Who.name.now line)
-      c.who_owns.result (g.O.Sink.out c.args.out.now) (g.O.Sink.out c.who_owns.new.out)
-      (who_words ws c.in-Some-Who.field-0 c.in-Some-Who.name c.in-Some-Who.v4 c.in-Some-Who.port c.in-Some-Who.field-0-is c.in-Some-Who.ensures.who)
-      c.who_owns.ensures.line
+    (λ line. IsLineOf (IsOwnerLine c.in-Some-Who.v4 c.in-Some-Who.port) (g.F.Files.held c.args.files.now) c.in-Some-Who.name.now line)
+    c.who_owns.result (g.O.Sink.out c.args.out.now) (g.O.Sink.out c.who_owns.new.out)
+    (who_words ws c.in-Some-Who.field-0 c.in-Some-Who.name c.in-Some-Who.v4 c.in-Some-Who.port c.in-Some-Who.field-0-is c.in-Some-Who.ensures.who)
+    c.who_owns.ensures.line

@@ -7,4 +7,4 @@ returns-in_default-clause-none c = not_parsed c.args.text.now c.parse.result c.p
 pub returns-else-eq-clause-none : goal.returns-else-eq-clause-none
 returns-else-eq-clause-none c =
     not_written c.args.text.now c.format.result.now c.parse.result c.in-Ok.port c.eq.result c.parse.ensures.value.0 c.in-Ok.is
-      c.format.ensures.text c.eq.ensures c.if-eq.false
+    c.format.ensures.text c.eq.ensures c.if-eq.false

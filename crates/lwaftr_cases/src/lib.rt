@@ -1,0 +1,17 @@
+//! The worked cases of the whole program, over files in memory. Nothing stands on this crate.
+#![tactic(auto)]
+
+#[cfg(test)]
+mod captures;
+#[cfg(test)]
+mod endings;
+#[cfg(test)]
+mod faults;
+#[cfg(test)]
+mod packets;
+#[cfg(test)]
+mod queries;
+#[cfg(test)]
+mod rounds;
+#[cfg(test)]
+mod runs;

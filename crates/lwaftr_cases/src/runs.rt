@@ -1,0 +1,183 @@
+// A run over files in memory.
+use aftr_base::{Fault, Files, MemFiles, MemSink};
+use lwaftr_engine::{Status, lwaftr};
+use std::alloc::Global;
+use std::test::Fail;
+
+/// The words of a run.
+pub const WORDS: [&str; 6] = [
+    "run",
+    "in.pcap",
+    "out.pcap",
+    "verdicts.txt",
+    "versions.txt",
+    "t0.toml",
+];
+
+/// One subscriber with a whole address.
+pub const WHOLE: &str = "version = 1
+[softwire]
+aftr = \"2001:db8::1\"
+own = \"192.0.2.1\"
+[[binding]]
+b4 = \"2001:db8:1::1\"
+ipv4 = \"203.0.113.1\"
+";
+
+/// One subscriber with a port set.
+pub const SHARED: &str = "version = 1
+[softwire]
+aftr = \"2001:db8::1\"
+own = \"192.0.2.1\"
+[[binding]]
+b4 = \"2001:db8:1::1\"
+ipv4 = \"203.0.113.1\"
+offset = 6
+length = 8
+psid = 52
+";
+
+/// The whole address, and errors are sent to subscribers.
+pub const ERRORS: &str = "version = 1
+[softwire]
+aftr = \"2001:db8::1\"
+own = \"192.0.2.1\"
+errors_up = true
+[[binding]]
+b4 = \"2001:db8:1::1\"
+ipv4 = \"203.0.113.1\"
+";
+
+/// Files in memory that note which calls failed, and in which order lines are written and records are read.
+#[derive(Drop)]
+pub struct Watched {
+    pub files: MemFiles,
+    /// How many reads failed.
+    pub lost: u32,
+    /// How many creates and appends failed.
+    pub spoiled: u32,
+    /// A place of the capture.
+    pub place: u64,
+    /// It was read at that place or behind it.
+    pub late: bool,
+    /// Lines were appended before that.
+    pub early: bool,
+}
+
+impl Watched {
+    /// These files.
+    pub fn new(files: MemFiles) -> Watched {
+        Watched {
+            files,
+            lost: 0,
+            spoiled: 0,
+            place: u64::MAX,
+            late: false,
+            early: false,
+        }
+    }
+
+    /// What the name holds, as text; nothing where there is no file or no text.
+    pub fn text(&self, name: &str) -> &str {
+        match self.files.get(name) {
+            Some(bytes) => std::str::from_utf8(bytes).unwrap_or(""),
+            None => "",
+        }
+    }
+}
+
+impl Files for Watched {
+    ghost held = { λ watched. ⟦<MemFiles as Files>⟧.held watched.files };
+
+    ghost faults = { λ watched. ⟦<MemFiles as Files>⟧.faults watched.files };
+
+    ghost last = { λ watched. ⟦<MemFiles as Files>⟧.last watched.files };
+
+    ghost lost = { λ watched. ⟦<MemFiles as Files>⟧.lost watched.files };
+
+    ghost spoiled = { λ watched. ⟦<MemFiles as Files>⟧.spoiled watched.files };
+
+    fn read(
+        &mut self,
+        alloc: Global,
+        name: &str,
+        at: u64,
+        into: &mut [u8],
+    ) -> Result<usize, Fault> {
+        if name == "in.pcap" && at >= self.place {
+            self.late = true;
+        }
+        let answer = self.files.read(alloc, name, at, into);
+        if answer.is_err() {
+            self.lost = self.lost.saturating_add(1);
+        }
+        answer
+    }
+
+    fn create(&mut self, alloc: Global, name: &str) -> Result<(), Fault> {
+        let answer = self.files.create(alloc, name);
+        if answer.is_err() {
+            self.spoiled = self.spoiled.saturating_add(1);
+        }
+        answer
+    }
+
+    fn append(&mut self, alloc: Global, name: &str, bytes: &[u8]) -> Result<usize, Fault> {
+        if name == "verdicts.txt" && !bytes.is_empty() && !self.late {
+            self.early = true;
+        }
+        let answer = self.files.append(alloc, name, bytes);
+        if answer.is_err() {
+            self.spoiled = self.spoiled.saturating_add(1);
+        }
+        answer
+    }
+}
+
+/// What a run left.
+#[derive(Drop)]
+pub struct Ran {
+    pub status: Status,
+    pub files: Watched,
+    pub out: MemSink,
+}
+
+impl Ran {
+    /// What the sink took, as text.
+    pub fn said(&self) -> &str {
+        std::str::from_utf8(self.out.bytes()).unwrap_or("")
+    }
+
+    /// The bytes of the capture that was written.
+    pub fn packets(&self) -> &[u8] {
+        self.files.files.get("out.pcap").unwrap_or(&[])
+    }
+
+    /// Some output was made.
+    pub fn has_outputs(&self) -> bool {
+        self.files.files.get("out.pcap").is_some()
+            || self.files.files.get("verdicts.txt").is_some()
+            || self.files.files.get("versions.txt").is_some()
+    }
+}
+
+/// The capture and the table, as files.
+pub fn files_of(alloc: Global, capture: &[u8], table: &str) -> Result<MemFiles, Fail> {
+    let mut files = MemFiles::new(alloc);
+    files.set(alloc, "in.pcap", capture)?;
+    files.set(alloc, "t0.toml", table.as_bytes())?;
+    Ok(files)
+}
+
+/// Runs over these files and this sink.
+pub fn run_over(alloc: Global, words: &[&str], files: MemFiles, mut out: MemSink) -> Ran {
+    let mut files = Watched::new(files);
+    let status = lwaftr(alloc, words, &mut files, &mut out);
+    Ran { status, files, out }
+}
+
+/// Runs over a capture and a table.
+pub fn run(alloc: Global, capture: &[u8], table: &str) -> Result<Ran, Fail> {
+    let files = files_of(alloc, capture, table)?;
+    Ok(run_over(alloc, &WORDS, files, MemSink::new(alloc)))
+}
