@@ -10,6 +10,8 @@ mod faults;
 #[cfg(test)]
 mod packets;
 #[cfg(test)]
+mod queries;
+#[cfg(test)]
 mod rounds;
 #[cfg(test)]
 mod runs;

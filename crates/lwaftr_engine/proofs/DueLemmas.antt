@@ -13,7 +13,10 @@ use Rattle.capture_io.specs.declared.forms.Rec.{Rec}
 use Rattle.capture_io.proofs.SplitLemmas.{one_way}
 use Rattle.lwaftr_engine.specs.Clauses.{Accepts, Counts, Ends, FilesAt, HasCause, IsBadHeader, IsBegun, IsDue, IsFault, NothingFailed, Refuses}
 use Rattle.lwaftr_engine.specs.Endings.{AllKept, IsCutRun, IsUntouched, IsWholeRun, OthersKept}
-use Rattle.lwaftr_engine.specs.Jobs.{ForRun, RunNames, run_of, texts}
+use Rattle.lwaftr_engine.specs.Jobs.{ForRun, RunNames, names_of, run_in, run_of, texts}
+use Rattle.lwaftr_engine.specs.declared.words.Job.{Job}
+use Rattle.lwaftr_engine.specs.declared.words.Job.TheVariants as asked
+use Rattle.lwaftr_engine.specs.declared.words.RunJob.{RunJob}
 use Rattle.lwaftr_engine.specs.declared.status.Status.{Status}
 use Rattle.lwaftr_engine.specs.declared.status.Status.TheVariants as status
 
@@ -108,3 +111,7 @@ complete_told one n result (Some m) (Some o) said now last before after moves ca
 -- what holds of the run that the words ask for
 pub for_run : (words : List (Bor (List ℕ))) (n : RunNames) (P : RunNames → Type 0) → Some n ≡ run_of (texts words) → P n → ForRun words P
 for_run words n P is holds = let Q : Option RunNames → Type 0 = λ o. IfSome o P in subst Q is holds
+
+-- the names of a run among the jobs
+pub run_read : (words : List (Bor (List ℕ))) (j : Job) (run : RunJob) → j ≡ asked.Run run → run_in (Some j) ≡ run_of (texts words) → Some (names_of run) ≡ run_of (texts words)
+run_read words j run is read = ap (λ k. run_in (Some k)) (sym is) ∙ read

@@ -5,5 +5,7 @@ mod Going
 mod Joining
 mod LineLemmas
 mod Moving
+mod QueryLemmas
 mod RenderLemmas
 mod Touching
+mod WordLemmas

@@ -4,6 +4,7 @@ pub mod Jobs
 pub mod Opened
 pub mod Outputs
 pub mod Progress
+pub mod Queries
 pub mod Rendering
 pub mod Rounds
 pub mod Statuses

@@ -3,6 +3,7 @@
 #![tactic(auto)]
 
 mod outputs;
+mod queries;
 mod rendering;
 mod rounds;
 mod run;
@@ -11,5 +12,7 @@ mod table_file;
 mod top;
 mod words;
 
+pub use queries::{check_table, who_owns};
 pub use status::{Status, code, status_line};
 pub use top::lwaftr;
+pub use words::{Job, read_words};

@@ -1,10 +1,26 @@
 // The command words.
-ghost use Rattle.std.specs.Prelude.{◌≡◌, IfSome, IsTrue};
+ghost use Rattle.std.specs.Prelude.{◌≡◌, ◌↔◌, ℕ, List, IfNone, IfSome, IsTrue};
 ghost use Rattle.std.specs.Option.{option_map};
-ghost use Rattle.lwaftr_engine.specs.Jobs.{are_apart, are_names, is_name, names_of, run_of, texts};
+ghost use Rattle.aftr_base.specs.declared.numbers.V4.{V4 as Address};
+ghost use Rattle.lwaftr_engine.specs.Jobs.{AreOutputsApart, AsksWho, IsPortText, IsWho, are_apart, are_names, check_in, check_of, is_name, names_of, run_in, run_of, texts};
+
+use addr_text::{one_address, read_v4};
+use aftr_base::V4;
+use itoa::Buffer;
 
 /// The word `run`, and the names of five files.
 const WORDS: usize = 6;
+
+/// What the words ask for.
+#[derive(Clone, Copy, Debug)]
+pub enum Job<'a> {
+    /// `run`: the records of a capture are judged under a table.
+    Run(RunJob<'a>),
+    /// `check`: whether a table file is valid.
+    Check { name: &'a str },
+    /// `who`: whose a port of an address is under the table of a file.
+    Who { name: &'a str, v4: V4, port: u16 },
+}
 
 /// The files of a run, by their names.
 #[derive(Clone, Copy, Debug)]
@@ -21,8 +37,28 @@ pub struct RunJob<'a> {
     pub table: &'a str,
 }
 
-/// The run that the words ask for, if they do.
-pub fn read_words<'a>(words: &[&'a str]) -> Option<RunJob<'a>>
+/// The job that the words ask for. They are `run` and five names of files, `check` and one, or `who`, a name, an IPv4
+/// address in dotted decimal and a port, `0` or digits without a leading zero. A name has a byte, and if it has more than one
+/// it does not begin with `-`. No output of a run has the name of another of its files. Other words ask for nothing.
+pub fn read_words<'a>(words: &[&'a str]) -> Option<Job<'a>>
+    ensures run { run_in result ≡ run_of (texts words.now) }
+    ensures apart { IfSome result AreOutputsApart }
+    ensures check { check_in result ≡ check_of (texts words.now) }
+    ensures who { (name : List ℕ) (v4 : Address) (port : ℕ) → AsksWho (texts words.now) name v4 port ↔ IsWho result name v4 port }
+{
+    one_address();
+    if let Some(run) = read_run(words) {
+        return Some(Job::Run(run));
+    }
+    if let Some(name) = read_check(words) {
+        return Some(Job::Check { name });
+    }
+    let (name, v4, port) = read_who(words)?;
+    Some(Job::Who { name, v4, port })
+}
+
+// The run that the words ask for, if they do.
+fn read_run<'a>(words: &[&'a str]) -> Option<RunJob<'a>>
     ensures read { option_map names_of result ≡ run_of (texts words.now) }
     ensures apart { IfSome result (λ job. IsTrue (are_apart (names_of job))) }
 {
@@ -38,6 +74,52 @@ pub fn read_words<'a>(words: &[&'a str]) -> Option<RunJob<'a>>
     };
     if words[0] == "run" && are_files(job) && are_outputs_apart(job) {
         Some(job)
+    } else {
+        None
+    }
+}
+
+// The name of the file that the words ask to check, if they do.
+fn read_check<'a>(words: &[&'a str]) -> Option<&'a str>
+    ensures { option_map (λ name. name.now) result ≡ check_of (texts words.now) }
+{
+    let [word, name] = words else { return None };
+    if *word == "check" && is_file(name) {
+        Some(*name)
+    } else {
+        None
+    }
+}
+
+// The file, the address and the port whose owner the words ask for, if they do.
+fn read_who<'a>(words: &[&'a str]) -> Option<(&'a str, V4, u16)>
+    ensures some { IfSome result (λ asked. AsksWho (texts words.now) asked.0.now asked.1 asked.2) }
+    ensures none { IfNone result ((name : List ℕ) (v4 : Address) (port : ℕ) → AsksWho (texts words.now) name v4 port → ⊥) }
+{
+    let [word, name, address, number] = words else {
+        return None;
+    };
+    if *word != "who" || !is_file(name) {
+        return None;
+    }
+    let Ok(v4) = read_v4(address) else {
+        return None;
+    };
+    let port = read_port(number)?;
+    Some((*name, v4, port))
+}
+
+// The port that a text writes in decimal, without a leading zero or a sign.
+fn read_port(text: &str) -> Option<u16>
+    ensures some { IfSome result (IsPortText text.now) }
+    ensures none { IfNone result ((port : ℕ) → IsPortText text.now port → ⊥) }
+{
+    let Ok(port) = text.parse::<u16>() else {
+        return None;
+    };
+    let mut buffer = Buffer::new();
+    if buffer.format(port) == text {
+        Some(port)
     } else {
         None
     }
@@ -83,7 +165,7 @@ mod tests {
     use std::alloc::Global;
     use std::test::Fail;
 
-    // Words with one blank between them, behind a mark: whether they ask for a run.
+    // Words with one blank between them, behind a mark: whether they ask for a job.
     const WORDS: &str = "\
 yes run in out verdicts versions table
 yes run - out verdicts versions table
@@ -108,24 +190,48 @@ no run in out in versions table
 no run in out verdicts in table
 no run in table verdicts versions table
 no run in out table versions table
-no run in out verdicts table table";
+no run in out verdicts table table
+yes check table
+yes check -
+no check
+no check table more
+no check -t
+no check -- table
+no Check table
+yes who table 203.0.113.1 1232
+yes who table 0.0.0.0 0
+yes who table 255.255.255.255 65535
+no who table 203.0.113.1
+no who table 203.0.113.1 1 2
+no who -t 203.0.113.1 1
+no who table 203.0.113.01 1
+no who table 203.0.113.256 1
+no who table 203.0.113 1
+no who table 2001:db8::1 1
+no who table 203.0.113.1 65536
+no who table 203.0.113.1 01
+no who table 203.0.113.1 00
+no who table 203.0.113.1 +1
+no who table 203.0.113.1 -1
+no who table 203.0.113.1 \n\
+no who table 203.0.113.1 1.0";
 
-    fn is_run(alloc: Global, line: &str) -> Result<bool, Fail> {
+    fn is_job(alloc: Global, line: &str) -> Result<bool, Fail> {
         let words: Vec<&str> = line.split(' ').collect(alloc)?;
         Ok(read_words(&words[1..]).is_some())
     }
 
     #[test]
-    fn only_a_run_of_five_files_is_read(rt: HostRuntime) -> Result<(), Fail> {
+    fn only_jobs_are_read(rt: HostRuntime) -> Result<(), Fail> {
         for line in WORDS.lines() {
             assert_eq!(rt;
-                is_run(rt.alloc(), line)?,
+                is_job(rt.alloc(), line)?,
                 line.starts_with("yes"),
                 "{line}"
             );
         }
         assert!(rt; read_words(&[]).is_none());
-        let job = read_words(&["run", "a", "b", "c", "d", "e"]).ok_or("a job")?;
+        let job = read_run(&["run", "a", "b", "c", "d", "e"]).ok_or("a job")?;
         assert_eq!(rt;
             [job.input, job.output, job.verdicts, job.versions, job.table],
             ["a", "b", "c", "d", "e"]

@@ -1,33 +1,44 @@
 use Rattle.std.proofs.Common.{◌≡◌, ◌⊎◌}
 use Rattle.aftr_base.specs.Held.{Told}
 use Rattle.lwaftr_engine.specs.Clauses.{IsDue, IsFault, NothingFailed, counts}
-use Rattle.lwaftr_engine.specs.Jobs.{names_of}
+use Rattle.lwaftr_engine.specs.Jobs.{names_of, texts}
+use Rattle.lwaftr_engine.specs.Queries.{IsLineOf, IsOwnerLine}
 use Rattle.lwaftr_engine.specs.declared.status.Status.{Status}
 use Rattle.lwaftr_engine.specs.declared.status.Status.TheVariants as status
-use Rattle.lwaftr_engine.proofs.DueLemmas.{complete_told, due_told, for_run}
+use Rattle.lwaftr_engine.proofs.DueLemmas.{complete_told, due_told, for_run, run_read}
+use Rattle.lwaftr_engine.proofs.QueryLemmas.{not_usage, who_words}
 use Rattle.lwaftr_engine.proofs.top.lwaftr.Goals as goal
 
-pub returns-in-Some-clause-due : goal.returns-in-Some-clause-due
-returns-in-Some-clause-due g c =
+pub returns-in-Some-Run-clause-due : goal.returns-in-Some-Run-clause-due
+returns-in-Some-Run-clause-due g c =
     let f = g.F.Files in
     let o = g.O.Sink in
-    let n = names_of c.in-Some.job in
+    let n = names_of c.in-Some-Run.job in
     let result = c.run_job.result in
     for_run c.args.words.now n (λ n. Told (f.held c.args.files.now) (λ m. (s : Status) → IsDue n m s → (c.run_job.result ≡ s) ⊎ IsFault c.run_job.result))
-    c.in-Some.ensures.read
+    (run_read c.args.words.now c.in-Some-Run.field-0 c.in-Some-Run.job c.in-Some-Run.field-0-is c.in-Some-Run.ensures.run)
     (due_told c.one_table.ensures.answer n result (f.held c.args.files.now) (f.held c.run_job.new.files) (o.out c.args.out.now) (o.out c.run_job.new.out) (f.last c.run_job.new.files)
     c.run_job.ensures.files)
 
-pub returns-in-Some-clause-complete : goal.returns-in-Some-clause-complete
-returns-in-Some-clause-complete g c =
+pub returns-in-Some-Run-clause-complete : goal.returns-in-Some-Run-clause-complete
+returns-in-Some-Run-clause-complete g c =
     let f = g.F.Files in
     let o = g.O.Sink in
-    let n = names_of c.in-Some.job in
+    let n = names_of c.in-Some-Run.job in
     let result = c.run_job.result in
     let before = counts (f.lost c.args.files.now) (f.spoiled c.args.files.now) (f.faults c.args.files.now) (o.faults c.args.out.now) in
     let after = counts (f.lost c.run_job.new.files) (f.spoiled c.run_job.new.files) (f.faults c.run_job.new.files) (o.faults c.run_job.new.out) in
     for_run c.args.words.now n
     (λ n. Told (f.held c.args.files.now) (λ m. IsDue n m status.Done → NothingFailed before after → (c.run_job.result ≡ status.Done) ⊎ (c.run_job.result ≡ status.OutOfMemory)))
-    c.in-Some.ensures.read
+    (run_read c.args.words.now c.in-Some-Run.field-0 c.in-Some-Run.job c.in-Some-Run.field-0-is c.in-Some-Run.ensures.run)
     (complete_told c.one_table.ensures.answer n result (f.held c.args.files.now) (f.held c.run_job.new.files) (o.out c.args.out.now) (o.out c.run_job.new.out) (f.last c.run_job.new.files)
     before after c.run_job.ensures.files c.run_job.ensures.cause)
+
+pub returns-in-Some-Who-clause-usage : goal.returns-in-Some-Who-clause-usage
+returns-in-Some-Who-clause-usage g c =
+    let ws = texts c.args.words.now in
+    not_usage ws c.in-Some-Who.name.now c.in-Some-Who.v4 c.in-Some-Who.port
+    (λ line. IsLineOf (IsOwnerLine c.in-Some-Who.v4 c.in-Some-Who.port) (g.F.Files.held c.args.files.now) c.in-Some-Who.name.now line)
+    c.who_owns.result (g.O.Sink.out c.args.out.now) (g.O.Sink.out c.who_owns.new.out)
+    (who_words ws c.in-Some-Who.field-0 c.in-Some-Who.name c.in-Some-Who.v4 c.in-Some-Who.port c.in-Some-Who.field-0-is c.in-Some-Who.ensures.who)
+    c.who_owns.ensures.line

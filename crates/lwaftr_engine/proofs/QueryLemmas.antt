@@ -1,0 +1,88 @@
+-- What a question about a table file leaves.
+use Rattle.std.proofs.Common.{◌≡◌, ◌⊎◌, inl, inr, ℕ, ◌≤◌, List, [], ◌∷◌, length, Option, Some, None, Result, Ok, Err, refl, sym, ◌∙◌, ap, subst, arith}
+use Rattle.std.specs.Borrow.{Bor}
+use Rattle.std.specs.Prelude.{◌↔◌}
+use Rattle.aftr_base.specs.Held.{Held, content, Told}
+use Rattle.aftr_base.specs.declared.numbers.V4.{V4}
+use Rattle.aftr_base.specs.declared.numbers.V6.{V6}
+use Rattle.binding_file.specs.Files.{TableOf}
+use Rattle.binding_file.specs.declared.refusals.FileRefused.{FileRefused}
+use Rattle.binding_rules.specs.Bindings.{bound}
+use Rattle.binding_rules.specs.Tables.{Rules, IsLawful, IsValid}
+use Rattle.binding_rules.specs.declared.binding.Binding.{Binding}
+use Rattle.binding_rules.specs.declared.binding.Want.TheVariants as want
+use Rattle.lwaftr_engine.specs.Jobs.{AskNothing, AsksWho, IsWho}
+use Rattle.lwaftr_engine.specs.Queries.{Answers, IsLineOf, IsOwnerLine, IsOwnerText, NamesOwner, Puts, RefusesAs}
+use Rattle.lwaftr_engine.specs.Tables.{IsNoTable}
+use Rattle.lwaftr_engine.specs.declared.words.Job.{Job}
+use Rattle.lwaftr_engine.specs.declared.words.Job.TheVariants as asked
+use Rattle.lwaftr_engine.specs.declared.table_file.NoTable.{NoTable}
+use Rattle.lwaftr_engine.specs.declared.table_file.NoTable.TheVariants as none
+use Rattle.lwaftr_engine.specs.declared.status.Status.{Status}
+use Rattle.lwaftr_engine.specs.declared.status.Status.TheVariants as status
+use Rattle.table_words.specs.Answers.{first_b4}
+use Rattle.table_words.specs.Layout.{IsCompiled}
+
+-- a file has one answer as a table
+abbrev pub OneAnswer : Type 0
+OneAnswer = (bytes : List ℕ) (answer other : Result Rules FileRefused) → TableOf bytes answer → TableOf bytes other → answer ≡ other
+
+same_status : (x y : FileRefused) → status.BadTable x ≡ status.BadTable y → x ≡ y
+same_status x y e = cc
+
+same_error : (x y : FileRefused) → (let a : Result Rules FileRefused = Err x in a) ≡ Err y → x ≡ y
+same_error x y e = cc
+
+-- a refused file is answered with its cause
+refuses : OneAnswer → (bytes : List ℕ) (x : FileRefused) → TableOf bytes (Err x) → RefusesAs bytes (status.BadTable x)
+refuses one bytes x is y = (
+  λ same. subst (λ e. TableOf bytes (Err e)) (same_status x y same) is,
+  λ other. inl (ap status.BadTable (same_error x y (one bytes (Err x) (Err y) is other))),
+)
+
+pub refuses_told : OneAnswer → (h : Option Held) (name : List ℕ) (x : FileRefused) (why : NoTable) → why ≡ none.Refused x
+    → Told h (λ m. IsNoTable (content m name) why) → Told h (λ m. RefusesAs (content m name) (status.BadTable x))
+refuses_told one None name x why because is = tt
+refuses_told one (Some m) name x why because is = refuses one (content m name) x (subst (λ w. IsNoTable (content m name) w) because is)
+
+-- the text of the first of at most one owner names that owner
+named : (bs : List Binding) (owner : Option V6) (line : List ℕ) → length bs ≤ 1 → owner ≡ first_b4 bs → IsOwnerText owner line → NamesOwner bs line
+named [] owner line few is text = subst (λ o. IsOwnerText o line) is text
+named (b ∷ []) owner line few is text = subst (λ o. IsOwnerText o line) is text
+named (b ∷ c ∷ bs) owner line few is text = absurd (omega (arith, few))
+
+-- what is put of a line that answers a question
+answered : (IsLine : List ℕ → Type 0) (line : List ℕ) (s : Status) (said now : Option (List ℕ)) → IsLine line → Puts s line said now → Answers IsLine s said now
+answered IsLine line status.Done said now it p = (line, it, p)
+answered IsLine line status.WriteFault said now it p = (line, it, p.0, p.1, p.2)
+answered IsLine line status.OutOfMemory said now it p = inr (line, it, p.0, p.1, p.2)
+answered IsLine line status.ReadFault said now it p = absurd p
+answered IsLine line (status.BadTable refusal) said now it p = absurd p
+answered IsLine line status.DoneRefused said now it p = absurd p
+answered IsLine line status.Usage said now it p = absurd p
+answered IsLine line (status.BadCapture refusal) said now it p = absurd p
+
+-- what is put of the line of an owner under the words of the file's table
+pub owner_answers : (h : Option Held) (name : List ℕ) (v4 : V4) (port : ℕ) (t : Rules) (words slice : List ℕ) (owner : Option V6) (line put : List ℕ) (s : Status) (said now : Option (List ℕ))
+    → Told h (λ m. TableOf (content m name) (Ok t)) → IsCompiled t words → slice ≡ words
+    → ((u : Rules) → IsCompiled u slice → owner ≡ first_b4 (bound u.bindings v4 (want.Port port)))
+    → IsOwnerText owner line → put ≡ line → Puts s put said now → Answers (λ text. IsLineOf (IsOwnerLine v4 port) h name text) s said now
+owner_answers h name v4 port t words slice owner line put s said now spelled compiled is found text same puts =
+    let owner_is = found t (subst (λ l. IsCompiled t l) (sym is) compiled) in
+    let asked : IsOwnerLine v4 port t line = named (bound t.bindings v4 (want.Port port)) owner line (compiled.lawful.at_most_one v4 (want.Port port)) owner_is text in
+    answered (λ l. IsLineOf (IsOwnerLine v4 port) h name l) line s said now
+    (record { table = t; valid = compiled.valid; spelled = spelled; asked = asked }) (subst (λ l. Puts s l said now) same puts)
+
+-- the words of a job that asks for the owner of a port
+pub who_words : (ws : List (List ℕ)) (j : Job) (file : Bor (List ℕ)) (address : V4) (number : ℕ) → j ≡ asked.Who file address number
+    → ((name : List ℕ) (v4 : V4) (port : ℕ) → AsksWho ws name v4 port ↔ IsWho (Some j) name v4 port) → AsksWho ws file.now address number
+who_words ws j file address number is asks =
+    (asks file.now address number).1 (subst (λ k. IsWho (Some k) file.now address number) (sym is) (refl, refl, refl))
+
+-- a question that is answered is one that the words ask
+pub not_usage : (ws : List (List ℕ)) (name : List ℕ) (v4 : V4) (port : ℕ) (IsLine : List ℕ → Type 0) (s : Status) (said now : Option (List ℕ)) → AsksWho ws name v4 port
+    → Answers IsLine s said now → (s ≡ status.Usage) ↔ AskNothing ws
+not_usage ws name v4 port IsLine s said now asks answers = (
+  λ usage. let none : Answers IsLine status.Usage said now = subst (λ t. Answers IsLine t said now) usage answers in absurd none,
+  λ nothing. absurd (nothing.who name v4 port asks),
+)

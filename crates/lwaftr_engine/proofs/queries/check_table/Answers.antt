@@ -1,0 +1,7 @@
+use Rattle.lwaftr_engine.proofs.QueryLemmas.{refuses_told}
+use Rattle.lwaftr_engine.proofs.queries.check_table.Goals as goal
+
+pub returns-in-Err-Refused-clause-refused : goal.returns-in-Err-Refused-clause-refused
+returns-in-Err-Refused-clause-refused g c =
+    rw c.in-Err-Refused.refusal-is (refuses_told c.one_table.ensures.answer (g.F.Files.held c.args.files.now) c.args.name.now
+    c.in-Err-Refused.refusal c.in-Err-Refused.field-0 c.in-Err-Refused.field-0-is c.in-Err-Refused.ensures.refused)

@@ -1,0 +1,110 @@
+-- The two questions about a table file: is it valid, and who owns a port of an address. Each is answered by one line.
+use Rattle.std.specs.Prelude.{◌≡◌, ◌⊎◌, ℕ, ◌≤◌, List, [], ◌∷◌, ◌++◌, codes, decimal, length, take, Option, Some, None, Result, Ok, Err}
+use Rattle.std.specs.Option.{option_map}
+use Rattle.std.specs.Borrow.{Bor}
+use Rattle.addr_text.specs.Canonical.{IsCanonical, groups_of}
+use Rattle.aftr_base.specs.Faults.{Rose}
+use Rattle.aftr_base.specs.Held.{Held, content, Told}
+use Rattle.aftr_base.specs.declared.numbers.V4.{V4}
+use Rattle.aftr_base.specs.declared.numbers.V6.{V6}
+use Rattle.binding_file.specs.Files.{TableOf}
+use Rattle.binding_file.specs.declared.refusals.FileRefused.{FileRefused}
+use Rattle.binding_rules.specs.Bindings.{bound}
+use Rattle.binding_rules.specs.Tables.{Rules, IsValid}
+use Rattle.binding_rules.specs.declared.binding.Binding.{Binding}
+use Rattle.binding_rules.specs.declared.binding.Want.TheVariants as want
+use Rattle.lwaftr_engine.specs.Clauses.{Counts, NothingFailed}
+use Rattle.lwaftr_engine.specs.Jobs.{ForCheck, ForWho}
+use Rattle.lwaftr_engine.specs.declared.status.Status.{Status}
+use Rattle.lwaftr_engine.specs.declared.status.Status.TheVariants as status
+
+-- the line of a valid file with so many bindings
+abbrev pub valid_text : ℕ → List ℕ
+valid_text count = codes "valid " ++ decimal count ++ codes " bindings\n"
+
+-- `check`: the line says how many bindings the table has
+abbrev pub IsValidLine : Rules → List ℕ → Type 0
+IsValidLine t line = line ≡ valid_text (length t.bindings)
+
+-- the address in its canonical text (RFC 5952, section 4), and a line feed
+abbrev pub IsAddressLine : V6 → List ℕ → Type 0
+IsAddressLine b4 line = (text : List ℕ) × IsCanonical text (groups_of b4.0) × (line ≡ text ++ codes "\n")
+
+-- the line of the one owner, if there is one: the end of its tunnel, or `none`
+abbrev pub NamesOwner : List Binding → List ℕ → Type 0
+NamesOwner [] line = line ≡ codes "none\n"
+NamesOwner (b ∷ []) line = IsAddressLine b.b4 line
+NamesOwner (b ∷ c ∷ bs) line = ⊥
+
+-- `who`: the line names the owner of the port of the address (RFC 7597, section 5.1)
+abbrev pub IsOwnerLine : V4 → ℕ → Rules → List ℕ → Type 0
+IsOwnerLine v4 port t line = NamesOwner (bound t.bindings v4 (want.Port port)) line
+
+-- The line that a question asks for, of the table that the file spells. Where what files hold is not told, it is that of some
+-- valid table.
+pub record IsLineOf (Asks : Rules → List ℕ → Type 0) (held : Option Held) (name line : List ℕ) : Type 0 where
+  pub table : Rules
+  pub valid : IsValid table
+  pub spelled : Told held (λ m. TableOf (content m name) (Ok table))
+  pub asked : Asks table line
+
+-- the sink took such a line
+abbrev pub TookLine : (List ℕ → Type 0) → Option (List ℕ) → Option (List ℕ) → Type 0
+TookLine IsLine said now = (line : List ℕ) × IsLine line × (now ≡ option_map (λ taken. taken ++ line) said)
+
+-- the sink took the first few bytes of such a line
+abbrev pub TookFront : (List ℕ → Type 0) → Option (List ℕ) → Option (List ℕ) → Type 0
+TookFront IsLine said now = (line : List ℕ) × IsLine line × (count : ℕ) × (count ≤ length line) × (now ≡ option_map (λ taken. taken ++ take count line) said)
+
+-- What the sink took of the line, by the status: all of it and no more, its first few bytes, or nothing. No other status comes.
+abbrev pub Answers : (List ℕ → Type 0) → Status → Option (List ℕ) → Option (List ℕ) → Type 0
+Answers IsLine status.Done said now = TookLine IsLine said now
+Answers IsLine status.WriteFault said now = TookFront IsLine said now
+Answers IsLine status.OutOfMemory said now = (now ≡ said) ⊎ TookFront IsLine said now
+Answers IsLine status.ReadFault said now = now ≡ said
+Answers IsLine (status.BadTable refusal) said now = now ≡ said
+Answers IsLine status.DoneRefused said now = ⊥
+Answers IsLine status.Usage said now = ⊥
+Answers IsLine (status.BadCapture refusal) said now = ⊥
+
+-- `BadTable` comes exactly where the file is refused, and with its cause, unless a read failed or the allocator had no room
+abbrev pub RefusesAs : List ℕ → Status → Type 0
+RefusesAs bytes result = (refusal : FileRefused) →
+    (result ≡ status.BadTable refusal → TableOf bytes (Err refusal))
+    × (TableOf bytes (Err refusal) → (result ≡ status.BadTable refusal) ⊎ ((result ≡ status.ReadFault) ⊎ (result ≡ status.OutOfMemory)))
+
+-- a file that is accepted is answered, where nothing of the outside fails and the allocator has room
+abbrev pub IsComplete : List ℕ → Status → Counts → Counts → Type 0
+IsComplete bytes result before now = (t : Rules) → TableOf bytes (Ok t) → NothingFailed before now →
+    (result ≡ status.Done) ⊎ (result ≡ status.OutOfMemory)
+
+-- What a question leaves: every name holds what it held, and the sink took the line; `BadTable` has its cause.
+pub record IsAnswered (Asks : Rules → List ℕ → Type 0) (name : List ℕ) (result : Status) (old new : Option Held) (said now : Option (List ℕ)) : Type 0 where
+  pub kept : new ≡ old
+  pub line : Answers (λ line. IsLineOf Asks old name line) result said now
+  pub refused : Told old (λ m. RefusesAs (content m name) result)
+
+-- P of the question that the words ask: of the line that it asks for, and of the name of the file
+abbrev pub ForQuery : List (Bor (List ℕ)) → ((Rules → List ℕ → Type 0) → List ℕ → Type 0) → Type 0
+ForQuery words P = ForCheck words (λ name. P IsValidLine name) × ForWho words (λ name v4 port. P (IsOwnerLine v4 port) name)
+
+-- the line of an owner, if there is one
+abbrev pub IsOwnerText : Option V6 → List ℕ → Type 0
+IsOwnerText None line = line ≡ codes "none\n"
+IsOwnerText (Some b4) line = IsAddressLine b4 line
+
+-- what is put of a line, by the status
+abbrev pub Puts : Status → List ℕ → Option (List ℕ) → Option (List ℕ) → Type 0
+Puts status.Done line said now = now ≡ option_map (λ taken. taken ++ line) said
+Puts status.WriteFault line said now = (count : ℕ) × (count ≤ length line) × (now ≡ option_map (λ taken. taken ++ take count line) said)
+Puts status.OutOfMemory line said now = (count : ℕ) × (count ≤ length line) × (now ≡ option_map (λ taken. taken ++ take count line) said)
+Puts status.ReadFault line said now = ⊥
+Puts (status.BadTable refusal) line said now = ⊥
+Puts status.DoneRefused line said now = ⊥
+Puts status.Usage line said now = ⊥
+Puts (status.BadCapture refusal) line said now = ⊥
+
+-- a count of puts that failed rises exactly at `WriteFault`
+abbrev pub PutCounts : Status → ℕ → ℕ → Type 0
+PutCounts status.WriteFault before now = Rose before now
+PutCounts _ before now = now ≡ before
