@@ -1,0 +1,9 @@
+pub mod Members
+pub mod Packing
+pub mod Keeping
+pub mod Learning
+pub mod WorkerSteps
+pub mod Opening
+pub mod SeatMoves
+pub mod Claiming
+pub mod Belonging

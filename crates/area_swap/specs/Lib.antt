@@ -1,0 +1,6 @@
+pub mod Answers
+pub mod Histories
+pub mod Rule
+pub mod Told
+pub mod Values
+pub mod Views
