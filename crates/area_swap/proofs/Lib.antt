@@ -7,3 +7,4 @@ pub mod Opening
 pub mod SeatMoves
 pub mod Claiming
 pub mod Belonging
+pub mod Drawing

@@ -1,5 +1,5 @@
 -- The version word and its halves, and the words after a store.
-use Rattle.std.proofs.Common.{◌≡◌, ℕ, ◌+◌, ◌*◌, ◌/◌, ◌%◌, ◌<◌, ◌≤◌, ◌≢◌, List, [], length, set, slice_index, slice_index_or, sym, refl, ap, ◌∙◌, arith, inl, inr, length-set, get_or-set_same, get_or-set_other}
+use Rattle.std.proofs.Common.{◌≡◌, ℕ, zero, suc, ◌+◌, ◌*◌, ◌/◌, ◌%◌, ◌<◌, ◌≤◌, ◌≢◌, List, [], length, set, slice_index, slice_index_or, sym, refl, ap, ◌∙◌, arith, inl, inr, length-set, get_or-set_same, get_or-set_other}
 use Rattle.std.proofs.lemmas.Bool.{cases_eq}
 use Rattle.area_swap.specs.declared.answers.Seen.{Seen}
 use Rattle.area_swap.specs.Views.{packed, unpacked, IsUpTo}
@@ -54,3 +54,9 @@ module _ (words : List ℕ) (long : ℕ) (now : Seen) (counts : List ℕ) (areas
                 get_or-set_other words (1 + a) (1 + b) x 0 (λ m. n (omega arith)) ∙ h.claims b l
                 ∙ sym (get_or-set_other counts a b x 0 n)
           ]
+
+-- a word of a row is one of the words
+pub row_fits : (a long j : ℕ) → a < 2 → j < long → 3 + a * long + j < 3 + 2 * long
+row_fits zero long j l m = omega arith
+row_fits (suc zero) long j l m = omega arith
+row_fits (suc (suc a)) long j l m = absurd (omega arith)

@@ -1,23 +1,27 @@
 -- The steps of a worker's seat, each as a step of the machine, or as none.
-use Rattle.std.proofs.Common.{◌≡◌, ◌≢◌, ℕ, ◌+◌, ◌-◌, ◌*◌, ◌%◌, ◌^◌, ◌<◌, ◌≤◌, Bool, true, false, List, [], length, set, slice_index, subst, sym, refl, ap, ◌∙◌, arith, inl, inr}
+use Rattle.std.proofs.Common.{◌≡◌, ◌≢◌, ℕ, ◌+◌, ◌-◌, ◌*◌, ◌%◌, ◌^◌, ◌<◌, ◌≤◌, Bool, true, false, eqb, List, [], length, set, slice_index, subst, sym, refl, ap, ◌∙◌, arith, inl, inr, eq-eqb, ne_eqb}
+use prog.Atomic.{either}
 use mathlib.Core.Option.{some, none}
 use lib.ListN.{get_elem?}
 use Rattle.std.proofs.lemmas.Bool.{cases_eq}
 use Rattle.atomic_table.specs.Table.{State, Me, Allows, step}
 use Rattle.atomic_table.specs.Table as acts
-use Rattle.swap_core.specs.Plans.{Tables}
-use Rattle.swap_core.specs.States.{CoreState, IsActor, count_of, in_state, looked, entered, confirmed, gone}
-use Rattle.swap_core.specs.Sound.{Sound, HasClaimed}
+use Rattle.swap_core.specs.Plans.{Tables, table, width, limit}
+use Rattle.swap_core.specs.States.{CoreState, IsActor, count_of, in_state, looked, entered, confirmed, gone, drawn}
+use Rattle.swap_core.specs.Sound.{Sound, HasClaimed, HoldsRightly}
 use Rattle.swap_core.specs.declared.actors.Actor.{Actor}
 use Rattle.swap_core.specs.declared.actors.ActorState.{ActorState}
 use Rattle.swap_core.specs.declared.actors.ActorState.TheVariants.{Idle, Looked, Asks, Holds}
-use Rattle.swap_core.proofs.Moves.{looks_sound, enters_sound, confirms_sound, leaves_sound, claimed_area, counted_there}
+use Rattle.swap_core.proofs.Bounds.{few_records}
+use Rattle.swap_core.proofs.Drawing.{draws_sound}
+use Rattle.swap_core.proofs.Moves.{looks_sound, enters_sound, confirms_sound, leaves_sound, claimed_area, counted_there, reads_whole}
+use Rattle.swap_core.proofs.PlanLemmas.{table_fits}
 use Rattle.area_swap.specs.declared.answers.Seen.{Seen}
 use Rattle.area_swap.specs.declared.board.View.{View}
-use Rattle.area_swap.specs.Views.{now_of, unpacked, acting, reading, IsSeated, IsUpTo}
+use Rattle.area_swap.specs.Views.{now_of, packed, unpacked, acting, reading, taking, IsSeated, IsUpTo}
 use Rattle.area_swap.specs.Rule.{Ruled, Fits, Sees, ShowsWords}
-use Rattle.area_swap.specs.Told.{Seated, Glanced, LookedAt, Entered, Confirmed, LeftIt}
-use Rattle.area_swap.proofs.Packing.{up_to, laid_claims}
+use Rattle.area_swap.specs.Told.{Seated, Glanced, LookedAt, Entered, Confirmed, LeftIt, ReadOne, Drew}
+use Rattle.area_swap.proofs.Packing.{up_to, laid_claims, laid_now, same_packed}
 use Rattle.area_swap.proofs.Keeping.{actor_at, same_actors, same_words, shows_desk, fits, seat_step, moment_after}
 use Rattle.area_swap.proofs.Learning.{sees_now, sees_word, unpacks, few_claims}
 
@@ -102,6 +106,46 @@ module _ (p : Tables) (s : State (Unit {0}) View) (r : Ruled p s) (id : ℕ) (v 
       (leaves_sound r.core id v.actor a r.sound (actor_at p s r id v at) has) refl
       (laid_claims s.words _ _ _ _ r.words a (count_of r.core a - 1) la r.sound.two_counts)
       refl refl (shows_desk p s r id v at) (λ _. (refl, refl)) (up_to (now_of r.core)) refl (fits_still Idle shared))
+
+  -- a word of the held area is read
+  read_word_now : (i : ℕ) → 0 < v.share
+      → Ruled p (record { words = set s.words i (slice_index s.words i); homes = s.homes; views = set s.views id (record v { reads = v.reads + 1 }) })
+  read_word_now i shared =
+      let f = fits p s r id v at in
+      seat_step p s r id v at i (slice_index s.words i) (record v { reads = v.reads + 1 }) r.core r.sound refl (same_words p s r id v at i)
+      (same_actors p s r id v at) refl (shows_desk p s r id v at) (λ _. (refl, refl)) (up_to (now_of r.core)) refl
+      (record { same_plan = f.same_plan; unshared = f.unshared; seen = f.seen; prior = f.prior })
+
+  -- and is the word of the held table
+  word_is : (a w : ℕ) → v.plan ≡ p → v.actor.state ≡ Holds a w → (j : ℕ) → j < length (table v.plan w)
+      → slice_index s.words (3 + a * width v.plan + j) ≡ slice_index (table v.plan w) j
+  word_is a w same holds j inside =
+      let plans : r.core.plan ≡ v.plan = r.same_plan ∙ sym same in
+      let right : HoldsRightly r.core (Holds a w) = subst (HoldsRightly r.core) holds (r.sound.held id v.actor (actor_at p s r id v at)) in
+      let la : a < 2 = omega (arith, right.0) in
+      let Inside : Tables → Type 0 = λ q. j < length (table q w) in
+      let in_table : j < length (table r.core.plan w) = subst Inside (sym plans) inside in
+      let in_row : j < width r.core.plan = omega (arith, table_fits r.core.plan w) in
+      let Word : Tables → Type 0 = λ q. slice_index s.words (3 + a * width q + j) ≡ slice_index (table q w) j in
+      let here : slice_index s.words (3 + a * width r.core.plan + j) ≡ slice_index (table r.core.plan w) j =
+      r.words.rows a j la in_row ∙ reads_whole r.core id v.actor a w r.sound (actor_at p s r id v at) holds j in_table in
+      subst Word plans here
+
+  -- the next number is the seat's
+  draw_now : (old : ℕ) → 0 < v.share → slice_index s.words 0 ≡ old → r.core.records < limit r.core.plan r.core.version
+      → Ruled p (record { words = set s.words 0 (old + 1); homes = s.homes; views = set s.views id (taking (reading v (unpacked (slice_index s.words 0))) (unpacked (slice_index s.words 0)).records (unpacked (slice_index s.words 0)).version) })
+  draw_now old shared found room =
+      let P : Seen → Type 0 =
+      λ t. Ruled p (record { words = set s.words 0 (old + 1); homes = s.homes; views = set s.views id (taking (reading v t) t.records t.version) }) in
+      let f = fits p s r id v at in
+      let one_more : IsUpTo (now_of r.core) (now_of (drawn r.core id v.actor)) = record { version = omega arith; records = omega arith } in
+      let word : old + 1 ≡ packed (now_of (drawn r.core id v.actor)) = omega (arith, r.words.first) in
+      subst P (sym (unpacks p s r id v at))
+      (seat_step p s r id v at 0 (old + 1) (taking (reading v (now_of r.core)) r.core.records r.core.version)
+      (drawn r.core id v.actor) (draws_sound r.core id v.actor r.sound (actor_at p s r id v at) room) refl
+      (laid_now s.words _ _ _ _ r.words (old + 1) (now_of (drawn r.core id v.actor)) word)
+      refl refl (shows_desk p s r id v at) (λ _. (refl, refl)) one_more refl
+      (record { same_plan = f.same_plan; unshared = λ none. absurd (omega arith); seen = one_more; prior = f.seen }))
 
 module _ (p : Tables) (slots id : ℕ) (me : Seated) (same : me.0.plan ≡ p) where
   pub glances : Allows (Ruled p) slots id me 0 (λ n. n) (Glanced (step slots 0 0 0 none) me)
@@ -195,6 +239,76 @@ module _ (p : Tables) (slots id : ℕ) (me : Seated) (same : me.0.plan ≡ p) wh
                 moved = λ _. refl;
                 sees = sees_word p s r id me.0 at same;
                 now = moment_after p s r id me.0 at 0 (slice_index s.words 0) (reading me.0 (unpacked (slice_index s.words 0))) same ruled;
+              },
+            )
+      ]
+
+  pub reads_word : (i area version : ℕ) → 0 < me.0.share → me.0.actor.state ≡ Holds area version
+      → Allows (Ruled p) slots id me i (λ n. n) (ReadOne (step slots i 0 0 none) me)
+  reads_word i area version shared holds s r deep at range =
+      let ruled = read_word_now p s r id me.0 at i shared in (
+        record me.0 { reads = me.0.reads + 1 },
+        acts.keeps,
+        tt,
+        ruled,
+        record {
+          after = refl;
+          area = area;
+          version = version;
+          held = holds;
+          word = λ j inside e.
+              ap (λ (k : ℕ). slice_index s.words k) e ∙ word_is p s r id me.0 at area version same holds j inside;
+          now = moment_after p s r id me.0 at i (slice_index s.words i) (record me.0 { reads = me.0.reads + 1 }) same ruled;
+        },
+      )
+
+  pub draws : (old : ℕ) → 0 < me.0.share → packed me.0.seen ≡ old → me.0.seen.records < 4294967296
+      → me.0.seen.records < limit me.0.plan me.0.seen.version
+      → Allows (Ruled p) slots id me 0 (λ n. either (eqb n old) (old + 1) n) (Drew (step slots 0 old (old + 1) none) me)
+  draws old shared saw small room s r deep at range =
+      elim (cases_eq (slice_index s.words 0) old) [
+        | inl e ↦
+            let same_now : me.0.seen ≡ now_of r.core =
+            same_packed me.0.seen (now_of r.core) (saw ∙ sym e ∙ r.words.first) small (omega (arith, few_records r.core r.sound)) in
+            let Room : Seen → Type 0 = λ t. t.records < limit me.0.plan t.version in
+            let in_plan : r.core.records < limit me.0.plan r.core.version = subst Room same_now room in
+            let Limit : Tables → Type 0 = λ q. r.core.records < limit q r.core.version in
+            let in_core : r.core.records < limit r.core.plan r.core.version = subst Limit (same ∙ sym r.same_plan) in_plan in
+            let v : View = taking (reading me.0 (unpacked (slice_index s.words 0))) (unpacked (slice_index s.words 0)).records (unpacked (slice_index s.words 0)).version in
+            let ruled : Ruled p (record { words = set s.words 0 (old + 1); homes = s.homes; views = set s.views id v }) =
+            draw_now p s r id me.0 at old shared e in_core in
+            let P : ℕ → Type 0 = λ x. Ruled p (record { words = set s.words 0 x; homes = s.homes; views = set s.views id v }) in
+            let test : eqb (slice_index s.words 0) old ≡ true = eq-eqb (slice_index s.words 0) old e in
+            let wrote : either (eqb (slice_index s.words 0) old) (old + 1) (slice_index s.words 0) ≡ old + 1 =
+            ap (λ (b : Bool). either b (old + 1) (slice_index s.words 0)) test in (
+              v,
+              acts.keeps,
+              tt,
+              subst P (sym wrote) ruled,
+              record {
+                taken = λ _. refl;
+                lost = λ other. absurd (other e);
+                sees = sees_word p s r id me.0 at same;
+                now = moment_after p s r id me.0 at 0 (old + 1) v same ruled;
+              },
+            )
+        | inr other ↦
+            let v : View = reading me.0 (unpacked (slice_index s.words 0)) in
+            let ruled : Ruled p (record { words = set s.words 0 (slice_index s.words 0); homes = s.homes; views = set s.views id v }) =
+            read_now p s r id me.0 at in
+            let P : ℕ → Type 0 = λ x. Ruled p (record { words = set s.words 0 x; homes = s.homes; views = set s.views id v }) in
+            let test : eqb (slice_index s.words 0) old ≡ false = ne_eqb (slice_index s.words 0) old other in
+            let wrote : either (eqb (slice_index s.words 0) old) (old + 1) (slice_index s.words 0) ≡ slice_index s.words 0 =
+            ap (λ (b : Bool). either b (old + 1) (slice_index s.words 0)) test in (
+              v,
+              acts.keeps,
+              tt,
+              subst P (sym wrote) ruled,
+              record {
+                taken = λ e. absurd (other e);
+                lost = λ _. refl;
+                sees = sees_word p s r id me.0 at same;
+                now = moment_after p s r id me.0 at 0 (slice_index s.words 0) v same ruled;
               },
             )
       ]

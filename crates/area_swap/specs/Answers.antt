@@ -7,8 +7,11 @@ use Rattle.swap_core.specs.declared.actors.DeskState.TheVariants.{Resting, Ready
 use Rattle.area_swap.specs.declared.answers.Seen.{Seen}
 use Rattle.area_swap.specs.declared.answers.Claim.{Claim}
 use Rattle.area_swap.specs.declared.answers.Claim.TheVariants as claim
+use Rattle.area_swap.specs.declared.answers.Draw.{Draw}
+use Rattle.area_swap.specs.declared.answers.Draw.TheVariants as draw
 use Rattle.area_swap.specs.declared.board.View.{View}
-use Rattle.area_swap.specs.Views.{packed, IsUpTo, acting, reading, taking}
+use Rattle.area_swap.specs.Views.{packed, IsUpTo, acting, reading, taking, held_version}
+use Rattle.area_swap.specs.Values.{HoldsOne}
 use Rattle.area_swap.specs.Rule.{IsDrawnBy, Sees}
 
 -- the version word was read twice: how the seat's readings were before, between and after
@@ -25,6 +28,8 @@ pub record HoldsNow (version : ℕ) (v w : View) : Type 0 where
   -- Nobody goes back to an older version than that of a draw of his own.
   pub drawn : All (IsDrawnBy w.seen) v.actor.draws
   pub there : version < length v.plan.tables
+  pub holds : HoldsOne w
+  pub held : held_version w ≡ version
 
 -- The versions of the two readings stand in different areas. The seat claims nothing.
 pub record HasMoved (before now : ℕ) (v w : View) : Type 0 where
@@ -39,3 +44,56 @@ pub record HasMoved (before now : ℕ) (v w : View) : Type 0 where
 abbrev pub Claimed : Claim → View → View → Type 0
 Claimed (claim.Held version) v w = HoldsNow version v w
 Claimed (claim.Moved before after) v w = HasMoved before after v w
+
+-- One record's number is the seat's, under the version that it holds, which is the one in force.
+pub record HasTaken (p : Tables) (end number held : ℕ) (v w : View) : Type 0 where
+  pub after : w ≡ taking (read_twice v w) number held
+  pub in_force : w.seen.version ≡ held
+  pub is_next : w.seen.records ≡ number
+  pub same : w.prior ≡ w.seen
+  pub below_end : number < end
+  pub below_limit : number < limit p held
+  pub earlier : IsUpTo v.seen w.prior
+  -- The number is above those of the seat's earlier draws.
+  pub drawn : All (IsDrawnBy w.seen) v.actor.draws
+
+-- One reading decided: another version is in force, the end is reached, or the limit.
+pub record IsNotHeld (now held : ℕ) (v w : View) : Type 0 where
+  pub after : w ≡ reading v w.seen
+  pub version : w.seen.version ≡ now
+  pub other : now ≢ held
+  pub sees : Sees v w.seen
+
+pub record IsAtEnd (end held : ℕ) (v w : View) : Type 0 where
+  pub after : w ≡ reading v w.seen
+  pub in_force : w.seen.version ≡ held
+  pub reached : end ≤ w.seen.records
+  pub sees : Sees v w.seen
+
+pub record IsAtLimit (p : Tables) (end most held : ℕ) (v w : View) : Type 0 where
+  pub after : w ≡ reading v w.seen
+  pub in_force : w.seen.version ≡ held
+  pub below_end : w.seen.records < end
+  pub limit_is : limit p held ≡ most
+  pub reached : w.seen.records ≡ most
+  pub sees : Sees v w.seen
+
+-- The exchange found another word than was read.
+pub record HasLost (p : Tables) (end saw found held : ℕ) (v w : View) : Type 0 where
+  pub after : w ≡ read_twice v w
+  pub first : packed w.prior ≡ saw
+  pub second : packed w.seen ≡ found
+  pub in_force : w.prior.version ≡ held
+  pub below_end : w.prior.records < end
+  pub below_limit : w.prior.records < limit p held
+  pub rises : saw < found
+  pub earlier : IsUpTo v.seen w.prior
+  pub later : IsUpTo w.prior w.seen
+  pub drawn : All (IsDrawnBy w.prior) v.actor.draws
+
+abbrev pub Drawn : Draw → Tables → ℕ → ℕ → View → View → Type 0
+Drawn (draw.Taken number) p end held v w = HasTaken p end number held v w
+Drawn (draw.Moved now) p end held v w = IsNotHeld now held v w
+Drawn draw.End p end held v w = IsAtEnd end held v w
+Drawn (draw.Hold most) p end held v w = IsAtLimit p end most held v w
+Drawn (draw.Lost saw found) p end held v w = HasLost p end saw found held v w

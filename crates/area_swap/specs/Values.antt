@@ -7,7 +7,7 @@ use Rattle.swap_core.specs.Sound.{IsAtWork}
 use Rattle.swap_core.specs.declared.actors.ActorState.TheVariants.{Idle, Holds}
 use Rattle.swap_core.specs.declared.actors.DeskState.TheVariants.{Resting, Ready, Writing}
 use Rattle.area_swap.specs.declared.board.View.{View}
-use Rattle.area_swap.specs.Views.{next_of}
+use Rattle.area_swap.specs.Views.{held_version, next_of}
 
 -- which words they are, and the tables that come into force in them
 pub record AreasValue : Type 0 where
@@ -27,8 +27,9 @@ pub record IsOf (areas : AreasValue) (seat : SeatValue) : Type 0 where
 abbrev pub IsIdle : View → Type 0
 IsIdle v = v.actor.state ≡ Idle
 
-abbrev pub IsHolding : View → ℕ → Type 0
-IsHolding v version = v.actor.state ≡ Holds (version % 2) version
+-- it holds a version, in that version's area
+abbrev pub HoldsOne : View → Type 0
+HoldsOne v = v.actor.state ≡ Holds (held_version v % 2) (held_version v)
 
 abbrev pub HasWholeShare : View → Type 0
 HasWholeShare v = v.share ≡ 65536

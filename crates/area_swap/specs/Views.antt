@@ -118,13 +118,17 @@ abbrev pub with_desk_of : View → View → View
 with_desk_of v w =
     record (together v w) { has_desk = true; desk = w.desk; points = w.points; counted = w.counted; counts = w.counts }
 
--- the words of the version that is held
-abbrev pub held_by : Tables → ActorState → List ℕ
-held_by p (Holds a w) = table p w
-held_by p _ = []
+-- the version that is held
+abbrev pub version_in : ActorState → ℕ
+version_in (Holds a w) = w
+version_in _ = 0
 
+abbrev pub held_version : View → ℕ
+held_version v = version_in v.actor.state
+
+-- the words of the table that is held
 abbrev pub held_table : View → List ℕ
-held_table v = held_by v.plan v.actor.state
+held_table v = table v.plan (held_version v)
 
 -- the table that comes next, by the number of points
 abbrev pub next_of : View → List ℕ
