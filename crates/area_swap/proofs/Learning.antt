@@ -6,12 +6,13 @@ use Rattle.std.proofs.lemmas.Bool.{cases_eq, cases_lt}
 use Rattle.std.proofs.lemmas.List.Elements.{All-weaker}
 use Rattle.std.proofs.lemmas.List.Sums.{count_by-le-length}
 use Rattle.atomic_table.specs.Table.{State}
-use Rattle.swap_core.specs.Plans.{Tables, limit}
+use Rattle.swap_core.specs.Plans.{Tables, limit, window}
 use Rattle.swap_core.specs.States.{CoreState, IsActor, newcomer, count_of}
-use Rattle.swap_core.specs.Sound.{Sound, HoldsRightly, IsDrawRight, times, how_many, once_below, in_force}
+use Rattle.swap_core.specs.Sound.{Sound, HoldsRightly, IsAtWork, IsDrawRight, times, how_many, once_below, in_force}
 use Rattle.swap_core.specs.declared.actors.Actor.{Actor}
 use Rattle.swap_core.specs.declared.actors.ActorState.{ActorState}
 use Rattle.swap_core.specs.declared.actors.ActorState.TheVariants.{Holds}
+use Rattle.swap_core.specs.declared.actors.DeskState.{DeskState}
 use Rattle.swap_core.proofs.Bounds.{few_records, few_versions}
 use Rattle.swap_core.proofs.Moves.{weight}
 use Rattle.area_swap.specs.declared.board.View.{View}
@@ -91,6 +92,13 @@ module _ (p : Tables) (s : State (Unit {0}) View) (r : Ruled p s) where
     pub sees_now : v.plan ≡ p → Sees v (now_of r.core)
     sees_now same =
         let plans : r.core.plan ≡ v.plan = r.same_plan ∙ sym same in
+        let next : v.has_desk ≡ true → IsAtWork v.desk
+        → (r.core.version + 1 < length v.plan.tables) × ((window v.plan (r.core.version + 1)).earliest ≤ r.core.records) =
+        λ has work.
+            let D : DeskState → Type 0 = IsAtWork in
+            let N : Tables → Type 0 =
+            λ q. (r.core.version + 1 < length q.tables) × ((window q (r.core.version + 1)).earliest ≤ r.core.records) in
+            subst N plans (r.sound.next (subst D (shows_desk p s r id v at has).0 work)) in
         let There : Tables → Type 0 = λ q. r.core.version < length q.tables in
         let Within : Tables → Type 0 = λ q. r.core.records ≤ limit q r.core.version in
         record {
@@ -105,6 +113,7 @@ module _ (p : Tables) (s : State (Unit {0}) View) (r : Ruled p s) where
           within = subst Within plans r.sound.within;
           held = held_now;
           pointed = λ has. ap (λ (l : List ℕ). length l) (shows_desk p s r id v at has).1 ∙ r.sound.pointed;
+          next = next;
           few = few_versions r.core r.sound;
           small = few_records r.core r.sound;
         }

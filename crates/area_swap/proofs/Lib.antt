@@ -8,3 +8,6 @@ pub mod SeatMoves
 pub mod Claiming
 pub mod Belonging
 pub mod Drawing
+pub mod DeskSteps
+pub mod Deskwork
+pub mod Closing

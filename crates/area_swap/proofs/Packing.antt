@@ -60,3 +60,62 @@ pub row_fits : (a long j : ℕ) → a < 2 → j < long → 3 + a * long + j < 3 
 row_fits zero long j l m = omega arith
 row_fits (suc zero) long j l m = omega arith
 row_fits (suc (suc a)) long j l m = absurd (omega arith)
+
+-- and so are all words of a table in it
+pub table_in_row : (a long k : ℕ) → a < 2 → k ≤ long → 3 + a * long + k ≤ 3 + 2 * long
+table_in_row zero long k l m = omega arith
+table_in_row (suc zero) long k l m = omega arith
+table_in_row (suc (suc a)) long k l m = absurd (omega arith)
+
+apart_rows : (a b long j k : ℕ) → a < 2 → b < 2 → j < long → k < long → b ≢ a → 3 + b * long + k ≢ 3 + a * long + j
+apart_rows zero zero long j k la lb lj lk n e = n refl
+apart_rows zero (suc zero) long j k la lb lj lk n e = omega arith
+apart_rows zero (suc (suc b)) long j k la lb lj lk n e = omega arith
+apart_rows (suc zero) zero long j k la lb lj lk n e = omega arith
+apart_rows (suc zero) (suc zero) long j k la lb lj lk n e = n refl
+apart_rows (suc zero) (suc (suc b)) long j k la lb lj lk n e = omega arith
+apart_rows (suc (suc a)) b long j k la lb lj lk n e = omega arith
+
+module _ (words : List ℕ) (long : ℕ) (now : Seen) (counts : List ℕ) (areas : List (List ℕ)) (h : Laid words long now counts areas) where
+  -- a word of a row is written
+  pub laid_row : (a j x : ℕ) → a < 2 → j < long → length areas ≡ 2 → length (slice_index_or areas a []) ≡ long
+      → Laid (set words (3 + a * long + j) x) long now counts (set areas a (set (slice_index_or areas a []) j x))
+  laid_row a j x la lj two wide =
+      record {
+        size = length-set words (3 + a * long + j) x ∙ h.size;
+        first = get_or-set_other words (3 + a * long + j) 0 x 0 (λ n. omega arith) ∙ h.first;
+        claims = λ b l. get_or-set_other words (3 + a * long + j) (1 + b) x 0 (λ n. omega arith) ∙ h.claims b l;
+        rows = rows;
+      }
+    where
+      row : List ℕ
+      row = set (slice_index_or areas a []) j x
+
+      here : slice_index_or (set areas a row) a [] ≡ row
+      here = let inside : a < length areas = omega arith in get_or-set_same areas a row [] inside
+
+      in_row : (k : ℕ) → k < long → slice_index (set words (3 + a * long + j) x) (3 + a * long + k) ≡ slice_index row k
+      in_row k l =
+          elim (cases_eq k j) [
+            | inl e ↦
+                let in_words : 3 + a * long + j < length words = omega (arith, h.size, row_fits a long j la lj) in
+                let in_list : j < length (slice_index_or areas a []) = omega arith in
+                ap (λ (i : ℕ). slice_index (set words (3 + a * long + j) x) (3 + a * long + i)) e
+                ∙ get_or-set_same words (3 + a * long + j) x 0 in_words
+                ∙ sym (ap (λ (i : ℕ). slice_index row i) e ∙ get_or-set_same (slice_index_or areas a []) j x 0 in_list)
+            | inr n ↦
+                get_or-set_other words (3 + a * long + j) (3 + a * long + k) x 0 (λ m. n (omega arith)) ∙ h.rows a k la l
+                ∙ sym (get_or-set_other (slice_index_or areas a []) j k x 0 n)
+          ]
+
+      rows : (b k : ℕ) → b < 2 → k < long
+          → slice_index (set words (3 + a * long + j) x) (3 + b * long + k) ≡ slice_index (slice_index_or (set areas a row) b []) k
+      rows b k lb lk =
+          elim (cases_eq b a) [
+            | inl e ↦
+                ap (λ (i : ℕ). slice_index (set words (3 + a * long + j) x) (3 + i * long + k)) e ∙ in_row k lk
+                ∙ sym (ap (λ (i : ℕ). slice_index (slice_index_or (set areas a row) i []) k) e ∙ ap (λ (l : List ℕ). slice_index l k) here)
+            | inr n ↦
+                get_or-set_other words (3 + a * long + j) (3 + b * long + k) x 0 (apart_rows a b long j k la lb lj lk n) ∙ h.rows b k lb lk
+                ∙ sym (ap (λ (l : List ℕ). slice_index l k) (get_or-set_other areas a b row [] n))
+          ]

@@ -1,5 +1,5 @@
 -- What each answer says of the seat before the call and after it.
-use Rattle.std.specs.Prelude.{◌≡◌, ◌≢◌, ℕ, ◌+◌, ◌%◌, ◌<◌, ◌≤◌, length, slice_index, All}
+use Rattle.std.specs.Prelude.{◌≡◌, ◌≢◌, ℕ, ◌+◌, ◌%◌, ◌<◌, ◌≤◌, [], ◌∷◌, ◌++◌, length, slice_index, All}
 use Rattle.swap_core.specs.Plans.{Tables, table, width, window, limit}
 use Rattle.swap_core.specs.States.{in_state}
 use Rattle.swap_core.specs.declared.actors.ActorState.TheVariants.{Idle, Holds}
@@ -9,6 +9,10 @@ use Rattle.area_swap.specs.declared.answers.Claim.{Claim}
 use Rattle.area_swap.specs.declared.answers.Claim.TheVariants as claim
 use Rattle.area_swap.specs.declared.answers.Draw.{Draw}
 use Rattle.area_swap.specs.declared.answers.Draw.TheVariants as draw
+use Rattle.area_swap.specs.declared.answers.Due.{Due}
+use Rattle.area_swap.specs.declared.answers.Due.TheVariants as due
+use Rattle.area_swap.specs.declared.answers.Quiet.{Quiet}
+use Rattle.area_swap.specs.declared.answers.Quiet.TheVariants as quiet
 use Rattle.area_swap.specs.declared.board.View.{View}
 use Rattle.area_swap.specs.Views.{packed, IsUpTo, acting, reading, taking, held_version}
 use Rattle.area_swap.specs.Values.{HoldsOne}
@@ -97,3 +101,49 @@ Drawn (draw.Moved now) p end held v w = IsNotHeld now held v w
 Drawn draw.End p end held v w = IsAtEnd end held v w
 Drawn (draw.Hold most) p end held v w = IsAtLimit p end most held v w
 Drawn (draw.Lost saw found) p end held v w = HasLost p end saw found held v w
+
+-- No table is left.
+pub record NoneDue (p : Tables) (v w : View) : Type 0 where
+  pub after : w ≡ reading v w.seen
+  pub last : length p.tables ≤ w.seen.version + 1
+  pub rests : w.desk ≡ Resting
+  pub sees : Sees v w.seen
+
+-- Fewer records were drawn than the next table's window wants.
+pub record LaterDue (p : Tables) (records earliest : ℕ) (v w : View) : Type 0 where
+  pub after : w ≡ reading v w.seen
+  pub more : w.seen.version + 1 < length p.tables
+  pub read : w.seen.records ≡ records
+  pub wants : (window p (w.seen.version + 1)).earliest ≡ earliest
+  pub too_few : records < earliest
+  pub rests : w.desk ≡ Resting
+  pub sees : Sees v w.seen
+
+pub record NowDue (p : Tables) (v w : View) : Type 0 where
+  pub after : w ≡ record (reading v w.seen) { desk = Ready }
+  pub more : w.seen.version + 1 < length p.tables
+  pub reached : (window p (w.seen.version + 1)).earliest ≤ w.seen.records
+  pub sees : Sees v w.seen
+
+abbrev pub IsDue : Due → Tables → View → View → Type 0
+IsDue due.Now p v w = NowDue p v w
+IsDue (due.Later records earliest) p v w = LaterDue p records earliest v w
+IsDue due.None p v w = NoneDue p v w
+
+-- Nobody asks for the spare area or holds it, by this call's reading of its count.
+pub record IsFree (v w : View) : Type 0 where
+  pub after : w ≡ record v { desk = Writing 0; counted = 0; counts = v.counts + 1 }
+
+pub record IsClaimed (count : ℕ) (v w : View) : Type 0 where
+  pub after : w ≡ record v { counted = count; counts = v.counts + 1 }
+  pub some_one : 1 ≤ count
+
+abbrev pub IsQuiet : Quiet → View → View → Type 0
+IsQuiet quiet.Free v w = IsFree v w
+IsQuiet (quiet.Claimed count) v w = IsClaimed count v w
+
+-- The next table is in force, from the record with the number of the point on.
+pub record HasPublished (point : ℕ) (v w : View) : Type 0 where
+  pub after : w ≡ record v { desk = Resting; points = v.points ++ point ∷ [] }
+  pub in_window : ((window v.plan (length v.points + 1)).earliest ≤ point) × (point ≤ (window v.plan (length v.points + 1)).latest)
+  pub rises : (k : ℕ) → k < length v.points → slice_index v.points k ≤ point

@@ -3,9 +3,9 @@ use Rattle.std.specs.Prelude.{◌≡◌, ℕ, ◌+◌, ◌*◌, ◌<◌, ◌≤�
 use mathlib.Core.Option.{some}
 use lib.ListN.{get_elem?}
 use Rattle.atomic_table.specs.Table.{State}
-use Rattle.swap_core.specs.Plans.{Tables, width, limit}
+use Rattle.swap_core.specs.Plans.{Tables, width, limit, window}
 use Rattle.swap_core.specs.States.{CoreState, newcomer}
-use Rattle.swap_core.specs.Sound.{Sound, times, once_below}
+use Rattle.swap_core.specs.Sound.{Sound, IsAtWork, times, once_below}
 use Rattle.swap_core.specs.declared.actors.Actor.{Actor}
 use Rattle.swap_core.specs.declared.actors.ActorState.TheVariants.{Holds}
 use Rattle.swap_core.specs.declared.actors.DeskState.{DeskState}
@@ -85,5 +85,8 @@ pub record Sees (v : View) (now : Seen) : Type 0 where
   pub held : (a w : ℕ) → v.actor.state ≡ Holds a w → (w ≡ now.version) ⊎ (w + 1 ≡ now.version)
   -- Only the desk changes the version, so it knows it.
   pub pointed : v.has_desk ≡ true → length v.points ≡ now.version
+  -- While the desk is at work there is a next table, and its window is reached.
+  pub next : v.has_desk ≡ true → IsAtWork v.desk
+      → (now.version + 1 < length v.plan.tables) × ((window v.plan (now.version + 1)).earliest ≤ now.records)
   pub few : now.version < 256
   pub small : now.records ≤ 2147483648

@@ -66,3 +66,36 @@ pub record Drew (st : Stepped) (m : Seated) (n : ℕ) (m' : Seated) : Type 0 whe
   pub lost : n ≢ st.first → m' ≡ (reading m.0 (unpacked n), m.1)
   pub sees : Sees m.0 (unpacked n)
   pub now : Moment m'.0
+
+-- the desk's load of the version word
+pub record FoundDue (st : Stepped) (m : Seated) (n : ℕ) (m' : Seated) : Type 0 where
+  pub none : length m.0.plan.tables ≤ (unpacked n).version + 1 → m' ≡ (reading m.0 (unpacked n), m.1)
+  pub later : (unpacked n).version + 1 < length m.0.plan.tables
+      → (unpacked n).records < (window m.0.plan ((unpacked n).version + 1)).earliest → m' ≡ (reading m.0 (unpacked n), m.1)
+  pub ready : (unpacked n).version + 1 < length m.0.plan.tables
+      → (window m.0.plan ((unpacked n).version + 1)).earliest ≤ (unpacked n).records
+      → m' ≡ (record (reading m.0 (unpacked n)) { desk = Ready }, m.1)
+  pub sees : Sees m.0 (unpacked n)
+  pub now : Moment m'.0
+
+-- the desk's load of the claims on the spare area
+pub record Counted (st : Stepped) (m : Seated) (n : ℕ) (m' : Seated) : Type 0 where
+  pub free : n ≡ 0 → m' ≡ (record m.0 { counted = n; counts = m.0.counts + 1; desk = Writing 0 }, m.1)
+  pub claimed : n ≢ 0 → m' ≡ (record m.0 { counted = n; counts = m.0.counts + 1 }, m.1)
+  pub now : Moment m'.0
+
+-- a word of the next table was stored in the spare area
+pub record Wrote (st : Stepped) (m : Seated) (n : ℕ) (m' : Seated) : Type 0 where
+  pub words : ℕ
+  pub was : m.0.desk ≡ Writing words
+  pub after : m' ≡ (record m.0 { desk = Writing (words + 1) }, m.1)
+  pub now : Moment m'.0
+
+-- 1 was added to the version
+pub record Published (st : Stepped) (m : Seated) (n : ℕ) (m' : Seated) : Type 0 where
+  pub after : m' ≡ (record m.0 { desk = Resting; points = m.0.points ++ (unpacked n).records ∷ [] }, m.1)
+  pub there : length m.0.points + 1 < length m.0.plan.tables
+  pub in_window : ((window m.0.plan (length m.0.points + 1)).earliest ≤ (unpacked n).records)
+      × ((unpacked n).records ≤ (window m.0.plan (length m.0.points + 1)).latest)
+  pub rises : (k : ℕ) → k < length m.0.points → slice_index m.0.points k ≤ (unpacked n).records
+  pub now : Moment m'.0

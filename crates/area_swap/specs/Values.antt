@@ -58,6 +58,7 @@ pub record IsDesk (v : View) : Type 0 where
   pub unshared : v.share ≡ 0
   pub idle : v.actor ≡ newcomer
   pub has : v.has_desk ≡ true
+  pub no_reads : v.reads ≡ 0
   pub few : length v.plan.tables ≤ 256
   pub there : length v.points < length v.plan.tables
   pub next : IsAtWork v.desk → length v.points + 1 < length v.plan.tables

@@ -30,14 +30,14 @@ pub struct Areas {
 
 impl Model for Areas {
     ghost use Rattle.std.specs.Prelude.{◌≡◌, ◌+◌, ◌*◌, ◌≤◌};
-    ghost use Rattle.swap_core.specs.Plans.{width};
+    ghost use Rattle.swap_core.specs.Plans.{IsPlan, width};
     ghost use Rattle.area_swap.specs.Values.{AreasValue};
 
     ghost Value = { AreasValue };
 
     ghost view = { λ a. record { table_id = a.table.shared.table_id; plan = a.plan } };
 
-    ghost invariant = { λ a. (a.table.shared.key ≡ a.plan) × (a.long ≡ width a.plan) × (a.table.shared.table_id.words ≡ 3 + 2 * width a.plan) × (width a.plan ≤ 16777216) };
+    ghost invariant = { λ a. (a.table.shared.key ≡ a.plan) × (a.long ≡ width a.plan) × (a.table.shared.table_id.words ≡ 3 + 2 * width a.plan) × (width a.plan ≤ 16777216) × IsPlan a.plan };
 }
 
 /// The length of the longest table.

@@ -1,6 +1,6 @@
 // What a seat knows, and the rule of the words.
 use crate::answers::Seen;
-use atomic_table::{Seat, Table, TableRule};
+use atomic_table::{Seat, Shared, Table, TableRule};
 use std::alloc::Global;
 use std::collections::LinkedList;
 use swap_core::{Actor, DeskState, Plan};
@@ -44,3 +44,5 @@ impl TableRule<(), View, Plan> for Swapping {
 pub(crate) type Board = Table<(), View, Plan, Swapping, Global>;
 
 pub(crate) type Place = Seat<(), View>;
+
+pub(crate) type SharedWords = Shared<(), View, Plan, Swapping>;

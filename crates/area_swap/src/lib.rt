@@ -16,5 +16,5 @@ pub use answers::{Claim, Draw, Due, Quiet, Seen};
 pub use areas::{Areas, prepare};
 pub use board::{Swapping, View};
 pub use desk::Desk;
-// pub use history::History;
+pub use history::History;
 pub use worker::WorkerSeat;

@@ -65,6 +65,42 @@ impl Play<(), View> for Exchange {
     ghost then = { Drew };
 }
 
+/// The desk's load of the version word.
+pub struct FindDue;
+
+impl Play<(), View> for FindDue {
+    ghost use Rattle.area_swap.specs.Told.{FoundDue};
+
+    ghost then = { FoundDue };
+}
+
+/// The desk's load of the claims on the spare area.
+pub struct CountClaims;
+
+impl Play<(), View> for CountClaims {
+    ghost use Rattle.area_swap.specs.Told.{Counted};
+
+    ghost then = { Counted };
+}
+
+/// The desk's store of a word of the next table.
+pub struct WriteWord;
+
+impl Play<(), View> for WriteWord {
+    ghost use Rattle.area_swap.specs.Told.{Wrote};
+
+    ghost then = { Wrote };
+}
+
+/// 1 is added to the version.
+pub struct PublishTable;
+
+impl Play<(), View> for PublishTable {
+    ghost use Rattle.area_swap.specs.Told.{Published};
+
+    ghost then = { Published };
+}
+
 /// The desk's seat is taken from the first seat.
 pub struct DeskApart;
 
