@@ -39,6 +39,7 @@ module _ (v : View) (s t : Seen) (first : IsUpTo v.seen s) (second : Sees (askin
         there = second.there;
         holds = ap (λ (a : ℕ). Holds a t.version) (sym same);
         held = refl;
+        size = second.planned.sizes t.version [] second.there;
       }
 
   has_moved : v.actor.state ≡ Idle → t.version % 2 ≢ s.version % 2 → HasMoved s.version t.version v (acting (reading (asking v s) t) Idle)

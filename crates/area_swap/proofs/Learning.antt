@@ -6,7 +6,7 @@ use Rattle.std.proofs.lemmas.Bool.{cases_eq, cases_lt}
 use Rattle.std.proofs.lemmas.List.Elements.{All-weaker}
 use Rattle.std.proofs.lemmas.List.Sums.{count_by-le-length}
 use Rattle.atomic_table.specs.Table.{State}
-use Rattle.swap_core.specs.Plans.{Tables, limit, window}
+use Rattle.swap_core.specs.Plans.{Tables, IsPlan, limit, window}
 use Rattle.swap_core.specs.States.{CoreState, IsActor, newcomer, count_of}
 use Rattle.swap_core.specs.Sound.{Sound, HoldsRightly, IsAtWork, IsDrawRight, times, how_many, once_below, in_force}
 use Rattle.swap_core.specs.declared.actors.Actor.{Actor}
@@ -99,6 +99,7 @@ module _ (p : Tables) (s : State (Unit {0}) View) (r : Ruled p s) where
             let N : Tables → Type 0 =
             λ q. (r.core.version + 1 < length q.tables) × ((window q (r.core.version + 1)).earliest ≤ r.core.records) in
             subst N plans (r.sound.next (subst D (shows_desk p s r id v at has).0 work)) in
+        let Planned : Tables → Type 0 = λ q. IsPlan q in
         let There : Tables → Type 0 = λ q. r.core.version < length q.tables in
         let Within : Tables → Type 0 = λ q. r.core.records ≤ limit q r.core.version in
         record {
@@ -109,6 +110,7 @@ module _ (p : Tables) (s : State (Unit {0}) View) (r : Ruled p s) where
               (r.sound.under id v.actor (actor_at p s r id v at));
           all_drawn = draws_all;
           each_once = draws_each;
+          planned = subst Planned plans r.sound.planned;
           there = subst There plans r.sound.there;
           within = subst Within plans r.sound.within;
           held = held_now;

@@ -1,6 +1,6 @@
 -- What each answer says of the seat before the call and after it.
 use Rattle.std.specs.Prelude.{◌≡◌, ◌≢◌, ℕ, ◌+◌, ◌%◌, ◌<◌, ◌≤◌, [], ◌∷◌, ◌++◌, length, slice_index, All}
-use Rattle.swap_core.specs.Plans.{Tables, table, width, window, limit}
+use Rattle.swap_core.specs.Plans.{Tables, IsTableSize, table, width, window, limit}
 use Rattle.swap_core.specs.States.{in_state}
 use Rattle.swap_core.specs.declared.actors.ActorState.TheVariants.{Idle, Holds}
 use Rattle.swap_core.specs.declared.actors.DeskState.TheVariants.{Resting, Ready, Writing}
@@ -14,7 +14,7 @@ use Rattle.area_swap.specs.declared.answers.Due.TheVariants as due
 use Rattle.area_swap.specs.declared.answers.Quiet.{Quiet}
 use Rattle.area_swap.specs.declared.answers.Quiet.TheVariants as quiet
 use Rattle.area_swap.specs.declared.board.View.{View}
-use Rattle.area_swap.specs.Views.{packed, IsUpTo, acting, reading, taking, held_version}
+use Rattle.area_swap.specs.Views.{packed, IsUpTo, acting, reading, taking, held_table, held_version}
 use Rattle.area_swap.specs.Values.{HoldsOne}
 use Rattle.area_swap.specs.Rule.{IsDrawnBy, Sees}
 
@@ -34,6 +34,7 @@ pub record HoldsNow (version : ℕ) (v w : View) : Type 0 where
   pub there : version < length v.plan.tables
   pub holds : HoldsOne w
   pub held : held_version w ≡ version
+  pub size : IsTableSize (held_table w)
 
 -- The versions of the two readings stand in different areas. The seat claims nothing.
 pub record HasMoved (before now : ℕ) (v w : View) : Type 0 where

@@ -3,7 +3,7 @@ use Rattle.std.specs.Prelude.{◌≡◌, ℕ, ◌+◌, ◌*◌, ◌<◌, ◌≤�
 use mathlib.Core.Option.{some}
 use lib.ListN.{get_elem?}
 use Rattle.atomic_table.specs.Table.{State}
-use Rattle.swap_core.specs.Plans.{Tables, width, limit, window}
+use Rattle.swap_core.specs.Plans.{Tables, IsPlan, width, limit, window}
 use Rattle.swap_core.specs.States.{CoreState, newcomer}
 use Rattle.swap_core.specs.Sound.{Sound, IsAtWork, times, once_below}
 use Rattle.swap_core.specs.declared.actors.Actor.{Actor}
@@ -79,6 +79,7 @@ pub record Sees (v : View) (now : Seen) : Type 0 where
   -- Who has the whole share has drawn all numbers, each once.
   pub all_drawn : v.share ≡ 65536 → length v.actor.draws ≡ now.records
   pub each_once : v.share ≡ 65536 → (number : ℕ) → times number v.actor ≡ once_below number now.records
+  pub planned : IsPlan v.plan
   pub there : now.version < length v.plan.tables
   pub within : now.records ≤ limit v.plan now.version
   -- A held version is in force, or was before.

@@ -7,7 +7,7 @@ use Rattle.swap_core.specs.Sound.{IsAtWork}
 use Rattle.swap_core.specs.declared.actors.ActorState.TheVariants.{Idle, Holds}
 use Rattle.swap_core.specs.declared.actors.DeskState.TheVariants.{Resting, Ready, Writing}
 use Rattle.area_swap.specs.declared.board.View.{View}
-use Rattle.area_swap.specs.Views.{held_version, next_of}
+use Rattle.area_swap.specs.Views.{held_table, held_version, next_of}
 
 -- which words they are, and the tables that come into force in them
 pub record AreasValue : Type 0 where
@@ -30,6 +30,13 @@ IsIdle v = v.actor.state ≡ Idle
 -- it holds a version, in that version's area
 abbrev pub HoldsOne : View → Type 0
 HoldsOne v = v.actor.state ≡ Holds (held_version v % 2) (held_version v)
+
+-- it holds the version that it held, and has its share
+pub record HoldsStill (v w : View) : Type 0 where
+  pub holds : HoldsOne w
+  pub version : held_version w ≡ held_version v
+  pub table : held_table w ≡ held_table v
+  pub share : w.share ≡ v.share
 
 abbrev pub HasWholeShare : View → Type 0
 HasWholeShare v = v.share ≡ 65536

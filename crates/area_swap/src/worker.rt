@@ -4,7 +4,7 @@ ghost use Rattle.swap_core.specs.Sound.{once_below, times};
 ghost use Rattle.swap_core.specs.declared.actors.ActorState.TheVariants.{Idle};
 ghost use Rattle.area_swap.specs.Answers.{Claimed, Drawn};
 ghost use Rattle.area_swap.specs.Rule.{Moment, Sees};
-ghost use Rattle.area_swap.specs.Values.{HasWholeShare, HoldsOne, IsIdle, IsOf, IsWorker};
+ghost use Rattle.area_swap.specs.Values.{HasWholeShare, HoldsOne, HoldsStill, IsIdle, IsOf, IsWorker};
 ghost use Rattle.area_swap.specs.Views.{acting, held_table, held_version, kept_half, new_half, reading, together, unpacked};
 
 use crate::answers::{Claim, Draw, Seen};
@@ -138,6 +138,7 @@ impl Areas {
         requires holding { HoldsOne seat.old.known }
         requires inside { j < length (held_table seat.old.known) }
         ensures areas { IsOf self.now seat.new }
+        ensures holding { HoldsStill seat.old.known seat.new.known }
         ensures word { result ≡ slice_index (held_table seat.old.known) j }
         ensures seat { seat.new.known ≡ record seat.old.known { reads = seat.old.known.reads + 1 } }
         ensures rule { Moment seat.new.known }
@@ -153,6 +154,7 @@ impl Areas {
         requires areas { IsOf self.now seat.old }
         requires holding { HoldsOne seat.old.known }
         ensures areas { IsOf self.now seat.new }
+        ensures holding { HoldsStill seat.old.known seat.new.known }
         ensures drawn { Drawn result self.now.plan end (held_version seat.old.known) seat.old.known seat.new.known }
         ensures rule { Moment seat.new.known }
     {
