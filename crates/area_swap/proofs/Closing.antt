@@ -46,7 +46,7 @@ module _ (v : View) (s : Seen) (sees : Sees v s) (whole : v.share ≡ 65536) (ha
         all = sees.all_drawn whole;
         each_once = sees.each_once whole;
         under = All-weaker (IsDrawRight sees.moment.ruled.core) (λ (d : ℕ × ℕ). d.1 ≡ in_force v.points d.0) in_force_too v.actor.draws
-        (sees.moment.ruled.sound.under sees.moment.seat v.actor (actor_at v.plan sees.moment.board sees.moment.ruled sees.moment.seat v sees.moment.sits));
+            (sees.moment.ruled.sound.under sees.moment.seat v.actor (actor_at v.plan sees.moment.board sees.moment.ruled sees.moment.seat v sees.moment.sits));
       }
 
   history_so : IsHistory (history v.plan v.points s.records reads)

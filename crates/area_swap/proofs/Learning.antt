@@ -95,10 +95,10 @@ module _ (p : Tables) (s : State (Unit {0}) View) (r : Ruled p s) where
         let next : v.has_desk ≡ true → IsAtWork v.desk
         → (r.core.version + 1 < length v.plan.tables) × ((window v.plan (r.core.version + 1)).earliest ≤ r.core.records) =
         λ has work.
-            let D : DeskState → Type 0 = IsAtWork in
-            let N : Tables → Type 0 =
-            λ q. (r.core.version + 1 < length q.tables) × ((window q (r.core.version + 1)).earliest ≤ r.core.records) in
-            subst N plans (r.sound.next (subst D (shows_desk p s r id v at has).0 work)) in
+        let D : DeskState → Type 0 = IsAtWork in
+        let N : Tables → Type 0 =
+        λ q. (r.core.version + 1 < length q.tables) × ((window q (r.core.version + 1)).earliest ≤ r.core.records) in
+        subst N plans (r.sound.next (subst D (shows_desk p s r id v at has).0 work)) in
         let Planned : Tables → Type 0 = λ q. IsPlan q in
         let There : Tables → Type 0 = λ q. r.core.version < length q.tables in
         let Within : Tables → Type 0 = λ q. r.core.records ≤ limit q r.core.version in

@@ -129,7 +129,8 @@ impl Areas {
         ensures rule { Moment desk.new.known }
     {
         let next = desk.points.len() + 1;
-        let row = FIRST_ROW + next % 2 * self.long;
+        let area = next % 2;
+        let row = FIRST_ROW + area * self.long;
         let words = self.plan.words(next as u32);
         write_words(&self.table.shared, &mut desk.place, words, row);
     }

@@ -117,6 +117,9 @@ fn looks_a_port_up_in_a_held_area(rt: HostRuntime) -> Result<(), Fail> {
     let b4 = owner(&areas, &mut seat, V4(0xcb00_7101), 1232);
     let none = owner(&areas, &mut seat, V4(0xcb00_7101), 1236);
     areas.leave(&mut seat);
-    assert_eq!(rt; (b4, none), (Some(V6(0x2001_0db8_0001_0000_0000_0000_0000_0001)), None));
+    assert_eq!(rt;
+        (b4, none),
+        (Some(V6(0x2001_0db8_0001_0000_0000_0000_0000_0001)), None)
+    );
     Ok(())
 }

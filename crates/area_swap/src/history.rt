@@ -64,15 +64,17 @@ impl Areas {
         ensures reads { result.reads ≡ seat.known.reads }
         ensures history { IsHistory result }
     {
-        let Areas { plan, table, long: _ } = self;
+        let Areas {
+            plan,
+            table,
+            long: _,
+        } = self;
         let WorkerSeat { mut place, held: _ } = seat;
         let Desk {
             place: desk_place,
             points,
         } = desk;
-        table
-            .shared
-            .join_seat::<WithDesk>(&mut place, desk_place);
+        table.shared.join_seat::<WithDesk>(&mut place, desk_place);
         let records = halves(table.shared.load::<Glance>(&mut place, VERSION_WORD)).records;
         History {
             plan,

@@ -49,7 +49,13 @@ fn a_table_changes_under_a_held_claim(rt: HostRuntime) -> Result<(), Fail> {
     areas.leave(&mut seat);
     assert_eq!(rt; areas.quiet(&mut desk), Quiet::Free);
     assert_eq!(rt; desk.points(), [1].as_slice());
-    assert_eq!(rt; areas.see(&mut seat), Seen { version: 1, records: 1 });
+    assert_eq!(rt;
+        areas.see(&mut seat),
+        Seen {
+            version: 1,
+            records: 1
+        }
+    );
     assert_eq!(rt; areas.tally(&mut seat), 1);
     let history = areas.close(seat, desk);
     assert_eq!(rt; (history.points(), history.records()), ([1].as_slice(), 1));
@@ -68,7 +74,13 @@ fn a_window_decides_when_a_table_is_due(rt: HostRuntime) -> Result<(), Fail> {
     let mut plan = Plan::of(rt.alloc(), one_word(rt.alloc(), 7)?)?;
     plan.add(window, one_word(rt.alloc(), 8)?)?;
     let (areas, _, mut desk) = prepare(rt.alloc(), plan)?;
-    assert_eq!(rt; areas.due(&mut desk), Due::Later { records: 0, earliest: 5 });
+    assert_eq!(rt;
+        areas.due(&mut desk),
+        Due::Later {
+            records: 0,
+            earliest: 5
+        }
+    );
     Ok(())
 }
 

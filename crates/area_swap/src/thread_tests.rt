@@ -213,7 +213,17 @@ fn four_seats_draw_each_number_once(rt: HostRuntime) -> Result<(), Fail> {
     let plan = Plan::of(rt.alloc(), table(rt.alloc(), 4, 0)?)?;
     let (areas, seat, desk) = prepare(rt.alloc(), plan)?;
     let (mut seat, done) = by_four(&rt, &areas, seat, 1_000);
-    assert_eq!(rt; (areas.tally(&mut seat), done), (1_000, Done { count: 1_000, sum: 499_500, wrong: 0 }));
+    assert_eq!(rt;
+        (areas.tally(&mut seat), done),
+        (
+            1_000,
+            Done {
+                count: 1_000,
+                sum: 499_500,
+                wrong: 0
+            }
+        )
+    );
     let history = areas.close(seat, desk);
     assert_eq!(rt; (history.points().len(), history.records()), (0, 1_000));
     Ok(())

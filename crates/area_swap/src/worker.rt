@@ -82,7 +82,12 @@ impl Areas {
         ensures each_once { (number : ℕ) → times number seat.old.known.actor ≡ once_below number result }
         ensures rule { Moment seat.new.known }
     {
-        halves(self.table.shared.load::<Glance>(&mut seat.place, VERSION_WORD)).records
+        halves(
+            self.table
+                .shared
+                .load::<Glance>(&mut seat.place, VERSION_WORD),
+        )
+        .records
     }
 
     /// Splits the seat: each has half of the share, and the new one has drawn nothing.
@@ -107,7 +112,9 @@ impl Areas {
         ensures seat { seat.new.known ≡ together seat.old.known other.known }
     {
         let WorkerSeat { place, held: _ } = other;
-        self.table.shared.join_seat::<Together>(&mut seat.place, place);
+        self.table
+            .shared
+            .join_seat::<Together>(&mut seat.place, place);
     }
 
     /// Tries to hold the table in force: reads the version, claims its area, and reads the version again.
@@ -124,7 +131,8 @@ impl Areas {
         let claims = FIRST_CLAIMS + area as usize;
         shared.fetch_add::<Enter>(&mut seat.place, claims, 1);
         let after = halves(shared.load::<Confirm>(&mut seat.place, VERSION_WORD)).version;
-        if after % 2 == area {
+        let found = after % 2;
+        if found == area {
             seat.held = after;
             return Claim::Held { version: after };
         }
@@ -161,8 +169,9 @@ impl Areas {
         let shared = &self.table.shared;
         let saw = shared.load::<Glance>(&mut seat.place, VERSION_WORD);
         let seen = halves(saw);
-        if seen.version != seat.held {
-            return Draw::Moved { now: seen.version };
+        let in_force = seen.version;
+        if in_force != seat.held {
+            return Draw::Moved { now: in_force };
         }
         if seen.records >= end {
             return Draw::End;
@@ -193,9 +202,9 @@ impl Areas {
         ensures seat { seat.new.known ≡ acting seat.old.known Idle }
         ensures rule { Moment seat.new.known }
     {
-        let claims = FIRST_CLAIMS + (seat.held % 2) as usize;
+        let its_claims = FIRST_CLAIMS + (seat.held % 2) as usize;
         self.table
             .shared
-            .fetch_sub::<Leave>(&mut seat.place, claims, 1);
+            .fetch_sub::<Leave>(&mut seat.place, its_claims, 1);
     }
 }

@@ -7,5 +7,5 @@ store-requires c = (
   search rules,
   omega arith,
   may_write _ _ _ c.args.place.now.me _ _ _ _ c.args.words.now c.words.invariant.seat c.requires.plan c.requires.desk.has c.requires.words
-  (omega arith) c.requires.row (search rules),
+      (omega arith) c.requires.row (search rules),
 )

@@ -45,7 +45,7 @@ fetch_sub-requires c =
     let k2 = c.fetch_add.ensures.2 in
     let k3 = c.load-2.ensures.2 in
     let other : (unpacked c.load-2.result).version % 2 ≢ (unpacked c.load.result).version % 2 =
-    λ e. c.if-after-area.false (ap (λ (s : Seen). s.version % 2) c.halves-after.ensures ∙ e ∙ ap (λ (s : Seen). s.version % 2) (sym c.halves-before.ensures)) in (
+    λ e. c.if-found-area.false (ap (λ (s : Seen). s.version % 2) c.halves-after.ensures ∙ e ∙ ap (λ (s : Seen). s.version % 2) (sym c.halves-before.ensures)) in (
       search rules,
       omega (arith, c.self.invariant.2),
       leaves _ _ _ _ (plan_after k1 k2 k3 other ∙ plan) (c.halves-before.result.version % 2)
@@ -56,13 +56,13 @@ fetch_sub-requires c =
 pub invariant_of-seat-2 : goal.invariant_of-seat-2
 invariant_of-seat-2 c =
     let other : (unpacked c.load-2.result).version % 2 ≢ (unpacked c.load.result).version % 2 =
-    λ e. c.if-after-area.false (ap (λ (s : Seen). s.version % 2) c.halves-after.ensures ∙ e ∙ ap (λ (s : Seen). s.version % 2) (sym c.halves-before.ensures)) in
+    λ e. c.if-found-area.false (ap (λ (s : Seen). s.version % 2) c.halves-after.ensures ∙ e ∙ ap (λ (s : Seen). s.version % 2) (sym c.halves-before.ensures)) in
     worker_again c.load.ensures.2 c.fetch_add.ensures.2 c.load-2.ensures.2 c.fetch_sub.ensures.2 other _ c.seat.invariant.0 c.seat.invariant.1
 
 pub returns-clause-claimed : goal.returns-clause-claimed
 returns-clause-claimed c =
     let other : (unpacked c.load-2.result).version % 2 ≢ (unpacked c.load.result).version % 2 =
-    λ e. c.if-after-area.false (ap (λ (s : Seen). s.version % 2) c.halves-after.ensures ∙ e ∙ ap (λ (s : Seen). s.version % 2) (sym c.halves-before.ensures)) in
+    λ e. c.if-found-area.false (ap (λ (s : Seen). s.version % 2) c.halves-after.ensures ∙ e ∙ ap (λ (s : Seen). s.version % 2) (sym c.halves-before.ensures)) in
     let P : Seen → Type 0 = λ s. HasMoved s.version c.halves-after.result.version c.args.seat.now.known c.fetch_sub.new.seat.me.0 in
     let Q : Seen → Type 0 = λ s. HasMoved (unpacked c.load.result).version s.version c.args.seat.now.known c.fetch_sub.new.seat.me.0 in
     let R : SeatValue → Type 0 = λ s. HasMoved (unpacked c.load.result).version (unpacked c.load-2.result).version s.known c.fetch_sub.new.seat.me.0 in

@@ -15,8 +15,8 @@ join_seat-requires c = (
   search rules,
   search rules,
   with_desk_keeps _ _ _ _ _ (knows_plan _ _ _ _ _ _ _ c.self.view_is c.seat.view_is c.requires.seat_areas c.self.invariant.0) c.seat.invariant.0.shared
-  (ap (λ (s : SeatValue). s.known.actor.state) c.seat.view_is ∙ c.requires.idle) (ap (λ (x : Actor). x.state) c.desk.invariant.0.idle)
-  c.seat.invariant.0.no_desk c.desk.invariant.0.has,
+      (ap (λ (s : SeatValue). s.known.actor.state) c.seat.view_is ∙ c.requires.idle) (ap (λ (x : Actor). x.state) c.desk.invariant.0.idle)
+      c.seat.invariant.0.no_desk c.desk.invariant.0.has,
 )
 
 pub load-requires : goal.load-requires

@@ -20,8 +20,8 @@ compare_exchange-found-requires c =
       search rules,
       omega (arith, c.self.invariant.2),
       draws _ _ _ _ (glanced_plan k1 _ c.halves-seen.ensures ∙ plan) _ (glanced_share k1 _ c.halves-seen.ensures c.seat.invariant.0.shared)
-      (glanced_word k1 _ c.halves-seen.ensures) (small_after k1 _ c.halves-seen.ensures)
-      (room_after k1 _ c.halves-seen.ensures c.self.inside.plan _ same c.limit-limit.ensures c.if-seen-limit.false),
+          (glanced_word k1 _ c.halves-seen.ensures) (small_after k1 _ c.halves-seen.ensures)
+          (room_after k1 _ c.halves-seen.ensures c.self.inside.plan _ same c.limit-limit.ensures c.if-seen-limit.false),
     )
 
 pub returns-then-found-saw-clause-drawn : goal.returns-then-found-saw-clause-drawn
@@ -31,7 +31,7 @@ returns-then-found-saw-clause-drawn c =
     let holds : HoldsOne c.seat.inside.place.me.0 =
     let P : SeatValue → Type 0 = λ s. HoldsOne s.known in subst P (sym c.seat.view_is) c.requires.holding in
     let held : c.halves-seen.result.version ≡ held_version c.seat.inside.place.me.0 =
-    c.if-seen-seat.false ∙ sym (held_is _ _ c.seat.invariant.0 holds) in
+    c.if-in_force-seat.false ∙ sym (held_is _ _ c.seat.invariant.0 holds) in
     let lost : HasLost c.self.inside.plan c.args.end c.load-saw.result c.compare_exchange-found.result (held_version c.seat.inside.place.me.0) c.seat.inside.place.me.0 c.compare_exchange-found.new.seat.me.0 =
     lost_is c.load-saw.ensures.2 _ c.halves-seen.ensures c.compare_exchange-found.ensures.2 c.self.inside.plan c.args.end _ _ same refl
     c.if-found-saw.true held c.if-seen-end.false c.limit-limit.ensures c.if-seen-limit.false in

@@ -15,7 +15,7 @@ load-requires c =
       search rules,
       search rules,
       finds_due _ _ _ _ (knows_plan _ _ _ _ _ _ _ c.self.view_is c.desk.view_is c.requires.areas c.self.invariant.0) c.desk.invariant.0.has
-      (not_writing _ phase),
+          (not_writing _ phase),
     )
 
 pub returns-then-next-len-clause-due : goal.returns-then-next-len-clause-due

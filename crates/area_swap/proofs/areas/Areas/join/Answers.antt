@@ -11,6 +11,6 @@ join_seat-requires c = (
   search rules,
   search rules,
   together_keeps _ _ _ _ _ (knows_plan _ _ _ _ _ _ _ c.self.view_is c.seat.view_is c.requires.areas c.self.invariant.0) c.seat.invariant.0.shared
-  (ap (λ (s : SeatValue). s.known.actor.state) c.seat.view_is ∙ c.requires.idle)
-  (ap (λ (s : SeatValue). s.known.actor.state) c.other.view_is ∙ c.requires.other_idle) c.seat.invariant.0.no_desk c.other.invariant.0.no_desk,
+      (ap (λ (s : SeatValue). s.known.actor.state) c.seat.view_is ∙ c.requires.idle)
+      (ap (λ (s : SeatValue). s.known.actor.state) c.other.view_is ∙ c.requires.other_idle) c.seat.invariant.0.no_desk c.other.invariant.0.no_desk,
 )

@@ -14,5 +14,5 @@ load-count-requires c =
       search rules,
       omega (arith, c.self.invariant.2),
       counts_claims _ _ _ _ (knows_plan _ _ _ _ _ _ _ c.self.view_is c.desk.view_is c.requires.areas c.self.invariant.0) c.desk.invariant.0.has
-      _ ready place,
+          _ ready place,
     )

@@ -9,5 +9,5 @@ split_seat-requires c = (
   search rules,
   search rules,
   halves_keep _ _ _ (knows_plan _ _ _ _ _ _ _ c.self.view_is c.seat.view_is c.requires.areas c.self.invariant.0) c.seat.invariant.0.shared
-  (ap (λ (s : SeatValue). s.known.share % 2) c.seat.view_is ∙ c.requires.even) c.seat.invariant.0.no_desk,
+      (ap (λ (s : SeatValue). s.known.share % 2) c.seat.view_is ∙ c.requires.even) c.seat.invariant.0.no_desk,
 )
