@@ -2,7 +2,7 @@ use Rattle.std.proofs.Common.{rules, arith, ◌≡◌, ◌≢◌, ◌%◌, ℕ, 
 use Rattle.swap_core.specs.declared.actors.ActorState.TheVariants.{Idle, Looked, Asks}
 use Rattle.area_swap.specs.declared.answers.Seen.{Seen}
 use Rattle.area_swap.specs.declared.board.View.{View}
-use Rattle.area_swap.specs.Answers.{HasMoved}
+use Rattle.area_swap.specs.Answers.{HasMoved, HoldsNow}
 use Rattle.area_swap.specs.Values.{SeatValue}
 use Rattle.area_swap.specs.Views.{unpacked}
 use Rattle.area_swap.proofs.Belonging.{knows_plan}
@@ -69,3 +69,11 @@ returns-clause-claimed c =
     subst P (sym c.halves-before.ensures) (subst Q (sym c.halves-after.ensures) (subst R c.seat.view_is
     (moved_is c.load.ensures.2 c.fetch_add.ensures.2 c.load-2.ensures.2 c.fetch_sub.ensures.2 other
     (ap (λ (s : SeatValue). s.known.actor.state) c.seat.view_is ∙ c.requires.idle))))
+
+pub returns-then-found-area-clause-claimed : goal.returns-then-found-area-clause-claimed
+returns-then-found-area-clause-claimed c =
+    let same : (unpacked c.load-2.result).version % 2 ≡ (unpacked c.load.result).version % 2 =
+    sym (ap (λ (s : Seen). s.version % 2) c.halves-after.ensures) ∙ c.if-found-area.true ∙ ap (λ (s : Seen). s.version % 2) c.halves-before.ensures in
+    let P : Seen → Type 0 = λ s. HoldsNow s.version c.args.seat.now.known c.load-2.new.seat.me.0 in
+    let Q : SeatValue → Type 0 = λ s. HoldsNow (unpacked c.load-2.result).version s.known c.load-2.new.seat.me.0 in
+    subst P (sym c.halves-after.ensures) (subst Q c.seat.view_is (held_is c.load.ensures.2 c.fetch_add.ensures.2 c.load-2.ensures.2 same))
