@@ -5,9 +5,9 @@ use lib.ListN.{get_elem?}
 use Rattle.std.proofs.lemmas.Bool.{cases_eq}
 use Rattle.std.proofs.lemmas.List.{map-set, map-append, set_comm}
 use Rattle.std.proofs.lemmas.List.Sums.{sum_by_push}
-use Rattle.atomic_table.specs.Table.{State, Splits, Joins}
+use Rattle.atomic_table.specs.Table.{State, Splits, Joins, opening}
 use Rattle.atomic_table.proofs.Lists.{at_map, at_set, at_snoc, at_longer, at_last, set_here, set_else, set_again}
-use Rattle.swap_core.specs.Plans.{Tables}
+use Rattle.swap_core.specs.Plans.{Tables, IsPlan}
 use Rattle.swap_core.specs.States.{CoreState, IsActor, newcomer, joined_by_newcomer, merged}
 use Rattle.swap_core.specs.Sound.{Sound}
 use Rattle.swap_core.specs.declared.actors.Actor.{Actor}
@@ -18,8 +18,9 @@ use Rattle.swap_core.proofs.SumLemmas.{sum_changed}
 use Rattle.swap_core.proofs.Seating.{newcomer_sound, merged_sound}
 use Rattle.area_swap.specs.declared.answers.Seen.{Seen}
 use Rattle.area_swap.specs.declared.board.View.{View}
-use Rattle.area_swap.specs.Views.{now_of, worker_view, desk_view, kept_half, new_half, together, with_desk_of, spent_view, latest, IsUpTo}
-use Rattle.area_swap.specs.Rule.{Ruled, Fits, ShowsDesk, actor_of, share_of}
+use Rattle.area_swap.specs.Views.{now_of, first_view, worker_view, desk_view, kept_half, new_half, together, with_desk_of, spent_view, latest, IsUpTo}
+use Rattle.area_swap.specs.Rule.{Ruled, Moment, Fits, ShowsDesk, actor_of, share_of}
+use Rattle.area_swap.proofs.Opening.{opens, first_words}
 use Rattle.area_swap.proofs.Members.{at_end}
 use Rattle.area_swap.proofs.Keeping.{actor_at, desk_after, has_desk_of}
 
@@ -267,3 +268,22 @@ with_desk_keeps p id v other w plan shared idle other_idle lacks w_has s r at ap
       prior = below_latest v.prior v.seen w.seen f.prior;
     })
     (goes_over p s r id other v w (with_desk_of v w) at apart there' lacks w_has refl refl refl)
+
+-- the two seats that the areas begin with have a moment: that of the opening
+pub first_moments : (p : Tables) → IsPlan p → Moment (worker_view (first_view p)) × Moment (desk_view (first_view p))
+first_moments p plan =
+    let ruled : Ruled p (record { words = first_words p; homes = []; views = worker_view (first_view p) ∷ desk_view (first_view p) ∷ [] }) =
+    desk_apart p 0 (first_view p) refl (omega arith) refl (opening (first_words p) [] (first_view p)) (opens p plan (first_words p) refl) refl in (
+      record {
+        board = record { words = first_words p; homes = []; views = worker_view (first_view p) ∷ desk_view (first_view p) ∷ [] };
+        ruled = ruled;
+        seat = 0;
+        sits = refl;
+      },
+      record {
+        board = record { words = first_words p; homes = []; views = worker_view (first_view p) ∷ desk_view (first_view p) ∷ [] };
+        ruled = ruled;
+        seat = 1;
+        sits = refl;
+      },
+    )

@@ -1,6 +1,7 @@
 // The areas, and how they begin.
 ghost use Rattle.std.specs.Prelude.{◌≡◌, ◌+◌, ◌*◌, ◌≤◌, IfOk, max, length};
 ghost use Rattle.swap_core.specs.Plans.{width};
+ghost use Rattle.area_swap.specs.Rule.{Moment};
 ghost use Rattle.area_swap.specs.Values.{AreasValue, IsOf, SeatValue};
 ghost use Rattle.area_swap.specs.Views.{desk_view, first_view, worker_view};
 
@@ -57,6 +58,7 @@ fn longest(plan: &Plan) -> usize
 pub fn prepare(alloc: Global, plan: Plan) -> Result<(Areas, WorkerSeat, Desk), OutOfMemory>
     ensures areas { IfOk result (λ made. made.0.plan ≡ plan) }
     ensures seat { IfOk result (λ made. (made.1.table_id ≡ made.0.table_id) × (made.1.known ≡ worker_view (first_view plan))) }
+    ensures rule { IfOk result (λ made. Moment made.1.known × Moment made.2.known) }
     ensures desk { IfOk result (λ made. (made.2.table_id ≡ made.0.table_id) × (made.2.known ≡ desk_view (first_view plan))) }
 {
     let long = longest(&plan);

@@ -1,8 +1,10 @@
 use Rattle.std.proofs.Common.{rules, arith, ◌≡◌, ◌∙◌, ◌<◌, ◌+◌, ◌*◌, ℕ, List, length, sym, ap, subst}
 use Rattle.swap_core.specs.Plans.{width}
+use Rattle.area_swap.specs.Rule.{Moment}
+use Rattle.area_swap.specs.Views.{first_view, worker_view, desk_view}
 use Rattle.area_swap.specs.Told.{Seated}
 use Rattle.area_swap.proofs.Opening.{opens, filled, first_words}
-use Rattle.area_swap.proofs.SeatMoves.{desk_apart}
+use Rattle.area_swap.proofs.SeatMoves.{desk_apart, first_moments}
 use Rattle.area_swap.proofs.areas.prepare.Goals as goal
 
 pub of_words-requires : goal.of_words-requires
@@ -21,3 +23,14 @@ split_seat-desk_place-requires c =
       omega (arith, h.0, c.deref.ensures.len, c.in_ok-resize-2.ensures.len),
       desk_apart _ _ _ (ap (λ (m : Seated). m.0.plan) h.4 ∙ sym h.5) some_share (ap (λ (m : Seated). m.0.has_desk) h.4),
     )
+
+pub returns-clause-rule : goal.returns-clause-rule
+returns-clause-rule c =
+    let h = c.in_ok-table.ensures in
+    let split = c.split_seat-desk_place.ensures in
+    let both = first_moments c.args.plan c.len.ensures.rules in
+    let worker : c.at.result.known ≡ worker_view (first_view c.args.plan) =
+    c.at.ensures.known ∙ ap (λ (m : Seated). m.0) split.2 ∙ ap (λ (m : Seated). worker_view m.0) h.4 in
+    let desk : c.at-2.result.known ≡ desk_view (first_view c.args.plan) =
+    c.at-2.ensures.known ∙ ap (λ (m : Seated). m.0) split.4 ∙ ap (λ (m : Seated). desk_view m.0) h.4 in
+    (subst Moment (sym worker) both.0, subst Moment (sym desk) both.1)
