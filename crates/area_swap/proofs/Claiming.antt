@@ -1,14 +1,13 @@
 -- What the steps of a claim make of the seat, from what each of them told.
-use Rattle.std.proofs.Common.{◌≡◌, ◌≢◌, ℕ, ◌+◌, ◌%◌, ◌<◌, ◌≤◌, false, List, [], length, All, subst, sym, refl, ap, ◌∙◌, arith, inl, inr}
+use Rattle.std.proofs.Common.{◌≡◌, ◌≢◌, ℕ, ◌+◌, ◌%◌, ◌<◌, [], subst, sym, refl, ap, ◌∙◌, arith, inl, inr}
 use Rattle.std.proofs.lemmas.Bool.{cases_eq}
-use Rattle.swap_core.specs.declared.actors.Actor.{Actor}
 use Rattle.swap_core.specs.declared.actors.ActorState.{ActorState}
 use Rattle.swap_core.specs.declared.actors.ActorState.TheVariants.{Idle, Looked, Asks, Holds}
 use Rattle.area_swap.specs.declared.answers.Seen.{Seen}
 use Rattle.area_swap.specs.declared.board.View.{View}
 use Rattle.area_swap.specs.Views.{unpacked, acting, reading, IsUpTo}
 use Rattle.area_swap.specs.Rule.{Sees}
-use Rattle.area_swap.specs.Answers.{HoldsNow, HasMoved, read_twice}
+use Rattle.area_swap.specs.Answers.{HoldsNow, HasMoved}
 use Rattle.area_swap.specs.Told.{Stepped, Seated, LookedAt, Entered, Confirmed, LeftIt}
 use Rattle.area_swap.specs.Values.{IsWorker}
 

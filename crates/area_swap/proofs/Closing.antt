@@ -1,9 +1,9 @@
 -- What the last reading says of the draws and points.
-use Rattle.std.proofs.Common.{◌≡◌, ℕ, ◌+◌, ◌<◌, ◌≤◌, true, false, List, [], ◌∷◌, ◌++◌, length, slice_index, All, subst, sym, refl, ap, ◌∙◌, arith}
+use Rattle.std.proofs.Common.{◌≡◌, ℕ, ◌+◌, ◌<◌, ◌≤◌, true, List, ◌++◌, length, slice_index, subst, sym, refl, ap, ◌∙◌, arith}
 use Rattle.std.proofs.lemmas.List.{append-nil}
 use Rattle.std.proofs.lemmas.List.Elements.{All-weaker}
 use Rattle.swap_core.specs.Plans.{Tables, IsPlan, window}
-use Rattle.swap_core.specs.States.{CoreState, newcomer}
+use Rattle.swap_core.specs.States.{newcomer}
 use Rattle.swap_core.specs.declared.actors.Actor.{Actor}
 use Rattle.swap_core.specs.Sound.{Sound, IsDrawRight, in_force}
 use Rattle.swap_core.proofs.Bounds.{few_records}

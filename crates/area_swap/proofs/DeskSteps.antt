@@ -1,5 +1,5 @@
 -- The steps of the desk, each as a step of the machine, or as none.
-use Rattle.std.proofs.Common.{◌≡◌, ◌≢◌, ℕ, ◌+◌, ◌*◌, ◌%◌, ◌^◌, ◌<◌, ◌≤◌, Bool, true, false, List, [], ◌∷◌, ◌++◌, length, set, slice_index, slice_index_or, subst, sym, refl, ap, ◌∙◌, arith, inl, inr}
+use Rattle.std.proofs.Common.{◌≡◌, ℕ, ◌+◌, ◌*◌, ◌%◌, ◌^◌, ◌<◌, ◌≤◌, true, false, List, [], ◌∷◌, ◌++◌, length, set, slice_index, subst, sym, refl, ap, ◌∙◌, arith, inl, inr}
 use mathlib.Core.Option.{some, none}
 use lib.ListN.{get_elem?}
 use Rattle.std.proofs.lemmas.Bool.{cases_eq, cases_lt}
@@ -7,7 +7,7 @@ use Rattle.std.proofs.lemmas.List.{length_push, get_or_push}
 use Rattle.atomic_table.specs.Table.{State, Allows, step}
 use Rattle.atomic_table.specs.Table as acts
 use Rattle.swap_core.specs.Plans.{Tables, table, width, window}
-use Rattle.swap_core.specs.States.{CoreState, area, count_of, spare, next_table, with_desk, written, published}
+use Rattle.swap_core.specs.States.{count_of, spare, next_table, with_desk, written, published}
 use Rattle.swap_core.specs.Sound.{Sound, IsWriting, IsAtWork}
 use Rattle.swap_core.specs.declared.actors.DeskState.{DeskState}
 use Rattle.swap_core.specs.declared.actors.DeskState.TheVariants.{Resting, Ready, Writing}

@@ -1,5 +1,5 @@
 -- What the steps of the desk make of its seat, from what each of them told.
-use Rattle.std.proofs.Common.{◌≡◌, ◌≢◌, ◌⊎◌, ℕ, ◌+◌, ◌*◌, ◌<◌, ◌≤◌, true, List, [], length, slice_index, subst, sym, refl, ap, ◌∙◌, arith, inl, inr}
+use Rattle.std.proofs.Common.{◌≡◌, ◌⊎◌, ℕ, ◌+◌, ◌*◌, ◌<◌, ◌≤◌, true, List, length, slice_index, subst, sym, refl, ap, ◌∙◌, arith, inl, inr}
 use mathlib.Core.Option.{none}
 use Rattle.atomic_table.specs.Table.{Allows, step}
 use Rattle.swap_core.specs.Plans.{Tables, width, window}
@@ -7,7 +7,6 @@ use Rattle.swap_core.specs.Sound.{IsWriting, IsAtWork}
 use Rattle.swap_core.specs.declared.actors.DeskState.{DeskState}
 use Rattle.swap_core.specs.declared.actors.DeskState.TheVariants.{Resting, Ready, Writing}
 use Rattle.area_swap.specs.declared.answers.Seen.{Seen}
-use Rattle.area_swap.specs.declared.board.View.{View}
 use Rattle.area_swap.specs.Views.{unpacked, reading, next_of, spare_of}
 use Rattle.area_swap.specs.Rule.{Ruled, Sees}
 use Rattle.area_swap.specs.Answers.{NoneDue, LaterDue, NowDue}

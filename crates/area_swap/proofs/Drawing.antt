@@ -1,16 +1,14 @@
 -- What the steps of a draw make of the seat, from what each of them told.
-use Rattle.std.proofs.Common.{◌≡◌, ◌≢◌, ℕ, ◌+◌, ◌*◌, ◌/◌, ◌%◌, ◌<◌, ◌≤◌, List, [], length, All, subst, sym, refl, ap, ◌∙◌, arith, inl, inr}
+use Rattle.std.proofs.Common.{◌≡◌, ◌≢◌, ℕ, ◌+◌, ◌%◌, ◌<◌, ◌≤◌, subst, sym, refl, ap, ◌∙◌, arith, inl, inr}
 use Rattle.swap_core.specs.Plans.{Tables, limit}
-use Rattle.swap_core.specs.declared.actors.ActorState.{ActorState}
 use Rattle.swap_core.specs.declared.actors.ActorState.TheVariants.{Idle, Holds}
 use Rattle.area_swap.specs.declared.answers.Seen.{Seen}
 use Rattle.area_swap.specs.declared.board.View.{View}
 use Rattle.area_swap.specs.Views.{packed, unpacked, reading, taking, held_version, IsUpTo}
 use Rattle.area_swap.specs.Rule.{Sees}
-use Rattle.area_swap.specs.Answers.{HasTaken, IsNotHeld, IsAtEnd, IsAtLimit, HasLost, read_twice}
+use Rattle.area_swap.specs.Answers.{HasTaken, IsNotHeld, IsAtEnd, IsAtLimit, HasLost}
 use Rattle.area_swap.specs.Told.{Stepped, Seated, Glanced, Drew}
 use Rattle.area_swap.specs.Values.{IsWorker, HoldsOne}
-use Rattle.area_swap.proofs.Packing.{up_to}
 
 pub pack_unpack : (n : ℕ) → packed (unpacked n) ≡ n
 pack_unpack n = omega arith

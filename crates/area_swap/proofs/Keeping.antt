@@ -1,5 +1,5 @@
 -- A step of one seat keeps the rule, where the state that it makes of the machine is sound and is shown.
-use Rattle.std.proofs.Common.{◌≡◌, ℕ, ◌+◌, ◌<◌, ◌≤◌, ◌≢◌, Bool, true, false, List, length, set, map, slice_index, sum_by, subst, sym, refl, ap, ◌∙◌, arith, inl, inr}
+use Rattle.std.proofs.Common.{◌≡◌, ℕ, ◌≢◌, Bool, true, false, List, set, slice_index, subst, sym, refl, ap, ◌∙◌, inl, inr}
 use Rattle.std.proofs.lemmas.List.{set-get_or, map-set}
 use mathlib.Core.Option.{some, some-injective}
 use lib.ListN.{get_elem?}

@@ -1,16 +1,15 @@
 -- What a board under the rule tells a seat that reads the version word.
-use Rattle.std.proofs.Common.{◌≡◌, ℕ, ◌+◌, ◌%◌, ◌<◌, ◌≤◌, ◌≢◌, ◌⊎◌, Bool, true, false, cond, nat_le, List, [], length, map, slice_index, sum_by, count_by, All, subst, sym, refl, ap, ◌∙◌, arith, inl, inr}
+use Rattle.std.proofs.Common.{◌≡◌, ℕ, ◌+◌, ◌<◌, ◌≤◌, ◌≢◌, ◌⊎◌, Bool, true, false, cond, nat_le, List, length, map, slice_index, sum_by, subst, sym, ap, ◌∙◌, arith, inl, inr}
 use mathlib.Core.Option.{some}
 use lib.ListN.{get_elem?}
-use Rattle.std.proofs.lemmas.Bool.{cases_eq, cases_lt}
+use Rattle.std.proofs.lemmas.Bool.{cases_lt}
 use Rattle.std.proofs.lemmas.List.Elements.{All-weaker}
 use Rattle.std.proofs.lemmas.List.Sums.{count_by-le-length}
 use Rattle.atomic_table.specs.Table.{State}
 use Rattle.swap_core.specs.Plans.{Tables, IsPlan, limit, window}
-use Rattle.swap_core.specs.States.{CoreState, IsActor, newcomer, count_of}
+use Rattle.swap_core.specs.States.{IsActor, newcomer, count_of}
 use Rattle.swap_core.specs.Sound.{Sound, HoldsRightly, IsAtWork, IsDrawRight, times, how_many, once_below, in_force}
 use Rattle.swap_core.specs.declared.actors.Actor.{Actor}
-use Rattle.swap_core.specs.declared.actors.ActorState.{ActorState}
 use Rattle.swap_core.specs.declared.actors.ActorState.TheVariants.{Holds}
 use Rattle.swap_core.specs.declared.actors.DeskState.{DeskState}
 use Rattle.swap_core.proofs.Bounds.{few_records, few_versions}

@@ -1,18 +1,16 @@
 -- The words at the beginning show the machine's opening.
-use Rattle.std.proofs.Common.{◌≡◌, ◌≢◌, ℕ, zero, suc, ◌+◌, ◌-◌, ◌*◌, ◌<◌, ◌≤◌, ◌⊎◌, Bool, true, List, [], ◌∷◌, ◌++◌, length, map, take, replicate, slice_index, slice_index_or, get_or, sum_by, subst, sym, refl, ap, ◌∙◌, arith, inl, inr, length-append}
+use Rattle.std.proofs.Common.{◌≡◌, ℕ, zero, suc, ◌+◌, ◌-◌, ◌*◌, ◌<◌, ◌≤◌, List, [], ◌∷◌, ◌++◌, length, take, replicate, slice_index, slice_index_or, get_or, subst, sym, refl, ap, ◌∙◌, arith, length-append}
 use mathlib.Core.Option.{some, some-injective, some-ne-none}
 use lib.ListN.{get_elem?}
-use Rattle.std.proofs.lemmas.Bool.{cases_lt}
-use Rattle.std.proofs.lemmas.List.{take_all, length-replicate, get_or-replicate, get_or_append_left, get_or-append_right}
+use Rattle.std.proofs.lemmas.List.{take_all, length-replicate}
 use Rattle.atomic_table.specs.Table as states
 use Rattle.swap_core.specs.Plans.{Tables, IsPlan, table, width}
-use Rattle.swap_core.specs.States.{opening, newcomer, row_of}
-use Rattle.swap_core.specs.declared.actors.DeskState.TheVariants.{Resting}
+use Rattle.swap_core.specs.States.{opening}
 use Rattle.swap_core.proofs.Begun.{opening_sound}
 use Rattle.swap_core.proofs.PlanLemmas.{table_fits}
 use Rattle.area_swap.specs.declared.board.View.{View}
 use Rattle.area_swap.specs.Views.{first_view, now_of}
-use Rattle.area_swap.specs.Rule.{Ruled, Fits, Laid, ShowsDesk}
+use Rattle.area_swap.specs.Rule.{Ruled, Fits, Laid}
 use Rattle.area_swap.proofs.Packing.{up_to}
 
 -- the words at the beginning

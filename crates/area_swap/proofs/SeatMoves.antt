@@ -1,15 +1,13 @@
 -- Seats are split and joined.
-use Rattle.std.proofs.Common.{◌≡◌, ◌≢◌, ℕ, ◌+◌, ◌-◌, ◌*◌, ◌/◌, ◌%◌, ◌<◌, ◌≤◌, ◌⊎◌, Bool, true, false, List, [], ◌∷◌, ◌++◌, length, set, map, max, sum_by, subst, sym, refl, ap, ◌∙◌, arith, inl, inr}
+use Rattle.std.proofs.Common.{◌≡◌, ◌≢◌, ℕ, ◌+◌, ◌%◌, ◌<◌, true, false, List, [], ◌∷◌, ◌++◌, length, set, map, sum_by, subst, sym, refl, ap, ◌∙◌, arith, inl, inr}
 use mathlib.Core.Option.{some, some-injective}
 use lib.ListN.{get_elem?}
-use Rattle.std.proofs.lemmas.Bool.{cases_eq}
 use Rattle.std.proofs.lemmas.List.{map-set, map-append, set_comm}
 use Rattle.std.proofs.lemmas.List.Sums.{sum_by_push}
 use Rattle.atomic_table.specs.Table.{State, Splits, Joins, opening}
-use Rattle.atomic_table.proofs.Lists.{at_map, at_set, at_snoc, at_longer, at_last, set_here, set_else, set_again}
+use Rattle.atomic_table.proofs.Lists.{at_set, at_snoc, at_longer, at_last, set_here, set_else, set_again}
 use Rattle.swap_core.specs.Plans.{Tables, IsPlan}
-use Rattle.swap_core.specs.States.{CoreState, IsActor, newcomer, joined_by_newcomer, merged}
-use Rattle.swap_core.specs.Sound.{Sound}
+use Rattle.swap_core.specs.States.{newcomer, joined_by_newcomer, merged}
 use Rattle.swap_core.specs.declared.actors.Actor.{Actor}
 use Rattle.swap_core.specs.declared.actors.ActorState.TheVariants.{Idle}
 use Rattle.swap_core.specs.declared.actors.DeskState.{DeskState}

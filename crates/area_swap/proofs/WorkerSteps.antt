@@ -1,5 +1,5 @@
 -- The steps of a worker's seat, each as a step of the machine, or as none.
-use Rattle.std.proofs.Common.{◌≡◌, ◌≢◌, ℕ, ◌+◌, ◌-◌, ◌*◌, ◌%◌, ◌^◌, ◌<◌, ◌≤◌, Bool, true, false, eqb, List, [], length, set, slice_index, subst, sym, refl, ap, ◌∙◌, arith, inl, inr, eq-eqb, ne_eqb}
+use Rattle.std.proofs.Common.{◌≡◌, ℕ, ◌+◌, ◌-◌, ◌*◌, ◌%◌, ◌^◌, ◌<◌, ◌≤◌, Bool, true, false, eqb, length, set, slice_index, subst, sym, refl, ap, ◌∙◌, arith, inl, inr, eq-eqb, ne_eqb}
 use prog.Atomic.{either}
 use mathlib.Core.Option.{some, none}
 use lib.ListN.{get_elem?}
@@ -7,9 +7,8 @@ use Rattle.std.proofs.lemmas.Bool.{cases_eq}
 use Rattle.atomic_table.specs.Table.{State, Me, Allows, step}
 use Rattle.atomic_table.specs.Table as acts
 use Rattle.swap_core.specs.Plans.{Tables, table, width, limit}
-use Rattle.swap_core.specs.States.{CoreState, IsActor, count_of, in_state, looked, entered, confirmed, gone, drawn}
-use Rattle.swap_core.specs.Sound.{Sound, HasClaimed, HoldsRightly}
-use Rattle.swap_core.specs.declared.actors.Actor.{Actor}
+use Rattle.swap_core.specs.States.{count_of, looked, entered, confirmed, gone, drawn}
+use Rattle.swap_core.specs.Sound.{HasClaimed, HoldsRightly}
 use Rattle.swap_core.specs.declared.actors.ActorState.{ActorState}
 use Rattle.swap_core.specs.declared.actors.ActorState.TheVariants.{Idle, Looked, Asks, Holds}
 use Rattle.swap_core.proofs.Bounds.{few_records}
@@ -18,12 +17,12 @@ use Rattle.swap_core.proofs.Moves.{looks_sound, enters_sound, confirms_sound, le
 use Rattle.swap_core.proofs.PlanLemmas.{table_fits}
 use Rattle.area_swap.specs.declared.answers.Seen.{Seen}
 use Rattle.area_swap.specs.declared.board.View.{View}
-use Rattle.area_swap.specs.Views.{now_of, packed, unpacked, acting, reading, taking, IsSeated, IsUpTo}
-use Rattle.area_swap.specs.Rule.{Ruled, Fits, Sees, ShowsWords}
+use Rattle.area_swap.specs.Views.{now_of, packed, unpacked, acting, reading, taking, IsUpTo}
+use Rattle.area_swap.specs.Rule.{Ruled, Fits}
 use Rattle.area_swap.specs.Told.{Seated, Glanced, LookedAt, Entered, Confirmed, LeftIt, ReadOne, Drew}
 use Rattle.area_swap.proofs.Packing.{up_to, laid_claims, laid_now, same_packed}
 use Rattle.area_swap.proofs.Keeping.{actor_at, same_actors, same_words, shows_desk, fits, seat_step, moment_after}
-use Rattle.area_swap.proofs.Learning.{sees_now, sees_word, unpacks, few_claims}
+use Rattle.area_swap.proofs.Learning.{sees_word, unpacks, few_claims}
 
 module _ (p : Tables) (s : State (Unit {0}) View) (r : Ruled p s) (id : ℕ) (v : View) (at : get_elem? s.views id ≡ some v) where
   -- a view that reads the version word fits

@@ -1,10 +1,8 @@
 -- What each answer says of the seat before the call and after it.
 use Rattle.std.specs.Prelude.{◌≡◌, ◌≢◌, ℕ, ◌+◌, ◌%◌, ◌<◌, ◌≤◌, [], ◌∷◌, ◌++◌, length, slice_index, All}
-use Rattle.swap_core.specs.Plans.{Tables, IsTableSize, table, width, window, limit}
-use Rattle.swap_core.specs.States.{in_state}
-use Rattle.swap_core.specs.declared.actors.ActorState.TheVariants.{Idle, Holds}
+use Rattle.swap_core.specs.Plans.{Tables, IsTableSize, window, limit}
+use Rattle.swap_core.specs.declared.actors.ActorState.TheVariants.{Holds}
 use Rattle.swap_core.specs.declared.actors.DeskState.TheVariants.{Resting, Ready, Writing}
-use Rattle.area_swap.specs.declared.answers.Seen.{Seen}
 use Rattle.area_swap.specs.declared.answers.Claim.{Claim}
 use Rattle.area_swap.specs.declared.answers.Claim.TheVariants as claim
 use Rattle.area_swap.specs.declared.answers.Draw.{Draw}

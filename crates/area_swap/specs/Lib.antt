@@ -1,5 +1,6 @@
 pub mod Answers
 pub mod Histories
+pub mod LongTables
 pub mod Reading
 pub mod Rule
 pub mod Told

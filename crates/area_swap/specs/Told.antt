@@ -1,14 +1,12 @@
 -- What each kind of step does to the seat that takes it, and tells it: of the step, the seat before, the word that it
 -- found and the seat after.
-use Rattle.std.specs.Prelude.{◌≡◌, ◌≢◌, ℕ, ◌+◌, ◌*◌, ◌%◌, ◌<◌, ◌≤◌, List, [], ◌∷◌, ◌++◌, length, slice_index, All}
+use Rattle.std.specs.Prelude.{◌≡◌, ◌≢◌, ℕ, ◌+◌, ◌*◌, ◌%◌, ◌<◌, ◌≤◌, [], ◌∷◌, ◌++◌, length, slice_index}
 use Rattle.atomic_table.specs.Table.{Me, Step}
-use Rattle.swap_core.specs.Plans.{table, width, window, limit}
-use Rattle.swap_core.specs.Sound.{HasClaimed}
+use Rattle.swap_core.specs.Plans.{table, width, window}
 use Rattle.swap_core.specs.declared.actors.ActorState.TheVariants.{Idle, Looked, Asks, Holds}
 use Rattle.swap_core.specs.declared.actors.DeskState.TheVariants.{Resting, Ready, Writing}
-use Rattle.area_swap.specs.declared.answers.Seen.{Seen}
 use Rattle.area_swap.specs.declared.board.View.{View}
-use Rattle.area_swap.specs.Views.{packed, unpacked, acting, reading, taking, next_of, spare_of}
+use Rattle.area_swap.specs.Views.{unpacked, acting, reading, taking}
 use Rattle.area_swap.specs.Rule.{Moment, Sees}
 
 abbrev pub Stepped : Type 0

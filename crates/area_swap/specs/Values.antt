@@ -1,7 +1,7 @@
 -- What contracts see of the areas and of a seat.
-use Rattle.std.specs.Prelude.{◌≡◌, ℕ, ◌+◌, ◌%◌, ◌<◌, ◌≤◌, ◌⊎◌, false, true, [], length}
+use Rattle.std.specs.Prelude.{◌≡◌, ℕ, ◌+◌, ◌%◌, ◌<◌, ◌≤◌, ◌⊎◌, false, true, length}
 use Rattle.atomic_table.specs.Seated.{TableId}
-use Rattle.swap_core.specs.Plans.{Tables, table}
+use Rattle.swap_core.specs.Plans.{Tables}
 use Rattle.swap_core.specs.States.{newcomer}
 use Rattle.swap_core.specs.Sound.{IsAtWork}
 use Rattle.swap_core.specs.declared.actors.ActorState.TheVariants.{Idle, Holds}

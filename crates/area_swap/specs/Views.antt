@@ -1,12 +1,10 @@
 -- What a seat knows, and how each of its moves changes that.
-use Rattle.std.specs.Prelude.{◌≡◌, ℕ, ◌+◌, ◌*◌, ◌/◌, ◌%◌, ◌<◌, ◌≤◌, ◌⊎◌, Bool, true, false, List, [], ◌∷◌, ◌++◌, length, max}
+use Rattle.std.specs.Prelude.{◌≡◌, ℕ, ◌+◌, ◌*◌, ◌/◌, ◌%◌, ◌<◌, ◌≤◌, ◌⊎◌, true, false, List, [], ◌∷◌, ◌++◌, length, max}
 use Rattle.swap_core.specs.Plans.{Tables, table}
 use Rattle.swap_core.specs.States.{CoreState, newcomer, in_state}
-use Rattle.swap_core.specs.declared.actors.Actor.{Actor}
 use Rattle.swap_core.specs.declared.actors.ActorState.{ActorState}
-use Rattle.swap_core.specs.declared.actors.ActorState.TheVariants.{Idle, Looked, Asks, Holds}
-use Rattle.swap_core.specs.declared.actors.DeskState.{DeskState}
-use Rattle.swap_core.specs.declared.actors.DeskState.TheVariants.{Resting, Ready, Writing}
+use Rattle.swap_core.specs.declared.actors.ActorState.TheVariants.{Holds}
+use Rattle.swap_core.specs.declared.actors.DeskState.TheVariants.{Resting}
 use Rattle.area_swap.specs.declared.answers.Seen.{Seen}
 use Rattle.area_swap.specs.declared.board.View.{View}
 

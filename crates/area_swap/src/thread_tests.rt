@@ -1,14 +1,13 @@
 // Seats in threads of their own, beside one another and beside the desk.
-ghost use Rattle.std.specs.Prelude.{◌≡◌, ◌%◌, ◌<◌, ◌≤◌, ◌⊎◌, ℕ, List, [], ◌∷◌, IfOk, length, map};
+ghost use Rattle.std.specs.Prelude.{◌≡◌, ◌%◌, ◌<◌, ◌≤◌, ◌⊎◌, IfOk, length};
 ghost use Rattle.std.specs.Thread.{IsSync};
-ghost use Rattle.swap_core.specs.Plans.{IsTableSize};
-ghost use Rattle.area_swap.specs.Values.{HasWholeShare, HoldsOne, IsIdle, IsOf, IsReady, IsResting};
+ghost use Rattle.area_swap.specs.LongTables.{IsLong};
+ghost use Rattle.area_swap.specs.Values.{HoldsOne, IsIdle, IsOf, IsReady, IsResting};
 ghost use Rattle.area_swap.specs.Views.{held_table};
 
 use crate::{Areas, Claim, Desk, Draw, Due, Quiet, WorkerSeat, prepare};
 use aftr_base::{OutOfMemory, WordList};
 use std::alloc::Global;
-use std::sync::Wait;
 use std::test::Fail;
 use std::thread::{Threads, join, yield_now};
 use swap_core::{Plan, Window};
@@ -42,11 +41,20 @@ fn table(alloc: Global, count: usize, word: u64) -> Result<WordList, OutOfMemory
     Ok(WordList::of(list))
 }
 
-// Draws under the held version, whose number each word has; false where another version comes first.
-fn draw_on(areas: &Areas, seat: &mut WorkerSeat, version: u32, end: u32, done: &mut Done) -> bool
+// Draws under the held version, whose number each word of its table has, and reads a word for each draw; false where
+// another version comes first. The table has at least `long` words.
+fn draw_on(
+    areas: &Areas,
+    seat: &mut WorkerSeat,
+    version: u32,
+    long: u32,
+    end: u32,
+    done: &mut Done,
+) -> bool
     requires areas { IsOf areas.now seat.old }
     requires holding { HoldsOne seat.old.known }
-    requires some { 0 < length (held_table seat.old.known) }
+    requires some { 0 < long }
+    requires long { long ≤ length (held_table seat.old.known) }
     ensures areas { IsOf areas.now seat.new }
     ensures holding { HoldsOne seat.new.known }
     ensures share { seat.new.known.share ≡ seat.old.known.share }
@@ -54,7 +62,7 @@ fn draw_on(areas: &Areas, seat: &mut WorkerSeat, version: u32, end: u32, done: &
     'turns: for _ in 0..TURNS {
         match areas.draw(seat, end) {
             Draw::Taken { number } => {
-                let right = areas.word(seat, 0) == u64::from(version);
+                let right = areas.word(seat, number % long) == u64::from(version);
                 *done = done.and(Done {
                     count: 1,
                     sum: u64::from(number),
@@ -70,9 +78,10 @@ fn draw_on(areas: &Areas, seat: &mut WorkerSeat, version: u32, end: u32, done: &
 }
 
 // Draws until the end.
-fn draw_all(areas: &Areas, mut seat: WorkerSeat, end: u32) -> (WorkerSeat, Done)
+fn draw_all(areas: &Areas, mut seat: WorkerSeat, long: u32, end: u32) -> (WorkerSeat, Done)
     requires areas { IsOf areas.now seat }
     requires idle { IsIdle seat.known }
+    requires long { IsLong long areas.now }
     ensures areas { IsOf areas.now result.0 }
     ensures idle { IsIdle result.0.known }
     ensures share { result.0.known.share ≡ seat.known.share }
@@ -84,7 +93,7 @@ fn draw_all(areas: &Areas, mut seat: WorkerSeat, end: u32) -> (WorkerSeat, Done)
     };
     'turns: for _ in 0..TURNS {
         if let Claim::Held { version } = areas.claim(&mut seat) {
-            let ended = draw_on(areas, &mut seat, version, end, &mut done);
+            let ended = draw_on(areas, &mut seat, version, long, end, &mut done);
             areas.leave(&mut seat);
             if ended {
                 break;
@@ -100,10 +109,12 @@ fn by_two<R: Threads + Sync>(
     rt: &R,
     areas: &Areas,
     mut seat: WorkerSeat,
+    long: u32,
     end: u32,
 ) -> (WorkerSeat, Done)
     requires areas { IsOf areas.now seat }
     requires idle { IsIdle seat.known }
+    requires long { IsLong long areas.now }
     requires even { seat.known.share % 2 ≡ 0 }
     ensures areas { IsOf areas.now result.0 }
     ensures idle { IsIdle result.0.known }
@@ -113,13 +124,13 @@ fn by_two<R: Threads + Sync>(
     let (mut one, two) = join(
         rt,
         || -> (WorkerSeat, Done)
-            requires { IsOf areas.now seat × IsIdle seat.known }
+            requires { IsOf areas.now seat × (IsIdle seat.known × IsLong long areas.now) }
             ensures { IsOf areas.entry.now result.0 × (IsIdle result.0.known × (result.0.known.share ≡ seat.known.share)) }
-        { draw_all(areas, seat, end) },
+        { draw_all(areas, seat, long, end) },
         || -> (WorkerSeat, Done)
-            requires { IsOf areas.now other × IsIdle other.known }
+            requires { IsOf areas.now other × (IsIdle other.known × IsLong long areas.now) }
             ensures { IsOf areas.entry.now result.0 × (IsIdle result.0.known × (result.0.known.share ≡ other.known.share)) }
-        { draw_all(areas, other, end) },
+        { draw_all(areas, other, long, end) },
     );
     areas.join(&mut one.0, two.0);
     (one.0, one.1.and(two.1))
@@ -130,10 +141,12 @@ fn by_four<R: Threads + Sync>(
     rt: &R,
     areas: &Areas,
     mut seat: WorkerSeat,
+    long: u32,
     end: u32,
 ) -> (WorkerSeat, Done)
     requires areas { IsOf areas.now seat }
     requires idle { IsIdle seat.known }
+    requires long { IsLong long areas.now }
     requires fourfold { seat.known.share % 4 ≡ 0 }
     ensures areas { IsOf areas.now result.0 }
     ensures idle { IsIdle result.0.known }
@@ -143,13 +156,13 @@ fn by_four<R: Threads + Sync>(
     let (mut one, two) = join(
         rt,
         || -> (WorkerSeat, Done)
-            requires { IsSync R.row × (IsOf areas.now seat × (IsIdle seat.known × (seat.known.share % 2 ≡ 0))) }
+            requires { IsSync R.row × (IsOf areas.now seat × (IsIdle seat.known × ((seat.known.share % 2 ≡ 0) × IsLong long areas.now))) }
             ensures { IsOf areas.entry.now result.0 × (IsIdle result.0.known × (result.0.known.share ≡ seat.known.share)) }
-        { by_two(rt, areas, seat, end) },
+        { by_two(rt, areas, seat, long, end) },
         || -> (WorkerSeat, Done)
-            requires { IsSync R.row × (IsOf areas.now other × (IsIdle other.known × (other.known.share % 2 ≡ 0))) }
+            requires { IsSync R.row × (IsOf areas.now other × (IsIdle other.known × ((other.known.share % 2 ≡ 0) × IsLong long areas.now))) }
             ensures { IsOf areas.entry.now result.0 × (IsIdle result.0.known × (result.0.known.share ≡ other.known.share)) }
-        { by_two(rt, areas, other, end) },
+        { by_two(rt, areas, other, long, end) },
     );
     areas.join(&mut one.0, two.0);
     (one.0, one.1.and(two.1))
@@ -184,10 +197,12 @@ fn by_five<R: Threads + Sync>(
     areas: &Areas,
     seat: WorkerSeat,
     desk: Desk,
+    long: u32,
     end: u32,
 ) -> (WorkerSeat, Done, Desk)
     requires areas { IsOf areas.now seat × IsOf areas.now desk }
     requires idle { IsIdle seat.known }
+    requires long { IsLong long areas.now }
     requires fourfold { seat.known.share % 4 ≡ 0 }
     requires resting { IsResting desk.known }
     ensures areas { IsOf areas.now result.0 × IsOf areas.now result.2 }
@@ -197,9 +212,9 @@ fn by_five<R: Threads + Sync>(
     let (drawn, desk) = join(
         rt,
         || -> (WorkerSeat, Done)
-            requires { IsSync R.row × (IsOf areas.now seat × (IsIdle seat.known × (seat.known.share % 4 ≡ 0))) }
+            requires { IsSync R.row × (IsOf areas.now seat × (IsIdle seat.known × ((seat.known.share % 4 ≡ 0) × IsLong long areas.now))) }
             ensures { IsOf areas.entry.now result.0 × (IsIdle result.0.known × (result.0.known.share ≡ seat.known.share)) }
-        { by_four(rt, areas, seat, end) },
+        { by_four(rt, areas, seat, long, end) },
         || -> Desk
             requires { IsOf areas.now desk × IsResting desk.known }
             ensures { IsOf areas.entry.now result }
@@ -212,7 +227,7 @@ fn by_five<R: Threads + Sync>(
 fn four_seats_draw_each_number_once(rt: HostRuntime) -> Result<(), Fail> {
     let plan = Plan::of(rt.alloc(), table(rt.alloc(), 4, 0)?)?;
     let (areas, seat, desk) = prepare(rt.alloc(), plan)?;
-    let (mut seat, done) = by_four(&rt, &areas, seat, 1_000);
+    let (mut seat, done) = by_four(&rt, &areas, seat, 4, 1_000);
     assert_eq!(rt;
         (areas.tally(&mut seat), done),
         (
@@ -243,7 +258,7 @@ fn four_seats_draw_beside_the_desk(rt: HostRuntime) -> Result<(), Fail> {
     plan.add(first, table(rt.alloc(), 1_000, 1)?)?;
     plan.add(second, table(rt.alloc(), 1_000, 2)?)?;
     let (areas, seat, desk) = prepare(rt.alloc(), plan)?;
-    let (seat, done, desk) = by_five(&rt, &areas, seat, desk, 20_000);
+    let (seat, done, desk) = by_five(&rt, &areas, seat, desk, 1_000, 20_000);
     let all = Done {
         count: 20_000,
         sum: 199_990_000,

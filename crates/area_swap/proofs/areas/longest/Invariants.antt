@@ -1,4 +1,4 @@
-use Rattle.std.proofs.Common.{◌≡◌, ◌≤◌, ℕ, List, max, length, take, fold}
+use Rattle.std.proofs.Common.{◌≡◌, ℕ, List, max, length, take, fold}
 use Rattle.area_swap.proofs.areas.longest.Given as goal
 
 abbrev pub invariant-tables : goal.invariant-tables

@@ -1,4 +1,4 @@
-use Rattle.std.proofs.Common.{◌≡◌, ℕ, ◌<◌}
+use Rattle.std.proofs.Common.{◌≡◌, ◌<◌}
 use Rattle.area_swap.specs.Rule.{Moment}
 use Rattle.area_swap.proofs.Deskwork.{writing_at}
 use Rattle.area_swap.proofs.desk.write_words.Given as goal

@@ -1,7 +1,6 @@
-use Rattle.std.proofs.Common.{rules, arith, ◌≡◌, ◌≢◌, ◌%◌, ℕ, ◌<◌, ◌∙◌, sym, ap, subst, inl}
-use Rattle.swap_core.specs.declared.actors.ActorState.TheVariants.{Idle, Looked, Asks}
+use Rattle.std.proofs.Common.{rules, arith, ◌≡◌, ◌≢◌, ◌%◌, ◌∙◌, sym, ap, subst, inl}
+use Rattle.swap_core.specs.declared.actors.ActorState.TheVariants.{Looked, Asks}
 use Rattle.area_swap.specs.declared.answers.Seen.{Seen}
-use Rattle.area_swap.specs.declared.board.View.{View}
 use Rattle.area_swap.specs.Answers.{HasMoved, HoldsNow}
 use Rattle.area_swap.specs.Values.{SeatValue}
 use Rattle.area_swap.specs.Views.{unpacked}

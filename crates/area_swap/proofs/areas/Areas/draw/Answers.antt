@@ -1,10 +1,9 @@
-use Rattle.std.proofs.Common.{rules, arith, ◌≡◌, ◌<◌, ◌∙◌, ◌%◌, ◌+◌, ◌*◌, ℕ, length, ap, inr, subst, sym, refl}
-use Rattle.swap_core.specs.Plans.{Tables, limit}
+use Rattle.std.proofs.Common.{rules, arith, ◌≡◌, ◌∙◌, subst, sym, refl}
 use Rattle.area_swap.specs.Answers.{HasLost, HasTaken}
 use Rattle.area_swap.specs.Values.{AreasValue, SeatValue, HoldsOne}
 use Rattle.area_swap.specs.Views.{held_version}
 use Rattle.area_swap.proofs.Belonging.{knows_plan}
-use Rattle.area_swap.proofs.Drawing.{held_is, glanced_plan, glanced_share, glanced_word, room_after, small_after, lost_is, taken_is, at_limit, at_end, not_held}
+use Rattle.area_swap.proofs.Drawing.{held_is, glanced_plan, glanced_share, glanced_word, room_after, small_after, lost_is, taken_is}
 use Rattle.area_swap.proofs.WorkerSteps.{glances, draws}
 use Rattle.area_swap.proofs.areas.Areas.draw.Goals as goal
 

@@ -1,4 +1,4 @@
-use Rattle.std.proofs.Common.{rules, arith, ◌≡◌, ◌+◌, ◌<◌, ◌≤◌, ◌⊎◌, ℕ, length, ◌∙◌, ap, sym, subst}
+use Rattle.std.proofs.Common.{rules, arith, ◌≡◌, ◌+◌, ◌<◌, ◌≤◌, ◌⊎◌, length, ◌∙◌, ap, sym, subst}
 use Rattle.swap_core.specs.Plans.{Tables, window}
 use Rattle.swap_core.specs.declared.plan.Window.{Window}
 use Rattle.area_swap.specs.Answers.{NoneDue, LaterDue, NowDue}

@@ -1,4 +1,4 @@
-use Rattle.std.proofs.Common.{rules, arith, ◌∙◌, ◌%◌, ap, inr, subst, sym}
+use Rattle.std.proofs.Common.{rules, arith, ◌%◌, inr, subst, sym}
 use Rattle.area_swap.specs.Values.{SeatValue, HoldsOne}
 use Rattle.area_swap.proofs.Belonging.{knows_plan}
 use Rattle.area_swap.proofs.Drawing.{holds_it}

@@ -1,4 +1,4 @@
-use Rattle.std.proofs.Common.{rules, arith, ◌≡◌, ◌∙◌, ap, sym, subst}
+use Rattle.std.proofs.Common.{rules, arith, sym, subst}
 use Rattle.area_swap.specs.Values.{SeatValue, IsFull}
 use Rattle.area_swap.proofs.Belonging.{knows_plan}
 use Rattle.area_swap.proofs.DeskSteps.{publishes}

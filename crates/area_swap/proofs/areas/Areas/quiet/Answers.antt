@@ -1,4 +1,4 @@
-use Rattle.std.proofs.Common.{rules, arith, ◌≡◌, ◌+◌, ◌%◌, ℕ, List, length, ◌∙◌, ap, sym, subst}
+use Rattle.std.proofs.Common.{rules, arith, ◌≡◌, ◌+◌, ◌%◌, ℕ, List, length, ap, sym, subst}
 use Rattle.area_swap.specs.Values.{SeatValue, IsReady}
 use Rattle.area_swap.specs.Views.{spare_of}
 use Rattle.area_swap.proofs.Belonging.{knows_plan}

@@ -1,5 +1,5 @@
-use Rattle.std.proofs.Common.{rules, arith, ◌≡◌, ◌<◌, ◌∙◌, ◌%◌, ◌+◌, ◌*◌, ◌≤◌, ℕ, length, ap, inr, subst, sym}
-use Rattle.swap_core.specs.Plans.{Tables, table, width}
+use Rattle.std.proofs.Common.{rules, arith, ◌≡◌, ◌<◌, ◌∙◌, ◌%◌, ◌≤◌, length, ap, subst, sym}
+use Rattle.swap_core.specs.Plans.{width}
 use Rattle.swap_core.proofs.PlanLemmas.{table_fits}
 use Rattle.area_swap.specs.Values.{SeatValue, HoldsOne}
 use Rattle.area_swap.specs.Views.{held_table, held_version}

@@ -1,4 +1,4 @@
-use Rattle.std.proofs.Common.{rules, arith, ◌≡◌, ◌+◌, ◌*◌, ◌%◌, ◌<◌, ◌≤◌, ◌∙◌, ℕ, List, [], length, ap, sym, subst}
+use Rattle.std.proofs.Common.{arith, ◌≡◌, ◌+◌, ◌%◌, ◌<◌, ◌≤◌, ◌∙◌, ℕ, List, [], length, ap, sym, subst}
 use Rattle.swap_core.specs.Plans.{Tables, IsTableSize, table, width}
 use Rattle.swap_core.specs.Sound.{IsAtWork}
 use Rattle.swap_core.specs.declared.actors.DeskState.{DeskState}
