@@ -1,0 +1,90 @@
+-- What the steps of the desk make of its seat, from what each of them told.
+use Rattle.std.proofs.Common.{◌≡◌, ◌⊎◌, ℕ, ◌+◌, ◌*◌, ◌<◌, ◌≤◌, true, List, length, slice_index, subst, sym, refl, ap, ◌∙◌, arith, inl, inr}
+use mathlib.Core.Option.{none}
+use Rattle.atomic_table.specs.Table.{Allows, step}
+use Rattle.swap_core.specs.Plans.{Tables, width, window}
+use Rattle.swap_core.specs.Sound.{IsWriting, IsAtWork}
+use Rattle.swap_core.specs.declared.actors.DeskState.{DeskState}
+use Rattle.swap_core.specs.declared.actors.DeskState.TheVariants.{Resting, Ready, Writing}
+use Rattle.area_swap.specs.declared.answers.Seen.{Seen}
+use Rattle.area_swap.specs.Views.{unpacked, reading, next_of, spare_of}
+use Rattle.area_swap.specs.Rule.{Ruled, Sees}
+use Rattle.area_swap.specs.Answers.{NoneDue, LaterDue, NowDue}
+use Rattle.area_swap.specs.Told.{Stepped, Seated, FoundDue, Wrote}
+use Rattle.area_swap.proofs.DeskSteps.{writes_word}
+
+-- who rests or is ready does not write
+pub not_writing : (d : DeskState) → (d ≡ Resting) ⊎ (d ≡ Ready) → IsWriting d → ⊥
+not_writing d (inl e) w = let P : DeskState → Type 0 = IsWriting in subst P e w
+not_writing d (inr e) w = let P : DeskState → Type 0 = IsWriting in subst P e w
+
+module _ {st : Stepped} {m0 m1 : Seated} {n : ℕ} (k : FoundDue st m0 n m1) (s : Seen) (es : s ≡ unpacked n) where
+  due_sees : Sees m0.0 s
+  due_sees = subst (Sees m0.0) (sym es) k.sees
+
+  stays_view : m1 ≡ (reading m0.0 (unpacked n), m0.1) → m1 ≡ (reading m0.0 s, m0.1)
+  stays_view e = e ∙ ap (λ (t : Seen). (reading m0.0 t, m0.1)) (sym es)
+
+  last_version : length m0.0.plan.tables ≤ s.version + 1 → length m0.0.plan.tables ≤ (unpacked n).version + 1
+  last_version l = let P : Seen → Type 0 = λ t. length m0.0.plan.tables ≤ t.version + 1 in subst P es l
+
+  more_versions : s.version + 1 < length m0.0.plan.tables → (unpacked n).version + 1 < length m0.0.plan.tables
+  more_versions l = let P : Seen → Type 0 = λ t. t.version + 1 < length m0.0.plan.tables in subst P es l
+
+  -- who is ready has a next table, whose window is reached
+  ready_next : m0.0.has_desk ≡ true → m0.0.desk ≡ Ready
+      → (s.version + 1 < length m0.0.plan.tables) × ((window m0.0.plan (s.version + 1)).earliest ≤ s.records)
+  ready_next has ready =
+      let P : DeskState → Type 0 = IsAtWork in
+      due_sees.next has (subst P (sym ready) tt)
+
+  pub none_is : m0.0.has_desk ≡ true → (m0.0.desk ≡ Resting) ⊎ (m0.0.desk ≡ Ready) → length m0.0.plan.tables ≤ s.version + 1
+      → NoneDue m0.0.plan m0.0 m1.0
+  none_is has phase last =
+      let rests : m0.0.desk ≡ Resting = elim phase [ inl e ↦ e | inr e ↦ absurd (omega (arith, (ready_next has e).0)) ] in
+      let P : Seated → Type 0 = λ m. NoneDue m0.0.plan m0.0 m.0 in
+      subst P (sym (stays_view (k.none (last_version last)))) (record { after = refl; last = last; rests = rests; sees = due_sees })
+
+  pub later_is : m0.0.has_desk ≡ true → (m0.0.desk ≡ Resting) ⊎ (m0.0.desk ≡ Ready) → s.version + 1 < length m0.0.plan.tables
+      → (earliest : ℕ) → earliest ≡ (window m0.0.plan (s.version + 1)).earliest → s.records < earliest
+      → LaterDue m0.0.plan s.records earliest m0.0 m1.0
+  later_is has phase more earliest e few =
+      let rests : m0.0.desk ≡ Resting = elim phase [ inl h ↦ h | inr ready ↦ absurd (omega (arith, (ready_next has ready).1)) ] in
+      let P : Seated → Type 0 = λ m. LaterDue m0.0.plan s.records earliest m0.0 m.0 in
+      let F : Seen → Type 0 = λ t. t.records < (window m0.0.plan (t.version + 1)).earliest in
+      let too_few : (unpacked n).records < (window m0.0.plan ((unpacked n).version + 1)).earliest = subst F es (omega arith) in
+      subst P (sym (stays_view (k.later (more_versions more) too_few)))
+      (record { after = refl; more = more; read = refl; wants = sym e; too_few = few; rests = rests; sees = due_sees })
+
+  pub now_is : s.version + 1 < length m0.0.plan.tables → (window m0.0.plan (s.version + 1)).earliest ≤ s.records → NowDue m0.0.plan m0.0 m1.0
+  now_is more reached =
+      let P : Seated → Type 0 = λ m. NowDue m0.0.plan m0.0 m.0 in
+      let F : Seen → Type 0 = λ t. (window m0.0.plan (t.version + 1)).earliest ≤ t.records in
+      let view : m1 ≡ (record (reading m0.0 s) { desk = Ready }, m0.1) =
+      k.ready (more_versions more) (subst F es reached) ∙ ap (λ (t : Seen). (record (reading m0.0 t) { desk = Ready }, m0.1)) (sym es) in
+      subst P (sym view) (record { after = refl; more = more; reached = reached; sees = due_sees })
+
+-- the desk writes at this word
+abbrev pub writing_at : Seated → ℕ → Seated
+writing_at m j = (record m.0 { desk = Writing j }, m.1)
+
+pub may_write : (p : Tables) (slots id : ℕ) (m0 me : Seated) (j row x : ℕ) (words : List ℕ) → me ≡ writing_at m0 j → m0.0.plan ≡ p
+    → m0.0.has_desk ≡ true → words ≡ next_of m0.0 → j < length words → row ≡ 3 + spare_of m0.0 * width m0.0.plan
+    → x ≡ slice_index words j
+    → Allows (Ruled p) slots id me (row + j) (λ _. x) (λ _. Wrote (step slots (row + j) x 0 none) me x)
+may_write p slots id m0 me j row x words e plan has next more place word =
+    let P : Seated → Type 0 = λ m. Allows (Ruled p) slots id m (row + j) (λ _. x) (λ _. Wrote (step slots (row + j) x 0 none) m x) in
+    let inside : j < length (next_of m0.0) = omega (arith, ap (λ (l : List ℕ). length l) next) in
+    subst P (sym e)
+    (writes_word p slots id (writing_at m0 j) plan has j (row + j) x refl inside (ap (λ (k : ℕ). k + j) place)
+    (word ∙ ap (λ (l : List ℕ). slice_index l j) next))
+
+same_writing : (d : DeskState) (i j : ℕ) → d ≡ Writing i → d ≡ Writing j → i ≡ j
+same_writing d i j e k = let both : Writing i ≡ Writing j = sym e ∙ k in cc
+
+pub written_view : {st : Stepped} {me after : Seated} {n : ℕ} (m0 : Seated) (j : ℕ) → Wrote st me n after → me ≡ writing_at m0 j
+    → after ≡ writing_at m0 (j + 1)
+written_view {st} {me} {after} m0 j k e =
+    let same : k.words ≡ j = same_writing me.0.desk k.words j k.was (ap (λ (m : Seated). m.0.desk) e) in
+    k.after ∙ ap (λ (i : ℕ). (record me.0 { desk = Writing (i + 1) }, me.1)) same
+    ∙ ap (λ (m : Seated). (record m.0 { desk = Writing (j + 1) }, m.1)) e

@@ -1,0 +1,145 @@
+-- What the steps of a draw make of the seat, from what each of them told.
+use Rattle.std.proofs.Common.{◌≡◌, ◌≢◌, ℕ, ◌+◌, ◌%◌, ◌<◌, ◌≤◌, subst, sym, refl, ap, ◌∙◌, arith, inl, inr}
+use Rattle.swap_core.specs.Plans.{Tables, limit}
+use Rattle.swap_core.specs.declared.actors.ActorState.TheVariants.{Idle, Holds}
+use Rattle.area_swap.specs.declared.answers.Seen.{Seen}
+use Rattle.area_swap.specs.declared.board.View.{View}
+use Rattle.area_swap.specs.Views.{packed, unpacked, reading, taking, held_version, IsUpTo}
+use Rattle.area_swap.specs.Rule.{Sees}
+use Rattle.area_swap.specs.Answers.{HasTaken, IsNotHeld, IsAtEnd, IsAtLimit, HasLost}
+use Rattle.area_swap.specs.Told.{Stepped, Seated, Glanced, Drew}
+use Rattle.area_swap.specs.Values.{IsWorker, HoldsOne}
+
+pub pack_unpack : (n : ℕ) → packed (unpacked n) ≡ n
+pack_unpack n = omega arith
+
+-- what the seat keeps of the version is what it holds
+pub held_is : (v : View) (held : ℕ) → IsWorker v held → HoldsOne v → held_version v ≡ held
+held_is v held w holds =
+    elim w.state [
+      | inl idle ↦ absurd (let is : Idle ≡ Holds (held_version v % 2) (held_version v) = sym idle ∙ holds in cc)
+      | inr e ↦ let is : Holds (held % 2) held ≡ Holds (held_version v % 2) (held_version v) = sym e ∙ holds in cc
+    ]
+
+module _ {st1 : Stepped} {m0 m1 : Seated} {n1 : ℕ} (k1 : Glanced st1 m0 n1 m1) (s : Seen) (es : s ≡ unpacked n1) where
+  pub glanced_view : m1 ≡ (reading m0.0 s, m0.1)
+  glanced_view = k1.after ∙ ap (λ (t : Seen). (reading m0.0 t, m0.1)) (sym es)
+
+  pub glanced_sees : Sees m0.0 s
+  glanced_sees = subst (Sees m0.0) (sym es) k1.sees
+
+  pub glanced_plan : m1.0.plan ≡ m0.0.plan
+  glanced_plan = ap (λ (m : Seated). m.0.plan) glanced_view
+
+  pub glanced_share : 0 < m0.0.share → 0 < m1.0.share
+  glanced_share l = let P : Seated → Type 0 = λ m. 0 < m.0.share in subst P (sym glanced_view) l
+
+  pub glanced_word : packed m1.0.seen ≡ n1
+  glanced_word = ap (λ (m : Seated). packed m.0.seen) glanced_view ∙ ap packed es ∙ pack_unpack n1
+
+  pub not_held : (held : ℕ) → s.version ≢ held → IsNotHeld s.version held m0.0 m1.0
+  not_held held other =
+      let P : Seated → Type 0 = λ m. IsNotHeld s.version held m0.0 m.0 in
+      subst P (sym glanced_view) (record { after = refl; version = refl; other = other; sees = glanced_sees })
+
+  pub at_end : (end held : ℕ) → s.version ≡ held → end ≤ s.records → IsAtEnd end held m0.0 m1.0
+  at_end end held same l =
+      let P : Seated → Type 0 = λ m. IsAtEnd end held m0.0 m.0 in
+      subst P (sym glanced_view) (record { after = refl; in_force = same; reached = l; sees = glanced_sees })
+
+  pub at_limit : (p : Tables) (end most held : ℕ) → s.version ≡ held → s.records < end → most ≡ limit p s.version → s.records ≡ most
+      → IsAtLimit p end most held m0.0 m1.0
+  at_limit p end most held same l e here =
+      let P : Seated → Type 0 = λ m. IsAtLimit p end most held m0.0 m.0 in
+      subst P (sym glanced_view)
+      (record {
+        after = refl;
+        in_force = same;
+        below_end = l;
+        limit_is = ap (λ (w : ℕ). limit p w) (sym same) ∙ sym e;
+        reached = here;
+        sees = glanced_sees;
+      })
+
+  -- there is room below the limit
+  pub below_limit : (p : Tables) (most : ℕ) → m0.0.plan ≡ p → most ≡ limit p s.version → s.records ≢ most → s.records < limit p s.version
+  below_limit p most plan e other =
+      let Within : Tables → Type 0 = λ q. s.records ≤ limit q s.version in
+      let within : s.records ≤ limit p s.version = subst Within plan glanced_sees.within in
+      omega arith
+
+  pub room_after : (p : Tables) (most : ℕ) → m0.0.plan ≡ p → most ≡ limit p s.version → s.records ≢ most
+      → m1.0.seen.records < limit m1.0.plan m1.0.seen.version
+  room_after p most plan e other =
+      let P : Seated → Type 0 = λ m. m.0.seen.records < limit m.0.plan m.0.seen.version in
+      let Room : Tables → Type 0 = λ q. s.records < limit q s.version in
+      subst P (sym glanced_view) (subst Room (sym plan) (below_limit p most plan e other))
+
+  pub small_after : m1.0.seen.records < 4294967296
+  small_after =
+      let P : Seated → Type 0 = λ m. m.0.seen.records < 4294967296 in
+      subst P (sym glanced_view) (omega (arith, glanced_sees.small))
+
+  pub no_wrap : n1 + 1 < 18446744073709551616
+  no_wrap =
+      let word : packed s ≡ n1 = ap packed es ∙ pack_unpack n1 in
+      omega (arith, glanced_sees.small, glanced_sees.few)
+
+  module _ {st2 : Stepped} {m2 : Seated} {n2 : ℕ} (k2 : Drew st2 m1 n2 m2) where
+    taken_view : st2.first ≡ n1 → n2 ≡ n1 → m2 ≡ (taking (reading (reading m0.0 s) s) s.records s.version, m0.1)
+    taken_view first hit =
+        let same : unpacked n2 ≡ s = ap unpacked hit ∙ sym es in
+        k2.taken (hit ∙ sym first)
+        ∙ ap (λ (t : Seen). (taking (reading m1.0 t) t.records t.version, m1.1)) same
+        ∙ ap (λ (m : Seated). (taking (reading m.0 s) s.records s.version, m.1)) glanced_view
+
+    pub taken_is : (p : Tables) (end held most : ℕ) → m0.0.plan ≡ p → st2.first ≡ n1 → n2 ≡ n1 → s.version ≡ held → s.records < end
+        → most ≡ limit p s.version → s.records ≢ most → HasTaken p end s.records held m0.0 m2.0
+    taken_is p end held most plan first hit same l e other =
+        let twice : m0.0.looks + 1 + 1 ≡ m0.0.looks + 2 = omega arith in
+        let P : Seated → Type 0 = λ m. HasTaken p end s.records held m0.0 m.0 in
+        let Room : ℕ → Type 0 = λ w. s.records < limit p w in
+        subst P (sym (taken_view first hit))
+        (record {
+          after = λ i. record (taking (reading (reading m0.0 s) s) s.records (same i)) { looks = twice i };
+          in_force = same;
+          is_next = refl;
+          same = refl;
+          below_end = l;
+          below_limit = subst Room same (below_limit p most plan e other);
+          earlier = glanced_sees.later;
+          drawn = glanced_sees.drawn;
+        })
+
+    lost_view : n2 ≢ st2.first → m2 ≡ (reading (reading m0.0 s) (unpacked n2), m0.1)
+    lost_view missed = k2.lost missed ∙ ap (λ (m : Seated). (reading m.0 (unpacked n2), m.1)) glanced_view
+
+    later_sees : Sees (reading m0.0 s) (unpacked n2)
+    later_sees = let P : Seated → Type 0 = λ m. Sees m.0 (unpacked n2) in subst P glanced_view k2.sees
+
+    pub lost_is : (p : Tables) (end held most : ℕ) → m0.0.plan ≡ p → st2.first ≡ n1 → n2 ≢ n1 → s.version ≡ held → s.records < end
+        → most ≡ limit p s.version → s.records ≢ most → HasLost p end n1 n2 held m0.0 m2.0
+    lost_is p end held most plan first missed same l e other =
+        let twice : m0.0.looks + 1 + 1 ≡ m0.0.looks + 2 = omega arith in
+        let P : Seated → Type 0 = λ m. HasLost p end n1 n2 held m0.0 m.0 in
+        let Room : ℕ → Type 0 = λ w. s.records < limit p w in
+        let word : packed s ≡ n1 = ap packed es ∙ pack_unpack n1 in
+        let found : packed (unpacked n2) ≡ n2 = pack_unpack n2 in
+        let later : IsUpTo s (unpacked n2) = later_sees.later in
+        subst P (sym (lost_view (λ h. missed (h ∙ first))))
+        (record {
+          after = λ i. record (reading (reading m0.0 s) (unpacked n2)) { looks = twice i };
+          first = word;
+          second = found;
+          in_force = same;
+          below_end = l;
+          below_limit = subst Room same (below_limit p most plan e other);
+          rises = omega (arith, later.version, later.records);
+          earlier = glanced_sees.later;
+          later = later;
+          drawn = glanced_sees.drawn;
+        })
+
+-- the state of a holding seat, by the version that it keeps
+pub holds_it : (v : View) (held : ℕ) → IsWorker v held → HoldsOne v → v.actor.state ≡ Holds (held % 2) held
+holds_it v held w holds = holds ∙ ap (λ (n : ℕ). Holds (n % 2) n) (held_is v held w holds)

@@ -1,0 +1,13 @@
+pub mod Members
+pub mod Packing
+pub mod Keeping
+pub mod Learning
+pub mod WorkerSteps
+pub mod Opening
+pub mod SeatMoves
+pub mod Claiming
+pub mod Belonging
+pub mod Drawing
+pub mod DeskSteps
+pub mod Deskwork
+pub mod Closing

@@ -1,0 +1,124 @@
+-- The words at the beginning show the machine's opening.
+use Rattle.std.proofs.Common.{◌≡◌, ℕ, zero, suc, ◌+◌, ◌-◌, ◌*◌, ◌<◌, ◌≤◌, List, [], ◌∷◌, ◌++◌, length, take, replicate, slice_index, slice_index_or, get_or, subst, sym, refl, ap, ◌∙◌, arith, length-append}
+use mathlib.Core.Option.{some, some-injective, some-ne-none}
+use lib.ListN.{get_elem?}
+use Rattle.std.proofs.lemmas.List.{take_all, length-replicate}
+use Rattle.atomic_table.specs.Table as states
+use Rattle.swap_core.specs.Plans.{Tables, IsPlan, table, width}
+use Rattle.swap_core.specs.States.{opening}
+use Rattle.swap_core.proofs.Begun.{opening_sound}
+use Rattle.swap_core.proofs.PlanLemmas.{table_fits}
+use Rattle.area_swap.specs.declared.board.View.{View}
+use Rattle.area_swap.specs.Views.{first_view, now_of}
+use Rattle.area_swap.specs.Rule.{Ruled, Fits, Laid}
+use Rattle.area_swap.proofs.Packing.{up_to}
+
+-- the words at the beginning
+abbrev pub first_words : Tables → List ℕ
+first_words p = (replicate 3 0 ++ table p 0) ++ replicate (3 + 2 * width p - length (replicate 3 0 ++ table p 0)) 0
+
+zeros_at : (n j : ℕ) → let none : ℕ = 0 in get_or (replicate n none) j none ≡ none
+zeros_at zero j = refl
+zeros_at (suc n) zero = refl
+zeros_at (suc n) (suc j) = zeros_at n j
+
+-- past the first row's words there are zeros, and before them too
+row_zero : (t : List ℕ) (m n j : ℕ) → slice_index (t ++ replicate m 0) j ≡ slice_index (t ++ replicate n 0) j
+row_zero [] m n j = zeros_at m j ∙ sym (zeros_at n j)
+row_zero (x ∷ t) m n zero = refl
+row_zero (x ∷ t) m n (suc j) = row_zero t m n j
+
+past : (t : List ℕ) (m j : ℕ) → length t ≤ j → slice_index (t ++ replicate m 0) j ≡ 0
+past [] m j l = zeros_at m j
+past (x ∷ t) m zero l = absurd (omega arith)
+past (x ∷ t) m (suc j) l = past t m j (omega arith)
+
+module _ (p : Tables) (plan : IsPlan p) where
+  laid : (m : ℕ) → length (table p 0) + m ≡ 2 * width p
+      → Laid (0 ∷ 0 ∷ 0 ∷ (table p 0 ++ replicate m 0)) (width p) (now_of (opening p 1)) (opening p 1).counts (opening p 1).areas
+  laid m all =
+      record {
+        size = omega (arith, length-append (table p 0) (replicate m 0), length-replicate {A = ℕ} m 0);
+        first = refl;
+        claims = claims;
+        rows = rows;
+      }
+    where
+      words : List ℕ
+      words = 0 ∷ 0 ∷ 0 ∷ (table p 0 ++ replicate m 0)
+
+      claims : (a : ℕ) → a < 2 → slice_index (0 ∷ 0 ∷ 0 ∷ (table p 0 ++ replicate m 0)) (1 + a) ≡ slice_index (0 ∷ 0 ∷ []) a
+      claims zero l = refl
+      claims (suc zero) l = refl
+      claims (suc (suc a)) l = absurd (omega arith)
+
+      rows : (a j : ℕ) → a < 2 → j < width p
+          → slice_index (0 ∷ 0 ∷ 0 ∷ (table p 0 ++ replicate m 0)) (3 + a * width p + j) ≡ slice_index (slice_index_or (opening p 1).areas a []) j
+      rows zero j l k =
+          let here : 3 + 0 * width p + j ≡ suc (suc (suc j)) = omega arith in
+          ap (λ (i : ℕ). slice_index (0 ∷ 0 ∷ 0 ∷ (table p 0 ++ replicate m 0)) i) here
+          ∙ row_zero (table p 0) m (width p - length (table p 0)) j
+      rows (suc zero) j l k =
+          let here : 3 + 1 * width p + j ≡ suc (suc (suc (width p + j))) = omega arith in
+          let fits : length (table p 0) ≤ width p = table_fits p 0 in
+          ap (λ (i : ℕ). slice_index (0 ∷ 0 ∷ 0 ∷ (table p 0 ++ replicate m 0)) i) here
+          ∙ past (table p 0) m (width p + j) (omega arith) ∙ sym (zeros_at (width p) j)
+      rows (suc (suc a)) j l k = absurd (omega arith)
+
+  first_only : (i : ℕ) (v : View) → get_elem? (first_view p ∷ []) i ≡ some v → (i ≡ 0) × (first_view p ≡ v)
+  first_only zero v e = (refl, some-injective (first_view p) v e)
+  first_only (suc i) v e = absurd (some-ne-none v (sym e))
+
+  pub opens : (words : List ℕ) → words ≡ first_words p → Ruled p (states.opening words [] (first_view p))
+  opens words e =
+      record {
+        core = opening p 1;
+        sound = opening_sound p 1 plan;
+        same_plan = refl;
+        words = shown;
+        actors = refl;
+        desk =
+            record {
+              seat = 0;
+              view = first_view p;
+              sits = refl;
+              has = refl;
+              alone = λ i v at has. (first_only i v at).0;
+              same_state = refl;
+              same_points = refl;
+            };
+        shares = refl;
+        each = each;
+      }
+    where
+      fill : ℕ
+      fill = 3 + 2 * width p - length (replicate 3 0 ++ table p 0)
+
+      shown : Laid words (width p) (now_of (opening p 1)) (opening p 1).counts (opening p 1).areas
+      shown =
+          let P : List ℕ → Type 0 = λ ws. Laid ws (width p) (now_of (opening p 1)) (opening p 1).counts (opening p 1).areas in
+          let long : length (replicate 3 0 ++ table p 0) ≡ 3 + length (table p 0) = simp (length-append, length-replicate) in
+          subst P (sym e) (laid (3 + 2 * width p - length (replicate 3 0 ++ table p 0)) (omega (arith, table_fits p 0)))
+
+      each : (i : ℕ) (v : View) → get_elem? (first_view p ∷ []) i ≡ some v → Fits p (now_of (opening p 1)) v
+      each i v at =
+          let P : View → Type 0 = λ u. Fits p (now_of (opening p 1)) u in
+          subst P (first_only i v at).1
+          (record { same_plan = λ _. refl; unshared = λ e. absurd (omega arith); seen = up_to (now_of (opening p 1)); prior = up_to (now_of (opening p 1)) })
+
+-- so the words are made
+pub filled : (p : Tables) (w0 w1 w2 w3 t : List ℕ) (long n0 n2 : ℕ) → w0 ≡ [] → n0 ≡ 0
+    → w1 ≡ take 3 w0 ++ replicate (3 - n0) 0 → t ≡ table p 0 → w2 ≡ w1 ++ t → n2 ≡ length w2 → long ≡ width p
+    → w3 ≡ take (3 + 2 * long) w2 ++ replicate (3 + 2 * long - n2) 0 → w3 ≡ first_words p
+filled p w0 w1 w2 w3 t long n0 n2 e0 z0 e1 et e2 z2 el e3 =
+    let three : w1 ≡ replicate 3 0 =
+    e1 ∙ ap (λ (n : ℕ). take 3 w0 ++ replicate (3 - n) 0) z0 ∙ ap (λ (l : List ℕ). take 3 l ++ replicate 3 0) e0 in
+    let four : w2 ≡ replicate 3 0 ++ table p 0 = e2 ∙ ap (λ (l : List ℕ). l ++ t) three ∙ ap (λ (l : List ℕ). replicate 3 0 ++ l) et in
+    let len : length (replicate 3 0 ++ table p 0) ≡ 3 + length (table p 0) = simp (length-append, length-replicate) in
+    let within : length (replicate 3 0 ++ table p 0) ≤ 3 + 2 * width p = omega (arith, table_fits p 0) in
+    let all : take (3 + 2 * width p) (replicate 3 0 ++ table p 0) ≡ replicate 3 0 ++ table p 0 =
+    take_all (3 + 2 * width p) (replicate 3 0 ++ table p 0) within in
+    e3 ∙ ap (λ (n : ℕ). take (3 + 2 * n) w2 ++ replicate (3 + 2 * n - n2) 0) el
+    ∙ ap (λ (n : ℕ). take (3 + 2 * width p) w2 ++ replicate (3 + 2 * width p - n) 0) z2
+    ∙ ap (λ (l : List ℕ). take (3 + 2 * width p) l ++ replicate (3 + 2 * width p - length l) 0) four
+    ∙ ap (λ (l : List ℕ). l ++ replicate (3 + 2 * width p - length (replicate 3 0 ++ table p 0)) 0) all

@@ -1,0 +1,8 @@
+pub mod Answers
+pub mod Histories
+pub mod LongTables
+pub mod Reading
+pub mod Rule
+pub mod Told
+pub mod Values
+pub mod Views

@@ -1,0 +1,99 @@
+-- What each kind of step does to the seat that takes it, and tells it: of the step, the seat before, the word that it
+-- found and the seat after.
+use Rattle.std.specs.Prelude.{◌≡◌, ◌≢◌, ℕ, ◌+◌, ◌*◌, ◌%◌, ◌<◌, ◌≤◌, [], ◌∷◌, ◌++◌, length, slice_index}
+use Rattle.atomic_table.specs.Table.{Me, Step}
+use Rattle.swap_core.specs.Plans.{table, width, window}
+use Rattle.swap_core.specs.declared.actors.ActorState.TheVariants.{Idle, Looked, Asks, Holds}
+use Rattle.swap_core.specs.declared.actors.DeskState.TheVariants.{Resting, Ready, Writing}
+use Rattle.area_swap.specs.declared.board.View.{View}
+use Rattle.area_swap.specs.Views.{unpacked, acting, reading, taking}
+use Rattle.area_swap.specs.Rule.{Moment, Sees}
+
+abbrev pub Stepped : Type 0
+Stepped = Step (Unit {0})
+
+abbrev pub Seated : Type 0
+Seated = Me (Unit {0}) View
+
+-- a load of the version word that is no event of the machine
+pub record Glanced (st : Stepped) (m : Seated) (n : ℕ) (m' : Seated) : Type 0 where
+  pub after : m' ≡ (reading m.0 (unpacked n), m.1)
+  pub sees : Sees m.0 (unpacked n)
+  pub now : Moment m'.0
+
+-- the first look of a claim
+pub record LookedAt (st : Stepped) (m : Seated) (n : ℕ) (m' : Seated) : Type 0 where
+  pub after : m' ≡ (acting (reading m.0 (unpacked n)) (Looked (unpacked n).version), m.1)
+  pub sees : Sees m.0 (unpacked n)
+  pub now : Moment m'.0
+
+-- 1 was added to the claims on an area
+pub record Entered (st : Stepped) (m : Seated) (n : ℕ) (m' : Seated) : Type 0 where
+  pub version : ℕ
+  pub looked : m.0.actor.state ≡ Looked version
+  pub after : m' ≡ (acting m.0 (Asks (version % 2)), m.1)
+  pub now : Moment m'.0
+
+-- the second look of a claim
+pub record Confirmed (st : Stepped) (m : Seated) (n : ℕ) (m' : Seated) : Type 0 where
+  pub area : ℕ
+  pub asked : m.0.actor.state ≡ Asks area
+  pub held : (unpacked n).version % 2 ≡ area → m' ≡ (acting (reading m.0 (unpacked n)) (Holds area (unpacked n).version), m.1)
+  pub moved : (unpacked n).version % 2 ≢ area → m' ≡ (reading m.0 (unpacked n), m.1)
+  pub sees : Sees m.0 (unpacked n)
+  pub now : Moment m'.0
+
+-- 1 was taken from the claims on an area
+pub record LeftIt (st : Stepped) (m : Seated) (n : ℕ) (m' : Seated) : Type 0 where
+  pub after : m' ≡ (acting m.0 Idle, m.1)
+  pub now : Moment m'.0
+
+-- a load of an area's word by a seat that holds the area
+pub record ReadOne (st : Stepped) (m : Seated) (n : ℕ) (m' : Seated) : Type 0 where
+  pub after : m' ≡ (record m.0 { reads = m.0.reads + 1 }, m.1)
+  pub area : ℕ
+  pub version : ℕ
+  pub held : m.0.actor.state ≡ Holds area version
+  pub word : (j : ℕ) → j < length (table m.0.plan version) → st.word ≡ 3 + area * width m.0.plan + j
+      → n ≡ slice_index (table m.0.plan version) j
+  pub now : Moment m'.0
+
+-- a compare-exchange of the version word, which counts one record more where it finds the word that was read
+pub record Drew (st : Stepped) (m : Seated) (n : ℕ) (m' : Seated) : Type 0 where
+  pub taken : n ≡ st.first → m' ≡ (taking (reading m.0 (unpacked n)) (unpacked n).records (unpacked n).version, m.1)
+  pub lost : n ≢ st.first → m' ≡ (reading m.0 (unpacked n), m.1)
+  pub sees : Sees m.0 (unpacked n)
+  pub now : Moment m'.0
+
+-- the desk's load of the version word
+pub record FoundDue (st : Stepped) (m : Seated) (n : ℕ) (m' : Seated) : Type 0 where
+  pub none : length m.0.plan.tables ≤ (unpacked n).version + 1 → m' ≡ (reading m.0 (unpacked n), m.1)
+  pub later : (unpacked n).version + 1 < length m.0.plan.tables
+      → (unpacked n).records < (window m.0.plan ((unpacked n).version + 1)).earliest → m' ≡ (reading m.0 (unpacked n), m.1)
+  pub ready : (unpacked n).version + 1 < length m.0.plan.tables
+      → (window m.0.plan ((unpacked n).version + 1)).earliest ≤ (unpacked n).records
+      → m' ≡ (record (reading m.0 (unpacked n)) { desk = Ready }, m.1)
+  pub sees : Sees m.0 (unpacked n)
+  pub now : Moment m'.0
+
+-- the desk's load of the claims on the spare area
+pub record Counted (st : Stepped) (m : Seated) (n : ℕ) (m' : Seated) : Type 0 where
+  pub free : n ≡ 0 → m' ≡ (record m.0 { counted = n; counts = m.0.counts + 1; desk = Writing 0 }, m.1)
+  pub claimed : n ≢ 0 → m' ≡ (record m.0 { counted = n; counts = m.0.counts + 1 }, m.1)
+  pub now : Moment m'.0
+
+-- a word of the next table was stored in the spare area
+pub record Wrote (st : Stepped) (m : Seated) (n : ℕ) (m' : Seated) : Type 0 where
+  pub words : ℕ
+  pub was : m.0.desk ≡ Writing words
+  pub after : m' ≡ (record m.0 { desk = Writing (words + 1) }, m.1)
+  pub now : Moment m'.0
+
+-- 1 was added to the version
+pub record Published (st : Stepped) (m : Seated) (n : ℕ) (m' : Seated) : Type 0 where
+  pub after : m' ≡ (record m.0 { desk = Resting; points = m.0.points ++ (unpacked n).records ∷ [] }, m.1)
+  pub there : length m.0.points + 1 < length m.0.plan.tables
+  pub in_window : ((window m.0.plan (length m.0.points + 1)).earliest ≤ (unpacked n).records)
+      × ((unpacked n).records ≤ (window m.0.plan (length m.0.points + 1)).latest)
+  pub rises : (k : ℕ) → k < length m.0.points → slice_index m.0.points k ≤ (unpacked n).records
+  pub now : Moment m'.0

@@ -1,0 +1,78 @@
+// The areas, and how they begin.
+ghost use Rattle.std.specs.Prelude.{◌≡◌, ◌+◌, ◌*◌, ◌≤◌, IfOk, max, length};
+ghost use Rattle.swap_core.specs.Plans.{width};
+ghost use Rattle.area_swap.specs.Rule.{Moment};
+ghost use Rattle.area_swap.specs.Values.{AreasValue, IsOf, SeatValue};
+ghost use Rattle.area_swap.specs.Views.{desk_view, first_view, worker_view};
+
+use crate::board::{Board, Place};
+use crate::desk::Desk;
+use crate::plays::DeskApart;
+use crate::worker::WorkerSeat;
+use aftr_base::OutOfMemory;
+use std::alloc::Global;
+use std::marker::Model;
+use swap_core::Plan;
+
+/// Where the version word, the claims and the rows of the two areas stand among the words.
+pub(crate) const VERSION_WORD: usize = 0;
+
+pub(crate) const FIRST_CLAIMS: usize = 1;
+
+pub(crate) const FIRST_ROW: usize = 3;
+
+/// Two areas of words, of which one holds the table in force. Threads share it.
+#[derive(Drop)]
+pub struct Areas {
+    pub(crate) plan: Plan,
+    pub(crate) table: Board,
+    pub(crate) long: usize,
+}
+
+impl Model for Areas {
+    ghost use Rattle.std.specs.Prelude.{◌≡◌, ◌+◌, ◌*◌, ◌≤◌};
+    ghost use Rattle.swap_core.specs.Plans.{IsPlan, width};
+    ghost use Rattle.area_swap.specs.Values.{AreasValue};
+
+    ghost Value = { AreasValue };
+
+    ghost view = { λ a. record { table_id = a.table.shared.table_id; plan = a.plan } };
+
+    ghost invariant = { λ a. (a.table.shared.key ≡ a.plan) × (a.long ≡ width a.plan) × (a.table.shared.table_id.words ≡ 3 + 2 * width a.plan) × (width a.plan ≤ 16777216) × IsPlan a.plan };
+}
+
+/// The length of the longest table.
+fn longest(plan: &Plan) -> usize
+    ensures value { result ≡ width plan.now }
+    ensures small { result ≤ 16777216 }
+{
+    let mut longest = 0;
+    'tables: for k in 0..plan.len() {
+        longest = longest.max(plan.words(k).len());
+    }
+    longest
+}
+
+/// The areas at the opening, with the one worker's seat and the desk: table 0 is in force, no record is drawn, and the
+/// seat has the whole share of 65,536. After want of memory the plan is dropped.
+pub fn prepare(alloc: Global, plan: Plan) -> Result<(Areas, WorkerSeat, Desk), OutOfMemory>
+    ensures areas { IfOk result (λ made. made.0.plan ≡ plan) }
+    ensures seat { IfOk result (λ made. (made.1.table_id ≡ made.0.table_id) × (made.1.known ≡ worker_view (first_view plan))) }
+    ensures rule { IfOk result (λ made. Moment made.1.known × Moment made.2.known) }
+    ensures desk { IfOk result (λ made. (made.2.table_id ≡ made.0.table_id) × (made.2.known ≡ desk_view (first_view plan))) }
+{
+    let long = longest(&plan);
+    let count = FIRST_ROW + 2 * long;
+    let mut words: Vec<u64> = Vec::with_capacity(alloc, count)?;
+    words.resize(FIRST_ROW, 0)?;
+    words.extend_from_slice(plan.words(0))?;
+    words.resize(count, 0)?;
+    let points = Vec::with_capacity(alloc, plan.len() as usize - 1)?;
+    let (table, mut place) = Board::of_words(alloc, &words, &plan)?;
+    let desk_place: Place = table.shared.split_seat::<DeskApart>(&mut place);
+    Ok((
+        Areas { plan, table, long },
+        WorkerSeat::at(place),
+        Desk::at(desk_place, points),
+    ))
+}

@@ -1,0 +1,154 @@
+// The desk: it alone replaces a table.
+ghost use Rattle.std.specs.Prelude.{◌≡◌, ℕ, ◌⊎◌, ◌≤◌, ◌<◌, ◌+◌, ◌*◌, ◌%◌, [], length, slice_index, vec_capacity};
+ghost use Rattle.swap_core.specs.Plans.{width};
+ghost use Rattle.swap_core.specs.declared.actors.DeskState.TheVariants.{Writing};
+ghost use Rattle.area_swap.specs.Answers.{HasPublished, IsDue, IsQuiet};
+ghost use Rattle.area_swap.specs.Rule.{Moment};
+ghost use Rattle.area_swap.specs.Values.{IsClear, IsDesk, IsFull, IsOf, IsReady, IsResting};
+ghost use Rattle.area_swap.specs.Views.{next_of, spare_of};
+
+use crate::answers::{Due, Quiet};
+use crate::areas::{Areas, FIRST_CLAIMS, FIRST_ROW, VERSION_WORD};
+use crate::board::{Place, SharedWords};
+use crate::plays::{CountClaims, FindDue, PublishTable, WriteWord};
+use crate::worker::halves;
+use std::marker::Model;
+
+/// The one right to replace a table, with the points: for each table after the first the number of records drawn when it
+/// came into force. It rests, or the next table is due, or the spare area is clear, or full.
+#[derive(Drop)]
+pub struct Desk {
+    pub(crate) place: Place,
+    pub(crate) points: Vec<u32>,
+}
+
+impl Model for Desk {
+    ghost use Rattle.std.specs.Prelude.{◌≡◌, ◌≤◌, ◌+◌, [], length, vec_capacity};
+    ghost use Rattle.area_swap.specs.Values.{IsDesk, SeatValue};
+
+    ghost Value = { SeatValue };
+
+    ghost view = { λ d. record { table_id = d.place.table_id; known = d.place.me.0 } };
+
+    ghost invariant = { λ d. IsDesk d.place.me.0 × (d.place.me.1 ≡ []) × (d.points.items ≡ d.place.me.0.points) × (length d.place.me.0.plan.tables ≤ vec_capacity d.points + 1) };
+}
+
+impl Desk {
+    pub(crate) fn at(place: Place, points: Vec<u32>) -> Desk
+        requires desk { IsDesk place.me.0 }
+        requires bare { place.me.1 ≡ [] }
+        requires points { points.items ≡ place.me.0.points }
+        requires room { length place.me.0.plan.tables ≤ vec_capacity points + 1 }
+        ensures areas { result.table_id ≡ place.table_id }
+        ensures known { result.known ≡ place.me.0 }
+    {
+        Desk { place, points }
+    }
+
+    /// The points so far, in order.
+    pub fn points(&self) -> &[u32]
+        ensures { result.now ≡ self.now.known.points }
+    {
+        self.points.as_slice()
+    }
+}
+
+/// Stores the words of the next table, one after another, in the row of the spare area.
+fn write_words(shared: &SharedWords, place: &mut Place, words: &[u64], row: usize)
+    requires table { place.old.table_id ≡ shared.now.table_id }
+    requires plan { place.old.me.0.plan ≡ shared.now.key }
+    requires desk { IsDesk place.old.me.0 }
+    requires clear { IsClear place.old.me.0 }
+    requires words { words.now ≡ next_of place.old.me.0 }
+    requires row { row ≡ 3 + spare_of place.old.me.0 * width place.old.me.0.plan }
+    requires inside { row + length words.now ≤ shared.now.table_id.words }
+    requires small { row + length words.now < 18446744073709551616 }
+    ensures table { place.new.table_id ≡ place.old.table_id }
+    ensures seat { place.new.me ≡ (record place.old.me.0 { desk = Writing (length words.now) }, place.old.me.1) }
+    ensures rule { 0 < length words.now → Moment place.new.me.0 }
+{
+    'words: for j in 0..words.len() {
+        shared.store::<WriteWord>(place, row + j, words[j]);
+    }
+}
+
+impl Areas {
+    /// Whether the next table may come into force, by one reading.
+    pub fn due(&self, desk: &mut Desk) -> Due
+        requires areas { IsOf self.now desk.old }
+        requires phase { IsResting desk.old.known ⊎ IsReady desk.old.known }
+        ensures areas { IsOf self.now desk.new }
+        ensures due { IsDue result self.now.plan desk.old.known desk.new.known }
+        ensures rule { Moment desk.new.known }
+    {
+        let seen = halves(
+            self.table
+                .shared
+                .load::<FindDue>(&mut desk.place, VERSION_WORD),
+        );
+        let next = seen.version + 1;
+        if next >= self.plan.len() {
+            return Due::None;
+        }
+        let earliest = self.plan.window(next).earliest;
+        if seen.records < earliest {
+            return Due::Later {
+                records: seen.records,
+                earliest,
+            };
+        }
+        Due::Now
+    }
+
+    /// Whether nobody asks for the spare area or holds it, by one reading of its count.
+    pub fn quiet(&self, desk: &mut Desk) -> Quiet
+        requires areas { IsOf self.now desk.old }
+        requires phase { IsReady desk.old.known }
+        ensures areas { IsOf self.now desk.new }
+        ensures quiet { IsQuiet result desk.old.known desk.new.known }
+        ensures rule { Moment desk.new.known }
+    {
+        let claims = FIRST_CLAIMS + (desk.points.len() + 1) % 2;
+        let count = self
+            .table
+            .shared
+            .load::<CountClaims>(&mut desk.place, claims);
+        if count == 0 {
+            Quiet::Free
+        } else {
+            Quiet::Claimed { count }
+        }
+    }
+
+    /// Writes the next table into the spare area.
+    pub fn write(&self, desk: &mut Desk)
+        requires areas { IsOf self.now desk.old }
+        requires phase { IsClear desk.old.known }
+        ensures areas { IsOf self.now desk.new }
+        ensures desk { desk.new.known ≡ record desk.old.known { desk = Writing (length (next_of desk.old.known)) } }
+        ensures rule { Moment desk.new.known }
+    {
+        let next = desk.points.len() + 1;
+        let area = next % 2;
+        let row = FIRST_ROW + area * self.long;
+        let words = self.plan.words(next as u32);
+        write_words(&self.table.shared, &mut desk.place, words, row);
+    }
+
+    /// Puts the next table into force. The answer is its point: the number of records drawn until then.
+    pub fn publish(&self, desk: &mut Desk) -> u32
+        requires areas { IsOf self.now desk.old }
+        requires phase { IsFull desk.old.known }
+        ensures areas { IsOf self.now desk.new }
+        ensures published { HasPublished result desk.old.known desk.new.known }
+        ensures rule { Moment desk.new.known }
+    {
+        let found = self
+            .table
+            .shared
+            .fetch_add::<PublishTable>(&mut desk.place, VERSION_WORD, 1 << 32);
+        let point = halves(found).records;
+        desk.points.push_reserved(point);
+        point
+    }
+}

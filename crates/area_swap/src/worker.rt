@@ -1,0 +1,210 @@
+// A worker's seat: the claims, readings and draws of one thread.
+ghost use Rattle.std.specs.Prelude.{◌≡◌, ℕ, ◌%◌, ◌+◌, ◌<◌, [], length, slice_index};
+ghost use Rattle.swap_core.specs.Sound.{once_below, times};
+ghost use Rattle.swap_core.specs.declared.actors.ActorState.TheVariants.{Idle};
+ghost use Rattle.area_swap.specs.Answers.{Claimed, Drawn};
+ghost use Rattle.area_swap.specs.Rule.{Moment, Sees};
+ghost use Rattle.area_swap.specs.Values.{HasWholeShare, HoldsOne, HoldsStill, IsIdle, IsOf, IsWorker};
+ghost use Rattle.area_swap.specs.Views.{acting, held_table, held_version, kept_half, new_half, reading, together, unpacked};
+
+use crate::answers::{Claim, Draw, Seen};
+use crate::areas::{Areas, FIRST_CLAIMS, FIRST_ROW, VERSION_WORD};
+use crate::board::Place;
+use crate::plays::{Confirm, Enter, Exchange, Glance, Halves, Leave, Look, ReadWord, Together};
+use std::marker::Model;
+
+/// A right to work on the areas, for one thread at a time. Its share, its draws and its readings take no memory: contracts
+/// alone see them.
+#[derive(Drop)]
+pub struct WorkerSeat {
+    pub(crate) place: Place,
+    /// The version that it holds, where it holds one.
+    pub(crate) held: u32,
+}
+
+impl Model for WorkerSeat {
+    ghost use Rattle.std.specs.Prelude.{◌≡◌, []};
+    ghost use Rattle.area_swap.specs.Values.{IsWorker, SeatValue};
+
+    ghost Value = { SeatValue };
+
+    ghost view = { λ s. record { table_id = s.place.table_id; known = s.place.me.0 } };
+
+    ghost invariant = { λ s. IsWorker s.place.me.0 s.held × (s.place.me.1 ≡ []) };
+}
+
+impl WorkerSeat {
+    pub(crate) fn at(place: Place) -> WorkerSeat
+        requires worker { IsWorker place.me.0 0 }
+        requires bare { place.me.1 ≡ [] }
+        ensures areas { result.table_id ≡ place.table_id }
+        ensures known { result.known ≡ place.me.0 }
+    {
+        WorkerSeat { place, held: 0 }
+    }
+}
+
+/// The two halves of the version word.
+pub(crate) fn halves(word: u64) -> Seen
+    ensures { result ≡ unpacked word }
+{
+    Seen {
+        version: (word >> 32) as u32,
+        records: (word % (1 << 32)) as u32,
+    }
+}
+
+impl Areas {
+    /// The version in force and the records drawn, by one reading.
+    pub fn see(&self, seat: &mut WorkerSeat) -> Seen
+        requires areas { IsOf self.now seat.old }
+        requires idle { IsIdle seat.old.known }
+        ensures areas { IsOf self.now seat.new }
+        ensures seat { seat.new.known ≡ reading seat.old.known result }
+        ensures sees { Sees seat.old.known result }
+        ensures rule { Moment seat.new.known }
+    {
+        halves(
+            self.table
+                .shared
+                .load::<Glance>(&mut seat.place, VERSION_WORD),
+        )
+    }
+
+    /// The number of records drawn. The seat, which has the whole share, has drawn the numbers below it, each once.
+    pub fn tally(&self, seat: &mut WorkerSeat) -> u32
+        requires areas { IsOf self.now seat.old }
+        requires idle { IsIdle seat.old.known }
+        requires whole { HasWholeShare seat.old.known }
+        ensures areas { IsOf self.now seat.new }
+        ensures seat { (seat.new.known ≡ reading seat.old.known seat.new.known.seen) × (seat.new.known.seen.records ≡ result) }
+        ensures all_drawn { length seat.old.known.actor.draws ≡ result }
+        ensures each_once { (number : ℕ) → times number seat.old.known.actor ≡ once_below number result }
+        ensures rule { Moment seat.new.known }
+    {
+        halves(
+            self.table
+                .shared
+                .load::<Glance>(&mut seat.place, VERSION_WORD),
+        )
+        .records
+    }
+
+    /// Splits the seat: each has half of the share, and the new one has drawn nothing.
+    pub fn split(&self, seat: &mut WorkerSeat) -> WorkerSeat
+        requires areas { IsOf self.now seat.old }
+        requires idle { IsIdle seat.old.known }
+        requires even { seat.old.known.share % 2 ≡ 0 }
+        ensures areas { IsOf self.now seat.new × IsOf self.now result }
+        ensures kept { seat.new.known ≡ kept_half seat.old.known }
+        ensures new { result.known ≡ new_half seat.old.known }
+    {
+        WorkerSeat::at(self.table.shared.split_seat::<Halves>(&mut seat.place))
+    }
+
+    /// Joins another seat into this one: the shares are added, and the draws of the other follow those of this one.
+    pub fn join(&self, seat: &mut WorkerSeat, other: WorkerSeat)
+        requires areas { IsOf self.now seat.old }
+        requires other_areas { IsOf self.now other }
+        requires idle { IsIdle seat.old.known }
+        requires other_idle { IsIdle other.known }
+        ensures areas { IsOf self.now seat.new }
+        ensures seat { seat.new.known ≡ together seat.old.known other.known }
+    {
+        let WorkerSeat { place, held: _ } = other;
+        self.table
+            .shared
+            .join_seat::<Together>(&mut seat.place, place);
+    }
+
+    /// Tries to hold the table in force: reads the version, claims its area, and reads the version again.
+    pub fn claim(&self, seat: &mut WorkerSeat) -> Claim
+        requires areas { IsOf self.now seat.old }
+        requires idle { IsIdle seat.old.known }
+        ensures areas { IsOf self.now seat.new }
+        ensures claimed { Claimed result seat.old.known seat.new.known }
+        ensures rule { Moment seat.new.known }
+    {
+        let shared = &self.table.shared;
+        let before = halves(shared.load::<Look>(&mut seat.place, VERSION_WORD)).version;
+        let area = before % 2;
+        let claims = FIRST_CLAIMS + area as usize;
+        shared.fetch_add::<Enter>(&mut seat.place, claims, 1);
+        let after = halves(shared.load::<Confirm>(&mut seat.place, VERSION_WORD)).version;
+        let found = after % 2;
+        if found == area {
+            seat.held = after;
+            return Claim::Held { version: after };
+        }
+        shared.fetch_sub::<Leave>(&mut seat.place, claims, 1);
+        Claim::Moved { before, after }
+    }
+
+    /// Word j of the held table.
+    pub fn word(&self, seat: &mut WorkerSeat, j: u32) -> u64
+        requires areas { IsOf self.now seat.old }
+        requires holding { HoldsOne seat.old.known }
+        requires inside { j < length (held_table seat.old.known) }
+        ensures areas { IsOf self.now seat.new }
+        ensures holding { HoldsStill seat.old.known seat.new.known }
+        ensures word { result ≡ slice_index (held_table seat.old.known) j }
+        ensures seat { seat.new.known ≡ record seat.old.known { reads = seat.old.known.reads + 1 } }
+        ensures rule { Moment seat.new.known }
+    {
+        let row = FIRST_ROW + (seat.held % 2) as usize * self.long;
+        self.table
+            .shared
+            .load::<ReadWord>(&mut seat.place, row + j as usize)
+    }
+
+    /// Tries to draw the next number of a record, under the held version. One exchange is tried.
+    pub fn draw(&self, seat: &mut WorkerSeat, end: u32) -> Draw
+        requires areas { IsOf self.now seat.old }
+        requires holding { HoldsOne seat.old.known }
+        ensures areas { IsOf self.now seat.new }
+        ensures holding { HoldsStill seat.old.known seat.new.known }
+        ensures drawn { Drawn result self.now.plan end (held_version seat.old.known) seat.old.known seat.new.known }
+        ensures rule { Moment seat.new.known }
+    {
+        let shared = &self.table.shared;
+        let saw = shared.load::<Glance>(&mut seat.place, VERSION_WORD);
+        let seen = halves(saw);
+        let in_force = seen.version;
+        if in_force != seat.held {
+            return Draw::Moved { now: in_force };
+        }
+        if seen.records >= end {
+            return Draw::End;
+        }
+        let limit = self.plan.limit(seen.version);
+        if seen.records == limit {
+            return Draw::Hold { limit };
+        }
+        let found = shared.compare_exchange::<Exchange>(
+            &mut seat.place,
+            VERSION_WORD,
+            saw,
+            saw + 1,
+        );
+        if found != saw {
+            return Draw::Lost { saw, found };
+        }
+        Draw::Taken {
+            number: seen.records,
+        }
+    }
+
+    /// Gives up the claim.
+    pub fn leave(&self, seat: &mut WorkerSeat)
+        requires areas { IsOf self.now seat.old }
+        requires holding { HoldsOne seat.old.known }
+        ensures areas { IsOf self.now seat.new }
+        ensures seat { seat.new.known ≡ acting seat.old.known Idle }
+        ensures rule { Moment seat.new.known }
+    {
+        let its_claims = FIRST_CLAIMS + (seat.held % 2) as usize;
+        self.table
+            .shared
+            .fetch_sub::<Leave>(&mut seat.place, its_claims, 1);
+    }
+}
