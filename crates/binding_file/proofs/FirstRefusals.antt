@@ -119,9 +119,9 @@ same_turn e s bs r q a b same =
 
 neither : (a b : ℕ) → (a < b → ⊥) → (b < a → ⊥) → a ≡ b
 neither a b x y = elim (cases_lt a b) [
-    inl less ↦ absurd (x less)
+  | inl less ↦ absurd (x less)
   | inr more ↦ elim (cases_lt b a) [ inl less ↦ absurd (y less) | inr enough ↦ omega arith ]
-  ]
+]
 
 turns_alike : (t u : Turn) → (IsEarlier t u → ⊥) → (IsEarlier u t → ⊥) → IsSameTurn t u
 turns_alike t u x y =

@@ -106,11 +106,16 @@ fn is_answer(alloc: Global, ran: &Ran, number: u8, line: &str, table: &str) -> R
     } else {
         ("", line)
     };
-    Ok(code(&ran.status) == number
-        && ran.said().trim_end_matches('\n') == said
-        && status_line(alloc, &ran.status)?.as_str().trim_end_matches('\n') == status
-        && ran.files.text("t") == table
-        && ran.files.spoiled == 0)
+    Ok(
+        code(&ran.status) == number
+            && ran.said().trim_end_matches('\n') == said
+            && status_line(alloc, &ran.status)?
+                .as_str()
+                .trim_end_matches('\n')
+                == status
+            && ran.files.text("t") == table
+            && ran.files.spoiled == 0,
+    )
 }
 
 #[test]
@@ -122,7 +127,10 @@ fn questions_are_answered(rt: HostRuntime) -> Result<(), Fail> {
         let (number, line) = rest.split_once('|').ok_or("an answer")?;
         let table = table_named(alloc, name)?;
         let ran = ask(alloc, question, &table, MemSink::new(alloc))?;
-        assert!(rt; is_answer(alloc, &ran, number.parse()?, line, &table)?, "{case}");
+        assert!(rt;
+            is_answer(alloc, &ran, number.parse()?, line, &table)?,
+            "{case}"
+        );
     }
     let ran = ask(alloc, "check t", WHOLE, MemSink::new(alloc))?;
     assert_eq!(rt; ran.said(), "valid 1 bindings\n");
@@ -164,7 +172,10 @@ fn a_question_may_fail(rt: HostRuntime) -> Result<(), Fail> {
         let mut out = MemSink::new(alloc);
         out.fail_at(alloc, 0)?;
         let ran = ask(alloc, question, WHOLE, out)?;
-        assert!(rt; ran.status == Status::WriteFault && ran.said() == "" && ran.files.lost == 0, "{question}");
+        assert!(rt;
+            ran.status == Status::WriteFault && ran.said() == "" && ran.files.lost == 0,
+            "{question}"
+        );
         let words: Vec<&str> = question.split(' ').collect(alloc)?;
         let mut done = false;
         for call in 0..8 {

@@ -1,5 +1,5 @@
 -- The two questions about a table file: is it valid, and who owns a port of an address. Each is answered by one line.
-use Rattle.std.specs.Prelude.{◌≡◌, ◌⊎◌, ℕ, ◌≤◌, List, [], ◌∷◌, ◌++◌, codes, decimal, length, take, Option, Some, None, Result, Ok, Err}
+use Rattle.std.specs.Prelude.{◌≡◌, ◌⊎◌, ℕ, ◌≤◌, List, [], ◌∷◌, ◌++◌, codes, decimal, length, take, Option, Some, None, Ok, Err}
 use Rattle.std.specs.Option.{option_map}
 use Rattle.std.specs.Borrow.{Bor}
 use Rattle.addr_text.specs.Canonical.{IsCanonical, groups_of}

@@ -1,3 +1,4 @@
 pub mod Exits
 pub mod Firsts
 pub mod Laws
+pub mod Owners
