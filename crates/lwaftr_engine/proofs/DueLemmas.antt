@@ -1,18 +1,17 @@
 -- The status that is due, and the one that comes.
-use Rattle.std.proofs.Common.{◌≡◌, ◌≢◌, ℕ, List, [], drop, Option, IfSome, Some, None, Result, Ok, Err, ◌⊎◌, inl, inr, refl, sym, ◌∙◌, ap, subst}
+use Rattle.std.proofs.Common.{◌≡◌, ℕ, List, [], drop, Option, IfSome, Some, None, Result, Ok, Err, ◌⊎◌, inl, inr, refl, ap, subst}
 use Rattle.std.specs.Borrow.{Bor}
 use Rattle.aftr_base.specs.Held.{Held, content, Moves, Told}
 use Rattle.binding_file.specs.Files.{TableOf}
 use Rattle.binding_file.specs.declared.refusals.FileRefused.{FileRefused}
 use Rattle.binding_rules.specs.Tables.{Rules}
 use Rattle.capture_io.specs.Capture.{IsCapture, Splits}
-use Rattle.capture_io.specs.Header.{header_in}
 use Rattle.capture_io.specs.declared.forms.CaptureBad.{CaptureBad}
 use Rattle.capture_io.specs.declared.forms.Form.{Form}
 use Rattle.capture_io.specs.declared.forms.Rec.{Rec}
 use Rattle.capture_io.proofs.SplitLemmas.{one_way}
-use Rattle.lwaftr_engine.specs.Clauses.{Accepts, Counts, Ends, FilesAt, HasCause, IsBadHeader, IsBegun, IsDue, IsFault, NothingFailed, Refuses}
-use Rattle.lwaftr_engine.specs.Endings.{AllKept, IsCutRun, IsUntouched, IsWholeRun, OthersKept}
+use Rattle.lwaftr_engine.specs.Clauses.{Accepts, Counts, FilesAt, HasCause, IsDue, IsFault, NothingFailed}
+use Rattle.lwaftr_engine.specs.Endings.{IsWholeRun}
 use Rattle.lwaftr_engine.specs.Jobs.{ForRun, RunNames, run_of, texts}
 use Rattle.lwaftr_engine.specs.declared.status.Status.{Status}
 use Rattle.lwaftr_engine.specs.declared.status.Status.TheVariants as status

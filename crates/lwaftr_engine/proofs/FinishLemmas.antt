@@ -1,15 +1,15 @@
 -- What a run leaves, from what its parts left.
-use Rattle.std.proofs.Common.{◌≡◌, ◌≢◌, ℕ, suc, ◌+◌, ◌<◌, ◌≤◌, nat_le, Bool, true, false, List, [], ◌∷◌, ◌++◌, filter, flat_map, length, take, drop, All, Option, Some, None, Result, Ok, Err, refl, sym, ◌∙◌, ap, subst, append_assoc, append-nil, arith}
+use Rattle.std.proofs.Common.{◌≡◌, ℕ, suc, ◌+◌, ◌<◌, ◌≤◌, nat_le, Bool, true, false, List, [], ◌∷◌, ◌++◌, filter, flat_map, length, take, drop, All, Option, Some, None, Ok, refl, sym, ◌∙◌, ap, subst, append-nil, arith}
 use Rattle.std.proofs.Math.Seq.{take-append_seam}
 use Rattle.std.proofs.lemmas.Bool.{le-leb, leb-true}
 use Rattle.std.proofs.lemmas.List.Elements.{filter-append}
 use Rattle.std.specs.Option.{option_map}
-use Rattle.aftr_base.specs.Held.{Held, content, Told, Moves, Writes}
+use Rattle.aftr_base.specs.Held.{Held, content, Moves, Writes}
 use Rattle.aftr_text.specs.declared.summaries.Totals.{Totals}
 use Rattle.aftr_text.specs.Lines.{ended_text, summary_text}
 use Rattle.binding_file.specs.Files.{TableOf}
 use Rattle.binding_rules.specs.Tables.{Rules}
-use Rattle.capture_io.specs.Capture.{IsCapture, Splits}
+use Rattle.capture_io.specs.Capture.{Splits}
 use Rattle.capture_io.specs.Header.{header_in}
 use Rattle.capture_io.specs.Record.{next_in}
 use Rattle.capture_io.specs.declared.forms.CaptureBad.{CaptureBad}
@@ -20,7 +20,7 @@ use Rattle.capture_io.proofs.RecordLemmas.{header_end}
 use Rattle.capture_io.proofs.SplitLemmas.{Split, some_way}
 use Rattle.item_stage.specs.Items.{entries_of, unfinished_of}
 use Rattle.item_stage.specs.Stages.{Staged, Stands}
-use Rattle.lwaftr_engine.specs.Endings.{ended_by, IsCutRun, IsRun, IsWholeRun, OthersKept}
+use Rattle.lwaftr_engine.specs.Endings.{ended_by, IsCutRun, IsRun, IsWholeRun}
 use Rattle.lwaftr_engine.specs.Jobs.{RunNames}
 use Rattle.lwaftr_engine.specs.Opened.{IsOpened}
 use Rattle.lwaftr_engine.specs.Outputs.{Course, lines_from, no_totals, packets_from, steady, totals_from, totals_of}

@@ -1,11 +1,10 @@
 -- One round more.
-use Rattle.std.proofs.Common.{◌≡◌, ◌≢◌, ℕ, ◌+◌, ◌<◌, ◌≤◌, Bool, List, [], ◌∷◌, ◌++◌, length, drop, All, Option, Some, None, Result, Ok, Err, refl, sym, ◌∙◌, ap, subst, append_assoc, length-append, arith}
+use Rattle.std.proofs.Common.{◌≡◌, ◌≢◌, ℕ, ◌+◌, ◌≤◌, Bool, List, ◌++◌, length, drop, All, Option, Some, None, sym, ◌∙◌, ap, subst, append_assoc, length-append, arith}
 use Rattle.std.proofs.lemmas.List.Elements.{All-append}
 use Rattle.aftr_base.specs.Held.{Held, content, Told, Moves, Writes}
 use Rattle.aftr_text.specs.declared.summaries.Totals.{Totals}
 use Rattle.binding_rules.specs.Tables.{Rules}
 use Rattle.capture_io.specs.Capture.{Splits}
-use Rattle.capture_io.specs.declared.forms.CaptureBad.{CaptureBad}
 use Rattle.capture_io.specs.declared.forms.Form.{Form}
 use Rattle.capture_io.specs.declared.forms.Rec.{Rec}
 use Rattle.item_stage.specs.Items.{entries_of}
@@ -13,7 +12,7 @@ use Rattle.item_stage.specs.Stages.{Staged, Stands}
 use Rattle.item_stage.specs.declared.entries.Entry.{Entry}
 use Rattle.lwaftr_engine.specs.Jobs.{RunNames}
 use Rattle.lwaftr_engine.specs.Outputs.{Course, packets_from, lines_from, totals_from, no_totals, steady}
-use Rattle.lwaftr_engine.specs.Progress.{GoesOn, HasGone, HasTaken, IsCutAt, Stops}
+use Rattle.lwaftr_engine.specs.Progress.{GoesOn, HasTaken, Stops}
 use Rattle.lwaftr_engine.specs.Rendering.{IsRendered}
 use Rattle.lwaftr_engine.specs.Rounds.{IsCount, IsEnd, IsPlaced, IsRoundOf, LastOf, Precedes}
 use Rattle.lwaftr_engine.specs.declared.rendering.Rendered.{Rendered}

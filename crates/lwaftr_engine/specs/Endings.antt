@@ -1,5 +1,5 @@
 -- What a run leaves: the files of its records, by how the reading ended.
-use Rattle.std.specs.Prelude.{◌≡◌, ◌≢◌, ℕ, ◌≤◌, nat_le, List, ◌++◌, length, take, filter, Option, Some, Result, Ok}
+use Rattle.std.specs.Prelude.{◌≡◌, ◌≢◌, ℕ, ◌≤◌, nat_le, List, ◌++◌, length, take, filter, Option, Some, Ok}
 use Rattle.std.specs.Option.{option_map}
 use Rattle.aftr_base.specs.Held.{Held, content}
 use Rattle.aftr_text.specs.Lines.{summary_text}

@@ -1,5 +1,5 @@
 -- The outputs before the first record.
-use Rattle.std.specs.Prelude.{◌≡◌, Bool, [], List, ℕ}
+use Rattle.std.specs.Prelude.{◌≡◌, Bool, []}
 use Rattle.aftr_base.specs.Held.{Held, content}
 use Rattle.aftr_text.specs.Lines.{initial_text}
 use Rattle.capture_io.specs.Written.{header_bytes}

@@ -1,4 +1,4 @@
-use Rattle.std.proofs.Common.{◌≡◌, ◌-◌, ◌^◌, None}
+use Rattle.std.proofs.Common.{◌≡◌, ◌-◌, ◌^◌}
 use Rattle.aftr_base.specs.Held.{Moves}
 use Rattle.binding_rules.specs.Tables.{Rules}
 use Rattle.lwaftr_engine.specs.Endings.{OthersKept}

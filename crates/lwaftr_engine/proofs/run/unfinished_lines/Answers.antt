@@ -1,4 +1,4 @@
-use Rattle.std.proofs.Common.{false, flat_map, ◌∙◌, ap, ◌++◌}
+use Rattle.std.proofs.Common.{false, flat_map, ◌∙◌}
 use Rattle.aftr_text.specs.Lines.{ended_text}
 use Rattle.lwaftr_engine.proofs.LineLemmas.{behind_none}
 use Rattle.lwaftr_engine.proofs.run.unfinished_lines.Goals as goal
