@@ -1,5 +1,5 @@
 -- What is told of the files, from step to step.
-use Rattle.std.proofs.Common.{◌≡◌, Option, Some, None, sym, subst}
+use Rattle.std.proofs.Common.{◌≡◌, Option, Some, None, subst}
 use Rattle.aftr_base.specs.Held.{Held, Moves, Told}
 
 -- two steps are one
@@ -17,22 +17,6 @@ moves_by None None P R each step = tt
 moves_by None (Some n) P R each step = step
 moves_by (Some m) None P R each step = step
 moves_by (Some m) (Some n) P R each step = each m n step
-
-stays : (a : Option Held) (R : Held → Held → Type 0) → ((m : Held) → R m m) → Moves a a R
-stays None R each = tt
-stays (Some m) R each = each m
-
--- a step that changes nothing
-pub moves_same : (a b : Option Held) (R : Held → Held → Type 0) → ((m : Held) → R m m) → b ≡ a → Moves a b R
-moves_same a b R each same = let T : Option Held → Type 0 = λ x. Moves a x R in subst T (sym same) (stays a R each)
-
-told_stays : (a : Option Held) (P : Held → Type 0) (R : Held → Held → Type 0) → ((m : Held) → P m → R m m) → Told a P → Moves a a R
-told_stays None P R each told = tt
-told_stays (Some m) P R each told = each m told
-
--- a step that changes nothing, with what is told before it
-pub told_same : (a b : Option Held) (P : Held → Type 0) (R : Held → Held → Type 0) → ((m : Held) → P m → R m m) → b ≡ a → Told a P → Moves a b R
-told_same a b P R each same told = let T : Option Held → Type 0 = λ x. Moves a x R in subst T (sym same) (told_stays a P R each told)
 
 told_moves : (a c : Option Held) (P : Held → Type 0) (Q R : Held → Held → Type 0) → ((m o : Held) → P m → Q m o → R m o) → Told a P → Moves a c Q → Moves a c R
 told_moves None None P Q R both told step = tt

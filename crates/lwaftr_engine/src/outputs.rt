@@ -1,4 +1,4 @@
-// The outputs of a run: made before the first record, and finished behind the last.
+// The outputs of a run as they are before the first record.
 ghost use Rattle.std.specs.Prelude.{◌≡◌, OnOk, IsTrue};
 ghost use Rattle.aftr_base.specs.Faults.{Counted};
 ghost use Rattle.aftr_base.specs.Held.{Moves};
