@@ -8,8 +8,6 @@ mod answers;
 mod areas;
 mod board;
 mod desk;
-#[cfg(test)]
-mod held_tests;
 mod history;
 mod plays;
 #[cfg(test)]

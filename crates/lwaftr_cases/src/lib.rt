@@ -1,4 +1,5 @@
-//! The worked cases of the whole program, over files in memory. Nothing stands on this crate.
+//! Tests that cross crates: the worked cases of the whole program over files in memory, and lookups of a table in a held
+//! area. Nothing stands on this crate.
 #![tactic(auto)]
 
 #[cfg(test)]
@@ -7,6 +8,8 @@ mod captures;
 mod endings;
 #[cfg(test)]
 mod faults;
+#[cfg(test)]
+mod held_area;
 #[cfg(test)]
 mod packets;
 #[cfg(test)]

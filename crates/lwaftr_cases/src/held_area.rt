@@ -5,7 +5,7 @@ ghost use Rattle.area_swap.specs.Reading.{OnlyReads};
 ghost use Rattle.area_swap.specs.Values.{HoldsOne, IsOf};
 ghost use Rattle.area_swap.specs.Views.{held_table};
 
-use crate::{Areas, Claim, WorkerSeat, prepare};
+use area_swap::{Areas, Claim, WorkerSeat, prepare};
 use aftr_base::{V4, V6};
 use binding_rules::{Binding, Edition, Softwire, Table, TableError, Want, table_of};
 use std::alloc::Global;
