@@ -78,6 +78,17 @@ abbrev pub IsComplete : List ℕ → Status → Counts → Counts → Type 0
 IsComplete bytes result before now = (t : Rules) → TableOf bytes (Ok t) → NothingFailed before now →
     (result ≡ status.Done) ⊎ (result ≡ status.OutOfMemory)
 
+-- at `ReadFault` the last read that failed is one of the file, and at every other status no read failed
+abbrev pub FailedIn : List ℕ → Status → Option (List ℕ × ℕ) → Option (List ℕ × ℕ) → Type 0
+FailedIn name status.ReadFault old new = (place : ℕ) × (new ≡ Some (name, place))
+FailedIn name status.Done old new = new ≡ old
+FailedIn name status.DoneRefused old new = new ≡ old
+FailedIn name status.Usage old new = new ≡ old
+FailedIn name status.WriteFault old new = new ≡ old
+FailedIn name (status.BadTable refusal) old new = new ≡ old
+FailedIn name (status.BadCapture refusal) old new = new ≡ old
+FailedIn name status.OutOfMemory old new = new ≡ old
+
 -- What a question leaves: every name holds what it held, and the sink took the line; `BadTable` has its cause.
 pub record IsAnswered (Asks : Rules → List ℕ → Type 0) (name : List ℕ) (result : Status) (old new : Option Held) (said now : Option (List ℕ)) : Type 0 where
   pub kept : new ≡ old

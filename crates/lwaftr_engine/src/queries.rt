@@ -5,7 +5,7 @@ ghost use Rattle.binding_rules.specs.Bindings.{bound};
 ghost use Rattle.binding_rules.specs.Tables.{Rules};
 ghost use Rattle.binding_rules.specs.declared.binding.Want.TheVariants as want;
 ghost use Rattle.lwaftr_engine.specs.Clauses.{HasCause, counts};
-ghost use Rattle.lwaftr_engine.specs.Queries.{Answers, IsComplete, IsLineOf, IsOwnerLine, IsOwnerText, IsValidLine, PutCounts, Puts, RefusesAs, valid_text};
+ghost use Rattle.lwaftr_engine.specs.Queries.{Answers, FailedIn, IsComplete, IsLineOf, IsOwnerLine, IsOwnerText, IsValidLine, PutCounts, Puts, RefusesAs, valid_text};
 ghost use Rattle.table_words.specs.Answers.{first_b4};
 ghost use Rattle.table_words.specs.Layout.{AreCompiled, IsCompiled};
 
@@ -33,6 +33,7 @@ pub fn check_table<F: Files, O: Sink>(
     ensures refused { Told (F.held files.old) (λ m. RefusesAs (content m name.now) result) }
     ensures cause { HasCause result (counts (F.lost files.old) (F.spoiled files.old) (F.faults files.old) (O.faults out.old))
         (counts (F.lost files.new) (F.spoiled files.new) (F.faults files.new) (O.faults out.new)) }
+    ensures failed_read { FailedIn name.now result (F.last files.old) (F.last files.new) }
     ensures complete { Told (F.held files.old) (λ m. IsComplete (content m name.now) result
         (counts (F.lost files.old) (F.spoiled files.old) (F.faults files.old) (O.faults out.old))
         (counts (F.lost files.new) (F.spoiled files.new) (F.faults files.new) (O.faults out.new))) }
@@ -66,6 +67,7 @@ pub fn who_owns<F: Files, O: Sink>(
     ensures refused { Told (F.held files.old) (λ m. RefusesAs (content m name.now) result) }
     ensures cause { HasCause result (counts (F.lost files.old) (F.spoiled files.old) (F.faults files.old) (O.faults out.old))
         (counts (F.lost files.new) (F.spoiled files.new) (F.faults files.new) (O.faults out.new)) }
+    ensures failed_read { FailedIn name.now result (F.last files.old) (F.last files.new) }
     ensures complete { Told (F.held files.old) (λ m. IsComplete (content m name.now) result
         (counts (F.lost files.old) (F.spoiled files.old) (F.faults files.old) (O.faults out.old))
         (counts (F.lost files.new) (F.spoiled files.new) (F.faults files.new) (O.faults out.new))) }

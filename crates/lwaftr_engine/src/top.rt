@@ -4,7 +4,7 @@ ghost use Rattle.aftr_base.specs.Held.{Moves, Told, content};
 ghost use Rattle.lwaftr_engine.specs.Clauses.{FailedAt, FilesAt, HasCause, IsDue, IsFault, NothingFailed, counts};
 ghost use Rattle.lwaftr_engine.specs.Endings.{OthersKept};
 ghost use Rattle.lwaftr_engine.specs.Jobs.{AskNothing, ForRun, texts};
-ghost use Rattle.lwaftr_engine.specs.Queries.{ForQuery, IsAnswered, IsComplete};
+ghost use Rattle.lwaftr_engine.specs.Queries.{FailedIn, ForQuery, IsAnswered, IsComplete};
 ghost use Rattle.lwaftr_engine.specs.declared.status.Status.{Status as Ended};
 
 use crate::queries::{check_table, who_owns};
@@ -47,6 +47,7 @@ pub fn lwaftr<F: Files, O: Sink>(
 
     // What a question about a table leaves.
     ensures queries { ForQuery words.now (λ Asks name. IsAnswered Asks name result (F.held files.old) (F.held files.new) (O.out out.old) (O.out out.new)) }
+    ensures failed_question { ForQuery words.now (λ Asks name. FailedIn name result (F.last files.old) (F.last files.new)) }
     ensures answered { ForQuery words.now (λ Asks name. Told (F.held files.old) (λ m. IsComplete (content m name) result
         (counts (F.lost files.old) (F.spoiled files.old) (F.faults files.old) (O.faults out.old))
         (counts (F.lost files.new) (F.spoiled files.new) (F.faults files.new) (O.faults out.new)))) }
