@@ -5,8 +5,8 @@ ghost use Rattle.area_swap.specs.Reading.{OnlyReads};
 ghost use Rattle.area_swap.specs.Values.{HoldsOne, IsOf};
 ghost use Rattle.area_swap.specs.Views.{held_table};
 
-use area_swap::{Areas, Claim, WorkerSeat, prepare};
 use aftr_base::{V4, V6};
+use area_swap::{Areas, Claim, WorkerSeat, prepare};
 use binding_rules::{Binding, Edition, Softwire, Table, TableError, Want, table_of};
 use std::alloc::Global;
 use std::marker::Brand;
