@@ -137,13 +137,14 @@ fn questions_are_answered(rt: HostRuntime) -> Result<(), Fail> {
     Ok(())
 }
 
-/// A table of so many whole addresses, from 10.1.0.0 on.
+/// A table of so many whole addresses, from 10.1.0.0 on. An end of a tunnel may stand in two bindings.
 fn many(alloc: Global, count: u32) -> Result<String, Fail> {
     let mut text = format!(in alloc; "version = 1{SETTINGS}")?;
     for number in 0..count {
         let (high, middle, low) = (number / 65_536 + 1, number / 256 % 256, number % 256);
+        let end = number % 65_536;
         let binding = format!(in alloc;
-            "[[binding]]\nb4 = \"2001:db8:1::{number:x}\"\nipv4 = \"10.{high}.{middle}.{low}\"\n"
+            "[[binding]]\nb4 = \"2001:db8:1::{end:x}\"\nipv4 = \"10.{high}.{middle}.{low}\"\n"
         )?;
         text.push_str(&binding)?;
     }
