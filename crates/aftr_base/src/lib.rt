@@ -19,7 +19,7 @@ pub use mem_sink::MemSink;
 pub use memory::MemFiles;
 pub use numbers::{V4, V6, be16, be32, be128, put_be16};
 pub use outside::{Fault, Files, Sink};
-pub use pieces::{append_all, fill, put_all};
+pub use pieces::{append_all, bytes_at, fill, put_all};
 pub use quiet::QuietFiles;
 pub use real::RealFiles;
 pub use real_sink::RealSink;

@@ -4,7 +4,7 @@ ghost use Rattle.aftr_base.specs.Held.{content, Told};
 ghost use Rattle.aftr_base.specs.Faults.{Counted, LastWithin};
 ghost use Rattle.aftr_base.specs.Pieces.{AppendedAll, TookAll};
 
-use crate::{Fault, Files, Sink};
+use crate::{Bytes, Fault, Files, Sink};
 use std::alloc::Global;
 
 /// Reads from the place `at` on until `into` is full or nothing is left, and answers how many bytes it read. The
@@ -38,6 +38,30 @@ pub fn fill<F: Files>(
         got += count;
     }
     Ok(got)
+}
+
+/// So many bytes of a file from the place `at` on, or as many as there are. The bytes asked for end by place 2^64.
+pub fn bytes_at<F: Files>(
+    alloc: Global,
+    files: &mut F,
+    name: &str,
+    at: u64,
+    count: usize,
+) -> Result<Bytes, Fault>
+    requires { at + count ≤ 2 ^ 64 }
+    ensures bytes { IfOk result (λ bytes. Told (F.held files.old)
+        (λ m. bytes ≡ take count (drop at (content m name.now)))) }
+    ensures within { IfOk result (λ bytes. length bytes ≤ count) }
+    ensures held { F.held files.new ≡ F.held files.old }
+    ensures faults { Counted result (F.faults files.old) (F.faults files.new) }
+    ensures lost { Counted result (F.lost files.old) (F.lost files.new) }
+    ensures spoiled { F.spoiled files.new ≡ F.spoiled files.old }
+    ensures last { LastWithin result name.now at (at + count) (F.last files.old) (F.last files.new) }
+{
+    let mut list = vec![in alloc; 0; count]?;
+    let got = fill(alloc, files, name, at, &mut list)?;
+    list.truncate(got);
+    Ok(Bytes::of(list))
 }
 
 /// Puts all of `bytes` behind what the file holds. After a fault the file may have the first few of them.

@@ -6,10 +6,9 @@ ghost use Rattle.binding_file.specs.declared.refusals.FileRefused.{FileRefused};
 
 use addr_text::one_address;
 
-/// A file that spells a table spells no other, and is not refused; one that is refused has one refusal. A text within the size of a file that spells a table is
-/// such a file. So reading what `write_table` writes gives the table again.
+/// A file has one answer: it spells one table, or it is refused for one reason. A text within the size of a file that spells
+/// a table is such a file, so reading what `write_table` writes gives the table again.
 pub fn one_table()
-    ensures one { (bytes : List ℕ) (t : Rules) (answer : Result Rules FileRefused) → TableOf bytes (Ok t) → TableOf bytes answer → answer ≡ Ok t }
     ensures answer { (bytes : List ℕ) (answer other : Result Rules FileRefused) → TableOf bytes answer → TableOf bytes other → answer ≡ other }
     ensures text { (bytes : List ℕ) (t : Rules) → length bytes ≤ 16777216 → TextOf bytes (Ok t) → TableOf bytes (Ok t) }
 {

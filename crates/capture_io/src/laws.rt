@@ -19,6 +19,11 @@ pub fn some_reading()
     ensures { (big : Bool) (left : List ℕ) (at number : ℕ) → (rs : List Record) × (ending : Option Refusal) × Splits big left at number rs ending }
 {}
 
+/// The next record stands behind a record's header, and so behind the record's own place.
+pub fn records_rise()
+    ensures { (big : Bool) (left : List ℕ) (at number : ℕ) (r : Record) → next_in big left at number ≡ Ok (next.Rec r) → at + 16 ≤ r.next_at }
+{}
+
 /// What is read is what is spelled. A record is found only where the bytes begin with its spelling, with some original
 /// length; and it is found wherever they do, for a record of the count and length that a capture may have.
 pub fn spelling_is_read()

@@ -14,5 +14,5 @@ mod words;
 pub use forms::{CaptureBad, CaptureError, Form, Next, Rec};
 pub use frames::{Frame, frame_of};
 pub use header::{put_header, read_header};
-pub use laws::{one_reading, some_reading, spelling_is_read, written_is_read};
+pub use laws::{one_reading, records_rise, some_reading, spelling_is_read, written_is_read};
 pub use record::{next_record, put_record, time_of};

@@ -9,7 +9,7 @@ ghost use Rattle.capture_io.specs.Written.{record_bytes};
 
 use crate::words::word;
 use crate::{CaptureBad, CaptureError, Form, Next, Rec};
-use aftr_base::{Bytes, Fault, Files, OutOfMemory, fill};
+use aftr_base::{Bytes, Files, OutOfMemory, bytes_at, fill};
 use std::alloc::Global;
 
 const HEADER_LEN: usize = 16;
@@ -93,30 +93,6 @@ fn head_of(big: bool, bytes: &[u8], at: u64, number: u32) -> Result<Head, Captur
         fraction: word(big, bytes, 4),
         captured,
     })
-}
-
-/// So many bytes from a place on, or as many as there are.
-fn bytes_at<F: Files>(
-    alloc: Global,
-    files: &mut F,
-    name: &str,
-    at: u64,
-    count: usize,
-) -> Result<Bytes, Fault>
-    requires { at + count ≤ 2 ^ 64 }
-    ensures bytes { IfOk result (λ bytes. Told (F.held files.old)
-        (λ m. bytes ≡ take count (drop at (content m name.now)))) }
-    ensures within { IfOk result (λ bytes. length bytes ≤ count) }
-    ensures held { F.held files.new ≡ F.held files.old }
-    ensures faults { Counted result (F.faults files.old) (F.faults files.new) }
-    ensures lost { Counted result (F.lost files.old) (F.lost files.new) }
-    ensures spoiled { F.spoiled files.new ≡ F.spoiled files.old }
-    ensures last { LastWithin result name.now at (at + count) (F.last files.old) (F.last files.new) }
-{
-    let mut list = vec![in alloc; 0; count]?;
-    let got = fill(alloc, files, name, at, &mut list)?;
-    list.truncate(got);
-    Ok(Bytes::of(list))
 }
 
 /// The time of a record in nanoseconds. The fraction is not tested: one second or more of it counts as it stands.

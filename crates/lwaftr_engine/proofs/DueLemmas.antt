@@ -9,7 +9,6 @@ use Rattle.capture_io.specs.Capture.{IsCapture, Splits}
 use Rattle.capture_io.specs.declared.forms.CaptureBad.{CaptureBad}
 use Rattle.capture_io.specs.declared.forms.Form.{Form}
 use Rattle.capture_io.specs.declared.forms.Rec.{Rec}
-use Rattle.capture_io.proofs.SplitLemmas.{one_way}
 use Rattle.lwaftr_engine.specs.Clauses.{Accepts, Counts, FilesAt, HasCause, IsDue, IsFault, NothingFailed}
 use Rattle.lwaftr_engine.specs.Endings.{IsWholeRun}
 use Rattle.lwaftr_engine.specs.Jobs.{ForRun, RunNames, names_of, run_in, run_of, texts}
@@ -18,20 +17,22 @@ use Rattle.lwaftr_engine.specs.declared.words.Job.TheVariants as asked
 use Rattle.lwaftr_engine.specs.declared.words.RunJob.{RunJob}
 use Rattle.lwaftr_engine.specs.declared.status.Status.{Status}
 use Rattle.lwaftr_engine.specs.declared.status.Status.TheVariants as status
+use Rattle.lwaftr_engine.proofs.Laws.{OneAnswer, OneReading}
 
--- a file has one answer as a table
-abbrev pub OneAnswer : Type 0
-OneAnswer = (bytes : List ℕ) (answer other : Result Rules FileRefused) → TableOf bytes answer → TableOf bytes other → answer ≡ other
+-- a table file has one answer, and a capture one reading
+pub record AreSingle : Type 0 where
+  pub table : OneAnswer
+  pub capture : OneReading
 
 -- a capture ends in one way
-one_end : (bytes : List ℕ) (h g : Result Form CaptureBad) (rs ss : List Rec) (e f : Option CaptureBad) → IsCapture bytes h rs e → IsCapture bytes g ss f → e ≡ f
-one_end bytes (Ok x) (Ok y) rs ss e f p q =
+one_end : OneReading → (bytes : List ℕ) (h g : Result Form CaptureBad) (rs ss : List Rec) (e f : Option CaptureBad) → IsCapture bytes h rs e → IsCapture bytes g ss f → e ≡ f
+one_end one bytes (Ok x) (Ok y) rs ss e f p q =
     let same : y ≡ x = cc (p.0, q.0) in
     let P : Form → Type 0 = λ z. Splits z.big (drop 24 bytes) 24 0 ss f in
-    (one_way x.big (drop 24 bytes) 24 0 rs ss e f p.1 (subst P same q.1)).1
-one_end bytes (Ok x) (Err y) rs ss e f p q = absurd (cc (p.0, q.0))
-one_end bytes (Err x) (Ok y) rs ss e f p q = absurd (cc (p.0, q.0))
-one_end bytes (Err x) (Err y) rs ss e f p q = cc (p.0, q.0, p.2, q.2)
+    (one x.big (drop 24 bytes) 24 0 rs ss e f p.1 (subst P same q.1)).1
+one_end one bytes (Ok x) (Err y) rs ss e f p q = absurd (cc (p.0, q.0))
+one_end one bytes (Err x) (Ok y) rs ss e f p q = absurd (cc (p.0, q.0))
+one_end one bytes (Err x) (Err y) rs ss e f p q = cc (p.0, q.0, p.2, q.2)
 
 refused_not_accepted : OneAnswer → (n : RunNames) (m : Held) (refusal : FileRefused) → TableOf (content m n.table) (Err refusal) → Accepts n m → ⊥
 refused_not_accepted one n m refusal bad good = let e : Err refusal ≡ Ok good.0 = one (content m n.table) (Err refusal) (Ok good.0) bad good.1 in absurd (cc)
@@ -41,13 +42,13 @@ abbrev Asked : Option CaptureBad → Status
 Asked None = status.Done
 Asked (Some refusal) = status.BadCapture refusal
 
-due_at : OneAnswer → (n : RunNames) (m : Held) (h : Result Form CaptureBad) (rs : List Rec) (e : Option CaptureBad) → Accepts n m → IsCapture (content m n.input) h rs e →
+due_at : AreSingle → (n : RunNames) (m : Held) (h : Result Form CaptureBad) (rs : List Rec) (e : Option CaptureBad) → Accepts n m → IsCapture (content m n.input) h rs e →
     (s : Status) → IsDue n m s → Asked e ≡ s
-due_at one n m h rs e table capture (status.BadTable refusal) due = absurd (refused_not_accepted one n m refusal due table)
+due_at one n m h rs e table capture (status.BadTable refusal) due = absurd (refused_not_accepted one.table n m refusal due table)
 due_at one n m h rs e table capture (status.BadCapture refusal) due =
-    ap Asked (one_end (content m n.input) h due.1.0 rs due.1.1 e (Some refusal) capture due.1.2)
+    ap Asked (one_end one.capture (content m n.input) h due.1.0 rs due.1.1 e (Some refusal) capture due.1.2)
 due_at one n m h rs e table capture status.Done due =
-    ap Asked (one_end (content m n.input) h (Ok due.1.0) rs due.1.1 e None capture due.1.2)
+    ap Asked (one_end one.capture (content m n.input) h (Ok due.1.0) rs due.1.1 e None capture due.1.2)
 due_at one n m h rs e table capture status.DoneRefused due = absurd due
 due_at one n m h rs e table capture status.Usage due = absurd due
 due_at one n m h rs e table capture status.ReadFault due = absurd due
@@ -64,22 +65,22 @@ due_refused one n m refusal bad status.ReadFault due = absurd due
 due_refused one n m refusal bad status.WriteFault due = absurd due
 due_refused one n m refusal bad status.OutOfMemory due = absurd due
 
-due_whole : OneAnswer → (n : RunNames) (old new : Held) (said now : Option (List ℕ)) (e : Option CaptureBad) → IsWholeRun n old new said now e → (s : Status) → IsDue n old s → Asked e ≡ s
+due_whole : AreSingle → (n : RunNames) (old new : Held) (said now : Option (List ℕ)) (e : Option CaptureBad) → IsWholeRun n old new said now e → (s : Status) → IsDue n old s → Asked e ≡ s
 due_whole one n old new said now e w s due = due_at one n old (Ok w.form) w.records e (w.rules, w.run.table) w.capture s due
 
-pub is_due : OneAnswer → (n : RunNames) (result : Status) (old new : Held) (said now : Option (List ℕ)) (last : Option (List ℕ × ℕ)) →
+pub is_due : AreSingle → (n : RunNames) (result : Status) (old new : Held) (said now : Option (List ℕ)) (last : Option (List ℕ × ℕ)) →
     FilesAt n result old new said now last → (s : Status) → IsDue n old s → (result ≡ s) ⊎ IsFault result
 is_due one n status.Done old new said now last f s due = inl (due_whole one n old new said now None f s due)
 is_due one n (status.BadCapture refusal) old new said now last (inl w) s due = inl (due_whole one n old new said now (Some refusal) w s due)
 is_due one n (status.BadCapture refusal) old new said now last (inr b) s due = inl (due_at one n old (Err refusal) [] (Some refusal) b.table b.capture s due)
-is_due one n (status.BadTable refusal) old new said now last f s due = inl (due_refused one n old refusal f.0 s due)
+is_due one n (status.BadTable refusal) old new said now last f s due = inl (due_refused one.table n old refusal f.0 s due)
 is_due one n status.ReadFault old new said now last f s due = inr tt
 is_due one n status.WriteFault old new said now last f s due = inr tt
 is_due one n status.OutOfMemory old new said now last f s due = inr tt
 is_due one n status.DoneRefused old new said now last f s due = absurd f
 is_due one n status.Usage old new said now last f s due = absurd f
 
-pub due_told : OneAnswer → (n : RunNames) (result : Status) (a b : Option Held) (said now : Option (List ℕ)) (last : Option (List ℕ × ℕ)) →
+pub due_told : AreSingle → (n : RunNames) (result : Status) (a b : Option Held) (said now : Option (List ℕ)) (last : Option (List ℕ × ℕ)) →
     Moves a b (λ old new. FilesAt n result old new said now last) → Told a (λ m. (s : Status) → IsDue n m s → (result ≡ s) ⊎ IsFault result)
 due_told one n result None b said now last moves = tt
 due_told one n result (Some m) None said now last moves = absurd moves
@@ -90,7 +91,7 @@ complete_by : (result : Status) (before now : Counts) → HasCause result before
     (result ≡ status.Done) ⊎ (result ≡ status.OutOfMemory)
 complete_by result before now cause none (inl done) = inl done
 complete_by status.OutOfMemory before now cause none (inr fault) = inr refl
-complete_by status.ReadFault before now cause none (inr fault) = absurd (none.lost cause)
+complete_by status.ReadFault before now cause none (inr fault) = absurd (none.lost cause.0)
 complete_by status.WriteFault before now (inl rose) none (inr fault) = absurd (none.spoiled rose)
 complete_by status.WriteFault before now (inr rose) none (inr fault) = absurd (none.puts rose)
 complete_by status.Done before now cause none (inr fault) = absurd fault
@@ -99,7 +100,7 @@ complete_by status.Usage before now cause none (inr fault) = absurd fault
 complete_by (status.BadTable refusal) before now cause none (inr fault) = absurd fault
 complete_by (status.BadCapture refusal) before now cause none (inr fault) = absurd fault
 
-pub complete_told : OneAnswer → (n : RunNames) (result : Status) (a b : Option Held) (said now : Option (List ℕ)) (last : Option (List ℕ × ℕ)) (before after : Counts) →
+pub complete_told : AreSingle → (n : RunNames) (result : Status) (a b : Option Held) (said now : Option (List ℕ)) (last : Option (List ℕ × ℕ)) (before after : Counts) →
     Moves a b (λ old new. FilesAt n result old new said now last) → HasCause result before after →
     Told a (λ m. IsDue n m status.Done → NothingFailed before after → (result ≡ status.Done) ⊎ (result ≡ status.OutOfMemory))
 complete_told one n result None b said now last before after moves cause = tt

@@ -16,8 +16,6 @@ use Rattle.capture_io.specs.declared.forms.CaptureBad.{CaptureBad}
 use Rattle.capture_io.specs.declared.forms.Form.{Form}
 use Rattle.capture_io.specs.declared.forms.Next.TheVariants as next
 use Rattle.capture_io.specs.declared.forms.Rec.{Rec}
-use Rattle.capture_io.proofs.RecordLemmas.{header_end}
-use Rattle.capture_io.proofs.SplitLemmas.{Split, some_way}
 use Rattle.item_stage.specs.Items.{entries_of, unfinished_of}
 use Rattle.item_stage.specs.Stages.{Staged, Stands}
 use Rattle.lwaftr_engine.specs.Endings.{ended_by, IsCutRun, IsRun, IsWholeRun}
@@ -29,6 +27,7 @@ use Rattle.lwaftr_engine.specs.declared.rounds.Ending.{Ending}
 use Rattle.lwaftr_engine.specs.declared.rounds.Ending.TheVariants as ending
 use Rattle.lwaftr_engine.specs.declared.run.Progress.{Progress}
 use Rattle.lwaftr_engine.proofs.Joining.{version_stays}
+use Rattle.lwaftr_engine.proofs.Laws.{RecordsRise, SomeReading}
 use Rattle.lwaftr_engine.proofs.Moving.{moves_join}
 use Rattle.lwaftr_engine.proofs.Touching.{AreApart}
 use Rattle.table_words.specs.Layout.{IsCompiled}
@@ -80,6 +79,11 @@ above : (a b : ℕ) (t : Bool) → nat_le a b ≡ t → b < a → t ≡ false
 above a b true e less = absurd (omega (arith, leb-true a b e))
 above a b false e less = refl
 
+-- records rise, and bytes have some reading
+pub record AreLaws : Type 0 where
+  pub rise : RecordsRise
+  pub some : SomeReading
+
 -- records that end at or before a place are all among those that do
 all_of : (place : ℕ) (rs : List Rec) → All (λ r. r.next_at ≤ place) rs → filter (λ r. nat_le r.next_at place) rs ≡ rs
 all_of place [] each = refl
@@ -87,24 +91,24 @@ all_of place (r ∷ rs) each =
     rw (le-leb r.next_at place (each 0 r (omega arith))) (ap (λ l. r ∷ l) (all_of place rs (λ k d within. each (suc k) d (omega arith))))
 
 -- records behind it are not
-none_of : (big : Bool) (left : List ℕ) (at number place : ℕ) (rs : List Rec) (e : Option CaptureBad) → Splits big left at number rs e →
+none_of : RecordsRise → (big : Bool) (left : List ℕ) (at number place : ℕ) (rs : List Rec) (e : Option CaptureBad) → Splits big left at number rs e →
     ((r : Rec) → next_in big left at number ≡ Ok (next.Rec r) → place < r.next_at) → filter (λ r. nat_le r.next_at place) rs ≡ []
-none_of big left at number place [] e splits before = refl
-none_of big left at number place (r ∷ rs) e splits before =
+none_of rise big left at number place [] e splits before = refl
+none_of rise big left at number place (r ∷ rs) e splits before =
     let here : place < r.next_at = before r splits.0 in
     let rest : filter (λ r. nat_le r.next_at place) rs ≡ [] =
-    none_of big (drop (16 + length r.bytes) left) r.next_at (number + 1) place rs e splits.1
-    (λ x is. let later : r.next_at < x.next_at = header_end big (drop (16 + length r.bytes) left) r.next_at (number + 1) r.next_at x (omega arith) is in omega arith) in
+    none_of rise big (drop (16 + length r.bytes) left) r.next_at (number + 1) place rs e splits.1
+    (λ x is. omega (arith, rise big (drop (16 + length r.bytes) left) r.next_at (number + 1) x is)) in
     rw (above r.next_at place (nat_le r.next_at place) refl here) rest
 
 -- the records that were taken are those that end at or before the place of the read that failed
-cut : (place : ℕ) (big : Bool) (left : List ℕ) (at number : ℕ) (taken rest : List Rec) (e : Option CaptureBad) → All (λ r. r.next_at ≤ at) taken → at ≤ place →
+cut : RecordsRise → (place : ℕ) (big : Bool) (left : List ℕ) (at number : ℕ) (taken rest : List Rec) (e : Option CaptureBad) → All (λ r. r.next_at ≤ at) taken → at ≤ place →
     Splits big left at number rest e → ((r : Rec) → next_in big left at number ≡ Ok (next.Rec r) → place < r.next_at) →
     filter (λ r. nat_le r.next_at place) (taken ++ rest) ≡ taken
-cut place big left at number taken rest e within begun splits before =
+cut rise place big left at number taken rest e within begun splits before =
     filter-append (λ r. nat_le r.next_at place) taken rest
     ∙ (ap (λ l. l ++ filter (λ r. nat_le r.next_at place) rest) (all_of place taken (λ k d w. omega (arith, within k d w)))
-    ∙ (ap (λ l. taken ++ l) (none_of big left at number place rest e splits before) ∙ append-nil taken))
+    ∙ (ap (λ l. taken ++ l) (none_of rise big left at number place rest e splits before) ∙ append-nil taken))
 
 whole : (n : RunNames) (form : Form) (t : Rules) (a d : Held) (said now : Option (List ℕ)) (rs : List Rec) (ended : Option CaptureBad) →
     header_in (content a n.input) ≡ Ok form → Splits form.big (drop 24 (content a n.input)) 24 0 (rs ++ []) ended → IsRun n a d said now t form rs →
@@ -117,16 +121,16 @@ whole n form t a d said now rs ended header splits run = record {
   run = run;
 }
 
-cut_short : (n : RunNames) (form : Form) (t : Rules) (a d : Held) (said now : Option (List ℕ)) (rs : List Rec) (at number : ℕ) (last : Option (List ℕ × ℕ)) →
+cut_short : AreLaws → (n : RunNames) (form : Form) (t : Rules) (a d : Held) (said now : Option (List ℕ)) (rs : List Rec) (at number : ℕ) (last : Option (List ℕ × ℕ)) →
     header_in (content a n.input) ≡ Ok form → 24 ≤ at → All (λ r. r.next_at ≤ at) rs →
     ((rest : List Rec) (e : Option CaptureBad) → Splits form.big (drop at (content a n.input)) at number rest e → Splits form.big (drop 24 (content a n.input)) 24 0 (rs ++ rest) e) →
     IsCutAt n.input form.big (content a n.input) at number last → IsRun n a d said now t form rs →
     IsCutRun n a d said now last
-cut_short n form t a d said now rs at number last header behind within follows stopped run =
-    let rest : Split form.big (drop at (content a n.input)) at number = some_way form.big (drop at (content a n.input)) at number in
+cut_short laws n form t a d said now rs at number last header behind within follows stopped run =
+    let rest : (rs : List Rec) × (ending : Option CaptureBad) × Splits form.big (drop at (content a n.input)) at number rs ending = laws.some form.big (drop at (content a n.input)) at number in
     let P : List Rec → Type 0 = λ l. IsRun n a d said now t form l in
     let F : List Rec → Type 0 = λ l. take (length l) (rs ++ rest.0) ≡ l in
-    let same : rs ≡ ended_by stopped.place (rs ++ rest.0) = sym (cut stopped.place form.big (drop at (content a n.input)) at number rs rest.0 rest.1 within stopped.begun rest.2 stopped.before) in
+    let same : rs ≡ ended_by stopped.place (rs ++ rest.0) = sym (cut laws.rise stopped.place form.big (drop at (content a n.input)) at number rs rest.0 rest.1 within stopped.begun rest.2 stopped.before) in
     record {
       rules = t;
       form = form;
@@ -140,33 +144,33 @@ cut_short n form t a d said now rs at number last header behind within follows s
       run = subst P same run;
     }
 
-ends_by : (n : RunNames) (form : Form) (t : Rules) (a b d : Held) (said now : Option (List ℕ)) (rs : List Rec) (p : Progress) (stop : Ending) (last : Option (List ℕ × ℕ)) →
+ends_by : AreLaws → (n : RunNames) (form : Form) (t : Rules) (a b d : Held) (said now : Option (List ℕ)) (rs : List Rec) (p : Progress) (stop : Ending) (last : Option (List ℕ × ℕ)) →
     header_in (content a n.input) ≡ Ok form → 24 ≤ p.at → All (λ r. r.next_at ≤ p.at) rs →
     ((rest : List Rec) (e : Option CaptureBad) → Splits form.big (drop p.at (content a n.input)) p.at p.number rest e → Splits form.big (drop 24 (content a n.input)) 24 0 (rs ++ rest) e) →
     content b n.input ≡ content a n.input → Stops n.input form.big (content b n.input) p.at p.number (Some stop) last → IsRun n a d said now t form rs →
     EndsAs n stop a d said now last
-ends_by n form t a b d said now rs p ending.End last header behind within follows input stopped run =
+ends_by laws n form t a b d said now rs p ending.End last header behind within follows input stopped run =
     let P : List ℕ → Type 0 = λ l. Splits form.big (drop p.at l) p.at p.number [] None in
     whole n form t a d said now rs None header (follows [] None (subst P input stopped)) run
-ends_by n form t a b d said now rs p (ending.Bad refusal) last header behind within follows input stopped run =
+ends_by laws n form t a b d said now rs p (ending.Bad refusal) last header behind within follows input stopped run =
     let P : List ℕ → Type 0 = λ l. Splits form.big (drop p.at l) p.at p.number [] (Some refusal) in
     whole n form t a d said now rs (Some refusal) header (follows [] (Some refusal) (subst P input stopped)) run
-ends_by n form t a b d said now rs p ending.ReadFault last header behind within follows input stopped run =
+ends_by laws n form t a b d said now rs p ending.ReadFault last header behind within follows input stopped run =
     let P : List ℕ → Type 0 = λ l. IsCutAt n.input form.big l p.at p.number last in
-    cut_short n form t a d said now rs p.at p.number last header behind within follows (subst P input stopped) run
+    cut_short laws n form t a d said now rs p.at p.number last header behind within follows (subst P input stopped) run
 
-ends : (n : RunNames) (form : Form) (t : Rules) → AreApart n → (a b c d : Held) (said now : Option (List ℕ)) (p : Progress) (stop : Ending) (last : Option (List ℕ × ℕ)) →
+ends : AreLaws → (n : RunNames) (form : Form) (t : Rules) → AreApart n → (a b c d : Held) (said now : Option (List ℕ)) (p : Progress) (stop : Ending) (last : Option (List ℕ × ℕ)) →
     TableOf (content a n.table) (Ok t) → header_in (content a n.input) ≡ Ok form → IsOpened n form.nano a b → IsBounded p → HasGone n form (steady t) b c p (Some stop) last →
     ((taken : List Rec) → Stands p.stage taken → Writes c d n.verdicts (content c n.verdicts ++ flat_map (ended_text false) (unfinished_of p.stage.form taken))) →
     now ≡ option_map (λ taken. taken ++ summary_text p.totals) said →
     EndsAs n stop a d said now last
-ends n form t far a b c d said now p stop last table header opened bounded gone wrote summary =
+ends laws n form t far a b c d said now p stop last table header opened bounded gone wrote summary =
     let rs : List Rec = gone.records in
     let run : IsRun n a d said now t form gone.records = is_run n form t far a b c d said now p gone.records table opened bounded gone.taken (wrote gone.records gone.taken.stands) summary in
     let input : content b n.input ≡ content a n.input = opened.others n.input (λ e. far.output_input (sym e)) (λ e. far.verdicts_input (sym e)) (λ e. far.versions_input (sym e)) in
     let F : List ℕ → Type 0 = λ l. (rest : List Rec) (e : Option CaptureBad) → Splits form.big (drop p.at l) p.at p.number rest e → Splits form.big (drop 24 l) 24 0 (gone.records ++ rest) e in
     let follows : (rest : List Rec) (e : Option CaptureBad) → Splits form.big (drop p.at (content a n.input)) p.at p.number rest e → Splits form.big (drop 24 (content a n.input)) 24 0 (gone.records ++ rest) e = subst F input gone.taken.follows in
-    ends_by n form t a b d said now gone.records p stop last header gone.taken.behind gone.taken.within follows input gone.stopped run
+    ends_by laws n form t a b d said now gone.records p stop last header gone.taken.behind gone.taken.within follows input gone.stopped run
 
 -- the outputs were opened, and all rounds are done
 record IsHalfDone (n : RunNames) (form : Form) (words : List ℕ) (p : Progress) (stop : Ending) (last : Option (List ℕ × ℕ)) (m o : Held) : Type 0 where
@@ -174,14 +178,14 @@ record IsHalfDone (n : RunNames) (form : Form) (words : List ℕ) (p : Progress)
   opened : IsOpened n form.nano m middle
   gone : (t : Rules) → IsCompiled t words → HasGone n form (steady t) middle o p (Some stop) last
 
-pub ran : (n : RunNames) (form : Form) (words : List ℕ) → AreApart n → (h0 h1 h2 h3 : Option Held) (said now : Option (List ℕ)) (stage : Staged) (p : Progress) (stop : Ending) (before last : Option (List ℕ × ℕ)) →
+pub ran : AreLaws → (n : RunNames) (form : Form) (words : List ℕ) → AreApart n → (h0 h1 h2 h3 : Option Held) (said now : Option (List ℕ)) (stage : Staged) (p : Progress) (stop : Ending) (before last : Option (List ℕ × ℕ)) →
     Stands stage [] → stage.form ≡ form → IsBounded p →
     Moves h0 h1 (λ m o. IsOpened n form.nano m o) →
     Moves h1 h2 (λ m o. (t : Rules) → IsCompiled t words → GoesOn n form (steady t) m o (record { stage = stage; at = 24; number = 0; totals = no_totals }) p (Some stop) before) →
     Moves h2 h3 (λ m o. (taken : List Rec) → Stands p.stage taken → Writes m o n.verdicts (content m n.verdicts ++ flat_map (ended_text false) (unfinished_of p.stage.form taken))) →
     now ≡ option_map (λ taken. taken ++ summary_text p.totals) said → last ≡ before →
     Moves h0 h3 (λ m o. (t : Rules) → IsCompiled t words → TableOf (content m n.table) (Ok t) → header_in (content m n.input) ≡ Ok form → EndsAs n stop m o said now last)
-ran n form words far h0 h1 h2 h3 said now stage p stop before last stands is bounded first going third summary same =
+ran laws n form words far h0 h1 h2 h3 said now stage p stop before last stands is bounded first going third summary same =
     let q : Progress = record { stage = stage; at = 24; number = 0; totals = no_totals } in
     let L : Option (List ℕ × ℕ) → Type 0 = λ l. Moves h1 h2 (λ m o. (t : Rules) → IsCompiled t words → GoesOn n form (steady t) m o q p (Some stop) l) in
     let second : Moves h1 h2 (λ m o. (t : Rules) → IsCompiled t words → GoesOn n form (steady t) m o q p (Some stop) last) = subst L (sym same) going in
@@ -191,5 +195,5 @@ ran n form words far h0 h1 h2 h3 said now stage p stop before last stands is bou
     moves_join h0 h2 h3 (λ m o. IsHalfDone n form words p stop last m o)
     (λ m o. (taken : List Rec) → Stands p.stage taken → Writes m o n.verdicts (content m n.verdicts ++ flat_map (ended_text false) (unfinished_of p.stage.form taken)))
     (λ m o. (t : Rules) → IsCompiled t words → TableOf (content m n.table) (Ok t) → header_in (content m n.input) ≡ Ok form → EndsAs n stop m o said now last)
-    (λ m c o x y t compiled table header. ends n form t far m x.middle c o said now p stop last table header x.opened bounded (x.gone t compiled) y summary)
+    (λ m c o x y t compiled table header. ends laws n form t far m x.middle c o said now p stop last table header x.opened bounded (x.gone t compiled) y summary)
     half third

@@ -3,6 +3,7 @@ mod FinishLemmas
 mod FrontLemmas
 mod Going
 mod Joining
+mod Laws
 mod LineLemmas
 mod Moving
 mod QueryLemmas

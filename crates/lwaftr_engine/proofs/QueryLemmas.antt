@@ -20,12 +20,9 @@ use Rattle.lwaftr_engine.specs.declared.table_file.NoTable.{NoTable}
 use Rattle.lwaftr_engine.specs.declared.table_file.NoTable.TheVariants as none
 use Rattle.lwaftr_engine.specs.declared.status.Status.{Status}
 use Rattle.lwaftr_engine.specs.declared.status.Status.TheVariants as status
+use Rattle.lwaftr_engine.proofs.Laws.{OneAnswer}
 use Rattle.table_words.specs.Answers.{first_b4}
 use Rattle.table_words.specs.Layout.{IsCompiled}
-
--- a file has one answer as a table
-abbrev pub OneAnswer : Type 0
-OneAnswer = (bytes : List ℕ) (answer other : Result Rules FileRefused) → TableOf bytes answer → TableOf bytes other → answer ≡ other
 
 same_status : (x y : FileRefused) → status.BadTable x ≡ status.BadTable y → x ≡ y
 same_status x y e = cc

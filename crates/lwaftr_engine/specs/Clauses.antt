@@ -1,5 +1,5 @@
 -- The promises of the program's call, each by its status.
-use Rattle.std.specs.Prelude.{◌≡◌, ℕ, List, [], Option, Some, None, Result, Ok, Err, ◌⊎◌}
+use Rattle.std.specs.Prelude.{◌≡◌, ◌≢◌, ℕ, List, [], Option, Some, None, Result, Ok, Err, ◌⊎◌}
 use Rattle.aftr_base.specs.Faults.{Rose}
 use Rattle.aftr_base.specs.Held.{Held, content}
 use Rattle.binding_rules.specs.Tables.{Rules}
@@ -32,10 +32,11 @@ pub record AreSame (before now : Counts) : Type 0 where
   pub files : now.files ≡ before.files
   pub puts : now.puts ≡ before.puts
 
--- What a status says of the faults of the outside: `ReadFault` comes only where a read failed in this call, `WriteFault`
--- only where a create, an append or a put did, and at every other status but want of memory nothing failed.
+-- What a status says of the faults of the outside: `ReadFault` comes only where a read failed in this call and nothing else
+-- did, `WriteFault` only where a create, an append or a put failed, and at every other status but want of memory nothing
+-- failed.
 abbrev pub HasCause : Status → Counts → Counts → Type 0
-HasCause status.ReadFault before now = Rose before.lost now.lost
+HasCause status.ReadFault before now = Rose before.lost now.lost × (now.spoiled ≡ before.spoiled) × (now.puts ≡ before.puts)
 HasCause status.WriteFault before now = Rose before.spoiled now.spoiled ⊎ Rose before.puts now.puts
 HasCause status.OutOfMemory before now = Unit {0}
 HasCause status.Done before now = AreSame before now
@@ -97,6 +98,11 @@ IsFault status.Usage = ⊥
 IsFault (status.BadTable refusal) = ⊥
 IsFault (status.BadCapture refusal) = ⊥
 
+-- The table is read before the capture: where the read that failed is one of the capture, and no table is read from the
+-- capture's file, the table is accepted.
+abbrev pub IsBehindTable : RunNames → Held → Option (List ℕ × ℕ) → Type 0
+IsBehindTable n old last = (place : ℕ) → last ≡ Some (n.input, place) → n.input ≢ n.table → Accepts n old
+
 -- the capture's header is refused under a table that is accepted, and nothing was written
 pub record IsBadHeader (n : RunNames) (old new : Held) (said now : Option (List ℕ)) (refusal : CaptureBad) : Type 0 where
   pub table : Accepts n old
@@ -115,7 +121,7 @@ FilesAt n status.Done old new said now last = IsWholeRun n old new said now None
 FilesAt n (status.BadCapture refusal) old new said now last =
     IsWholeRun n old new said now (Some refusal) ⊎ IsBadHeader n old new said now refusal
 FilesAt n status.ReadFault old new said now last =
-    IsCutRun n old new said now last ⊎ (IsUntouched old new said now × (IsInRecords n old last → ⊥))
+    IsCutRun n old new said now last ⊎ (IsUntouched old new said now × (IsInRecords n old last → ⊥) × IsBehindTable n old last)
 FilesAt n (status.BadTable refusal) old new said now last =
     TableOf (content old n.table) (Err refusal) × IsUntouched old new said now
 FilesAt n status.WriteFault old new said now last = IsBegun n old new

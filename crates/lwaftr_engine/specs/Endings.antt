@@ -17,10 +17,6 @@ use Rattle.lwaftr_engine.specs.Outputs.{steady, output_of, verdicts_of, versions
 abbrev pub OthersKept : RunNames → Held → Held → Type 0
 OthersKept n old new = (name : List ℕ) → name ≢ n.output → name ≢ n.verdicts → name ≢ n.versions → content new name ≡ content old name
 
--- every name holds what it held
-abbrev pub AllKept : Held → Held → Type 0
-AllKept old new = (name : List ℕ) → content new name ≡ content old name
-
 -- The files are those of one router that took these records of the capture, under the table of the run; the sink took the
 -- summary.
 pub record IsRun (n : RunNames) (old new : Held) (said now : Option (List ℕ)) (t : Rules) (form : Form) (rs : List Rec) : Type 0 where
@@ -59,9 +55,9 @@ pub record IsCutRun (n : RunNames) (old new : Held) (said now : Option (List ℕ
   pub first_ones : take (length (ended_by place all)) all ≡ ended_by place all
   pub run : IsRun n old new said now rules form (ended_by place all)
 
--- nothing was written: every name holds what it held, and the sink took nothing
+-- nothing was written: the files are as they were, and the sink took nothing
 pub record IsUntouched (old new : Held) (said now : Option (List ℕ)) : Type 0 where
-  pub files : AllKept old new
+  pub files : new ≡ old
   pub sink : now ≡ said
 
 -- The read that failed is one of a record, and of nothing else: the last place is one of the capture behind its header,

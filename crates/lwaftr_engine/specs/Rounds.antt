@@ -1,5 +1,5 @@
 -- Some records of a capture, and how they ended.
-use Rattle.std.specs.Prelude.{◌≡◌, ◌⊎◌, ℕ, ◌+◌, ◌*◌, ◌^◌, ◌<◌, ◌≤◌, Bool, List, [], ◌++◌, length, drop, sum_by, All, Option, Some, None, Result, Ok, Err}
+use Rattle.std.specs.Prelude.{◌≡◌, ◌⊎◌, ℕ, ◌+◌, ◌-◌, ◌*◌, ◌^◌, ◌<◌, ◌≤◌, Bool, List, [], ◌++◌, length, take, drop, sum_by, All, Option, Some, None, Result, Ok, Err}
 use Rattle.aftr_base.specs.declared.lists.OutOfMemory.{OutOfMemory}
 use Rattle.aftr_base.specs.Faults.{Rose}
 use Rattle.aftr_base.specs.Held.{Held}
@@ -37,15 +37,19 @@ pub record IsPlaced (at : ℕ) (round : Round) : Type 0 where
 abbrev pub captured : List Rec → ℕ
 captured rs = sum_by (λ r. length r.bytes) rs
 
--- How many there are: a round that is not the last has 16,384 records or 67,108,864 captured bytes. No record stands behind
--- the one that brings them to that many, and a record has at most 262,144 of them.
+-- all records but the last one
+abbrev pub all_but_last : List Rec → List Rec
+all_but_last rs = take (length rs - 1) rs
+
+-- How many there are: a round that is not the last has 16,384 records or 67,108,864 captured bytes, and no record stands
+-- behind the one that brings them to that many.
 pub record IsCount (at number : ℕ) (round : Round) : Type 0 where
   pub numbered : round.number ≡ number + length round.records.items
   pub most : round.number ≤ 2 ^ 31
   pub place : round.at ≤ 24 + 262160 * round.number
   pub some : round.ending ≡ None → 0 < length round.records.items
   pub few : length round.records.items ≤ 16384
-  pub bytes : captured round.records.items < 67108864 + 262144
+  pub bytes : captured (all_but_last round.records.items) < 67108864
   pub full : round.ending ≡ None → (length round.records.items ≡ 16384) ⊎ (67108864 ≤ captured round.records.items)
 
 -- a count of faults rises exactly where the records ended with `ReadFault`

@@ -25,7 +25,7 @@ use crate::table_file::{NoTable, table_in};
 use crate::words::RunJob;
 use aftr_base::{Fault, Files, OutOfMemory, Sink, append_all, put_all};
 use aftr_text::{Totals, summary};
-use capture_io::{CaptureError, Form, read_header};
+use capture_io::{CaptureError, Form, read_header, records_rise, some_reading};
 use item_stage::Stage;
 use std::alloc::Global;
 use std::marker::Brand;
@@ -178,6 +178,9 @@ fn run_capture<F: Files, O: Sink>(
     ensures last { LastEnding result (names_of job.entry).input (F.last files.old) (F.last files.new) }
     ensures writing { WriteCounts result (F.spoiled files.old) (F.spoiled files.new) (O.faults out.old) (O.faults out.new) }
 {
+    // Laws, and no steps: bytes have some reading, and records follow one another.
+    some_reading();
+    records_rise();
     let mut progress = Progress {
         stage: Stage::new(alloc, form)?,
         at: 24,

@@ -5,7 +5,7 @@ ghost use Rattle.aftr_base.specs.Held.{content, Told};
 ghost use Rattle.binding_file.specs.Files.{TableOf};
 ghost use Rattle.lwaftr_engine.specs.Tables.{IsNoTable, TableCounts, TableLast};
 
-use aftr_base::{Bytes, Fault, Files, fill};
+use aftr_base::{Bytes, Fault, Files, bytes_at};
 use binding_file::{FileError, FileRefused, read_table};
 use binding_rules::Table;
 use std::alloc::Global;
@@ -70,34 +70,11 @@ fn file_front<F: Files>(
         let have = list.len();
         let count = (most - have).min(PIECE.max(have));
         let piece = bytes_at(alloc, files, name, have as u64, count)?;
-        list.extend_from_slice(&piece)?;
-        if piece.len() < count {
+        let bytes = piece.as_slice();
+        list.extend_from_slice(bytes)?;
+        if bytes.len() < count {
             return Ok(Bytes::of(list));
         }
     }
     Ok(Bytes::of(list))
-}
-
-/// So many bytes of a file from a place on, or as many as there are.
-fn bytes_at<F: Files>(
-    alloc: Global,
-    files: &mut F,
-    name: &str,
-    at: u64,
-    count: usize,
-) -> Result<Vec<u8>, Fault>
-    requires { at + count ≤ 2 ^ 64 }
-    ensures bytes { IfOk result (λ bytes. Told (F.held files.old)
-        (λ m. bytes.items ≡ take count (drop at (content m name.now)))) }
-    ensures within { IfOk result (λ bytes. length bytes.items ≤ count) }
-    ensures held { F.held files.new ≡ F.held files.old }
-    ensures faults { Counted result (F.faults files.old) (F.faults files.new) }
-    ensures lost { Counted result (F.lost files.old) (F.lost files.new) }
-    ensures spoiled { F.spoiled files.new ≡ F.spoiled files.old }
-    ensures last { LastWithin result name.now at (at + count) (F.last files.old) (F.last files.new) }
-{
-    let mut list = vec![in alloc; 0; count]?;
-    let got = fill(alloc, files, name, at, &mut list)?;
-    list.truncate(got);
-    Ok(list)
 }

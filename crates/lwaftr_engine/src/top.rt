@@ -13,6 +13,7 @@ use crate::status::Status;
 use crate::words::{Job, read_words};
 use aftr_base::{Files, Sink};
 use binding_file::one_table;
+use capture_io::one_reading;
 use std::alloc::Global;
 
 /// Does the job that the command words ask for: `run IN OUT VERDICTS VERSIONS TABLE`, `check FILE`, or
@@ -65,8 +66,9 @@ pub fn lwaftr<F: Files, O: Sink>(
         (counts (F.lost files.new) (F.spoiled files.new) (F.faults files.new) (O.faults out.new)) →
         (result ≡ Status.Done) ⊎ (result ≡ Status.OutOfMemory))) }
 {
-    // A law, and no step: a table file has one answer.
+    // Laws, and no steps: a table file has one answer, and a capture one reading.
     one_table();
+    one_reading();
     match read_words(words) {
         None => Status::Usage,
         Some(Job::Run(job)) => run_job(alloc, job, files, out),

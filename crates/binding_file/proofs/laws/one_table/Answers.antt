@@ -1,10 +1,6 @@
-use Rattle.std.proofs.Common.{Ok}
 use Rattle.binding_file.proofs.Trees.{text_file}
 use Rattle.binding_file.proofs.Unique.{one_answer}
 use Rattle.binding_file.proofs.laws.one_table.Goals as goal
-
-pub returns-clause-one : goal.returns-clause-one
-returns-clause-one c = λ bytes t r h k. one_answer c.one_address.ensures.v6 c.one_address.ensures.v4 bytes r (Ok t) k h
 
 pub returns-clause-answer : goal.returns-clause-answer
 returns-clause-answer c = one_answer c.one_address.ensures.v6 c.one_address.ensures.v4

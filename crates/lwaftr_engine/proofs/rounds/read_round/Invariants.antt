@@ -1,6 +1,6 @@
 use Rattle.std.proofs.Common.{◌≡◌, ◌≤◌, ◌<◌, ◌+◌, ◌-◌, ◌*◌, ◌^◌, All, length}
 use Rattle.aftr_base.specs.Held.{Told, content}
-use Rattle.lwaftr_engine.specs.Rounds.{Precedes, captured}
+use Rattle.lwaftr_engine.specs.Rounds.{Precedes, all_but_last, captured}
 use Rattle.lwaftr_engine.proofs.rounds.read_round.Given as goal
 
 abbrev pub invariant-records : goal.invariant-records
@@ -14,7 +14,7 @@ invariant-records g l = let f = g.F.Files in record {
   bytes : l.bytes ≡ captured l.records.items;
   some : 0 < l.bytes → 0 < length l.records.items;
   few : length l.records.items ≤ 16384;
-  within : l.bytes < 67108864 + 262144;
+  within : captured (all_but_last l.records.items) < 67108864;
   held : f.held l.files ≡ f.held l.initial.files;
   faults : f.faults l.files ≡ f.faults l.initial.files;
   lost : f.lost l.files ≡ f.lost l.initial.files;

@@ -8,7 +8,7 @@ returns-clause-ran g c =
     let f = g.F.Files in
     let o = g.O.Sink in
     let n = names_of c.args.job in
-    ran n c.args.form c.args.words.now (apart n c.requires.apart)
+    ran (record { rise = c.records_rise.ensures; some = c.some_reading.ensures }) n c.args.form c.args.words.now (apart n c.requires.apart)
     (f.held c.args.files.now) (f.held c.open_outputs.new.files) (f.held c.run_records.new.files) (f.held c.finish.new.files)
     (o.out c.args.out.now) (o.out c.finish.new.out) c.in_ok-new.field-0 c.run_records.new.progress c.in_ok-ending.ending
     (f.last c.run_records.new.files) (f.last c.finish.new.files)

@@ -17,7 +17,7 @@ returns-in-Some-Run-clause-due g c =
     let result = c.run_job.result in
     for_run c.args.words.now n (λ n. Told (f.held c.args.files.now) (λ m. (s : Status) → IsDue n m s → (c.run_job.result ≡ s) ⊎ IsFault c.run_job.result))
     (run_read c.args.words.now c.in-Some-Run.field-0 c.in-Some-Run.job c.in-Some-Run.field-0-is c.in-Some-Run.ensures.run)
-    (due_told c.one_table.ensures.answer n result (f.held c.args.files.now) (f.held c.run_job.new.files) (o.out c.args.out.now) (o.out c.run_job.new.out) (f.last c.run_job.new.files)
+    (due_told (record { table = c.one_table.ensures.answer; capture = c.one_reading.ensures }) n result (f.held c.args.files.now) (f.held c.run_job.new.files) (o.out c.args.out.now) (o.out c.run_job.new.out) (f.last c.run_job.new.files)
     c.run_job.ensures.files)
 
 pub returns-in-Some-Run-clause-complete : goal.returns-in-Some-Run-clause-complete
@@ -31,7 +31,7 @@ returns-in-Some-Run-clause-complete g c =
     for_run c.args.words.now n
     (λ n. Told (f.held c.args.files.now) (λ m. IsDue n m status.Done → NothingFailed before after → (c.run_job.result ≡ status.Done) ⊎ (c.run_job.result ≡ status.OutOfMemory)))
     (run_read c.args.words.now c.in-Some-Run.field-0 c.in-Some-Run.job c.in-Some-Run.field-0-is c.in-Some-Run.ensures.run)
-    (complete_told c.one_table.ensures.answer n result (f.held c.args.files.now) (f.held c.run_job.new.files) (o.out c.args.out.now) (o.out c.run_job.new.out) (f.last c.run_job.new.files)
+    (complete_told (record { table = c.one_table.ensures.answer; capture = c.one_reading.ensures }) n result (f.held c.args.files.now) (f.held c.run_job.new.files) (o.out c.args.out.now) (o.out c.run_job.new.out) (f.last c.run_job.new.files)
     before after c.run_job.ensures.files c.run_job.ensures.cause)
 
 pub returns-in-Some-Who-clause-usage : goal.returns-in-Some-Who-clause-usage
