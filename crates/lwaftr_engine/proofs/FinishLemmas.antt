@@ -21,12 +21,13 @@ use Rattle.item_stage.specs.Stages.{Staged, Stands}
 use Rattle.lwaftr_engine.specs.Endings.{ended_by, IsCutRun, IsRun, IsWholeRun}
 use Rattle.lwaftr_engine.specs.Jobs.{RunNames}
 use Rattle.lwaftr_engine.specs.Opened.{IsOpened}
-use Rattle.lwaftr_engine.specs.Outputs.{Course, lines_from, no_totals, packets_from, steady, totals_from, totals_of}
+use Rattle.lwaftr_engine.specs.Counting.{no_totals}
+use Rattle.lwaftr_engine.specs.Outputs.{Course, lines_from, packets_from, steady, totals_of}
 use Rattle.lwaftr_engine.specs.Progress.{EndsAs, GoesOn, HasGone, HasTaken, IsBounded, IsCutAt, Stops}
 use Rattle.lwaftr_engine.specs.declared.rounds.Ending.{Ending}
 use Rattle.lwaftr_engine.specs.declared.rounds.Ending.TheVariants as ending
 use Rattle.lwaftr_engine.specs.declared.run.Progress.{Progress}
-use Rattle.lwaftr_engine.proofs.Joining.{version_stays}
+use Rattle.lwaftr_engine.proofs.Counts.{totals_are}
 use Rattle.lwaftr_engine.proofs.Laws.{RecordsRise, SomeReading}
 use Rattle.lwaftr_engine.proofs.Moving.{moves_join}
 use Rattle.lwaftr_engine.proofs.Touching.{AreApart}
@@ -49,13 +50,6 @@ none_taken n form c opened stage stands is = record {
   others = λ name x y. refl;
 }
 
-with_version : (a : Totals) → a.version ≡ 0 → record a { version = 0 } ≡ a
-with_version a is = ap (λ (v : ℕ). let t : Totals = record a { version = v } in t) (sym is)
-
--- the totals of a run are those that were counted
-totals_are : (t : Rules) (form : Form) (rs : List Rec) → totals_of (steady t) form rs ≡ totals_from (steady t) no_totals 0 (entries_of form rs)
-totals_are t form rs = with_version (totals_from (steady t) no_totals 0 (entries_of form rs)) (version_stays (steady t) no_totals 0 (entries_of form rs))
-
 -- the files of a run: opened, filled round by round, and finished
 is_run : (n : RunNames) (form : Form) (t : Rules) → AreApart n → (a b c d : Held) (said now : Option (List ℕ)) (p : Progress) (rs : List Rec) →
     TableOf (content a n.table) (Ok t) → IsOpened n form.nano a b → IsBounded p → HasTaken n form (steady t) b c p rs →
@@ -63,7 +57,7 @@ is_run : (n : RunNames) (form : Form) (t : Rules) → AreApart n → (a b c d : 
     now ≡ option_map (λ taken. taken ++ summary_text p.totals) said →
     IsRun n a d said now t form rs
 is_run n form t far a b c d said now p rs table opened bounded h wrote summary =
-    let totals : totals_of (steady t) form rs ≡ p.totals = totals_are t form rs ∙ sym h.totals in
+    let totals : totals_of (steady t) form rs ≡ p.totals = totals_are (steady t) refl form rs p.totals (bounded.totals.records ∙ h.number) h.totals in
     record {
       table = table;
       output = wrote.others n.output far.output_verdicts ∙ (h.output ∙ ap (λ (l : List ℕ). l ++ packets_from (steady t) 0 rs (entries_of form rs)) opened.output);
@@ -72,7 +66,6 @@ is_run n form t far a b c d said now p rs table opened bounded h wrote summary =
       versions = wrote.others n.versions (λ e. far.verdicts_versions (sym e)) ∙ (h.others n.versions (λ e. far.output_versions (sym e)) (λ e. far.verdicts_versions (sym e)) ∙ opened.versions);
       others = λ name x y z. wrote.others name y ∙ (h.others name x y ∙ opened.others name x y z);
       summary = summary ∙ ap (λ (k : Totals). option_map (λ taken. taken ++ summary_text k) said) (sym totals);
-      number = ap (λ (k : Totals). k.records) totals ∙ (bounded.totals.records ∙ h.number);
     }
 
 above : (a b : ℕ) (t : Bool) → nat_le a b ≡ t → b < a → t ≡ false

@@ -11,7 +11,8 @@ use Rattle.item_stage.specs.Items.{entries_of}
 use Rattle.item_stage.specs.Stages.{Staged, Stands}
 use Rattle.item_stage.specs.declared.entries.Entry.{Entry}
 use Rattle.lwaftr_engine.specs.Jobs.{RunNames}
-use Rattle.lwaftr_engine.specs.Outputs.{Course, packets_from, lines_from, totals_from, no_totals, steady}
+use Rattle.lwaftr_engine.specs.Counting.{no_totals, totals_from}
+use Rattle.lwaftr_engine.specs.Outputs.{Course, packets_from, lines_from, steady}
 use Rattle.lwaftr_engine.specs.Progress.{GoesOn, HasTaken, Stops}
 use Rattle.lwaftr_engine.specs.Rendering.{IsRendered}
 use Rattle.lwaftr_engine.specs.Rounds.{IsCount, IsEnd, IsPlaced, IsRoundOf, LastOf, Precedes}

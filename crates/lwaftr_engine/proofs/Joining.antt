@@ -1,9 +1,10 @@
 -- What records write behind what earlier ones wrote.
-use Rattle.std.proofs.Common.{◌≡◌, ℕ, ◌+◌, List, [], ◌∷◌, ◌++◌, length, refl, sym, ◌∙◌, ap, append_assoc, arith}
+use Rattle.std.proofs.Common.{◌≡◌, ℕ, ◌+◌, List, [], ◌∷◌, ◌++◌, length, sym, ◌∙◌, ap, append_assoc, arith}
 use Rattle.aftr_text.specs.declared.summaries.Totals.{Totals}
 use Rattle.capture_io.specs.declared.forms.Rec.{Rec}
 use Rattle.item_stage.specs.declared.entries.Entry.{Entry}
-use Rattle.lwaftr_engine.specs.Outputs.{Course, counted, lines_at, lines_from, packets_at, packets_from, sent_at, totals_from, verdict_at}
+use Rattle.lwaftr_engine.specs.Counting.{counted, totals_from}
+use Rattle.lwaftr_engine.specs.Outputs.{Course, lines_at, lines_from, packets_at, packets_from, sent_at, verdict_at}
 
 pub packets_join : (c : Course) (number at : ℕ) (rs ss : List Rec) (es fs : List Entry) → length es ≡ length rs → at ≡ number + length rs →
     packets_from c number (rs ++ ss) (es ++ fs) ≡ packets_from c number rs es ++ packets_from c at ss fs
@@ -29,8 +30,3 @@ totals_join c totals number at [] fs is =
     let here : number ≡ at = omega arith in ap (λ (k : ℕ). totals_from c totals k fs) here
 totals_join c totals number at (e ∷ es) fs is =
     totals_join c (counted totals (verdict_at c number e.item) (length (sent_at c number e.item))) (number + 1) at es fs (omega arith)
-
--- the version does not change
-pub version_stays : (c : Course) (totals : Totals) (number : ℕ) (es : List Entry) → (totals_from c totals number es).version ≡ totals.version
-version_stays c totals number [] = refl
-version_stays c totals number (e ∷ es) = version_stays c (counted totals (verdict_at c number e.item) (length (sent_at c number e.item))) (number + 1) es

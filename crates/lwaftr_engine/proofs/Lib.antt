@@ -1,3 +1,4 @@
+mod Counts
 mod DueLemmas
 mod FinishLemmas
 mod FrontLemmas

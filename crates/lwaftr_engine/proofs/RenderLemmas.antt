@@ -9,7 +9,8 @@ use Rattle.capture_io.specs.declared.forms.Rec.{Rec}
 use Rattle.capture_io.specs.Written.{record_bytes}
 use Rattle.item_stage.specs.declared.entries.Entry.{Entry}
 use Rattle.lwaftr_engine.specs.declared.rendering.Rendered.{Rendered}
-use Rattle.lwaftr_engine.specs.Outputs.{Course, counted, lines_from, packets_from, steady, totals_from}
+use Rattle.lwaftr_engine.specs.Counting.{counted, totals_from}
+use Rattle.lwaftr_engine.specs.Outputs.{Course, lines_from, packets_from, steady}
 use Rattle.lwaftr_engine.specs.Rendering.{IsRendered, IsRenderedOne}
 use Rattle.packet_render.specs.Sent.{sent}
 use Rattle.verdict_core.specs.Verdicts.{verdict_of}

@@ -26,8 +26,6 @@ pub record IsRun (n : RunNames) (old new : Held) (said now : Option (List ℕ)) 
   pub versions : content new n.versions ≡ versions_of n.table
   pub others : OthersKept n old new
   pub summary : now ≡ option_map (λ taken. taken ++ summary_text (totals_of (steady t) form rs)) said
-  -- the number of records that the summary says
-  pub number : (totals_of (steady t) form rs).records ≡ length rs
 
 -- a run of all whole records of the capture, which ends so
 pub record IsWholeRun (n : RunNames) (old new : Held) (said now : Option (List ℕ)) (ending : Option CaptureBad) : Type 0 where

@@ -1,4 +1,5 @@
 pub mod Clauses
+pub mod Counting
 pub mod Endings
 pub mod Jobs
 pub mod Opened

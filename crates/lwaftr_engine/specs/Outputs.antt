@@ -1,6 +1,6 @@
 -- What one router writes that takes the records in order, each under the table in force at its number: the packets sent, a
 -- line for each record, and the totals. No worker, area or thread stands here.
-use Rattle.std.specs.Prelude.{ℕ, ◌+◌, Bool, true, false, if◌then◌else◌, List, [], ◌∷◌, ◌++◌, length, flat_map}
+use Rattle.std.specs.Prelude.{ℕ, ◌+◌, Bool, true, false, List, [], ◌∷◌, ◌++◌, length, filter, flat_map}
 use Rattle.binding_rules.specs.Tables.{Rules}
 use Rattle.capture_io.specs.declared.forms.Form.{Form}
 use Rattle.capture_io.specs.declared.forms.Rec.{Rec}
@@ -70,28 +70,19 @@ is_forwarded (verdict.Inward from to hop mtu back) = true
 is_forwarded (verdict.Outward mtu) = true
 is_forwarded _ = false
 
-abbrev pub one_if : Bool → ℕ
-one_if test = if test then 1 else 0
+-- the verdicts on items from a number on
+abbrev pub verdicts_from : Course → ℕ → List Entry → List Verdict
+verdicts_from c number [] = []
+verdicts_from c number (e ∷ es) = verdict_at c number e.item ∷ verdicts_from c (number + 1) es
 
--- the totals with one record more
-abbrev pub counted : Totals → Verdict → ℕ → Totals
-counted totals v packets = record {
-  records = totals.records + 1;
-  held = totals.held + one_if (is_held v);
-  forwarded = totals.forwarded + one_if (is_forwarded v);
-  dropped = totals.dropped + one_if (is_dropped v);
-  packets = totals.packets + packets;
-  version = totals.version;
-}
+-- all packets sent for them
+abbrev pub all_sent_from : Course → ℕ → List Entry → List (List ℕ)
+all_sent_from c number [] = []
+all_sent_from c number (e ∷ es) = sent_at c number e.item ++ all_sent_from c (number + 1) es
 
--- the totals with these entries more, from a number on
-abbrev pub totals_from : Course → Totals → ℕ → List Entry → Totals
-totals_from c totals number [] = totals
-totals_from c totals number (e ∷ es) =
-    totals_from c (counted totals (verdict_at c number e.item) (length (sent_at c number e.item))) (number + 1) es
-
-abbrev pub no_totals : Totals
-no_totals = record { records = 0; held = 0; forwarded = 0; dropped = 0; packets = 0; version = 0 }
+-- how many of the verdicts are so
+abbrev pub how_many : (Verdict → Bool) → List Verdict → ℕ
+how_many test verdicts = length (filter test verdicts)
 
 -- the capture that is written: its resolution is that of the capture that was read
 abbrev pub output_of : Course → Form → List Rec → List ℕ
@@ -107,4 +98,12 @@ versions_of table = initial_text table
 
 -- the totals of a run; the version is the number of tables that came into force after the first
 abbrev pub totals_of : Course → Form → List Rec → Totals
-totals_of c form rs = record (totals_from c no_totals 0 (entries_of form rs)) { version = length c.points }
+totals_of c form rs =
+    let verdicts : List Verdict = verdicts_from c 0 (entries_of form rs) in record {
+      records = length rs;
+      held = how_many is_held verdicts;
+      forwarded = how_many is_forwarded verdicts;
+      dropped = how_many is_dropped verdicts;
+      packets = length (all_sent_from c 0 (entries_of form rs));
+      version = length c.points;
+    }

@@ -16,7 +16,8 @@ use Rattle.lwaftr_engine.specs.declared.rounds.Ending.TheVariants as ending
 use Rattle.lwaftr_engine.specs.declared.run.Progress.{Progress}
 use Rattle.lwaftr_engine.specs.Endings.{IsCutRun, IsWholeRun}
 use Rattle.lwaftr_engine.specs.Jobs.{RunNames}
-use Rattle.lwaftr_engine.specs.Outputs.{Course, packets_from, lines_from, totals_from, no_totals}
+use Rattle.lwaftr_engine.specs.Counting.{no_totals, totals_from}
+use Rattle.lwaftr_engine.specs.Outputs.{Course, packets_from, lines_from}
 use Rattle.lwaftr_engine.specs.Rendering.{IsWithin}
 use Rattle.lwaftr_engine.specs.Rounds.{Precedes}
 

@@ -6,7 +6,8 @@ use Rattle.capture_io.specs.declared.forms.Rec.{Rec}
 use Rattle.capture_io.specs.Written.{record_bytes}
 use Rattle.item_stage.specs.declared.entries.Entry.{Entry}
 use Rattle.lwaftr_engine.specs.declared.rendering.Rendered.{Rendered}
-use Rattle.lwaftr_engine.specs.Outputs.{Course, packets_from, lines_from, totals_from, counted}
+use Rattle.lwaftr_engine.specs.Counting.{counted, totals_from}
+use Rattle.lwaftr_engine.specs.Outputs.{Course, packets_from, lines_from}
 use Rattle.packet_render.specs.Sent.{sent}
 use Rattle.verdict_core.specs.declared.verdicts.Verdict.{Verdict}
 

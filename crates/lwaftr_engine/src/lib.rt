@@ -15,4 +15,4 @@ mod words;
 pub use queries::{check_table, who_owns};
 pub use status::{Status, code, status_line};
 pub use top::lwaftr;
-pub use words::{Job, read_words};
+pub use words::{Job, RunJob, read_words};

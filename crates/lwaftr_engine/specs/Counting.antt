@@ -1,0 +1,29 @@
+-- Counting record by record. No public contract cites this.
+use Rattle.std.specs.Prelude.{ℕ, ◌+◌, Bool, if◌then◌else◌, List, [], ◌∷◌, length}
+use Rattle.aftr_text.specs.declared.summaries.Totals.{Totals}
+use Rattle.item_stage.specs.declared.entries.Entry.{Entry}
+use Rattle.lwaftr_engine.specs.Outputs.{Course, is_dropped, is_forwarded, is_held, sent_at, verdict_at}
+use Rattle.verdict_core.specs.declared.verdicts.Verdict.{Verdict}
+
+abbrev pub one_if : Bool → ℕ
+one_if test = if test then 1 else 0
+
+-- the totals with one record more
+abbrev pub counted : Totals → Verdict → ℕ → Totals
+counted totals v packets = record {
+  records = totals.records + 1;
+  held = totals.held + one_if (is_held v);
+  forwarded = totals.forwarded + one_if (is_forwarded v);
+  dropped = totals.dropped + one_if (is_dropped v);
+  packets = totals.packets + packets;
+  version = totals.version;
+}
+
+-- the totals with these entries more, from a number on
+abbrev pub totals_from : Course → Totals → ℕ → List Entry → Totals
+totals_from c totals number [] = totals
+totals_from c totals number (e ∷ es) =
+    totals_from c (counted totals (verdict_at c number e.item) (length (sent_at c number e.item))) (number + 1) es
+
+abbrev pub no_totals : Totals
+no_totals = record { records = 0; held = 0; forwarded = 0; dropped = 0; packets = 0; version = 0 }
