@@ -5,7 +5,7 @@ use Rattle.swap_core.specs.declared.actors.ActorState.{ActorState}
 use Rattle.swap_core.specs.declared.actors.ActorState.TheVariants.{Idle, Looked, Asks, Holds}
 use Rattle.area_swap.specs.declared.answers.Seen.{Seen}
 use Rattle.area_swap.specs.declared.board.View.{View}
-use Rattle.area_swap.specs.Views.{unpacked, acting, reading, IsUpTo}
+use Rattle.area_swap.specs.Views.{unpacked, acting, reading, asking}
 use Rattle.area_swap.specs.Rule.{Sees}
 use Rattle.area_swap.specs.Answers.{HoldsNow, HasMoved}
 use Rattle.area_swap.specs.Told.{Stepped, Seated, LookedAt, Entered, Confirmed, LeftIt}
@@ -17,22 +17,21 @@ same_looked s v w e k = let both : Looked v ≡ Looked w = sym e ∙ k in cc
 same_asked : (s : ActorState) (a b : ℕ) → s ≡ Asks a → s ≡ Asks b → a ≡ b
 same_asked s a b e k = let both : Asks a ≡ Asks b = sym e ∙ k in cc
 
--- a seat that looked at s, asked, and read t
+-- a seat that looked at s
 abbrev looking : View → Seen → View
 looking v s = acting (reading v s) (Looked s.version)
 
-abbrev asking : View → Seen → View
-asking v s = acting (looking v s) (Asks (s.version % 2))
-
-module _ (v : View) (s t : Seen) (first : IsUpTo v.seen s) (second : Sees (asking v s) t) where
+module _ (v : View) (s t : Seen) (first : Sees v s) (second : Sees (asking v s) t) where
   holds_now : t.version % 2 ≡ s.version % 2 → HoldsNow t.version v (acting (reading (asking v s) t) (Holds (s.version % 2) t.version))
   holds_now same =
       let twice : v.looks + 1 + 1 ≡ v.looks + 2 = omega arith in
       record {
         after = λ i. record (acting (reading (asking v s) t) (Holds (sym same i) t.version)) { looks = twice i };
         second = refl;
+        sees_first = first;
+        sees_second = second;
         same_area = sym same;
-        earlier = first;
+        earlier = first.later;
         later = second.later;
         drawn = second.drawn;
         there = second.there;
@@ -50,13 +49,15 @@ module _ (v : View) (s t : Seen) (first : IsUpTo v.seen s) (second : Sees (askin
         after = λ i. record (reading (asking v s) t) { looks = twice i; actor = same i };
         first = refl;
         second = refl;
+        sees_first = first;
+        sees_second = second;
         other_area = λ e. other (sym e);
         rises =
             elim (cases_eq s.version t.version) [
               | inl e ↦ absurd (other (ap (λ (n : ℕ). n % 2) (sym e)))
               | inr n ↦ omega (arith, second.later.version)
             ];
-        earlier = first;
+        earlier = first.later;
         later = second.later;
       }
 
@@ -112,7 +113,7 @@ module _ {st1 st2 st3 : Stepped} {m0 m1 m2 m3 : Seated} {n1 n2 n3 : ℕ} (k1 : L
   pub held_is : (unpacked n3).version % 2 ≡ (unpacked n1).version % 2 → HoldsNow (unpacked n3).version m0.0 m3.0
   held_is same =
       let P : Seated → Type 0 = λ m. HoldsNow (unpacked n3).version m0.0 m.0 in
-      subst P (sym (held_view same)) (holds_now m0.0 (unpacked n1) (unpacked n3) k1.sees.later second_look same)
+      subst P (sym (held_view same)) (holds_now m0.0 (unpacked n1) (unpacked n3) k1.sees second_look same)
 
   pub still_asks : (unpacked n3).version % 2 ≢ (unpacked n1).version % 2 → m3.0.actor.state ≡ Asks ((unpacked n1).version % 2)
   still_asks other = ap (λ (m : Seated). m.0.actor.state) (moved_view other)
@@ -130,7 +131,7 @@ module _ {st1 st2 st3 : Stepped} {m0 m1 m2 m3 : Seated} {n1 n2 n3 : ℕ} (k1 : L
     pub moved_is : m0.0.actor.state ≡ Idle → HasMoved (unpacked n1).version (unpacked n3).version m0.0 m4.0
     moved_is idle =
         let P : Seated → Type 0 = λ m. HasMoved (unpacked n1).version (unpacked n3).version m0.0 m.0 in
-        subst P (sym left_view) (has_moved m0.0 (unpacked n1) (unpacked n3) k1.sees.later second_look idle other)
+        subst P (sym left_view) (has_moved m0.0 (unpacked n1) (unpacked n3) k1.sees second_look idle other)
 
     pub worker_again : (held : ℕ) → IsWorker m0.0 held → m0.1 ≡ [] → IsWorker m4.0 held × (m4.1 ≡ [])
     worker_again held w bare =

@@ -21,7 +21,7 @@ use Rattle.area_swap.specs.Rule.{Ruled, Fits, ShowsWords}
 use Rattle.area_swap.specs.Told.{Seated, FoundDue, Counted, Wrote, Published}
 use Rattle.area_swap.proofs.Packing.{up_to, laid_now, laid_row}
 use Rattle.area_swap.proofs.Keeping.{same_actors, same_words, shows_desk, fits, seat_step, moment_after}
-use Rattle.area_swap.proofs.Learning.{sees_word, unpacks}
+use Rattle.area_swap.proofs.Learning.{sees_word, sees_claims, unpacks}
 use Rattle.area_swap.proofs.WorkerSteps.{read_now}
 
 module _ (p : Tables) (s : State (Unit {0}) View) (r : Ruled p s) (id : ℕ) (v : View) (at : get_elem? s.views id ≡ some v) (has : v.has_desk ≡ true) where
@@ -251,6 +251,7 @@ module _ (p : Tables) (slots id : ℕ) (me : Seated) (same : me.0.plan ≡ p) (h
               record {
                 free = λ _. refl;
                 claimed = λ some_one. absurd (some_one no_claims);
+                sees = sees_claims p s r id me.0 at same i place;
                 now = moment_after p s r id me.0 at i (slice_index s.words i) w same ruled;
               },
             )
@@ -265,6 +266,7 @@ module _ (p : Tables) (slots id : ℕ) (me : Seated) (same : me.0.plan ≡ p) (h
               record {
                 free = λ no_claims. absurd (some_one no_claims);
                 claimed = λ _. refl;
+                sees = sees_claims p s r id me.0 at same i place;
                 now = moment_after p s r id me.0 at i (slice_index s.words i) w same ruled;
               },
             )
@@ -298,6 +300,7 @@ module _ (p : Tables) (slots id : ℕ) (me : Seated) (same : me.0.plan ≡ p) (h
         ruled,
         record {
           after = refl;
+          sees = sees_word p s r id me.0 at same;
           there = next_there p s r id me.0 at has same writing;
           in_window = in_window p s r id me.0 at has same writing;
           rises = rises p s r id me.0 at has;

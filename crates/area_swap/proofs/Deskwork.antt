@@ -9,8 +9,8 @@ use Rattle.swap_core.specs.declared.actors.DeskState.TheVariants.{Resting, Ready
 use Rattle.area_swap.specs.declared.answers.Seen.{Seen}
 use Rattle.area_swap.specs.Views.{unpacked, reading, next_of, spare_of}
 use Rattle.area_swap.specs.Rule.{Ruled, Sees}
-use Rattle.area_swap.specs.Answers.{NoneDue, LaterDue, NowDue}
-use Rattle.area_swap.specs.Told.{Stepped, Seated, FoundDue, Wrote}
+use Rattle.area_swap.specs.Answers.{NoneDue, LaterDue, NowDue, HasPublished}
+use Rattle.area_swap.specs.Told.{Stepped, Seated, FoundDue, Wrote, Published}
 use Rattle.area_swap.proofs.DeskSteps.{writes_word}
 
 -- who rests or is ready does not write
@@ -63,6 +63,22 @@ module _ {st : Stepped} {m0 m1 : Seated} {n : ℕ} (k : FoundDue st m0 n m1) (s 
       let view : m1 ≡ (record (reading m0.0 s) { desk = Ready }, m0.1) =
       k.ready (more_versions more) (subst F es reached) ∙ ap (λ (t : Seen). (record (reading m0.0 t) { desk = Ready }, m0.1)) (sym es) in
       subst P (sym view) (record { after = refl; more = more; reached = reached; sees = due_sees })
+
+-- the point is the number of records that the desk found
+pub published_is : {st : Stepped} {m0 m1 : Seated} {n : ℕ} → Published st m0 n m1 → (s : Seen) → s ≡ unpacked n → m0.0.has_desk ≡ true
+    → HasPublished s.records m0.0 m1.0
+published_is {st} {m0} {m1} {n} k s es has =
+    let knows : (unpacked n).version ≡ length m0.0.points = sym (k.sees.pointed has) in
+    let found : unpacked n ≡ record { version = length m0.0.points; records = (unpacked n).records } =
+    ap (λ (w : ℕ). let t : Seen = record { version = w; records = (unpacked n).records } in t) knows in
+    let P : ℕ → Type 0 = λ point. HasPublished point m0.0 m1.0 in
+    subst P (sym (ap (λ (t : Seen). t.records) es))
+    (record {
+      after = ap (λ (m : Seated). m.0) k.after;
+      sees = subst (Sees m0.0) found k.sees;
+      in_window = k.in_window;
+      rises = k.rises;
+    })
 
 -- the desk writes at this word
 abbrev pub writing_at : Seated → ℕ → Seated

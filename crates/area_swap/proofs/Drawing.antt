@@ -86,6 +86,9 @@ module _ {st1 : Stepped} {m0 m1 : Seated} {n1 : ℕ} (k1 : Glanced st1 m0 n1 m1)
       omega (arith, glanced_sees.small, glanced_sees.few)
 
   module _ {st2 : Stepped} {m2 : Seated} {n2 : ℕ} (k2 : Drew st2 m1 n2 m2) where
+    later_sees : Sees (reading m0.0 s) (unpacked n2)
+    later_sees = let P : Seated → Type 0 = λ m. Sees m.0 (unpacked n2) in subst P glanced_view k2.sees
+
     taken_view : st2.first ≡ n1 → n2 ≡ n1 → m2 ≡ (taking (reading (reading m0.0 s) s) s.records s.version, m0.1)
     taken_view first hit =
         let same : unpacked n2 ≡ s = ap unpacked hit ∙ sym es in
@@ -104,6 +107,8 @@ module _ {st1 : Stepped} {m0 m1 : Seated} {n1 : ℕ} (k1 : Glanced st1 m0 n1 m1)
           after = λ i. record (taking (reading (reading m0.0 s) s) s.records (same i)) { looks = twice i };
           in_force = same;
           is_next = refl;
+          sees_first = glanced_sees;
+          sees_second = subst (Sees (reading m0.0 s)) (ap unpacked hit ∙ sym es) later_sees;
           same = refl;
           below_end = l;
           below_limit = subst Room same (below_limit p most plan e other);
@@ -113,9 +118,6 @@ module _ {st1 : Stepped} {m0 m1 : Seated} {n1 : ℕ} (k1 : Glanced st1 m0 n1 m1)
 
     lost_view : n2 ≢ st2.first → m2 ≡ (reading (reading m0.0 s) (unpacked n2), m0.1)
     lost_view missed = k2.lost missed ∙ ap (λ (m : Seated). (reading m.0 (unpacked n2), m.1)) glanced_view
-
-    later_sees : Sees (reading m0.0 s) (unpacked n2)
-    later_sees = let P : Seated → Type 0 = λ m. Sees m.0 (unpacked n2) in subst P glanced_view k2.sees
 
     pub lost_is : (p : Tables) (end held most : ℕ) → m0.0.plan ≡ p → st2.first ≡ n1 → n2 ≢ n1 → s.version ≡ held → s.records < end
         → most ≡ limit p s.version → s.records ≢ most → HasLost p end n1 n2 held m0.0 m2.0
@@ -131,6 +133,8 @@ module _ {st1 : Stepped} {m0 m1 : Seated} {n1 : ℕ} (k1 : Glanced st1 m0 n1 m1)
           after = λ i. record (reading (reading m0.0 s) (unpacked n2)) { looks = twice i };
           first = word;
           second = found;
+          sees_first = glanced_sees;
+          sees_second = later_sees;
           in_force = same;
           below_end = l;
           below_limit = subst Room same (below_limit p most plan e other);

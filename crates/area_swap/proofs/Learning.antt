@@ -15,8 +15,8 @@ use Rattle.swap_core.specs.declared.actors.DeskState.{DeskState}
 use Rattle.swap_core.proofs.Bounds.{few_records, few_versions}
 use Rattle.swap_core.proofs.Moves.{weight}
 use Rattle.area_swap.specs.declared.board.View.{View}
-use Rattle.area_swap.specs.Views.{now_of, unpacked}
-use Rattle.area_swap.specs.Rule.{Ruled, Sees, IsDrawnBy, actor_of, share_of}
+use Rattle.area_swap.specs.Views.{now_of, unpacked, spare_of}
+use Rattle.area_swap.specs.Rule.{Ruled, Sees, SeesClaims, IsDrawnBy, actor_of, share_of}
 use Rattle.area_swap.proofs.Members.{map_at, sum_map, sum_below, sum_alone, two_parts}
 use Rattle.area_swap.proofs.Packing.{unpack_packed}
 use Rattle.area_swap.proofs.Keeping.{actor_at, shows_desk, ruled_as, fits}
@@ -125,3 +125,10 @@ module _ (p : Tables) (s : State (Unit {0}) View) (r : Ruled p s) where
 
     pub sees_word : v.plan ≡ p → Sees v (unpacked (slice_index s.words 0))
     sees_word same = subst (Sees v) (sym unpacks) (sees_now same)
+
+    pub sees_claims : v.plan ≡ p → (i : ℕ) → i ≡ 1 + spare_of v → SeesClaims v (slice_index s.words i)
+    sees_claims same i place =
+        record {
+          moment = record { board = s; ruled = ruled_as p s r id v at same; seat = id; sits = at };
+          word = ap (λ (k : ℕ). slice_index s.words k) (sym place);
+        }

@@ -1,9 +1,8 @@
 -- Lists of views and actors: who stands where, and sums over all of them.
-use Rattle.std.proofs.Common.{◌≡◌, ℕ, zero, suc, ◌+◌, ◌≤◌, ◌≢◌, ◌⊎◌, List, [], ◌∷◌, ◌++◌, map, max, length, fold, All, sum_by, sym, refl, ap, arith, inl, inr}
+use Rattle.std.proofs.Common.{◌≡◌, ℕ, zero, suc, ◌+◌, ◌≤◌, ◌≢◌, ◌⊎◌, List, [], ◌∷◌, ◌++◌, map, length, sum_by, sym, refl, ap, arith, inl, inr}
 use mathlib.Core.Option.{some, some-injective, some-ne-none}
 use lib.ListN.{get_elem?}
 use Rattle.std.proofs.lemmas.List.Sums.{sum_by-cons}
-use Rattle.swap_core.specs.Plans.{Tables, IsPlan, IsTableSize, width}
 use Rattle.swap_core.proofs.SumLemmas.{part_of_sum}
 
 -- a member of a mapped list comes from a member
@@ -68,14 +67,3 @@ module _ {A : Type 0} where
       omega (arith, sum_by-cons f z zs, part_of_sum f zs i x e)
   two_parts f (z ∷ zs) (suc i) (suc j) x y n e k =
       omega (arith, sum_by-cons f z zs, two_parts f zs i j x y (λ m. n (ap suc m)) e k)
-
--- no table is longer than its limit, so neither is the longest
-longest_small : (n : ℕ) (ts : List (List ℕ)) → n ≤ 16777216 → All IsTableSize ts
-    → fold (λ (m : ℕ) (t : List ℕ). max m (length t)) n ts ≤ 16777216
-longest_small n [] l h = l
-longest_small n (t ∷ ts) l h =
-    let size : IsTableSize t = h 0 [] (omega arith) in
-    longest_small (max n (length t)) ts (omega (arith, size.1)) (λ k d m. h (suc k) d (omega arith))
-
-pub width_small : (p : Tables) → IsPlan p → width p ≤ 16777216
-width_small p h = longest_small 0 p.tables (omega arith) h.sizes

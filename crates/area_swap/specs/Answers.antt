@@ -12,9 +12,9 @@ use Rattle.area_swap.specs.declared.answers.Due.TheVariants as due
 use Rattle.area_swap.specs.declared.answers.Quiet.{Quiet}
 use Rattle.area_swap.specs.declared.answers.Quiet.TheVariants as quiet
 use Rattle.area_swap.specs.declared.board.View.{View}
-use Rattle.area_swap.specs.Views.{packed, IsUpTo, acting, reading, taking, held_table, held_version}
+use Rattle.area_swap.specs.Views.{packed, IsUpTo, acting, reading, asking, taking, held_table, held_version}
 use Rattle.area_swap.specs.Values.{HoldsOne}
-use Rattle.area_swap.specs.Rule.{IsDrawnBy, Sees}
+use Rattle.area_swap.specs.Rule.{IsDrawnBy, Sees, SeesClaims}
 
 -- the version word was read twice: how the seat's readings were before, between and after
 abbrev pub read_twice : View → View → View
@@ -24,6 +24,8 @@ read_twice v w = record v { seen = w.seen; prior = w.prior; looks = v.looks + 2 
 pub record HoldsNow (version : ℕ) (v w : View) : Type 0 where
   pub after : w ≡ acting (read_twice v w) (Holds (version % 2) version)
   pub second : w.seen.version ≡ version
+  pub sees_first : Sees v w.prior
+  pub sees_second : Sees (asking v w.prior) w.seen
   pub same_area : w.prior.version % 2 ≡ version % 2
   pub earlier : IsUpTo v.seen w.prior
   pub later : IsUpTo w.prior w.seen
@@ -39,6 +41,8 @@ pub record HasMoved (before now : ℕ) (v w : View) : Type 0 where
   pub after : w ≡ read_twice v w
   pub first : w.prior.version ≡ before
   pub second : w.seen.version ≡ now
+  pub sees_first : Sees v w.prior
+  pub sees_second : Sees (asking v w.prior) w.seen
   pub other_area : before % 2 ≢ now % 2
   pub rises : before < now
   pub earlier : IsUpTo v.seen w.prior
@@ -53,6 +57,8 @@ pub record HasTaken (p : Tables) (end number held : ℕ) (v w : View) : Type 0 w
   pub after : w ≡ taking (read_twice v w) number held
   pub in_force : w.seen.version ≡ held
   pub is_next : w.seen.records ≡ number
+  pub sees_first : Sees v w.prior
+  pub sees_second : Sees (reading v w.prior) w.seen
   pub same : w.prior ≡ w.seen
   pub below_end : number < end
   pub below_limit : number < limit p held
@@ -86,6 +92,8 @@ pub record HasLost (p : Tables) (end saw found held : ℕ) (v w : View) : Type 0
   pub after : w ≡ read_twice v w
   pub first : packed w.prior ≡ saw
   pub second : packed w.seen ≡ found
+  pub sees_first : Sees v w.prior
+  pub sees_second : Sees (reading v w.prior) w.seen
   pub in_force : w.prior.version ≡ held
   pub below_end : w.prior.records < end
   pub below_limit : w.prior.records < limit p held
@@ -132,17 +140,20 @@ IsDue due.None p v w = NoneDue p v w
 -- Nobody asks for the spare area or holds it, by this call's reading of its count.
 pub record IsFree (v w : View) : Type 0 where
   pub after : w ≡ record v { desk = Writing 0; counted = 0; counts = v.counts + 1 }
+  pub sees : SeesClaims v 0
 
 pub record IsClaimed (count : ℕ) (v w : View) : Type 0 where
   pub after : w ≡ record v { counted = count; counts = v.counts + 1 }
   pub some_one : 1 ≤ count
+  pub sees : SeesClaims v count
 
 abbrev pub IsQuiet : Quiet → View → View → Type 0
 IsQuiet quiet.Free v w = IsFree v w
 IsQuiet (quiet.Claimed count) v w = IsClaimed count v w
 
--- The next table is in force, from the record with the number of the point on.
+-- The next table is in force, from the record with the number of the point on: so many were drawn.
 pub record HasPublished (point : ℕ) (v w : View) : Type 0 where
   pub after : w ≡ record v { desk = Resting; points = v.points ++ point ∷ [] }
+  pub sees : Sees v (record { version = length v.points; records = point })
   pub in_window : ((window v.plan (length v.points + 1)).earliest ≤ point) × (point ≤ (window v.plan (length v.points + 1)).latest)
   pub rises : (k : ℕ) → k < length v.points → slice_index v.points k ≤ point

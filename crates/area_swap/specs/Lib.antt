@@ -1,6 +1,5 @@
 pub mod Answers
 pub mod Histories
-pub mod LongTables
 pub mod Reading
 pub mod Rule
 pub mod Told

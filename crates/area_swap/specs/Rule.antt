@@ -11,7 +11,7 @@ use Rattle.swap_core.specs.declared.actors.ActorState.TheVariants.{Holds}
 use Rattle.swap_core.specs.declared.actors.DeskState.{DeskState}
 use Rattle.area_swap.specs.declared.answers.Seen.{Seen}
 use Rattle.area_swap.specs.declared.board.View.{View}
-use Rattle.area_swap.specs.Views.{packed, now_of, IsUpTo, IsSeated}
+use Rattle.area_swap.specs.Views.{packed, now_of, spare_of, IsUpTo, IsSeated}
 
 -- The words, in this order: the version word, the claims on area 0 and on area 1, the rows of the two areas.
 pub record Laid (words : List ℕ) (long : ℕ) (now : Seen) (counts : List ℕ) (areas : List (List ℕ)) : Type 0 where
@@ -91,3 +91,9 @@ pub record Sees (v : View) (now : Seen) : Type 0 where
       → (now.version + 1 < length v.plan.tables) × ((window v.plan (now.version + 1)).earliest ≤ now.records)
   pub few : now.version < 256
   pub small : now.records ≤ 2147483648
+
+-- What one reading of the claims on the spare area tells the desk with this view: so many there were at a moment at which
+-- the rule held.
+pub record SeesClaims (v : View) (count : ℕ) : Type 0 where
+  pub moment : Moment v
+  pub word : slice_index moment.board.words (1 + spare_of v) ≡ count

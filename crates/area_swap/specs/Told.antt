@@ -7,7 +7,7 @@ use Rattle.swap_core.specs.declared.actors.ActorState.TheVariants.{Idle, Looked,
 use Rattle.swap_core.specs.declared.actors.DeskState.TheVariants.{Resting, Ready, Writing}
 use Rattle.area_swap.specs.declared.board.View.{View}
 use Rattle.area_swap.specs.Views.{unpacked, acting, reading, taking}
-use Rattle.area_swap.specs.Rule.{Moment, Sees}
+use Rattle.area_swap.specs.Rule.{Moment, Sees, SeesClaims}
 
 abbrev pub Stepped : Type 0
 Stepped = Step (Unit {0})
@@ -80,6 +80,7 @@ pub record FoundDue (st : Stepped) (m : Seated) (n : ℕ) (m' : Seated) : Type 0
 pub record Counted (st : Stepped) (m : Seated) (n : ℕ) (m' : Seated) : Type 0 where
   pub free : n ≡ 0 → m' ≡ (record m.0 { counted = n; counts = m.0.counts + 1; desk = Writing 0 }, m.1)
   pub claimed : n ≢ 0 → m' ≡ (record m.0 { counted = n; counts = m.0.counts + 1 }, m.1)
+  pub sees : SeesClaims m.0 n
   pub now : Moment m'.0
 
 -- a word of the next table was stored in the spare area
@@ -92,6 +93,7 @@ pub record Wrote (st : Stepped) (m : Seated) (n : ℕ) (m' : Seated) : Type 0 wh
 -- 1 was added to the version
 pub record Published (st : Stepped) (m : Seated) (n : ℕ) (m' : Seated) : Type 0 where
   pub after : m' ≡ (record m.0 { desk = Resting; points = m.0.points ++ (unpacked n).records ∷ [] }, m.1)
+  pub sees : Sees m.0 (unpacked n)
   pub there : length m.0.points + 1 < length m.0.plan.tables
   pub in_window : ((window m.0.plan (length m.0.points + 1)).earliest ≤ (unpacked n).records)
       × ((unpacked n).records ≤ (window m.0.plan (length m.0.points + 1)).latest)

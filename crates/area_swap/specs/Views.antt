@@ -3,7 +3,7 @@ use Rattle.std.specs.Prelude.{◌≡◌, ℕ, ◌+◌, ◌*◌, ◌/◌, ◌%◌
 use Rattle.swap_core.specs.Plans.{Tables, table}
 use Rattle.swap_core.specs.States.{CoreState, newcomer, in_state}
 use Rattle.swap_core.specs.declared.actors.ActorState.{ActorState}
-use Rattle.swap_core.specs.declared.actors.ActorState.TheVariants.{Holds}
+use Rattle.swap_core.specs.declared.actors.ActorState.TheVariants.{Asks, Holds}
 use Rattle.swap_core.specs.declared.actors.DeskState.TheVariants.{Resting}
 use Rattle.area_swap.specs.declared.answers.Seen.{Seen}
 use Rattle.area_swap.specs.declared.board.View.{View}
@@ -88,6 +88,10 @@ acting v s = record v { actor = in_state v.actor s }
 -- the version word was read once more
 abbrev pub reading : View → Seen → View
 reading v now = record v { seen = now; prior = v.seen; looks = v.looks + 1 }
+
+-- the first look of a claim found this, and the seat asks for the area of that version
+abbrev pub asking : View → Seen → View
+asking v now = acting (reading v now) (Asks (now.version % 2))
 
 -- the number is the seat's, under the version
 abbrev pub taking : View → ℕ → ℕ → View

@@ -1,6 +1,5 @@
 // The areas, and how they begin.
-ghost use Rattle.std.specs.Prelude.{◌≡◌, ◌+◌, ◌*◌, ◌≤◌, IfOk, max, length};
-ghost use Rattle.swap_core.specs.Plans.{width};
+ghost use Rattle.std.specs.Prelude.{◌≡◌, IfOk};
 ghost use Rattle.area_swap.specs.Rule.{Moment};
 ghost use Rattle.area_swap.specs.Values.{AreasValue, IsOf, SeatValue};
 ghost use Rattle.area_swap.specs.Views.{desk_view, first_view, worker_view};
@@ -41,18 +40,6 @@ impl Model for Areas {
     ghost invariant = { λ a. (a.table.shared.key ≡ a.plan) × (a.long ≡ width a.plan) × (a.table.shared.table_id.words ≡ 3 + 2 * width a.plan) × (width a.plan ≤ 16777216) × IsPlan a.plan };
 }
 
-/// The length of the longest table.
-fn longest(plan: &Plan) -> usize
-    ensures value { result ≡ width plan.now }
-    ensures small { result ≤ 16777216 }
-{
-    let mut longest = 0;
-    'tables: for k in 0..plan.len() {
-        longest = longest.max(plan.words(k).len());
-    }
-    longest
-}
-
 /// The areas at the opening, with the one worker's seat and the desk: table 0 is in force, no record is drawn, and the
 /// seat has the whole share of 65,536. After want of memory the plan is dropped.
 pub fn prepare(alloc: Global, plan: Plan) -> Result<(Areas, WorkerSeat, Desk), OutOfMemory>
@@ -61,7 +48,7 @@ pub fn prepare(alloc: Global, plan: Plan) -> Result<(Areas, WorkerSeat, Desk), O
     ensures rule { IfOk result (λ made. Moment made.1.known × Moment made.2.known) }
     ensures desk { IfOk result (λ made. (made.2.table_id ≡ made.0.table_id) × (made.2.known ≡ desk_view (first_view plan))) }
 {
-    let long = longest(&plan);
+    let long = plan.width();
     let count = FIRST_ROW + 2 * long;
     let mut words: Vec<u64> = Vec::with_capacity(alloc, count)?;
     words.resize(FIRST_ROW, 0)?;

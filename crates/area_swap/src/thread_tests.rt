@@ -1,7 +1,6 @@
 // Seats in threads of their own, beside one another and beside the desk.
-ghost use Rattle.std.specs.Prelude.{◌≡◌, ◌%◌, ◌<◌, ◌≤◌, ◌⊎◌, IfOk, length};
+ghost use Rattle.std.specs.Prelude.{◌≡◌, ℕ, ◌%◌, ◌<◌, ◌≤◌, ◌⊎◌, List, IfOk, All, length};
 ghost use Rattle.std.specs.Thread.{IsSync};
-ghost use Rattle.area_swap.specs.LongTables.{IsLong};
 ghost use Rattle.area_swap.specs.Values.{HoldsOne, IsIdle, IsOf, IsReady, IsResting};
 ghost use Rattle.area_swap.specs.Views.{held_table};
 
@@ -81,7 +80,8 @@ fn draw_on(
 fn draw_all(areas: &Areas, mut seat: WorkerSeat, long: u32, end: u32) -> (WorkerSeat, Done)
     requires areas { IsOf areas.now seat }
     requires idle { IsIdle seat.known }
-    requires long { IsLong long areas.now }
+    requires some { 0 < long }
+    requires long { All (λ (words : List ℕ). long ≤ length words) areas.now.plan.tables }
     ensures areas { IsOf areas.now result.0 }
     ensures idle { IsIdle result.0.known }
     ensures share { result.0.known.share ≡ seat.known.share }
@@ -114,7 +114,8 @@ fn by_two<R: Threads + Sync>(
 ) -> (WorkerSeat, Done)
     requires areas { IsOf areas.now seat }
     requires idle { IsIdle seat.known }
-    requires long { IsLong long areas.now }
+    requires some { 0 < long }
+    requires long { All (λ (words : List ℕ). long ≤ length words) areas.now.plan.tables }
     requires even { seat.known.share % 2 ≡ 0 }
     ensures areas { IsOf areas.now result.0 }
     ensures idle { IsIdle result.0.known }
@@ -124,11 +125,11 @@ fn by_two<R: Threads + Sync>(
     let (mut one, two) = join(
         rt,
         || -> (WorkerSeat, Done)
-            requires { IsOf areas.now seat × (IsIdle seat.known × IsLong long areas.now) }
+            requires { IsOf areas.now seat × (IsIdle seat.known × ((0 < long) × All (λ (words : List ℕ). long ≤ length words) areas.now.plan.tables)) }
             ensures { IsOf areas.entry.now result.0 × (IsIdle result.0.known × (result.0.known.share ≡ seat.known.share)) }
         { draw_all(areas, seat, long, end) },
         || -> (WorkerSeat, Done)
-            requires { IsOf areas.now other × (IsIdle other.known × IsLong long areas.now) }
+            requires { IsOf areas.now other × (IsIdle other.known × ((0 < long) × All (λ (words : List ℕ). long ≤ length words) areas.now.plan.tables)) }
             ensures { IsOf areas.entry.now result.0 × (IsIdle result.0.known × (result.0.known.share ≡ other.known.share)) }
         { draw_all(areas, other, long, end) },
     );
@@ -146,7 +147,8 @@ fn by_four<R: Threads + Sync>(
 ) -> (WorkerSeat, Done)
     requires areas { IsOf areas.now seat }
     requires idle { IsIdle seat.known }
-    requires long { IsLong long areas.now }
+    requires some { 0 < long }
+    requires long { All (λ (words : List ℕ). long ≤ length words) areas.now.plan.tables }
     requires fourfold { seat.known.share % 4 ≡ 0 }
     ensures areas { IsOf areas.now result.0 }
     ensures idle { IsIdle result.0.known }
@@ -156,11 +158,11 @@ fn by_four<R: Threads + Sync>(
     let (mut one, two) = join(
         rt,
         || -> (WorkerSeat, Done)
-            requires { IsSync R.row × (IsOf areas.now seat × (IsIdle seat.known × ((seat.known.share % 2 ≡ 0) × IsLong long areas.now))) }
+            requires { IsSync R.row × (IsOf areas.now seat × (IsIdle seat.known × ((seat.known.share % 2 ≡ 0) × ((0 < long) × All (λ (words : List ℕ). long ≤ length words) areas.now.plan.tables)))) }
             ensures { IsOf areas.entry.now result.0 × (IsIdle result.0.known × (result.0.known.share ≡ seat.known.share)) }
         { by_two(rt, areas, seat, long, end) },
         || -> (WorkerSeat, Done)
-            requires { IsSync R.row × (IsOf areas.now other × (IsIdle other.known × ((other.known.share % 2 ≡ 0) × IsLong long areas.now))) }
+            requires { IsSync R.row × (IsOf areas.now other × (IsIdle other.known × ((other.known.share % 2 ≡ 0) × ((0 < long) × All (λ (words : List ℕ). long ≤ length words) areas.now.plan.tables)))) }
             ensures { IsOf areas.entry.now result.0 × (IsIdle result.0.known × (result.0.known.share ≡ other.known.share)) }
         { by_two(rt, areas, other, long, end) },
     );
@@ -202,7 +204,8 @@ fn by_five<R: Threads + Sync>(
 ) -> (WorkerSeat, Done, Desk)
     requires areas { IsOf areas.now seat × IsOf areas.now desk }
     requires idle { IsIdle seat.known }
-    requires long { IsLong long areas.now }
+    requires some { 0 < long }
+    requires long { All (λ (words : List ℕ). long ≤ length words) areas.now.plan.tables }
     requires fourfold { seat.known.share % 4 ≡ 0 }
     requires resting { IsResting desk.known }
     ensures areas { IsOf areas.now result.0 × IsOf areas.now result.2 }
@@ -212,7 +215,7 @@ fn by_five<R: Threads + Sync>(
     let (drawn, desk) = join(
         rt,
         || -> (WorkerSeat, Done)
-            requires { IsSync R.row × (IsOf areas.now seat × (IsIdle seat.known × ((seat.known.share % 4 ≡ 0) × IsLong long areas.now))) }
+            requires { IsSync R.row × (IsOf areas.now seat × (IsIdle seat.known × ((seat.known.share % 4 ≡ 0) × ((0 < long) × All (λ (words : List ℕ). long ≤ length words) areas.now.plan.tables)))) }
             ensures { IsOf areas.entry.now result.0 × (IsIdle result.0.known × (result.0.known.share ≡ seat.known.share)) }
         { by_four(rt, areas, seat, long, end) },
         || -> Desk

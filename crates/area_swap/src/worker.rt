@@ -78,6 +78,7 @@ impl Areas {
         requires whole { HasWholeShare seat.old.known }
         ensures areas { IsOf self.now seat.new }
         ensures seat { (seat.new.known ≡ reading seat.old.known seat.new.known.seen) × (seat.new.known.seen.records ≡ result) }
+        ensures sees { Sees seat.old.known seat.new.known.seen }
         ensures all_drawn { length seat.old.known.actor.draws ≡ result }
         ensures each_once { (number : ℕ) → times number seat.old.known.actor ≡ once_below number result }
         ensures rule { Moment seat.new.known }

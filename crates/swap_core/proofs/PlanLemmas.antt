@@ -1,8 +1,8 @@
 -- What the rules of a plan give.
-use Rattle.std.proofs.Common.{◌≡◌, ℕ, zero, suc, ◌+◌, ◌-◌, ◌^◌, ◌<◌, ◌≤◌, max, true, false, nat_lt, List, [], ◌∷◌, length, get_or, fold, refl, ap, arith, inl, inr, lt-ltb, le-ltb}
+use Rattle.std.proofs.Common.{◌≡◌, ℕ, zero, suc, ◌+◌, ◌-◌, ◌^◌, ◌<◌, ◌≤◌, max, true, false, nat_lt, All, List, [], ◌∷◌, length, get_or, fold, refl, ap, arith, inl, inr, lt-ltb, le-ltb}
 use Rattle.std.proofs.lemmas.List.Elements.{All-get_or}
 use Rattle.std.proofs.lemmas.Bool.{cases_lt}
-use Rattle.swap_core.specs.Plans.{Tables, IsPlan, IsWindow, IsNotBefore, table, window, limit, width, always}
+use Rattle.swap_core.specs.Plans.{Tables, IsPlan, IsTableSize, IsWindow, IsNotBefore, table, window, limit, width, always}
 use Rattle.swap_core.specs.declared.plan.Window.{Window}
 
 -- the longest so far is below the longest of all, and so is each table
@@ -20,6 +20,17 @@ longest_covers n (t ∷ ts) (suc k) = longest_covers (max n (length t)) ts k
 
 pub table_fits : (p : Tables) (k : ℕ) → length (table p k) ≤ width p
 table_fits p k = longest_covers 0 p.tables k
+
+-- no table is longer than its limit, so neither is the longest
+longest_small : (n : ℕ) (ts : List (List ℕ)) → n ≤ 16777216 → All IsTableSize ts
+    → fold (λ (m : ℕ) (t : List ℕ). max m (length t)) n ts ≤ 16777216
+longest_small n [] l h = l
+longest_small n (t ∷ ts) l h =
+    let size : IsTableSize t = h 0 [] (omega arith) in
+    longest_small (max n (length t)) ts (omega (arith, size.1)) (λ k d m. h (suc k) d (omega arith))
+
+pub width_small : (p : Tables) → IsPlan p → width p ≤ 16777216
+width_small p h = longest_small 0 p.tables (omega arith) h.sizes
 
 pub limit_before : (p : Tables) (v : ℕ) → v < length p.windows → limit p v ≡ (window p (v + 1)).latest
 limit_before p v l =

@@ -110,10 +110,9 @@ after c step.Publish = publish c c.desk
 abbrev pub after_all : CoreState → List Step → CoreState
 after_all c steps = fold (λ (b : CoreState) s. (after b s).core) c steps
 
--- a step that lengthens a list, for which memory may be wanting
+-- the one step that needs memory, which may be wanting
 abbrev pub TakesMemory : Step → Type 0
 TakesMemory (step.Draw who) = Unit {0}
-TakesMemory step.Publish = Unit {0}
 TakesMemory _ = ⊥
 
 -- this is the answer and the state after the step

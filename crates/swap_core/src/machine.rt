@@ -32,12 +32,13 @@ impl Model for Core {
 
     ghost Value = { CoreState };
 
+    ghost use Rattle.std.specs.Prelude.{◌+◌, ◌≤◌, length, vec_capacity};
     ghost use Rattle.swap_core.specs.Sound.{Sound};
     ghost use Rattle.swap_core.specs.Views.{state_of};
 
     ghost view = { λ c. state_of c };
 
-    ghost invariant = { λ c. Sound (state_of c) };
+    ghost invariant = { λ c. Sound (state_of c) × (length c.plan.tables ≤ vec_capacity c.points + 1) };
 }
 
 impl Core {
@@ -61,8 +62,7 @@ impl Core {
         })
     }
 
-    /// One step. A step that answers `No` changes nothing, and neither does want of memory, which only a draw and a
-    /// publishing can meet.
+    /// One step. A step that answers `No` changes nothing, and neither does want of memory, which only a draw can meet.
     pub fn step(&mut self, step: Step) -> Result<Took, OutOfMemory>
         ensures answer { IfOk result (λ took. IsAnswer (after self.old step) took self.new) }
         ensures unchanged { OnErr result (self.new ≡ self.old) }
@@ -78,7 +78,7 @@ impl Core {
             Step::Due => Ok(self.due()),
             Step::Count => Ok(self.count()),
             Step::Write => Ok(self.write()),
-            Step::Publish => self.publish(),
+            Step::Publish => Ok(self.publish()),
         }
     }
 
@@ -97,6 +97,7 @@ impl Core {
     pub fn stays_sound(&self)
         ensures { Sound self.now }
     {
+        // Looking at a field gives the contract what the type's invariant says.
         let _ = &self.plan;
     }
 
@@ -252,21 +253,20 @@ impl Core {
         yes(0)
     }
 
-    fn publish(&mut self) -> Result<Took, OutOfMemory>
-        ensures answer { IfOk result (λ took. IsAnswer (after self.old step.Publish) took self.new) }
-        ensures unchanged { OnErr result (self.new ≡ self.old) }
+    fn publish(&mut self) -> Took
+        ensures { IsAnswer (after self.old step.Publish) result self.new }
     {
         let DeskState::Writing(place) = self.desk else {
-            return Ok(no(NotNow::Phase));
+            return no(NotNow::Phase);
         };
         let written = place as usize;
         if written < self.plan.words(self.version + 1).len() {
-            return Ok(no(NotNow::Phase));
+            return no(NotNow::Phase);
         }
-        self.points.push(self.records)?;
+        self.points.push_reserved(self.records);
         self.version += 1;
         self.desk = DeskState::Resting;
-        Ok(yes(u64::from(self.records)))
+        yes(u64::from(self.records))
     }
 }
 

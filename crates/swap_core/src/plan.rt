@@ -95,8 +95,9 @@ impl Plan {
     }
 
     /// The length of the longest table.
-    pub(crate) fn width(&self) -> usize
-        ensures { result ≡ width self.now }
+    pub fn width(&self) -> usize
+        ensures value { result ≡ width self.now }
+        ensures small { result ≤ 16777216 }
     {
         let mut longest = 0;
         'tables: for table in &self.tables {

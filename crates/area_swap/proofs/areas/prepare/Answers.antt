@@ -11,7 +11,7 @@ of_words-requires c =
     opens c.args.plan c.len.ensures.rules c.deref.result.now
     (c.deref.ensures.value
     ∙ filled c.args.plan _ _ _ _ _ _ _ _ c.in_ok-words.ensures.items c.in_ok-words.ensures.len c.in_ok-resize.ensures.items
-    c.words.ensures c.in_ok-extend_from_slice.ensures.items (omega arith) c.longest-long.ensures.value c.in_ok-resize-2.ensures.items)
+    c.words.ensures c.in_ok-extend_from_slice.ensures.items (omega arith) c.width-long.ensures.value c.in_ok-resize-2.ensures.items)
 
 pub split_seat-desk_place-requires : goal.split_seat-desk_place-requires
 split_seat-desk_place-requires c =

@@ -50,15 +50,15 @@ invariant_of-self-2 c =
     let at_limit : c.limit-limit.result ≡ limit c.self.inside.plan c.self.inside.version =
     c.limit-limit.ensures ∙ ap (λ (v : ℕ). limit c.self.inside.plan v) (sym c.if-in_force-version.false) in
     let room : c.self.inside.records < limit c.self.inside.plan c.self.inside.version =
-    omega (arith, c.self.invariant.within, c.if-number-limit.false) in
+    omega (arith, c.self.invariant.0.within, c.if-number-limit.false) in
     let h : Sound (drawn (state_of c.self.inside) c.args.who c.index_mut.result.now) =
-    draws_sound (state_of c.self.inside) c.args.who c.index_mut.result.now c.self.invariant
+    draws_sound (state_of c.self.inside) c.args.who c.index_mut.result.now c.self.invariant.0
     (at_index c.self.inside.actors.items c.args.who c.index_mut.result.now below c.index_mut.ensures.value) room in
     let P : List (ℕ × ℕ) → Type 0 = λ ds. Sound (record (with_actor (state_of c.self.inside) c.args.who
     (record { state = c.index_mut.result.now.state; draws = ds })) { records = c.self.inside.records + 1 }) in
     let pushed : c.push.new.self ≡ c.index_mut.result.now.draws ++ (c.self.inside.records, c.self.inside.version) ∷ [] =
     c.in_ok-push.ensures ∙ ap (λ (v : ℕ). c.index_mut.result.now.draws ++ (c.self.inside.records, v) ∷ []) (sym c.if-in_force-version.false) in
-    subst P (sym pushed) h
+    (subst P (sym pushed) h, c.self.invariant.1)
 
 pub returns-clause-answer : goal.returns-clause-answer
 returns-clause-answer c =

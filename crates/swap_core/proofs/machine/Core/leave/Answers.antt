@@ -23,17 +23,17 @@ returns-in_default c =
 
 pub bounds-self-inside-area : goal.bounds-self-inside-area
 bounds-self-inside-area c =
-    claimed_area (state_of c.self.inside) c.args.who c.index.result.now c.in-Some.area c.self.invariant
+    claimed_area (state_of c.self.inside) c.args.who c.index.result.now c.in-Some.area c.self.invariant.0
     (at_index c.self.inside.actors.items c.args.who c.index.result.now (omega (arith, c.self.inside.actors.ok.0)) c.index.ensures) c.in-Some.ensures.some
 
 pub bounds-self-inside-area-2 : goal.bounds-self-inside-area-2
 bounds-self-inside-area-2 c =
-    claimed_area (state_of c.self.inside) c.args.who c.index.result.now c.in-Some.area c.self.invariant
+    claimed_area (state_of c.self.inside) c.args.who c.index.result.now c.in-Some.area c.self.invariant.0
     (at_index c.self.inside.actors.items c.args.who c.index.result.now (omega (arith, c.self.inside.actors.ok.0)) c.index.ensures) c.in-Some.ensures.some
 
 pub overflow_sub-self : goal.overflow_sub-self
 overflow_sub-self c =
-    counted_there (state_of c.self.inside) c.args.who c.index.result.now c.in-Some.area c.self.invariant
+    counted_there (state_of c.self.inside) c.args.who c.index.result.now c.in-Some.area c.self.invariant.0
     (at_index c.self.inside.actors.items c.args.who c.index.result.now (omega (arith, c.self.inside.actors.ok.0)) c.index.ensures) c.in-Some.ensures.some
 
 pub invariant_of-self : goal.invariant_of-self
@@ -43,8 +43,9 @@ invariant_of-self c =
     same_read c.self.inside.actors.items c.args.who c.index_mut.result.now c.index.result.now below c.index_mut.ensures.value c.index.ensures in
     let has : HasClaimed c.in-Some.area c.index_mut.result.now.state =
     subst (HasClaimed c.in-Some.area) (ap (λ (x : Actor). x.state) (sym same)) c.in-Some.ensures.some in
-    leaves_sound (state_of c.self.inside) c.args.who c.index_mut.result.now c.in-Some.area c.self.invariant
-    (at_index c.self.inside.actors.items c.args.who c.index_mut.result.now below c.index_mut.ensures.value) has
+    let sound = leaves_sound (state_of c.self.inside) c.args.who c.index_mut.result.now c.in-Some.area c.self.invariant.0
+    (at_index c.self.inside.actors.items c.args.who c.index_mut.result.now below c.index_mut.ensures.value) has in
+    (sound, c.self.invariant.1)
 
 pub returns : goal.returns
 returns c =

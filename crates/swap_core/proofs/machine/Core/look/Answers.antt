@@ -26,9 +26,10 @@ invariant_of-self c =
     let below : c.args.who < length c.self.inside.actors.items = omega (arith, c.self.inside.actors.ok.0) in
     let same : c.index_mut.result.now ≡ c.index.result.now =
     same_read c.self.inside.actors.items c.args.who c.index_mut.result.now c.index.result.now below c.index_mut.ensures.value c.index.ensures in
-    looks_sound (state_of c.self.inside) c.args.who c.index_mut.result.now c.self.invariant
+    let sound = looks_sound (state_of c.self.inside) c.args.who c.index_mut.result.now c.self.invariant.0
     (at_index c.self.inside.actors.items c.args.who c.index_mut.result.now below c.index_mut.ensures.value)
-    (ap (λ (x : Actor). x.state) same ∙ c.in-Idle.is)
+    (ap (λ (x : Actor). x.state) same ∙ c.in-Idle.is) in
+    (sound, c.self.invariant.1)
 
 pub returns : goal.returns
 returns c =

@@ -36,28 +36,28 @@ returns-then-place-words c =
 
 pub words-requires : goal.words-requires
 words-requires c =
-    held_there (state_of c.self.inside) c.args.who c.index.result.now c.in-Holds.area c.in-Holds.version c.self.invariant
+    held_there (state_of c.self.inside) c.args.who c.index.result.now c.in-Holds.area c.in-Holds.version c.self.invariant.0
     (at_index c.self.inside.actors.items c.args.who c.index.result.now (omega (arith, c.self.inside.actors.ok.0)) c.index.ensures) c.in-Holds.is
 
 pub bounds-self-inside-area : goal.bounds-self-inside-area
 bounds-self-inside-area c =
-    claimed_area (state_of c.self.inside) c.args.who c.index.result.now c.in-Holds.area c.self.invariant
+    claimed_area (state_of c.self.inside) c.args.who c.index.result.now c.in-Holds.area c.self.invariant.0
     (at_index c.self.inside.actors.items c.args.who c.index.result.now (omega (arith, c.self.inside.actors.ok.0)) c.index.ensures) (inr (c.in-Holds.version, c.in-Holds.is))
 
 pub listed : goal.listed
 listed c =
     let small : c.in-Holds.area < 2 =
-    claimed_area (state_of c.self.inside) c.args.who c.index.result.now c.in-Holds.area c.self.invariant
+    claimed_area (state_of c.self.inside) c.args.who c.index.result.now c.in-Holds.area c.self.invariant.0
     (at_index c.self.inside.actors.items c.args.who c.index.result.now (omega (arith, c.self.inside.actors.ok.0)) c.index.ensures) (inr (c.in-Holds.version, c.in-Holds.is)) in
-    omega (arith, c.self.invariant.two_areas)
+    omega (arith, c.self.invariant.0.two_areas)
 
 pub get-requires : goal.get-requires
 get-requires c =
     let small : c.in-Holds.area < 2 =
-    claimed_area (state_of c.self.inside) c.args.who c.index.result.now c.in-Holds.area c.self.invariant
+    claimed_area (state_of c.self.inside) c.args.who c.index.result.now c.in-Holds.area c.self.invariant.0
     (at_index c.self.inside.actors.items c.args.who c.index.result.now (omega (arith, c.self.inside.actors.ok.0)) c.index.ensures) (inr (c.in-Holds.version, c.in-Holds.is)) in
-    let inside : c.in-Holds.area < length c.self.inside.areas = omega (arith, c.self.invariant.two_areas) in
-    let row : length (area (state_of c.self.inside) c.in-Holds.area) ≡ width c.self.inside.plan = c.self.invariant.rows c.in-Holds.area small in
+    let inside : c.in-Holds.area < length c.self.inside.areas = omega (arith, c.self.invariant.0.two_areas) in
+    let row : length (area (state_of c.self.inside) c.in-Holds.area) ≡ width c.self.inside.plan = c.self.invariant.0.rows c.in-Holds.area small in
     let same : get_or c.self.inside.areas c.in-Holds.area c.index-self-area.result ≡ area (state_of c.self.inside) c.in-Holds.area =
     get_or_default c.self.inside.areas c.in-Holds.area c.index-self-area.result [] inside in
     omega (
@@ -71,9 +71,9 @@ get-requires c =
 pub returns : goal.returns
 returns c =
     let small : c.in-Holds.area < 2 =
-    claimed_area (state_of c.self.inside) c.args.who c.index.result.now c.in-Holds.area c.self.invariant
+    claimed_area (state_of c.self.inside) c.args.who c.index.result.now c.in-Holds.area c.self.invariant.0
     (at_index c.self.inside.actors.items c.args.who c.index.result.now (omega (arith, c.self.inside.actors.ok.0)) c.index.ensures) (inr (c.in-Holds.version, c.in-Holds.is)) in
-    let inside : c.in-Holds.area < length c.self.inside.areas = omega (arith, c.self.invariant.two_areas) in
+    let inside : c.in-Holds.area < length c.self.inside.areas = omega (arith, c.self.invariant.0.two_areas) in
     let same : get_or c.self.inside.areas c.in-Holds.area c.index-self-area.result ≡ area (state_of c.self.inside) c.in-Holds.area =
     get_or_default c.self.inside.areas c.in-Holds.area c.index-self-area.result [] inside in
     let below : c.args.place < length (table c.self.inside.plan c.in-Holds.version) =

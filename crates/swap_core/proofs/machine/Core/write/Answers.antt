@@ -10,7 +10,7 @@ use Rattle.swap_core.proofs.machine.Core.write.Goals as goal
 
 pub set-requires : goal.set-requires
 set-requires c =
-    let inside : (c.self.inside.version + 1) % 2 < length c.self.inside.areas = omega (arith, c.self.invariant.two_areas) in
+    let inside : (c.self.inside.version + 1) % 2 < length c.self.inside.areas = omega (arith, c.self.invariant.0.two_areas) in
     let same : get_or c.self.inside.areas ((c.self.inside.version + 1) % 2) c.index-self-spare.result ≡ area (state_of c.self.inside) (spare (state_of c.self.inside)) =
     get_or_default c.self.inside.areas ((c.self.inside.version + 1) % 2) c.index-self-spare.result [] inside in
     omega (
@@ -19,12 +19,12 @@ set-requires c =
       ap (λ (ws : List ℕ). length ws) same,
       ap (λ (ws : List ℕ). length ws) c.words-words.ensures,
       c.if-place-words.false,
-      c.self.invariant.rows ((c.self.inside.version + 1) % 2) (omega arith),
+      c.self.invariant.0.rows ((c.self.inside.version + 1) % 2) (omega arith),
     )
 
 pub invariant_of-self : goal.invariant_of-self
 invariant_of-self c =
-    let inside : (c.self.inside.version + 1) % 2 < length c.self.inside.areas = omega (arith, c.self.invariant.two_areas) in
+    let inside : (c.self.inside.version + 1) % 2 < length c.self.inside.areas = omega (arith, c.self.invariant.0.two_areas) in
     let same : get_or c.self.inside.areas ((c.self.inside.version + 1) % 2) c.index-self-spare.result ≡ area (state_of c.self.inside) (spare (state_of c.self.inside)) =
     get_or_default c.self.inside.areas ((c.self.inside.version + 1) % 2) c.index-self-spare.result [] inside in
     let row : c.set.new.self ≡ set (area (state_of c.self.inside) (spare (state_of c.self.inside))) c.in-Writing.place (slice_index (next_table (state_of c.self.inside)) c.in-Writing.place) =
@@ -35,4 +35,4 @@ invariant_of-self c =
       areas = set c.self.inside.areas (spare (state_of c.self.inside)) r;
       desk = Writing (c.in-Writing.place + 1);
     }) in
-    subst P (sym row) (write_sound (state_of c.self.inside) c.in-Writing.place c.self.invariant c.in-Writing.is below)
+    (subst P (sym row) (write_sound (state_of c.self.inside) c.in-Writing.place c.self.invariant.0 c.in-Writing.is below), c.self.invariant.1)
