@@ -1,5 +1,6 @@
 pub mod Firsts
 pub mod Gone
+pub mod Greatest
 pub mod Keys
 pub mod Laws
 pub mod Leasts

@@ -1,11 +1,12 @@
 // The places of each address, chained from the last one to the first.
-ghost use Rattle.std.specs.Prelude.{ℕ, ◌<◌, ◌≤◌, ◌↔◌, Some, length, IfOk, IsTrue};
+ghost use Rattle.std.specs.Prelude.{ℕ, ◌≡◌, ◌<◌, ◌≤◌, ◌↔◌, Some, length, slice_get, IfOk, IsTrue};
 ghost use Rattle.std.specs.Ordering.{nat_cmp};
 ghost use Rattle.std.specs.BTreeMap.{get};
-ghost use Rattle.binding_rules.specs.Conflicts.{HaveOneShape};
-ghost use Rattle.binding_rules.specs.Steps.{IsLinked, IsNearest, IsLast, IsLeast, IsLeastUnlike, HasAddress};
+ghost use Rattle.binding_rules.specs.Conflicts.{HaveCommonPort, HaveOneShape};
+ghost use Rattle.binding_rules.specs.Steps.{IsLinked, IsNearest, IsLast, IsLeast, IsLeastUnlike, IsLater, HasAddress, AreWell, ends_within};
 
 use crate::binding::Binding;
+use crate::ports::have_common_port;
 use aftr_base::OutOfMemory;
 use std::alloc::Global;
 use std::collections::BTreeMap;
@@ -70,4 +71,55 @@ pub(crate) fn have_one_shape(x: Binding, y: Binding) -> bool
     ensures { IsTrue result ↔ HaveOneShape x y }
 {
     x.offset == y.offset && x.length == y.length
+}
+
+/// The least place of the address behind `place` whose binding has a port in common with `binding`, the one at `place`.
+pub(crate) fn least_common(
+    bindings: &[Binding],
+    previous: &[Option<u32>],
+    last: u32,
+    place: u32,
+    binding: Binding,
+) -> Option<u32>
+    requires linked { IsLinked bindings.now previous.now }
+    requires last { IsLast bindings.now binding.v4.0 last }
+    requires well { AreWell bindings.now }
+    requires there { slice_get bindings.now place ≡ Some binding }
+    ensures { IsLeast (IsLater bindings.now binding.v4.0 (Some place) (HaveCommonPort binding)) result }
+{
+    let mut found = None;
+    let mut at = Some(last);
+    'chain: while let Some(later) = at {
+        if later == place {
+            return found;
+        }
+        if have_common_port(binding, bindings[later as usize]) {
+            found = at;
+        }
+        at = previous[later as usize];
+    }
+    found
+}
+
+/// Whether the address of which `last` is the last place has at most so many bindings.
+pub(crate) fn has_at_most(
+    bindings: &[Binding],
+    previous: &[Option<u32>],
+    last: u32,
+    most: u32,
+) -> bool
+    requires linked { IsLinked bindings.now previous.now }
+    requires within { last < length bindings.now }
+    ensures { result ≡ ends_within previous.now (Some last) most }
+{
+    let mut left = most;
+    let mut at = Some(last);
+    'chain: while let Some(place) = at {
+        if left == 0 {
+            return false;
+        }
+        left -= 1;
+        at = previous[place as usize];
+    }
+    true
 }
