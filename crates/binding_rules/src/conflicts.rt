@@ -4,7 +4,7 @@ ghost use Rattle.binding_rules.specs.Conflicts.{Conflict};
 ghost use Rattle.binding_rules.specs.Steps.{IsLinked, IsLast, IsFirstPair, HasAddress, AreShared, IsOwnersOf, AreWell, AreFresh, earlier_of, paired, slot};
 
 use crate::binding::Binding;
-use crate::chains::{chains_of, has_at_most, head_of, least_common, least_unlike};
+use crate::chains::{chains_of, crowded_place, has_at_most, head_of, least_common, least_unlike};
 use crate::owners::meet;
 use crate::settings::Edition;
 use aftr_base::{OutOfMemory, V4};
@@ -98,6 +98,33 @@ fn compared_pair(bindings: &[Binding], previous: &[Option<u32>], v4: V4, last: u
     best
 }
 
+/// The same by the slots of the ports. Two of the bindings up to `crowded_place` share a port, where that is not the last
+/// place; what comes after it need not be read.
+fn crowded_pair(
+    bindings: &[Binding],
+    previous: &[Option<u32>],
+    v4: V4,
+    last: u32,
+    owners: &mut [Option<u32>],
+) -> Option<Pair>
+    requires few { length bindings.now ≤ 65536 }
+    requires linked { IsLinked bindings.now previous.now }
+    requires last { IsLast bindings.now v4.0 last }
+    requires well { AreWell bindings.now }
+    requires size { length owners.old ≡ 65536 }
+    requires fresh { AreFresh bindings.now v4.0 owners.old }
+    ensures first { IsFirstPair bindings.now (AreShared true) (HasAddress bindings.now v4.0) result }
+    ensures owners { IsOwnersOf bindings.now v4.0 owners.old owners.new }
+{
+    let end = crowded_place(bindings, previous, v4, last);
+    let size = end as usize + 1;
+    let shared = shared_pair(&bindings[..size], &previous[..size], true, v4, end, owners);
+    if shared.is_some() || end == last {
+        return shared;
+    }
+    compared_pair(bindings, previous, v4, last)
+}
+
 /// The first conflict of the address. Where all its bindings have one shape, a common port is an equal identifier.
 fn address_pair(
     edition: Edition,
@@ -125,11 +152,12 @@ fn address_pair(
         }
         Edition::Two => {
             let unlike = least_unlike(bindings, previous, last, bindings[last as usize]);
-            let mixed = unlike.is_some();
-            if mixed && has_at_most(bindings, previous, last, MOST_COMPARED) {
+            if unlike.is_none() {
+                shared_pair(bindings, previous, false, v4, last, owners)
+            } else if has_at_most(bindings, previous, last, MOST_COMPARED) {
                 compared_pair(bindings, previous, v4, last)
             } else {
-                shared_pair(bindings, previous, mixed, v4, last, owners)
+                crowded_pair(bindings, previous, v4, last, owners)
             }
         }
     }
