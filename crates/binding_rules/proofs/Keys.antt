@@ -1,9 +1,9 @@
 -- Conflicts in terms of the keys: ports, or identifiers where the shapes are one.
-use Rattle.std.proofs.Common.{◌≡◌, ℕ, zero, suc, ◌-◌, ◌*◌, ◌^◌, ◌<◌, ◌≤◌, ◌⊎◌, min, inl, inr, Bool, true, false, Option, Some, None, List, [], ◌∷◌, Contains, length, subst, refl, sym, ap, ◌∙◌, arith}
+use Rattle.std.proofs.Common.{◌≡◌, ℕ, zero, suc, ◌-◌, ◌*◌, ◌^◌, ◌<◌, ◌≤◌, ◌⊎◌, min, inl, inr, true, false, Option, Some, None, List, [], ◌∷◌, Contains, length, subst, refl, sym, ap, ◌∙◌, arith}
 use Rattle.std.specs.Prelude.{slice_get, is_some}
 use Rattle.std.proofs.Math.Nat.{le-mul_of_pos_right, pow-le-pow_right}
 use Rattle.std.proofs.Math.Pow.{pow-lt}
-use Rattle.std.proofs.lemmas.Bool.{cases_eq, cases_lt, eq-eqb, eqb-true}
+use Rattle.std.proofs.lemmas.Bool.{cases_eq, cases_lt, eq-eqb, eqb-true, true≢false}
 use Rattle.std.proofs.lemmas.Nat.{pow_pos}
 use Rattle.port_set.specs.Shapes.{IsShape}
 use Rattle.port_set.specs.PortSets.{InSet, owned_ports}
@@ -224,10 +224,8 @@ one_by_identifier bs a u o well unlike shared =
           )
         ]
 
-pub two_by_test : (bs : List Binding) (a : ℕ) (like : Binding) (unlike : Option ℕ) (by_port : Bool) (o : Option Pair) → AreWell bs
-    → by_port ≡ is_some unlike → IsLeastUnlike bs a like unlike
-    → IsFirstPair bs (AreShared by_port) (HasAddress bs a) o → IsFirstPair bs (Conflict edition.Two) (HasAddress bs a) o
-two_by_test bs a like None by_port o well e least first =
-    two_by_identifier bs a like o well least (subst (λ b. IsFirstPair bs (AreShared b) (HasAddress bs a) o) e first)
-two_by_test bs a like (Some u) by_port o well e least first =
-    two_by_port bs (HasAddress bs a) o (subst (λ b. IsFirstPair bs (AreShared b) (HasAddress bs a) o) e first)
+pub two_by_none : (bs : List Binding) (a : ℕ) (like : Binding) (unlike : Option ℕ) (o : Option Pair) → AreWell bs
+    → is_some unlike ≡ false → IsLeastUnlike bs a like unlike
+    → IsFirstPair bs (AreShared false) (HasAddress bs a) o → IsFirstPair bs (Conflict edition.Two) (HasAddress bs a) o
+two_by_none bs a like None o well none least first = two_by_identifier bs a like o well least first
+two_by_none bs a like (Some u) o well none least first = absurd (true≢false none)

@@ -1,8 +1,10 @@
 pub mod Firsts
 pub mod Gone
+pub mod Greatest
 pub mod Keys
 pub mod Laws
 pub mod Leasts
 pub mod Links
 pub mod Pairs
+pub mod Prefixes
 pub mod Slots

@@ -1,5 +1,5 @@
 -- A step down the places of an address.
-use Rattle.std.proofs.Common.{◌≡◌, ℕ, ◌+◌, ◌<◌, ◌⊎◌, inl, inr, Option, Some, None, false, List, [], ◌∷◌, ◌++◌, length, subst, sym, ap, ◌∙◌, arith}
+use Rattle.std.proofs.Common.{◌≡◌, ℕ, zero, suc, ◌+◌, ◌-◌, ◌<◌, ◌≤◌, ◌⊎◌, inl, inr, Option, Some, None, false, List, [], ◌∷◌, ◌++◌, length, subst, refl, sym, ap, ap₂, ◌∙◌, arith}
 use Rattle.std.proofs.lemmas.Bool.{cases_order, cases_lt, cases_eq}
 use Rattle.std.specs.Prelude.{slice_get, slice_index_or}
 use Rattle.std.proofs.lemmas.Option.{slice_get_within, slice_get_cases, slice_get-get_or, same_Some}
@@ -12,7 +12,7 @@ use Rattle.std.specs.BTreeMap.{BTreeMap, get, is_at}
 use Rattle.binding_rules.specs.Conflicts.{HaveOneShape}
 use Rattle.binding_rules.specs.declared.binding.Binding.{Binding}
 use Rattle.binding_rules.specs.Refusals.{At}
-use Rattle.binding_rules.specs.Steps.{IsNearest, IsAbove, IsLater, HasAddress, IsLeast, IsLast, IsLinked, slot}
+use Rattle.binding_rules.specs.Steps.{IsNearest, IsAbove, IsLater, HasAddress, IsLeast, IsLast, IsLinked, ends_within, slot}
 use Rattle.binding_rules.proofs.Leasts.{least_iff}
 
 -- what a place has, without the property
@@ -100,6 +100,56 @@ of_within bs a p h = slice_get_within bs p h.0 h.1
 
 pub there_is : (bs : List Binding) (p : ℕ) → p < length bs → (x : Binding) × (slice_get bs p ≡ Some x)
 there_is bs p l = elim (slice_get_cases bs p).1 [ inl h ↦ (h.0, h.2) | inr h ↦ absurd (omega (arith, h.0)) ]
+
+-- the place, where there is one, is one of the list
+abbrev pub IsWithin : List Binding → Option ℕ → Type 0
+IsWithin bs None = Unit {0}
+IsWithin bs (Some p) = p < length bs
+
+pub within_next : (bs : List Binding) (previous : List (Option ℕ)) (p : ℕ) → IsLinked bs previous → p < length bs
+    → IsWithin bs (slot previous p)
+within_next bs previous p linked l =
+    let x = there_is bs p l in
+    below (slot previous p) (linked.nearest p x.0 x.1)
+  where
+    below : (o : Option ℕ) → IsNearest bs (there_is bs p l).0.v4.0 p o → IsWithin bs o
+    below None near = tt
+    below (Some q) near = omega (arith, near.0)
+
+-- a place is still to come on the way down
+abbrev pub IsToCome : ℕ → Option ℕ → Type 0
+IsToCome place None = ⊥
+IsToCome place (Some at) = place ≤ at
+
+pub last_to_come : (bs : List Binding) (a last place : ℕ) → IsLast bs a last → HasAddress bs a place → place ≤ last
+last_to_come bs a last place h at_place = elim (cases_lt last place) [ inl less ↦ absurd (h.none_after place less at_place) | inr m ↦ m ]
+
+pub still_to_come : (bs : List Binding) (a p place : ℕ) (o : Option ℕ) → IsNearest bs a p o → HasAddress bs a place → place ≤ p
+    → (p ≡ place → ⊥) → IsToCome place o
+still_to_come bs a p place None near h l apart = near place (omega arith) h
+still_to_come bs a p place (Some q) near h l apart =
+    elim (cases_lt q place) [ inl less ↦ absurd (near.1.1 place less (omega arith) h) | inr m ↦ m ]
+
+-- a count of the places on the way down
+pub ends_now : (previous : List (Option ℕ)) (o : Option ℕ) (p left : ℕ) → o ≡ Some p → left ≡ 0 → false ≡ ends_within previous o left
+ends_now previous o p left e z = sym (ap₂ (ends_within previous) e z)
+
+pub ends_next : (previous : List (Option ℕ)) (o : Option ℕ) (p left : ℕ) → o ≡ Some p → (left ≡ 0 → ⊥)
+    → ends_within previous o left ≡ ends_within previous (slot previous p) (left - 1)
+ends_next previous o p zero e some = absurd (some refl)
+ends_next previous o p (suc left) e some =
+    let less : left ≡ suc left - 1 = omega arith in
+    ap (λ q. ends_within previous q (suc left)) e ∙ ap (ends_within previous (slot previous p)) less
+
+pub reach_less : (bs : List Binding) (previous : List (Option ℕ)) (o : Option ℕ) (p : ℕ) → IsLinked bs previous → p < length bs → o ≡ Some p
+    → reach (slot previous p) < reach o
+reach_less bs previous o p linked l e =
+    let x = there_is bs p l in
+    rw e (below (slot previous p) (linked.nearest p x.0 x.1))
+  where
+    below : (q : Option ℕ) → IsNearest bs (there_is bs p l).0.v4.0 p q → reach q < p + 1
+    below None near = omega arith
+    below (Some q) near = omega (arith, near.0)
 
 pub head_down : (bs : List Binding) (previous : List (Option ℕ)) (p q : ℕ) → IsLinked bs previous → p < length bs
     → slot previous p ≡ Some q → (q < p) × ((a : ℕ) → HasAddress bs a p → HasAddress bs a q)

@@ -1,6 +1,6 @@
 -- What the steps of the test give. No public contract cites these. Below, a is an address as a number, a place is that of
 -- a binding in the list, and a key is a port or an identifier.
-use Rattle.std.specs.Prelude.{◌≡◌, ℕ, ◌^◌, ◌<◌, ◌≤◌, ◌⊎◌, ◌==◌, nat_lt, ◌&&◌, ◌||◌, Bool, true, false, if◌then◌else◌, List, length, slice_get, slice_index_or, Option, Some, None}
+use Rattle.std.specs.Prelude.{◌≡◌, ℕ, zero, suc, ◌-◌, ◌*◌, ◌^◌, ◌<◌, ◌≤◌, ◌⊎◌, ◌==◌, nat_lt, ◌&&◌, ◌||◌, Bool, true, false, if◌then◌else◌, List, length, slice_get, slice_index_or, Option, Some, None}
 use Rattle.port_set.specs.PortSets.{in_set}
 use Rattle.port_set.specs.Shapes.{IsShape, IsNoShape}
 use Rattle.binding_rules.specs.Conflicts.{HaveOneShape}
@@ -58,6 +58,12 @@ IsNearest bindings a end (Some place) = (place < end) × (At bindings place (λ 
 pub record IsLinked (bindings : List Binding) (previous : List (Option ℕ)) : Type 0 where
   pub size : length previous ≡ length bindings
   pub nearest : (place : ℕ) (x : Binding) → slice_get bindings place ≡ Some x → IsNearest bindings x.v4.0 place (slot previous place)
+
+-- from the place down the chain has at most so many places
+abbrev pub ends_within : List (Option ℕ) → Option ℕ → ℕ → Bool
+ends_within previous None most = true
+ends_within previous (Some place) zero = false
+ends_within previous (Some place) (suc most) = ends_within previous (slot previous place) most
 
 -- the binding there has the address, and it is the last one that has it
 pub record IsLast (bindings : List Binding) (a last : ℕ) : Type 0 where
@@ -165,6 +171,10 @@ paired first (Some second) = Some (record { first = first; second = second })
 pub record IsWell (x : Binding) : Type 0 where
   pub shape : IsShape x.offset x.length
   pub psid : x.psid < 2 ^ x.length
+
+-- the greatest port of an identifier: only the bits of the identifier are not all set
+abbrev pub greatest : ℕ → ℕ → ℕ → ℕ
+greatest a k s = 65535 - (2 ^ k - 1 - s) * 2 ^ (16 - a - k)
 
 abbrev pub AreWell : List Binding → Type 0
 AreWell bindings = (place : ℕ) (x : Binding) → slice_get bindings place ≡ Some x → IsWell x

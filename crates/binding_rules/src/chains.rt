@@ -1,12 +1,13 @@
 // The places of each address, chained from the last one to the first.
-ghost use Rattle.std.specs.Prelude.{ℕ, ◌<◌, ◌≤◌, ◌↔◌, Some, length, IfOk, IsTrue};
+ghost use Rattle.std.specs.Prelude.{ℕ, ◌≡◌, ◌<◌, ◌≤◌, ◌↔◌, Some, length, slice_get, IfOk, IsTrue};
 ghost use Rattle.std.specs.Ordering.{nat_cmp};
 ghost use Rattle.std.specs.BTreeMap.{get};
-ghost use Rattle.binding_rules.specs.Conflicts.{HaveOneShape};
-ghost use Rattle.binding_rules.specs.Steps.{IsLinked, IsNearest, IsLast, IsLeast, IsLeastUnlike, HasAddress};
+ghost use Rattle.binding_rules.specs.Conflicts.{HaveCommonPort, HaveOneShape};
+ghost use Rattle.binding_rules.specs.Steps.{IsLinked, IsNearest, IsLast, IsLeast, IsLeastUnlike, IsLater, HasAddress, AreWell, ends_within};
 
 use crate::binding::Binding;
-use aftr_base::OutOfMemory;
+use crate::ports::{have_common_port, port_count};
+use aftr_base::{OutOfMemory, V4};
 use std::alloc::Global;
 use std::collections::BTreeMap;
 
@@ -70,4 +71,85 @@ pub(crate) fn have_one_shape(x: Binding, y: Binding) -> bool
     ensures { IsTrue result ↔ HaveOneShape x y }
 {
     x.offset == y.offset && x.length == y.length
+}
+
+/// The least place of the address behind `place` whose binding has a port in common with `binding`, the one at `place`.
+pub(crate) fn least_common(
+    bindings: &[Binding],
+    previous: &[Option<u32>],
+    last: u32,
+    place: u32,
+    binding: Binding,
+) -> Option<u32>
+    requires linked { IsLinked bindings.now previous.now }
+    requires last { IsLast bindings.now binding.v4.0 last }
+    requires well { AreWell bindings.now }
+    requires there { slice_get bindings.now place ≡ Some binding }
+    ensures { IsLeast (IsLater bindings.now binding.v4.0 (Some place) (HaveCommonPort binding)) result }
+{
+    let mut found = None;
+    let mut at = Some(last);
+    'chain: while let Some(later) = at {
+        if later == place {
+            return found;
+        }
+        if have_common_port(binding, bindings[later as usize]) {
+            found = at;
+        }
+        at = previous[later as usize];
+    }
+    found
+}
+
+/// Whether the address of which `last` is the last place has at most so many bindings.
+pub(crate) fn has_at_most(
+    bindings: &[Binding],
+    previous: &[Option<u32>],
+    last: u32,
+    most: u32,
+) -> bool
+    requires linked { IsLinked bindings.now previous.now }
+    requires within { last < length bindings.now }
+    ensures { result ≡ ends_within previous.now (Some last) most }
+{
+    let mut left = most;
+    let mut at = Some(last);
+    'chain: while let Some(place) = at {
+        if left == 0 {
+            return false;
+        }
+        left -= 1;
+        at = previous[place as usize];
+    }
+    true
+}
+
+/// The least place of the address up to which its bindings own more than 65,536 ports, so that two of them share one, or
+/// `last` where all of them own no more.
+pub(crate) fn crowded_place(
+    bindings: &[Binding],
+    previous: &[Option<u32>],
+    v4: V4,
+    last: u32,
+) -> u32
+    requires linked { IsLinked bindings.now previous.now }
+    requires last { IsLast bindings.now v4.0 last }
+    requires well { AreWell bindings.now }
+    ensures { HasAddress bindings.now v4.0 result }
+{
+    let mut owned = 0u64;
+    let mut at = Some(last);
+    'sum: while let Some(place) = at {
+        owned = owned.saturating_add(u64::from(port_count(bindings[place as usize])));
+        at = previous[place as usize];
+    }
+    let mut at = Some(last);
+    'chain: while let Some(place) = at {
+        owned = owned.saturating_sub(u64::from(port_count(bindings[place as usize])));
+        if owned <= 65_536 {
+            return place;
+        }
+        at = previous[place as usize];
+    }
+    last
 }

@@ -1,14 +1,17 @@
 // The first conflict, found address by address.
-ghost use Rattle.std.specs.Prelude.{◌≡◌, ℕ, ◌<◌, ◌≤◌, None, length, IfOk};
+ghost use Rattle.std.specs.Prelude.{◌≡◌, ℕ, ◌<◌, ◌≤◌, true, None, length, IfOk};
 ghost use Rattle.binding_rules.specs.Conflicts.{Conflict};
 ghost use Rattle.binding_rules.specs.Steps.{IsLinked, IsLast, IsFirstPair, HasAddress, AreShared, IsOwnersOf, AreWell, AreFresh, earlier_of, paired, slot};
 
 use crate::binding::Binding;
-use crate::chains::{chains_of, head_of, least_unlike};
+use crate::chains::{chains_of, crowded_place, has_at_most, head_of, least_common, least_unlike};
 use crate::owners::meet;
 use crate::settings::Edition;
 use aftr_base::{OutOfMemory, V4};
 use std::alloc::Global;
+
+/// Up to how many bindings of unlike shapes on one address are compared each with each.
+const MOST_COMPARED: u32 = 256;
 
 /// The places of two bindings, the first before the second.
 #[derive(Clone, Copy, Debug, PartialEq, Eq)]
@@ -78,6 +81,50 @@ fn shared_pair(
     best
 }
 
+/// The same for ports, by a comparison of each two bindings of the address.
+fn compared_pair(bindings: &[Binding], previous: &[Option<u32>], v4: V4, last: u32) -> Option<Pair>
+    requires linked { IsLinked bindings.now previous.now }
+    requires last { IsLast bindings.now v4.0 last }
+    requires well { AreWell bindings.now }
+    ensures { IsFirstPair bindings.now (AreShared true) (HasAddress bindings.now v4.0) result }
+{
+    let mut best = None;
+    let mut at = Some(last);
+    'chain: while let Some(place) = at {
+        let met = least_common(bindings, previous, last, place, bindings[place as usize]);
+        best = earlier(best, pair_of(place, met));
+        at = previous[place as usize];
+    }
+    best
+}
+
+/// The same by the slots of the ports. Two of the bindings up to `crowded_place` share a port, where that is not the last
+/// place; what comes after it need not be read.
+fn crowded_pair(
+    bindings: &[Binding],
+    previous: &[Option<u32>],
+    v4: V4,
+    last: u32,
+    owners: &mut [Option<u32>],
+) -> Option<Pair>
+    requires few { length bindings.now ≤ 65536 }
+    requires linked { IsLinked bindings.now previous.now }
+    requires last { IsLast bindings.now v4.0 last }
+    requires well { AreWell bindings.now }
+    requires size { length owners.old ≡ 65536 }
+    requires fresh { AreFresh bindings.now v4.0 owners.old }
+    ensures first { IsFirstPair bindings.now (AreShared true) (HasAddress bindings.now v4.0) result }
+    ensures owners { IsOwnersOf bindings.now v4.0 owners.old owners.new }
+{
+    let end = crowded_place(bindings, previous, v4, last);
+    let size = end as usize + 1;
+    let shared = shared_pair(&bindings[..size], &previous[..size], true, v4, end, owners);
+    if shared.is_some() || end == last {
+        return shared;
+    }
+    compared_pair(bindings, previous, v4, last)
+}
+
 /// The first conflict of the address. Where all its bindings have one shape, a common port is an equal identifier.
 fn address_pair(
     edition: Edition,
@@ -105,7 +152,13 @@ fn address_pair(
         }
         Edition::Two => {
             let unlike = least_unlike(bindings, previous, last, bindings[last as usize]);
-            shared_pair(bindings, previous, unlike.is_some(), v4, last, owners)
+            if unlike.is_none() {
+                shared_pair(bindings, previous, false, v4, last, owners)
+            } else if has_at_most(bindings, previous, last, MOST_COMPARED) {
+                compared_pair(bindings, previous, v4, last)
+            } else {
+                crowded_pair(bindings, previous, v4, last, owners)
+            }
         }
     }
 }

@@ -9,6 +9,7 @@ mod conflicts;
 mod lookup;
 mod owners;
 mod places;
+mod ports;
 mod refused;
 mod settings;
 mod table;

@@ -4,9 +4,9 @@ ghost use Rattle.port_set.specs.Shapes.{IsShape};
 ghost use Rattle.binding_rules.specs.Bindings.{bound, is_bound, IsPlaceOf};
 
 use crate::binding::{Binding, Want};
+use crate::ports::owns_port;
 use crate::table::Table;
 use aftr_base::V4;
-use port_set::{owns, shape_of};
 
 /// The place of the one binding with this address that owns the port, or, for `Whole`, whose offset and length are both
 /// 0; None where there is none. It reads the list from its front.
@@ -32,10 +32,7 @@ fn is_owner(binding: Binding, v4: V4, want: Want) -> bool
         return false;
     }
     match want {
-        Want::Port(port) => match shape_of(binding.offset, binding.length) {
-            Ok(shape) => owns(shape, binding.psid, port),
-            Err(_) => false,
-        },
+        Want::Port(port) => owns_port(binding, port),
         Want::Whole => binding.offset == 0 && binding.length == 0,
     }
 }

@@ -1,7 +1,7 @@
 use Rattle.std.proofs.Common.{subst, sym}
-use Rattle.binding_rules.specs.Steps.{IsLast, IsLeastUnlike}
+use Rattle.binding_rules.specs.Steps.{IsLast, IsLeastUnlike, HasAddress}
 use Rattle.binding_rules.proofs.Links.{of_within, has_address_of, read, read_is}
-use Rattle.binding_rules.proofs.Keys.{two_by_test, unlike_first, one_by_identifier}
+use Rattle.binding_rules.proofs.Keys.{two_by_port, two_by_none, unlike_first, one_by_identifier}
 use Rattle.binding_rules.proofs.conflicts.address_pair.Goals as goal
 
 pub bounds-bindings-head : goal.bounds-bindings-head
@@ -34,12 +34,20 @@ returns-in-One-clause-first c =
     (one_by_identifier bs c.args.v4.0 _ c.shared_pair-shared.result c.requires.well
     (unlike_first bs c.args.v4.0 c.head_of-head.result head c.least_unlike-unlike.result first there least) c.shared_pair-shared.ensures.first)
 
-pub returns-in-Two-clause-first : goal.returns-in-Two-clause-first
-returns-in-Two-clause-first c =
+pub returns-then-is_none-clause-first : goal.returns-then-is_none-clause-first
+returns-then-is_none-clause-first c =
     let bs = c.args.bindings.now in
     let like = read bs c.args.last in
     let there = read_is bs c.args.last (of_within bs c.args.v4.0 _ c.requires.last.here) in
     let least = subst (λ v. IsLeastUnlike bs v like c.least_unlike-unlike-in-Two.result) (has_address_of bs c.args.v4.0 _ like there c.requires.last.here) c.least_unlike-unlike-in-Two.ensures in
     rw c.in-Two.is
-    (two_by_test bs c.args.v4.0 like c.least_unlike-unlike-in-Two.result c.is_some.result c.shared_pair.result c.requires.well
-    c.is_some.ensures least c.shared_pair.ensures.first)
+    (two_by_none bs c.args.v4.0 like c.least_unlike-unlike-in-Two.result c.shared_pair.result c.requires.well
+    c.if-is_none.ensures least c.shared_pair.ensures.first)
+
+pub returns-then-has_at_most-clause-first : goal.returns-then-has_at_most-clause-first
+returns-then-has_at_most-clause-first c =
+    rw c.in-Two.is (two_by_port c.args.bindings.now (HasAddress c.args.bindings.now c.args.v4.0) c.compared_pair.result c.compared_pair.ensures)
+
+pub returns-else-has_at_most-clause-first : goal.returns-else-has_at_most-clause-first
+returns-else-has_at_most-clause-first c =
+    rw c.in-Two.is (two_by_port c.args.bindings.now (HasAddress c.args.bindings.now c.args.v4.0) c.crowded_pair.result c.crowded_pair.ensures.first)

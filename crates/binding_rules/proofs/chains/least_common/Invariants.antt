@@ -1,0 +1,14 @@
+use Rattle.binding_rules.specs.Conflicts.{HaveCommonPort}
+use Rattle.binding_rules.specs.Steps.{IsLeast, IsLater}
+use Rattle.binding_rules.proofs.Links.{IsOf, IsToCome, reach}
+use Rattle.binding_rules.proofs.chains.least_common.Given as goal
+
+abbrev pub invariant-chain : goal.invariant-chain
+invariant-chain l = record {
+  here : IsOf l.bindings l.binding.v4.0 l.at;
+  to_come : IsToCome l.place l.at;
+  least : IsLeast (IsLater l.bindings l.binding.v4.0 l.at (HaveCommonPort l.binding)) l.found;
+}
+
+abbrev pub decreases-chain : goal.decreases-chain
+decreases-chain l = reach l.at
