@@ -18,7 +18,8 @@ pub struct Outer {
 pub enum Item {
     /// A whole IPv4 packet towards a subscriber.
     Down { packet: Bytes },
-    /// The IPv4 packet of a softwire packet from a subscriber, not yet read, and the outer header's fields.
+    /// What a softwire packet from a subscriber carries, and the outer header's fields. An IPv4 packet was read once, and
+    /// cut to its total length; anything else stands as it came.
     Up { outer: Outer, inner: Bytes },
     /// An IPv6 packet that carries no IPv4 packet.
     Six { dst: V6 },

@@ -1,5 +1,6 @@
 // IPv4 packets, read and written.
-ghost use Rattle.std.specs.Prelude.{◌≡◌, ◌+◌, ◌%◌, ◌^◌, ◌<◌, ◌≤◌, ◌++◌, length, take, drop, IfOk, Ok};
+ghost use Rattle.std.specs.Prelude.{◌≡◌, ◌+◌, ◌%◌, ◌^◌, ◌<◌, ◌≤◌, ◌++◌, length, take, IfOk, Ok};
+ghost use Rattle.aftr_base.specs.Numbers.{span};
 ghost use Rattle.ip_codec.specs.Packet4.{ip4_of, packet4, Reads4, IsBounded4, fields4, header4, fixed4, flags_of, flag_worth, made4, is_fragment, packet_len};
 
 use aftr_base::{Bytes, OutOfMemory, V4, be16, be32, put_checksum, sum16};
@@ -41,7 +42,6 @@ impl<'a> Ip4View<'a> {
 
     /// How many bytes the packet has, header and payload.
     pub fn total_len(&self) -> usize
-        requires { length self.now.header.now + length self.now.payload.now ≤ 65535 }
         ensures { result ≡ packet_len (packet4 self.now) }
     {
         self.header.len() + self.payload.len()
@@ -152,7 +152,7 @@ pub fn put4(
     requires most { 20 + length options.now + length payload.now ≤ 65535 }
     ensures bytes { IfOk result (λ packet. packet ≡ header4 head.now options.now (length payload.now) ++ payload.now) }
     ensures read { IfOk result (λ packet. ip4_of packet ≡ Ok (made4 head.now options.now payload.now)) }
-    ensures options { drop 20 (header4 head.now options.now (length payload.now)) ≡ options.now }
+    ensures options { IfOk result (λ packet. span packet 20 (length options.now) ≡ options.now) }
 {
     let header_len = 20 + options.len();
     let total_len = header_len + payload.len();

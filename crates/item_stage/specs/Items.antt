@@ -32,15 +32,15 @@ abbrev pub is_not_built : four.Packet4 → Bool
 is_not_built inner = four.is_fragment inner || (inner.protocol == 1)
 
 -- A packet in the tunnel, by what its body is read as: an IPv4 packet is cut to its total length, anything else stays as
--- it came, and is judged later (RFC 2473, section 3.2; RFC 7596, section 6.2).
+-- it came, and is judged later (RFC 2473, section 3.3; RFC 7596, section 6.2).
 abbrev pub up_item : six.Packet6 → Result four.Packet4 Ip4Bad → Item
 up_item packet (Ok inner) =
     if is_not_built inner then item.Bad rule.NotBuilt
     else item.Up (outer_of packet) (whole4 inner)
 up_item packet (Err _) = item.Up (outer_of packet) packet.body
 
--- An IPv6 packet, by what its bytes are read as. Next header 4 is IPv4 in IPv6 (RFC 2473, section 3.2); every other one is
--- not staged yet.
+-- An IPv6 packet, by what its bytes are read as. Next header 4 is IPv4 in IPv6 (RFC 2473, section 5); every other one is not
+-- staged yet.
 abbrev pub six_item : Result six.Packet6 Ip6Bad → Item
 six_item (Ok packet) =
     if packet.next == 4 then up_item packet (four.ip4_of packet.body)

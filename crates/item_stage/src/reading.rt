@@ -11,7 +11,7 @@ use capture_io::{Form, Frame, Rec, frame_of};
 use ip_codec::{Ip6View, Item, Outer, Rule, ip4, ip6};
 use std::alloc::Global;
 
-/// The next header of an IPv4 packet in IPv6 (RFC 2473, section 3.2).
+/// The next header of an IPv4 packet in IPv6 (RFC 2473, section 5).
 const IPV4_IN_IPV6: u8 = 4;
 
 /// The protocol of ICMP (RFC 792).

@@ -1,4 +1,5 @@
--- The keys of packets (RFC 7596, section 8.1).
+-- The keys of packets: the port that a binding must own beside the packet's address (RFC 7596, section 6.2). Which protocols
+-- have ports, and what stands for the port where a packet names none, is this router's own choice.
 use Rattle.std.specs.Prelude.{ℕ, ◌==◌, nat_lt, Bool, ◌||◌, if◌then◌else◌, List, length}
 use Rattle.aftr_base.specs.Numbers.{big_endian, span}
 use Rattle.binding_rules.specs.declared.binding.Want.TheVariants as want

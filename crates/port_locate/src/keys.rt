@@ -7,12 +7,13 @@ use aftr_base::be16;
 use binding_rules::Want;
 use ip_codec::Ip4View;
 
-/// What a binding must own for a packet to be its subscriber's (RFC 7596, section 8.1).
+/// What a binding must own for a packet to be its subscriber's: the packet's IPv4 address and its port (RFC 7596, section
+/// 6.2). What stands for the port where a packet names none is this router's own choice.
 #[derive(Clone, Copy, Debug, PartialEq, Eq)]
 pub enum Key {
     /// The port, or the whole address where the protocol has none.
     At(Want),
-    /// The packet names no port: it is a fragment, or too short for its protocol.
+    /// The packet names no port: it is a fragment, or, of a protocol with ports, has a payload under four bytes.
     NoPort,
     /// An ICMP message that is cut off, has a wrong checksum, or quotes no IPv4 header.
     IcmpBad,

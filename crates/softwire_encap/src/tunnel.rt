@@ -1,6 +1,6 @@
 // IPv4 packets in IPv6 packets.
 ghost use Rattle.std.specs.Prelude.{◌≡◌, ◌+◌, ◌≤◌, length, IfOk, Ok};
-ghost use Rattle.ip_codec.specs.Packet6.{ip6_of};
+ghost use Rattle.ip_codec.specs.Packet6.{Packet6, ip6_of};
 ghost use Rattle.softwire_encap.specs.Tunnel.{IsFirstWord, tos_of, wrapped, tunnelled};
 
 use aftr_base::{Bytes, OutOfMemory, V6};
@@ -23,7 +23,8 @@ pub fn encap(alloc: Global, from: V6, to: V6, hop: u8, inner: &[u8]) -> Result<B
     requires most { length inner.now ≤ 65535 }
     ensures bytes { IfOk result (λ packet. packet ≡ wrapped from to hop inner.now) }
     ensures read { IfOk result (λ packet. ip6_of packet ≡ Ok (tunnelled from to hop inner.now)) }
-    ensures first_word { IsFirstWord (tunnelled from to hop inner.now).word (tos_of inner.now) 0 }
+    ensures first_word { IfOk result (λ packet.
+        (p : Packet6) → ip6_of packet ≡ Ok p → IsFirstWord p.word (tos_of inner.now) 0) }
     ensures size { IfOk result (λ packet. length packet ≡ length inner.now + 40) }
 {
     let head = Head6 {

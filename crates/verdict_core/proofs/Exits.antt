@@ -14,7 +14,7 @@ use Rattle.port_locate.specs.Keys.{upstream_key}
 use Rattle.port_locate.specs.declared.keys.Key.{Key}
 use Rattle.port_locate.specs.declared.keys.Key.TheVariants as key
 use Rattle.table_words.specs.Answers.{has_v4}
-use Rattle.verdict_core.specs.Verdicts.{is_icmp_bad, is_not_built, is_not_built_alone, is_softwire, names_no_port, owners, silent, up_lines}
+use Rattle.verdict_core.specs.Verdicts.{is_icmp_bad, is_not_built, is_not_built_by_settings, is_softwire, names_no_port, owners, silent, up_lines}
 use Rattle.verdict_core.specs.declared.verdicts.Verdict.{Verdict}
 use Rattle.verdict_core.specs.declared.verdicts.Verdict.TheVariants as verdict
 
@@ -26,22 +26,23 @@ taken : (test : Bool) (w v : Verdict) (y : Option Verdict) → test ≡ true →
 taken true w v y is same = ap Some (sym same)
 taken false w v y is same = absurd cc
 
-module _ (t : Rules) (s : Softwire) (p : Packet4) (same : s ≡ t.softwire) (alone : Bool) (alone_is : alone ≡ is_not_built_alone s p) where
-  alone_of : alone ≡ is_not_built_alone t.softwire p
-  alone_of = alone_is ∙ ap (λ (x : Softwire). is_not_built_alone x p) same
+module _ (t : Rules) (s : Softwire) (p : Packet4) (same : s ≡ t.softwire) (by_settings : Bool)
+    (by_settings_is : by_settings ≡ is_not_built_by_settings s p) where
+  by_settings_of : by_settings ≡ is_not_built_by_settings t.softwire p
+  by_settings_of = by_settings_is ∙ ap (λ (x : Softwire). is_not_built_by_settings x p) same
 
-  pub not_built_alone : alone ≡ true → alone ≡ is_not_built t p
-  not_built_alone is = is ∙ sym (or_left (is_not_built_alone t.softwire p) (has_v4 t.bindings (record { 0 = p.dst })) (sym alone_of ∙ is))
+  pub not_built_by_settings : by_settings ≡ true → by_settings ≡ is_not_built t p
+  not_built_by_settings is = is ∙ sym (or_left (is_not_built_by_settings t.softwire p) (has_v4 t.bindings (record { 0 = p.dst })) (sym by_settings_of ∙ is))
 
-  pub not_built_by_address : (has : Bool) → alone ≡ false → has ≡ has_v4 t.bindings (record { 0 = p.dst }) → has ≡ is_not_built t p
+  pub not_built_by_address : (has : Bool) → by_settings ≡ false → has ≡ has_v4 t.bindings (record { 0 = p.dst }) → has ≡ is_not_built t p
   not_built_by_address has is has_is =
-      has_is ∙ ap (λ (x : Bool). x || has_v4 t.bindings (record { 0 = p.dst })) (sym (sym alone_of ∙ is))
+      has_is ∙ ap (λ (x : Bool). x || has_v4 t.bindings (record { 0 = p.dst })) (sym (sym by_settings_of ∙ is))
 
 -- a packet of a kind that is judged is no ICMP message
 pub not_icmp : (t : Rules) (p : Packet4) → is_not_built t p ≡ false → p.protocol ≡ 1 → ⊥
 not_icmp t p is =
-    let alone = (or_parts (is_not_built_alone t.softwire p) _ is).0 in
-    eqb-false p.protocol 1 (or_parts _ _ (or_parts _ _ (or_parts _ _ (or_parts _ _ alone).0).0).0).0
+    let by_settings = (or_parts (is_not_built_by_settings t.softwire p) _ is).0 in
+    eqb-false p.protocol 1 (or_parts _ _ (or_parts _ _ (or_parts _ _ (or_parts _ _ by_settings).0).0).0).0
 
 module _ (t : Rules) (outer : Outer) (inner : List ℕ) (s : Softwire) (p : Packet4) (v : Verdict) (same : s ≡ t.softwire) (read : ip4_of inner ≡ Ok p)
     (left : Bool) (left_is : left ≡ is_not_built t p) where

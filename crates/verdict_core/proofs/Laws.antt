@@ -21,7 +21,7 @@ use Rattle.port_locate.specs.declared.keys.Key.{Key}
 use Rattle.port_locate.specs.declared.keys.Key.TheVariants as key
 use Rattle.verdict_core.specs.Access.{Forbids, Forbidden, Forwards, IsBuilt, IsForwarded, IsRefusal, Permits, Refused}
 use Rattle.verdict_core.specs.Fitting.{Carries, Fits, HasRoom, IsPlain}
-use Rattle.verdict_core.specs.Verdicts.{Judged, Line, is_checksum, is_icmp_bad, is_not_built, is_not_built_alone, is_softwire, lines, names_no_port, owners, silent, up_lines}
+use Rattle.verdict_core.specs.Verdicts.{Judged, Line, is_checksum, is_icmp_bad, is_not_built, is_not_built_by_settings, is_softwire, lines, names_no_port, owners, silent, up_lines}
 use Rattle.verdict_core.specs.declared.verdicts.Verdict.{Verdict}
 use Rattle.verdict_core.specs.declared.verdicts.Verdict.TheVariants as verdict
 use Rattle.verdict_core.proofs.Firsts.{Choice, first_line, first_or_later}
@@ -188,14 +188,14 @@ module _ (t : Rules) (outer : Outer) (inner : List ℕ) (v : Verdict) where
         let same = same_packet f.packet f.read in
         eqb-false _ _ h (ap (λ (q : Packet4). q.dst) (sym same) ∙ f.to_self)
 
-    alone_false : is_not_built t p ≡ false → is_not_built_alone t.softwire p ≡ false
-    alone_false h = (or_parts (is_not_built_alone t.softwire p) _ h).0
+    by_settings_false : is_not_built t p ≡ false → is_not_built_by_settings t.softwire p ≡ false
+    by_settings_false h = (or_parts (is_not_built_by_settings t.softwire p) _ h).0
 
     alive : is_not_built t p ≡ false → 2 ≤ p.ttl
-    alive h = ltb-false _ _ (or_parts _ _ (or_parts _ _ (alone_false h)).0).1
+    alive h = ltb-false _ _ (or_parts _ _ (or_parts _ _ (by_settings_false h)).0).1
 
     fits : is_not_built t p ≡ false → packet_len p ≤ t.softwire.mtu4
-    fits h = ltb-false _ _ (or_parts _ _ (alone_false h)).1
+    fits h = ltb-false _ _ (or_parts _ _ (by_settings_false h)).1
 
     last_line : is_not_built t p ≡ false → is_foreign t outer ≡ false → names_no_port (upstream_key p) ≡ false → not (is_softwire t outer p) ≡ false →
         Choice (p.dst == t.softwire.own.0) (silent rule.ToSelf) ((true, verdict.Outward t.softwire.mtu4) ∷ []) v → Outcome t outer inner v

@@ -50,12 +50,12 @@ is_icmp_bad (key.At want) = false
 is_icmp_bad key.NoPort = false
 
 -- A kind of packet that is not judged yet: ICMP, a packet that could ask for an ICMP error or for cutting ..
-abbrev pub is_not_built_alone : Softwire → Packet4 → Bool
-is_not_built_alone s p = (p.protocol == 1) || s.errors_up || s.errors_down || nat_lt p.ttl 2 || nat_lt s.mtu4 (packet_len p)
+abbrev pub is_not_built_by_settings : Softwire → Packet4 → Bool
+is_not_built_by_settings s p = (p.protocol == 1) || s.errors_up || s.errors_down || nat_lt p.ttl 2 || nat_lt s.mtu4 (packet_len p)
 
 -- .. or one from subscriber to subscriber.
 abbrev pub is_not_built : Rules → Packet4 → Bool
-is_not_built t p = is_not_built_alone t.softwire p || has_v4 t.bindings (record { 0 = p.dst })
+is_not_built t p = is_not_built_by_settings t.softwire p || has_v4 t.bindings (record { 0 = p.dst })
 
 abbrev pub is_checksum : Ip4Bad → Bool
 is_checksum bad.Checksum = true

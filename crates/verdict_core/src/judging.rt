@@ -1,5 +1,5 @@
 // The verdict on an item.
-ghost use Rattle.std.specs.Prelude.{◌≡◌, ◌≢◌, ◌==◌, ◌+◌, ◌-◌, ◌≤◌, length, Some, Err};
+ghost use Rattle.std.specs.Prelude.{◌≡◌, ◌≢◌, ◌==◌, ◌+◌, ◌-◌, ◌≤◌, Some, Err};
 ghost use Rattle.std.specs.List.{list_any};
 ghost use Rattle.aftr_base.specs.First.{first_true};
 ghost use Rattle.binding_rules.specs.Bindings.{bound};
@@ -11,7 +11,7 @@ ghost use Rattle.table_words.specs.Reads.{read_more};
 ghost use Rattle.verdict_core.specs.Access.{Forbidden, Forwards, Refused};
 ghost use Rattle.verdict_core.specs.Bounds.{judge_bound};
 ghost use Rattle.verdict_core.specs.Fitting.{AsksTable, Fits, HasRoom, IsPlain};
-ghost use Rattle.verdict_core.specs.Verdicts.{Judged, is_not_built, is_not_built_alone, lines, silent, up_lines, verdict_of};
+ghost use Rattle.verdict_core.specs.Verdicts.{Judged, is_not_built, is_not_built_by_settings, lines, silent, up_lines, verdict_of};
 
 use crate::verdicts::{Reply, Verdict};
 use aftr_base::V4;
@@ -148,7 +148,6 @@ fn is_not_built<W: Words, L: Ledger>(
 ) -> bool
     requires compiled { AreCompiled (W.list words.old) }
     requires settings { (t : Rules) → IsCompiled t (W.list words.old) → settings.now ≡ t.softwire }
-    requires most { length packet.now.header.now + length packet.now.payload.now ≤ 65535 }
     ensures answer { (t : Rules) → IsCompiled t (W.list words.old) → result ≡ is_not_built t (packet4 packet.now) }
     ensures list { W.list words.new ≡ W.list words.old }
     ensures reads { W.reads words.new ≡ read_more (W.reads words.old) (steps.new - steps.old) }
@@ -156,13 +155,12 @@ fn is_not_built<W: Words, L: Ledger>(
     ensures later { steps.old ≤ steps.new }
     ensures bound { (t : Rules) → IsCompiled t (W.list words.old) → steps.new ≤ steps.old + group_digits t.bindings + 3 }
 {
-    is_not_built_alone(settings, packet) || has_address(words, packet.dst, steps)
+    is_not_built_by_settings(settings, packet) || has_address(words, packet.dst, steps)
 }
 
 // The same by the settings alone, where the packet's destination is not looked at.
-fn is_not_built_alone(settings: &Softwire, packet: &Ip4View<'_>) -> bool
-    requires { length packet.now.header.now + length packet.now.payload.now ≤ 65535 }
-    ensures { result ≡ is_not_built_alone settings.now (packet4 packet.now) }
+fn is_not_built_by_settings(settings: &Softwire, packet: &Ip4View<'_>) -> bool
+    ensures { result ≡ is_not_built_by_settings settings.now (packet4 packet.now) }
 {
     packet.protocol == ICMP
         || settings.errors_up
@@ -188,7 +186,8 @@ fn is_softwire<W: Words, L: Ledger>(
     ensures later { steps.old ≤ steps.new }
     ensures bound { (t : Rules) → IsCompiled t (W.list words.old) → steps.new ≤ steps.old + look_bound t.bindings }
 {
-    look(words, v4, want, steps) == Some(outer.src)
+    let end = look(words, v4, want, steps);
+    end == Some(outer.src)
 }
 
 fn silent(why: Rule) -> Verdict

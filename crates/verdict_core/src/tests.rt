@@ -40,6 +40,9 @@ const TO_SHARED: &[u8; 32] =
 // The same with its time to live used up.
 const LAST_HOP: &[u8; 32] =
     b"\x45\0\0\x20\0\x01\0\0\x01\x11\x53\x90\xcb\0\x71\x01\xc6\x33\x64\x07\x04\xd0\0\x35\0\x0c\0\0test";
+// The same with a time to live of 0.
+const USED_UP: &[u8; 32] =
+    b"\x45\0\0\x20\0\x01\0\0\0\x11\x54\x90\xcb\0\x71\x01\xc6\x33\x64\x07\x04\xd0\0\x35\0\x0c\0\0test";
 // The same as the first fragment of a datagram.
 const FRAGMENT: &[u8; 32] =
     b"\x45\0\0\x20\0\x01\x20\0\x40\x11\xf4\x8f\xcb\0\x71\x01\xc6\x33\x64\x07\x04\xd0\0\x35\0\x0c\0\0test";
@@ -55,6 +58,13 @@ const THREE: &[u8; 23] =
 // The first packet with a wrong checksum.
 const CHECKSUM: &[u8; 32] =
     b"\x45\0\0\x20\0\x01\0\0\x40\x11\x14\x91\xcb\0\x71\x01\xc6\x33\x64\x07\x04\xd0\0\x35\0\x0c\0\0test";
+
+// The header and the ports of the first packet with a total length of 576, and of 577.
+const LARGEST: &[u8; 24] =
+    b"\x45\0\x02\x40\0\x01\0\0\x40\x11\x12\x70\xcb\0\x71\x01\xc6\x33\x64\x07\x04\xd0\0\x35";
+
+const TOO_LARGE: &[u8; 24] =
+    b"\x45\0\x02\x41\0\x01\0\0\x40\x11\x12\x6f\xcb\0\x71\x01\xc6\x33\x64\x07\x04\xd0\0\x35";
 
 const FORWARDED: Verdict = Verdict::Outward { mtu: 1500 };
 
@@ -72,6 +82,15 @@ fn b4(number: u16) -> V6 {
 
 // A table of bindings of the shared address (offset, length, identifier), of subscribers from 1 on.
 fn table(alloc: Global, rows: &[(u8, u8, u16)]) -> Result<Table, TableError> {
+    table_under(alloc, SETTINGS, rows)
+}
+
+// The same with other settings.
+fn table_under(
+    alloc: Global,
+    settings: Softwire,
+    rows: &[(u8, u8, u16)],
+) -> Result<Table, TableError> {
     let mut bindings = Vec::new(alloc);
     let mut number = 0u16;
     for (offset, length, psid) in rows {
@@ -90,7 +109,7 @@ fn table(alloc: Global, rows: &[(u8, u8, u16)]) -> Result<Table, TableError> {
     if bindings.len() > 65_536 {
         return Err(TableError::OutOfMemory);
     }
-    table_of(alloc, Edition::One, SETTINGS, bindings)
+    table_of(alloc, Edition::One, settings, bindings)
 }
 
 fn judged_in<L: Ledger>(words: &[u64], item: &Item, blank: Blank) -> Verdict
@@ -162,7 +181,7 @@ fn forwards_the_ports_of_the_sender(rt: HostRuntime) -> Result<(), Fail> {
 fn names_the_rule_of_each_drop(rt: HostRuntime) -> Result<(), Fail> {
     let alloc = rt.alloc();
     let words = compile(alloc, &table(alloc, &[(6, 8, 52)])?)?;
-    let cases: [(V6, V6, &[u8], Rule); 12] = [
+    let cases: [(V6, V6, &[u8], Rule); 14] = [
         (b4(2), AFTR, UP, Rule::NoBinding),
         (b4(1), V6(AFTR.0 + 1), UP, Rule::NotOurs),
         (b4(1), V6(AFTR.0 + 1), CHECKSUM, Rule::NotOurs),
@@ -173,12 +192,53 @@ fn names_the_rule_of_each_drop(rt: HostRuntime) -> Result<(), Fail> {
         (b4(1), AFTR, FRAGMENT, Rule::NoPort),
         (b4(1), AFTR, TUNNEL, Rule::NoBinding),
         (b4(1), AFTR, TO_SHARED, Rule::NotBuilt),
+        (b4(1), V6(AFTR.0 + 1), TO_SHARED, Rule::NotBuilt),
         (b4(1), AFTR, LAST_HOP, Rule::NotBuilt),
+        (b4(1), AFTR, USED_UP, Rule::NotBuilt),
         (b4(1), AFTR, ICMP, Rule::NotBuilt),
     ];
     for (src, dst, inner, rule) in cases {
         let item = up(alloc, src, dst, inner)?;
         assert_eq!(rt; judged(&words, &item), dropped(rule), "{rule}");
+    }
+    Ok(())
+}
+
+// An upstream packet that starts with these bytes and has so many zeros behind them.
+fn up_padded(alloc: Global, start: &[u8], zeros: usize) -> Result<Item, OutOfMemory> {
+    let mut bytes = Vec::new(alloc);
+    bytes.extend_from_slice(start)?;
+    bytes.extend_from_slice(&vec![in alloc; 0u8; zeros]?)?;
+    up(alloc, b4(1), AFTR, &bytes)
+}
+
+#[test]
+fn forwards_up_to_the_mtu(rt: HostRuntime) -> Result<(), Fail> {
+    let alloc = rt.alloc();
+    let settings = Softwire {
+        mtu4: 576,
+        ..SETTINGS
+    };
+    let words = compile(alloc, &table_under(alloc, settings, &[(6, 8, 52)])?)?;
+    let largest = up_padded(alloc, LARGEST, 552)?;
+    assert_eq!(rt; judged(&words, &largest), Verdict::Outward { mtu: 576 });
+    let too_large = up_padded(alloc, TOO_LARGE, 553)?;
+    assert_eq!(rt; judged(&words, &too_large), dropped(Rule::NotBuilt));
+    Ok(())
+}
+
+#[test]
+fn leaves_packets_that_could_ask_for_an_error(rt: HostRuntime) -> Result<(), Fail> {
+    let alloc = rt.alloc();
+    for (errors_up, errors_down) in [(true, false), (false, true)] {
+        let settings = Softwire {
+            errors_up,
+            errors_down,
+            ..SETTINGS
+        };
+        let words = compile(alloc, &table_under(alloc, settings, &[(6, 8, 52)])?)?;
+        let item = up(alloc, b4(1), AFTR, UP)?;
+        assert_eq!(rt; judged(&words, &item), dropped(Rule::NotBuilt));
     }
     Ok(())
 }

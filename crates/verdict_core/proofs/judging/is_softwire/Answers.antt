@@ -9,5 +9,5 @@ use Rattle.verdict_core.proofs.judging.is_softwire.Goals as goal
 pub returns-clause-answer : goal.returns-clause-answer
 returns-clause-answer g c = λ t h.
     c.eq.ensures
-    ∙ (ap (λ (found : Option V6). option_eq eq-value.it found (Some c.args.outer.now.src)) (c.look.ensures.owner t h)
+    ∙ (ap (λ (found : Option V6). option_eq eq-value.it found (Some c.args.outer.now.src)) (c.look-end.ensures.owner t h)
     ∙ end_of_one (bound t.bindings c.args.v4 c.args.want) c.args.outer.now.src (h.lawful.at_most_one c.args.v4 c.args.want))
