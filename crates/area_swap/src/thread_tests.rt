@@ -1,4 +1,4 @@
-// Seats in threads of their own, beside one another and beside the desk.
+// Seats in threads of their own, beside one another and the desk.
 ghost use Rattle.std.specs.Prelude.{◌≡◌, ℕ, ◌%◌, ◌<◌, ◌≤◌, ◌⊎◌, List, IfOk, All, length};
 ghost use Rattle.std.specs.Thread.{IsSync};
 ghost use Rattle.area_swap.specs.Values.{HoldsOne, IsIdle, IsOf, IsReady, IsResting};
