@@ -81,7 +81,7 @@ fn shared_pair(
     best
 }
 
-/// The same for ports, by a comparison of each two bindings of the address.
+/// The same for ports, by a comparison of each two bindings of the address. It takes no slots.
 fn compared_pair(bindings: &[Binding], previous: &[Option<u32>], v4: V4, last: u32) -> Option<Pair>
     requires linked { IsLinked bindings.now previous.now }
     requires last { IsLast bindings.now v4.0 last }
@@ -98,8 +98,8 @@ fn compared_pair(bindings: &[Binding], previous: &[Option<u32>], v4: V4, last: u
     best
 }
 
-/// The same by the slots of the ports. Two of the bindings up to `crowded_place` share a port, where that is not the last
-/// place; what comes after it need not be read.
+/// The same by the slots of the ports, read up to `crowded_place`. Where that is not the last place, two bindings up to it
+/// share a port, and none behind it comes before them. That they do is not proved: if they did not, all would be compared.
 fn crowded_pair(
     bindings: &[Binding],
     previous: &[Option<u32>],

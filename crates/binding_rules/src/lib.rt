@@ -1,6 +1,7 @@
 //! Binding tables: which subscriber owns an IPv4 address and a port (the binding table of RFC 7596 with the port sets of
 //! RFC 7597). A `Table` is made of settings and bindings that keep the rules of its edition, above all that no port of
-//! an address is in two bindings. The rules are tested without comparing all pairs of bindings.
+//! an address is in two bindings. The rules are tested without comparing all pairs of bindings: only those of one address
+//! with few bindings of unlike shapes are compared two by two.
 #![tactic(auto)]
 
 mod binding;
@@ -19,3 +20,6 @@ pub use lookup::find;
 pub use refused::{Refused, TableError};
 pub use settings::{Edition, Softwire};
 pub use table::{Table, table_of};
+
+#[cfg(test)]
+mod tests;
