@@ -23,7 +23,7 @@ all_carried i = option_to_list (carried i)
 
 -- The packets sent for a verdict on the item of a record with this number. What is kept or dropped sends none. What goes
 -- on has its time to live one less, and goes to a subscriber in the tunnel. Where a packet would have to be cut, or a
--- sender told of a drop, nothing is said here.
+-- sender told of a drop, the value stands for nothing: no verdict of `judge` leads there.
 abbrev pub sent : Item → Verdict → ℕ → List (List ℕ)
 sent i verdict.Held number = []
 sent i (verdict.Drop why reply) number = []

@@ -30,8 +30,7 @@ pub fn packets(
     ensures count { IfOk result (λ list. length list ≤ 1) }
 {
     match verdict {
-        Verdict::Held => Ok(Packets::of(Vec::new(alloc))),
-        Verdict::Drop { .. } => Ok(Packets::of(Vec::new(alloc))),
+        Verdict::Held | Verdict::Drop { .. } => Ok(Packets::of(Vec::new(alloc))),
         Verdict::Outward { .. } => outward(alloc, item),
         Verdict::Inward { from, to, hop, .. } => inward(alloc, item, from, to, hop),
     }
@@ -76,9 +75,7 @@ fn packet_of(item: &Item) -> Option<Ip4View<'_>>
     let bytes = match item {
         Item::Down { packet } => packet,
         Item::Up { inner, .. } => inner,
-        Item::Six { .. } => return None,
-        Item::Held => return None,
-        Item::Bad(_) => return None,
+        Item::Six { .. } | Item::Held | Item::Bad(_) => return None,
     };
     match ip4(bytes.as_slice()) {
         Ok(view) => Some(view),
