@@ -1,4 +1,5 @@
 // Questions about a table file.
+use crate::cases::{parts, words_of};
 use crate::runs::{Ran, SHARED, WHOLE, run_over};
 use aftr_base::{MemFiles, MemSink};
 use lwaftr_engine::{Status, code, status_line};
@@ -73,28 +74,38 @@ who t 203.0.113.1 -1|whole|2|usage
 who t 203.0.113.1 ~|whole|2|usage
 who t 203.0.113.1 0x1|whole|2|usage";
 
-fn table_named(alloc: Global, name: &str) -> Result<String, Fail> {
-    let text = match name {
-        "whole" => format!(in alloc; "{WHOLE}"),
-        "shared" => format!(in alloc; "{SHARED}"),
-        "none" => format!(in alloc; "version = 1{SETTINGS}"),
-        "one 80" => format!(in alloc; "version = 1{SETTINGS}{FIRST}80\n"),
-        "two 80" => format!(in alloc; "version = 2{SETTINGS}{FIRST}80\n"),
-        "two 1232" => format!(in alloc; "version = 2{SETTINGS}{FIRST}1232\n"),
-        "three 80" => format!(in alloc; "version = 3{SETTINGS}{FIRST}80\n"),
-        _ => format!(in alloc; ""),
-    };
-    Ok(text?)
+/// The texts that make the table of this name, one behind another.
+fn texts(name: &str) -> [&'static str; 4] {
+    match name {
+        "whole" => [WHOLE, "", "", ""],
+        "shared" => [SHARED, "", "", ""],
+        "none" => ["version = 1", SETTINGS, "", ""],
+        "one 80" => ["version = 1", SETTINGS, FIRST, "80\n"],
+        "two 80" => ["version = 2", SETTINGS, FIRST, "80\n"],
+        "two 1232" => ["version = 2", SETTINGS, FIRST, "1232\n"],
+        "three 80" => ["version = 3", SETTINGS, FIRST, "80\n"],
+        _ => [""; 4],
+    }
 }
 
-/// Asks a question, with blanks between its words; `~` is an empty word. The table is the file `t`.
-fn ask(alloc: Global, question: &str, table: &str, out: MemSink) -> Result<Ran, Fail> {
-    let mut words = Vec::new(alloc);
-    for word in question.split(' ') {
-        words.push(if word == "~" { "" } else { word })?;
+fn table_named(alloc: Global, name: &str) -> Result<String, Fail> {
+    let mut table = String::new(alloc);
+    for text in texts(name) {
+        table.push_str(text)?;
     }
+    Ok(table)
+}
+
+/// The file `t` with this table.
+fn table_file(alloc: Global, table: &str) -> Result<MemFiles, Fail> {
     let mut files = MemFiles::new(alloc);
     files.set(alloc, "t", table.as_bytes())?;
+    Ok(files)
+}
+
+/// Asks a question of these files, with blanks between its words; `~` is an empty word.
+fn ask(alloc: Global, question: &str, files: MemFiles, out: MemSink) -> Result<Ran, Fail> {
+    let words = words_of(alloc, question)?;
     Ok(run_over(alloc, &words, files, out))
 }
 
@@ -106,33 +117,44 @@ fn is_answer(alloc: Global, ran: &Ran, number: u8, line: &str, table: &str) -> R
     } else {
         ("", line)
     };
+    let ended = status_line(alloc, &ran.status)?;
     Ok(
         code(&ran.status) == number
             && ran.said().trim_end_matches('\n') == said
-            && status_line(alloc, &ran.status)?
-                .as_str()
-                .trim_end_matches('\n')
-                == status
+            && ended.as_str().trim_end_matches('\n') == status
             && ran.files.text("t") == table
             && ran.files.spoiled == 0,
     )
+}
+
+/// The question about this table, the file `t`, has this answer.
+fn has_answer(
+    alloc: Global,
+    question: &str,
+    table: &str,
+    number: u8,
+    line: &str,
+) -> Result<bool, Fail> {
+    let files = table_file(alloc, table)?;
+    let ran = ask(alloc, question, files, MemSink::new(alloc))?;
+    is_answer(alloc, &ran, number, line, table)
+}
+
+/// The question of this line has the answer of the line.
+fn is_right(alloc: Global, case: &str) -> Result<bool, Fail> {
+    let (question, name, number, line) = parts(case).ok_or("a case")?;
+    let table = table_named(alloc, name)?;
+    has_answer(alloc, question, &table, number.parse()?, line)
 }
 
 #[test]
 fn questions_are_answered(rt: HostRuntime) -> Result<(), Fail> {
     let alloc = rt.alloc();
     for case in CASES.lines() {
-        let (question, rest) = case.split_once('|').ok_or("a question")?;
-        let (name, rest) = rest.split_once('|').ok_or("a table")?;
-        let (number, line) = rest.split_once('|').ok_or("an answer")?;
-        let table = table_named(alloc, name)?;
-        let ran = ask(alloc, question, &table, MemSink::new(alloc))?;
-        assert!(rt;
-            is_answer(alloc, &ran, number.parse()?, line, &table)?,
-            "{case}"
-        );
+        assert!(rt; is_right(alloc, case)?, "{case}");
     }
-    let ran = ask(alloc, "check t", WHOLE, MemSink::new(alloc))?;
+    let files = table_file(alloc, WHOLE)?;
+    let ran = ask(alloc, "check t", files, MemSink::new(alloc))?;
     assert_eq!(rt; ran.said(), "valid 1 bindings\n");
     Ok(())
 }
@@ -155,40 +177,48 @@ fn many(alloc: Global, count: u32) -> Result<String, Fail> {
 fn a_table_has_65536_bindings_at_most(rt: HostRuntime) -> Result<(), Fail> {
     let alloc = rt.alloc();
     let most = many(alloc, 65_536)?;
-    let ran = ask(alloc, "check t", &most, MemSink::new(alloc))?;
-    assert!(rt; is_answer(alloc, &ran, 0, "valid 65536 bindings", &most)?);
-    let ran = ask(alloc, "who t 10.1.255.255 9", &most, MemSink::new(alloc))?;
-    assert!(rt; is_answer(alloc, &ran, 0, "2001:db8:1::ffff", &most)?);
+    let valid = "valid 65536 bindings";
+    assert!(rt; has_answer(alloc, "check t", &most, 0, valid)?);
+    let (question, end) = ("who t 10.1.255.255 9", "2001:db8:1::ffff");
+    assert!(rt; has_answer(alloc, question, &most, 0, end)?);
     let more = many(alloc, 65_537)?;
-    let ran = ask(alloc, "check t", &more, MemSink::new(alloc))?;
     let refusal = "table refused: rules too-many 65537";
-    assert!(rt; is_answer(alloc, &ran, 5, refusal, &more)?);
+    assert!(rt; has_answer(alloc, "check t", &more, 5, refusal)?);
     Ok(())
+}
+
+/// The question ends with a write fault where the sink fails, and nothing is put.
+fn is_lost_at_the_sink(alloc: Global, question: &str) -> Result<bool, Fail> {
+    let mut out = MemSink::new(alloc);
+    out.fail_at(alloc, 0)?;
+    let ran = ask(alloc, question, table_file(alloc, WHOLE)?, out)?;
+    Ok(ran.status == Status::WriteFault && ran.said() == "" && ran.files.lost == 0)
+}
+
+/// The question is done where this call of the files is to fail, as it comes to no such call; else it ends with a read fault,
+/// and nothing is put.
+fn is_done_without(alloc: Global, question: &str, call: u64) -> Result<Option<bool>, Fail> {
+    let mut files = table_file(alloc, WHOLE)?;
+    files.fail_at(alloc, call)?;
+    let ran = ask(alloc, question, files, MemSink::new(alloc))?;
+    Ok(match ran.status {
+        Status::Done => Some(true),
+        Status::ReadFault if ran.said() == "" && ran.files.lost == 1 => Some(false),
+        _ => None,
+    })
 }
 
 #[test]
 fn a_question_may_fail(rt: HostRuntime) -> Result<(), Fail> {
     let alloc = rt.alloc();
     for question in ["check t", "who t 203.0.113.1 1232"] {
-        let mut out = MemSink::new(alloc);
-        out.fail_at(alloc, 0)?;
-        let ran = ask(alloc, question, WHOLE, out)?;
-        assert!(rt;
-            ran.status == Status::WriteFault && ran.said() == "" && ran.files.lost == 0,
-            "{question}"
-        );
-        let words: Vec<&str> = question.split(' ').collect(alloc)?;
-        let mut done = false;
+        assert!(rt; is_lost_at_the_sink(alloc, question)?, "{question}");
+        let mut done = None;
         for call in 0..8 {
-            let mut files = MemFiles::new(alloc);
-            files.set(alloc, "t", WHOLE.as_bytes())?;
-            files.fail_at(alloc, call)?;
-            let ran = run_over(alloc, &words, files, MemSink::new(alloc));
-            done = ran.status == Status::Done;
-            let failed = ran.status == Status::ReadFault && ran.said() == "" && ran.files.lost == 1;
-            assert!(rt; done || failed, "{question} {call}");
+            done = is_done_without(alloc, question, call)?;
+            assert!(rt; done.is_some(), "{question} {call}");
         }
-        assert!(rt; done, "{question}");
+        assert!(rt; done == Some(true), "{question}");
     }
     Ok(())
 }

@@ -1,8 +1,9 @@
 // More records than one round takes.
 use crate::captures::{HEADER, TUNNELLED, hex, put_record};
-use crate::runs::{SHARED, WORDS, Watched, files_of};
+use crate::runs::{SHARED, WORDS, Watched, files_of, run_watched};
 use aftr_base::MemSink;
-use lwaftr_engine::{Status, lwaftr};
+use lwaftr_engine::Status;
+use std::alloc::Global;
 use std::test::Fail;
 
 const COUNT: u32 = 40_000;
@@ -10,53 +11,63 @@ const COUNT: u32 = 40_000;
 /// Where record 32,768 stands: each has 16 bytes and a packet of 72 before it.
 const PLACE: u64 = 24 + 32_768 * 88;
 
-#[test]
-fn records_are_written_in_rounds(rt: HostRuntime) -> Result<(), Fail> {
-    let alloc = rt.alloc();
-    let owned = hex(alloc, TUNNELLED)?;
-    let mut foreign = owned.clone()?;
-    if let Some(low) = foreign.get_mut(61) {
-        // Port 1236 is another subscriber's.
+/// The datagram in the tunnel from port 1236, which is another subscriber's.
+fn foreign(alloc: Global) -> Result<Vec<u8>, Fail> {
+    let mut packet = hex(alloc, TUNNELLED)?;
+    if let Some(low) = packet.get_mut(61) {
         *low = 0xd4;
     }
+    Ok(packet)
+}
+
+/// The packet of each third record, from the first on, is foreign.
+fn is_owned(number: u32) -> bool {
+    number % 3 != 0
+}
+
+fn records(alloc: Global) -> Result<Vec<u8>, Fail> {
+    let owned = hex(alloc, TUNNELLED)?;
+    let foreign = foreign(alloc)?;
     let mut bytes = hex(alloc, HEADER)?;
-    let mut expected = String::new(alloc);
     for number in 0..COUNT {
-        let is_owned = number % 3 != 0;
-        put_record(
-            &mut bytes,
-            number,
-            5,
-            if is_owned { &owned } else { &foreign },
-        )?;
-        let outcome = if is_owned {
+        let packet = if is_owned(number) { &owned } else { &foreign };
+        put_record(&mut bytes, number, 5, packet)?;
+    }
+    Ok(bytes)
+}
+
+/// The lines of these records.
+fn verdicts(alloc: Global) -> Result<String, Fail> {
+    let mut text = String::new(alloc);
+    for number in 0..COUNT {
+        let outcome = if is_owned(number) {
             "up 1"
         } else {
             "drop no-binding 0"
         };
-        let line = format!(in alloc; "{number} 0 {outcome}\n")?;
-        expected.push_str(&line)?;
+        text.push_str(&format!(in alloc; "{number} 0 {outcome}\n")?)?;
     }
-    let mut files = Watched::new(files_of(alloc, &bytes, SHARED)?);
+    Ok(text)
+}
+
+#[test]
+fn records_are_written_in_rounds(rt: HostRuntime) -> Result<(), Fail> {
+    let alloc = rt.alloc();
+    let mut files = Watched::new(files_of(alloc, &records(alloc)?, SHARED)?);
     files.place = PLACE;
-    let mut out = MemSink::new(alloc);
-    let status = lwaftr(alloc, &WORDS, &mut files, &mut out);
-    assert_eq!(rt; status, Status::Done);
-    assert!(rt; files.text("verdicts.txt") == expected.as_str());
-    assert!(rt; files.late && files.early);
-    let said = std::str::from_utf8(out.bytes()).unwrap_or("");
+    let ran = run_watched(alloc, &WORDS, files, MemSink::new(alloc));
+    let expected = verdicts(alloc)?;
+    assert!(rt; ran.status == Status::Done);
+    assert!(rt; ran.files.text("verdicts.txt") == expected.as_str());
+    assert!(rt; ran.files.late && ran.files.early);
     assert_eq!(rt;
-        said,
+        ran.said(),
         "records 40000 held 0 forwarded 26666 dropped 13334 packets 26666 version 0\n"
     );
     // A packet of 32 bytes for each that was forwarded, with the time of its record: the last one is record 39,998.
-    let written = files.files.get("out.pcap").unwrap_or(&[]);
-    assert_eq!(rt; written.len(), 24 + 26_666 * 48);
-    assert_eq!(rt;
-        written
-            .get(24 + 48 * 26_665..)
-            .and_then(|last| last.get(..8)),
-        Some([0x3e, 0x9c, 0, 0, 5, 0, 0, 0].as_slice())
-    );
+    let written = ran.packets();
+    assert!(rt; written.len() == 24 + 26_666 * 48);
+    let last = written.get(24 + 48 * 26_665..24 + 48 * 26_665 + 8);
+    assert!(rt; last.unwrap_or(&[]) == [0x3e, 0x9c, 0, 0, 5, 0, 0, 0].as_slice());
     Ok(())
 }

@@ -104,32 +104,22 @@ impl Files for Watched {
         at: u64,
         into: &mut [u8],
     ) -> Result<usize, Fault> {
-        if name == "in.pcap" && at >= self.place {
-            self.late = true;
-        }
+        self.late |= (name == "in.pcap") & (at >= self.place);
         let answer = self.files.read(alloc, name, at, into);
-        if answer.is_err() {
-            self.lost = self.lost.saturating_add(1);
-        }
+        self.lost = self.lost.saturating_add(u32::from(answer.is_err()));
         answer
     }
 
     fn create(&mut self, alloc: Global, name: &str) -> Result<(), Fault> {
         let answer = self.files.create(alloc, name);
-        if answer.is_err() {
-            self.spoiled = self.spoiled.saturating_add(1);
-        }
+        self.spoiled = self.spoiled.saturating_add(u32::from(answer.is_err()));
         answer
     }
 
     fn append(&mut self, alloc: Global, name: &str, bytes: &[u8]) -> Result<usize, Fault> {
-        if name == "verdicts.txt" && !bytes.is_empty() && !self.late {
-            self.early = true;
-        }
+        self.early |= (name == "verdicts.txt") & !bytes.is_empty() & !self.late;
         let answer = self.files.append(alloc, name, bytes);
-        if answer.is_err() {
-            self.spoiled = self.spoiled.saturating_add(1);
-        }
+        self.spoiled = self.spoiled.saturating_add(u32::from(answer.is_err()));
         answer
     }
 }
@@ -159,6 +149,16 @@ impl Ran {
             || self.files.files.get("verdicts.txt").is_some()
             || self.files.files.get("versions.txt").is_some()
     }
+
+    /// No output was made, and nothing was put.
+    pub fn is_silent(&self) -> bool {
+        !self.has_outputs() && self.said() == ""
+    }
+
+    /// So many reads failed, and so many creates and appends.
+    pub fn failed(&self, lost: u32, spoiled: u32) -> bool {
+        self.files.lost == lost && self.files.spoiled == spoiled
+    }
 }
 
 /// The capture and the table, as files.
@@ -169,11 +169,15 @@ pub fn files_of(alloc: Global, capture: &[u8], table: &str) -> Result<MemFiles, 
     Ok(files)
 }
 
-/// Runs over these files and this sink.
-pub fn run_over(alloc: Global, words: &[&str], files: MemFiles, mut out: MemSink) -> Ran {
-    let mut files = Watched::new(files);
+/// Runs over these watched files and this sink.
+pub fn run_watched(alloc: Global, words: &[&str], mut files: Watched, mut out: MemSink) -> Ran {
     let status = lwaftr(alloc, words, &mut files, &mut out);
     Ran { status, files, out }
+}
+
+/// Runs over these files and this sink.
+pub fn run_over(alloc: Global, words: &[&str], files: MemFiles, out: MemSink) -> Ran {
+    run_watched(alloc, words, Watched::new(files), out)
 }
 
 /// Runs over a capture and a table.
