@@ -49,12 +49,22 @@ pub fn put_record(
     Ok(())
 }
 
-/// A capture of the datagram in the tunnel, so many times, one second apart.
-pub fn capture(alloc: Global, count: u32) -> Result<Vec<u8>, Fail> {
-    let packet = hex(alloc, TUNNELLED)?;
+/// A capture of this packet, so many times, one second apart.
+fn capture_of(alloc: Global, packet: &str, count: u32) -> Result<Vec<u8>, Fail> {
+    let packet = hex(alloc, packet)?;
     let mut list = hex(alloc, HEADER)?;
     for number in 0..count {
         put_record(&mut list, number.wrapping_add(1), 0, &packet)?;
     }
     Ok(list)
+}
+
+/// A capture of the datagram in the tunnel, so many times, one second apart.
+pub fn capture(alloc: Global, count: u32) -> Result<Vec<u8>, Fail> {
+    capture_of(alloc, TUNNELLED, count)
+}
+
+/// The capture of these datagrams as they leave.
+pub fn lowered(alloc: Global, count: u32) -> Result<Vec<u8>, Fail> {
+    capture_of(alloc, LOWERED, count)
 }

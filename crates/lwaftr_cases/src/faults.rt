@@ -1,61 +1,80 @@
 // Each call of the outside failing in turn.
-use crate::captures::capture;
-use crate::runs::{Ran, WHOLE, WORDS, files_of, run, run_over};
+use crate::captures::{capture, lowered};
+use crate::runs::{Ran, WHOLE, WORDS, files_of, run_over};
 use aftr_base::MemSink;
+use binding_file::{FileRefused, Name, Place};
 use lwaftr_engine::Status;
 use std::alloc::Global;
 use std::test::Fail;
 
-/// The outputs and the summary are those of this run.
-fn agrees(ran: &Ran, other: &Ran) -> bool {
-    ran.packets() == other.packets()
-        && ran.files.text("verdicts.txt") == other.files.text("verdicts.txt")
-        && ran.files.text("versions.txt") == other.files.text("versions.txt")
-        && ran.said() == other.said()
-}
-
-/// The runs over a capture of no record, of one and of two.
+/// What a run leaves that took the first records of the capture, so many.
 #[derive(Drop)]
-struct Fronts {
-    none: Ran,
-    one: Ran,
-    two: Ran,
+struct Front {
+    packets: Vec<u8>,
+    verdicts: &'static str,
+    said: &'static str,
 }
 
-/// What was seen of runs in which a call failed.
+/// The fronts of no record, of one and of two.
+fn fronts(alloc: Global) -> Result<[Front; 3], Fail> {
+    Ok([
+        Front {
+            packets: lowered(alloc, 0)?,
+            verdicts: "",
+            said: "records 0 held 0 forwarded 0 dropped 0 packets 0 version 0\n",
+        },
+        Front {
+            packets: lowered(alloc, 1)?,
+            verdicts: "0 0 up 1\n",
+            said: "records 1 held 0 forwarded 1 dropped 0 packets 1 version 0\n",
+        },
+        Front {
+            packets: lowered(alloc, 2)?,
+            verdicts: "0 0 up 1\n1 0 up 1\n",
+            said: "records 2 held 0 forwarded 2 dropped 0 packets 2 version 0\n",
+        },
+    ])
+}
+
+/// The outputs and the summary are those of this front.
+fn agrees(ran: &Ran, front: &Front) -> bool {
+    ran.packets() == front.packets.as_slice()
+        && ran.files.text("verdicts.txt") == front.verdicts
+        && ran.files.text("versions.txt") == "0 t0.toml initial\n"
+        && ran.said() == front.said
+}
+
+/// What was seen of runs in which one call after another failed.
 #[derive(Drop)]
 struct Seen {
-    /// The records ended with a read that failed: before the first, before the second, and behind it.
-    cut: [bool; 3],
+    /// How many records were taken by each run that was cut, a digit each.
+    cut: String,
     /// No call was left to fail.
     done: bool,
 }
 
 impl Seen {
     /// Notes a run that was cut.
-    fn note(&mut self, ran: &Ran, fronts: &Fronts) -> bool {
-        let ends = [
-            agrees(ran, &fronts.none),
-            agrees(ran, &fronts.one),
-            agrees(ran, &fronts.two),
-        ];
-        for (cut, end) in self.cut.iter_mut().zip(ends) {
-            *cut |= end;
-        }
-        ends.contains(&true)
+    fn note(&mut self, ran: &Ran, fronts: &[Front; 3]) -> Result<bool, Fail> {
+        let Some(count) = fronts.iter().position(|front| agrees(ran, front)) else {
+            return Ok(false);
+        };
+        self.cut
+            .push_str(["0", "1", "2"].get(count).unwrap_or(&"?"))?;
+        Ok(true)
     }
 
     /// Notes a run over two records, in which one call may have failed, and says whether it left what it should.
-    fn takes(&mut self, ran: &Ran, fronts: &Fronts) -> bool {
+    fn takes(&mut self, ran: &Ran, fronts: &[Front; 3]) -> Result<bool, Fail> {
         match ran.status {
             Status::Done => {
                 self.done = true;
-                agrees(ran, &fronts.two) && ran.failed(0, 0)
+                Ok(agrees(ran, &fronts[2]) && ran.failed(0, 0))
             }
-            Status::ReadFault if ran.said() == "" => ran.failed(1, 0) && !ran.has_outputs(),
-            Status::ReadFault => ran.failed(1, 0) && self.note(ran, fronts),
-            Status::WriteFault => ran.failed(0, 1) && ran.said() == "",
-            _ => false,
+            Status::ReadFault if ran.said() == "" => Ok(ran.failed(1, 0) && !ran.has_outputs()),
+            Status::ReadFault => Ok(ran.failed(1, 0) && self.note(ran, fronts)?),
+            Status::WriteFault => Ok(ran.failed(0, 1) && ran.said() == ""),
+            _ => Ok(false),
         }
     }
 }
@@ -76,35 +95,33 @@ fn keeps_inputs(ran: &Ran, capture: &[u8]) -> bool {
 fn each_call_of_the_files_may_fail(rt: HostRuntime) -> Result<(), Fail> {
     let alloc = rt.alloc();
     let both = capture(alloc, 2)?;
-    let fronts = Fronts {
-        none: run(alloc, &capture(alloc, 0)?, WHOLE)?,
-        one: run(alloc, &capture(alloc, 1)?, WHOLE)?,
-        two: run(alloc, &both, WHOLE)?,
-    };
+    let fronts = fronts(alloc)?;
     let mut seen = Seen {
-        cut: [false; 3],
+        cut: String::new(alloc),
         done: false,
     };
     for call in 0..64 {
         let ran = run_failing(alloc, &both, call)?;
-        assert!(rt; seen.takes(&ran, &fronts), "{call}");
+        assert!(rt; seen.takes(&ran, &fronts)?, "{call}");
         assert!(rt; keeps_inputs(&ran, &both), "{call}");
     }
-    assert!(rt; seen.cut == [true; 3] && seen.done);
+    // The header and the bytes of the first record, those of the second, and the end.
+    assert_eq!(rt; seen.cut.as_str(), "00112");
+    assert!(rt; seen.done);
     Ok(())
 }
 
 #[test]
 fn the_sink_may_fail(rt: HostRuntime) -> Result<(), Fail> {
     let alloc = rt.alloc();
-    let both = capture(alloc, 2)?;
-    let two = run(alloc, &both, WHOLE)?;
     let mut out = MemSink::new(alloc);
     out.fail_at(alloc, 0)?;
-    let ran = run_over(alloc, &WORDS, files_of(alloc, &both, WHOLE)?, out);
+    let files = files_of(alloc, &capture(alloc, 2)?, WHOLE)?;
+    let ran = run_over(alloc, &WORDS, files, out);
+    let packets = lowered(alloc, 2)?;
     assert!(rt; ran.status == Status::WriteFault);
     assert!(rt; ran.failed(0, 0) && ran.said() == "");
-    assert!(rt; ran.packets() == two.packets());
+    assert!(rt; ran.packets() == packets.as_slice());
     assert_eq!(rt; ran.files.text("verdicts.txt"), "0 0 up 1\n1 0 up 1\n");
     Ok(())
 }
@@ -125,5 +142,18 @@ fn files_that_are_not_there(rt: HostRuntime) -> Result<(), Fail> {
     for missing in [1, 5] {
         assert!(rt; is_missed(rt.alloc(), missing)?, "{missing}");
     }
+    Ok(())
+}
+
+#[test]
+fn a_refused_table_comes_before_a_missing_capture(rt: HostRuntime) -> Result<(), Fail> {
+    let alloc = rt.alloc();
+    let files = files_of(alloc, &[], "version = 1\n")?;
+    let mut words = WORDS;
+    words[1] = "not-there";
+    let ran = run_over(alloc, &words, files, MemSink::new(alloc));
+    let refused = FileRefused::Missing(Place::Top(Name::Softwire));
+    assert!(rt; ran.status == Status::BadTable(refused));
+    assert!(rt; ran.is_silent() && ran.failed(0, 0));
     Ok(())
 }

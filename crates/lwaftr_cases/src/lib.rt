@@ -20,3 +20,7 @@ mod queries;
 mod rounds;
 #[cfg(test)]
 mod runs;
+#[cfg(test)]
+mod statuses;
+#[cfg(test)]
+mod words;

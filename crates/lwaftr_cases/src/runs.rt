@@ -48,6 +48,17 @@ b4 = \"2001:db8:1::1\"
 ipv4 = \"203.0.113.1\"
 ";
 
+/// The whole address, and errors are sent to the IPv4 network.
+pub const ERRORS_DOWN: &str = "version = 1
+[softwire]
+aftr = \"2001:db8::1\"
+own = \"192.0.2.1\"
+errors_down = true
+[[binding]]
+b4 = \"2001:db8:1::1\"
+ipv4 = \"203.0.113.1\"
+";
+
 /// Files in memory that note which calls failed, and in which order lines are written and records are read.
 #[derive(Drop)]
 pub struct Watched {
