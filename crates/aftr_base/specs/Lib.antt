@@ -1,8 +1,8 @@
 pub mod Entries
-pub mod Faults
 pub mod First
 pub mod Held
 pub mod Memory
 pub mod Numbers
+pub mod Outside
 pub mod Pieces
 pub mod Sums

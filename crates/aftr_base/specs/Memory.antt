@@ -1,15 +1,12 @@
 -- Files and a sink in memory that fail at the calls they were told to.
-use Rattle.std.specs.Prelude.{ℕ, ◌+◌, ◌-◌, ◌^◌, min, ◌==◌, Bool, List, [], ◌++◌, Option, Some, None, is_none, Result, Ok, Err, refl}
+use Rattle.std.specs.Prelude.{ℕ, ◌==◌, Bool, List, [], ◌++◌, Option, Some, None, is_none, Result, Ok, Err, refl}
 use Rattle.std.specs.List.{list_any}
 use Rattle.std.specs.FinMap.{empty, get}
 use Rattle.std.specs.Coded.{Coded, code_by, coded×, coded_ℕ, coded_list, coded_option}
 use Rattle.aftr_base.specs.declared.outside.Fault.{Fault}
 use Rattle.aftr_base.specs.declared.outside.Fault.TheVariants as fault
 use Rattle.aftr_base.specs.Held.{Held, held_code}
-
--- one more, up to the last value that 64 bits hold
-abbrev pub risen : ℕ → ℕ
-risen count = min (count + 1) (2 ^ 64 - 1)
+use Rattle.aftr_base.specs.Outside.{one_more}
 
 -- whether the call of this number is one of those that are to fail
 abbrev pub is_to_fail : ℕ → List ℕ → Bool
@@ -44,14 +41,14 @@ is_missing m name = is_none (get m.held name)
 
 -- what a read of this name at this place leaves
 abbrev pub after_read : Result ℕ Fault → List ℕ → ℕ → FilesInMemory → FilesInMemory
-after_read (Err fault.Failed) name place m = record m { calls = risen m.calls; faults = risen m.faults; lost = risen m.lost; last = Some (name, place) }
-after_read _ name place m = record m { calls = risen m.calls }
+after_read (Err fault.Failed) name place m = record m { calls = one_more m.calls; faults = one_more m.faults; lost = one_more m.lost; last = Some (name, place) }
+after_read _ name place m = record m { calls = one_more m.calls }
 
 -- what a create or an append leaves that makes the files hold this
 abbrev pub after_write : {T : Type 0} → Result T Fault → Held → FilesInMemory → FilesInMemory
-after_write (Ok _) held m = record m { held = held; calls = risen m.calls }
-after_write (Err fault.Failed) held m = record m { calls = risen m.calls; faults = risen m.faults; spoiled = risen m.spoiled }
-after_write (Err fault.OutOfMemory) held m = record m { calls = risen m.calls }
+after_write (Ok _) held m = record m { held = held; calls = one_more m.calls }
+after_write (Err fault.Failed) held m = record m { calls = one_more m.calls; faults = one_more m.faults; spoiled = one_more m.spoiled }
+after_write (Err fault.OutOfMemory) held m = record m { calls = one_more m.calls }
 
 pub record SinkInMemory : Type 0 where
   -- the bytes taken
@@ -72,6 +69,6 @@ no_bytes = record { out = []; calls = 0; failing = []; faults = 0 }
 
 -- what a put of these bytes leaves
 abbrev pub after_put : Result ℕ Fault → List ℕ → SinkInMemory → SinkInMemory
-after_put (Ok _) bytes s = record s { out = s.out ++ bytes; calls = risen s.calls }
-after_put (Err fault.Failed) bytes s = record s { calls = risen s.calls; faults = risen s.faults }
-after_put (Err fault.OutOfMemory) bytes s = record s { calls = risen s.calls }
+after_put (Ok _) bytes s = record s { out = s.out ++ bytes; calls = one_more s.calls }
+after_put (Err fault.Failed) bytes s = record s { calls = one_more s.calls; faults = one_more s.faults }
+after_put (Err fault.OutOfMemory) bytes s = record s { calls = one_more s.calls }

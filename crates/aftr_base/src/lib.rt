@@ -2,6 +2,7 @@
 //! (files and standard output) as two traits that count their faults.
 #![tactic(auto)]
 
+mod copying;
 mod lists;
 mod mem_sink;
 mod memory;

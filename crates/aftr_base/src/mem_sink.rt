@@ -1,8 +1,8 @@
 // A sink in memory that fails at the calls it was told to.
 ghost use Rattle.std.specs.Prelude.{◌≡◌, [], ◌∷◌, ◌++◌, length, IsTrue, IsFalse, IsOk, IsErrOf, IfOk, OnOk, OnErr};
 ghost use Rattle.aftr_base.specs.declared.outside.Fault.{Fault};
-ghost use Rattle.aftr_base.specs.Faults.{Counted};
 ghost use Rattle.aftr_base.specs.Memory.{no_bytes, is_to_fail, after_put};
+ghost use Rattle.aftr_base.specs.Outside.{Rises, has_failed};
 
 use crate::memory::count_call;
 use crate::{Fault, OutOfMemory, Sink};
@@ -71,7 +71,7 @@ impl Sink for MemSink {
 
     fn put(&mut self, _alloc: Global, bytes: &[u8]) -> Result<usize, Fault>
         ensures count { IfOk result (λ n. n ≡ length bytes.now) }
-        ensures faults { Counted result self.old.faults self.new.faults }
+        ensures faults { Rises (has_failed result) self.old.faults self.new.faults }
         ensures answered { IsOk result → IsFalse (is_to_fail self.old.calls self.old.failing) }
         ensures failed { IsErrOf result Fault.Failed → IsTrue (is_to_fail self.old.calls self.old.failing) }
         ensures state { self.new ≡ after_put result bytes.now self.old }

@@ -4,10 +4,11 @@ ghost use Rattle.std.specs.Option.{option_copied};
 ghost use Rattle.std.specs.FinMap as map;
 ghost use Rattle.aftr_base.specs.declared.outside.Fault.{Fault};
 ghost use Rattle.aftr_base.specs.Held.{content, Created, Appended};
-ghost use Rattle.aftr_base.specs.Faults.{Rose, Counted};
-ghost use Rattle.aftr_base.specs.Memory.{no_files, is_to_fail, risen, next_fails, is_missing, after_read, after_write};
+ghost use Rattle.aftr_base.specs.Memory.{no_files, is_to_fail, next_fails, is_missing, after_read, after_write};
+ghost use Rattle.aftr_base.specs.Outside.{Rises, Rose, has_failed, one_more};
 
-use crate::shelf::{Shelf, copy_from};
+use crate::copying::copy_from;
+use crate::shelf::Shelf;
 use crate::{Fault, Files, OutOfMemory};
 use std::alloc::Global;
 use std::marker::Model;
@@ -61,7 +62,7 @@ impl Model for MemFiles {
 /// Counts a call, and says whether it is one of those that are to fail.
 pub fn count_call(calls: &mut u64, failing: &[u64]) -> bool
     ensures fails { result ≡ is_to_fail calls.old failing.now }
-    ensures calls { calls.new ≡ risen calls.old }
+    ensures calls { calls.new ≡ one_more calls.old }
 {
     let call = *calls;
     *calls = call.saturating_add(1);
@@ -111,7 +112,7 @@ impl MemFiles {
         ensures failed { result ≡ Fault.Failed }
         ensures faults { Rose self.old.faults self.new.faults }
         ensures spoiled { Rose self.old.spoiled self.new.spoiled }
-        ensures state { self.new ≡ record self.old { faults = risen self.old.faults; spoiled = risen self.old.spoiled } }
+        ensures state { self.new ≡ record self.old { faults = one_more self.old.faults; spoiled = one_more self.old.spoiled } }
     {
         self.faults = self.faults.saturating_add(1);
         self.spoiled = self.spoiled.saturating_add(1);
@@ -122,23 +123,15 @@ impl MemFiles {
 impl Files for MemFiles {
     ghost use Rattle.std.specs.Prelude.{Some};
 
-    ghost held = { λ m. Some m.held };
-
-    ghost faults = { λ m. m.faults };
-
-    ghost last = { λ m. m.last };
-
-    ghost lost = { λ m. m.lost };
-
-    ghost spoiled = { λ m. m.spoiled };
+    ghost outside = { λ m. record { held = Some m.held; faults = m.faults; lost = m.lost; spoiled = m.spoiled; last = m.last } };
 
     fn read(&mut self, alloc: Global, name: &str, at: u64, into: &mut [u8]) -> Result<usize, Fault>
         ensures count { IfOk result (λ n. n ≡ min (length into.old) (length (drop at (content self.old.held name.now)))) }
         ensures bytes { IfOk result (λ n. take n into.new ≡ take n (drop at (content self.old.held name.now))) }
         ensures answered { IsOk result → IsFalse (next_fails self.old || is_missing self.old name.now) }
         ensures failed { IsErrOf result Fault.Failed → IsTrue (next_fails self.old || is_missing self.old name.now) }
-        ensures faults { Counted result self.old.faults self.new.faults }
-        ensures lost { Counted result self.old.lost self.new.lost }
+        ensures faults { Rises (has_failed result) self.old.faults self.new.faults }
+        ensures lost { Rises (has_failed result) self.old.lost self.new.lost }
         ensures state { self.new ≡ after_read result name.now at self.old }
     {
         let fails = count_call(&mut self.calls, &self.failing);
@@ -156,8 +149,8 @@ impl Files for MemFiles {
 
     fn create(&mut self, alloc: Global, name: &str) -> Result<(), Fault>
         ensures held { Created result (Some self.old.held) (Some self.new.held) name.now }
-        ensures faults { Counted result self.old.faults self.new.faults }
-        ensures spoiled { Counted result self.old.spoiled self.new.spoiled }
+        ensures faults { Rises (has_failed result) self.old.faults self.new.faults }
+        ensures spoiled { Rises (has_failed result) self.old.spoiled self.new.spoiled }
         ensures answered { IsOk result → IsFalse (next_fails self.old) }
         ensures failed { IsErrOf result Fault.Failed → IsTrue (next_fails self.old) }
         ensures state { self.new ≡ after_write result (map.insert self.old.held name.now []) self.old }
@@ -172,8 +165,8 @@ impl Files for MemFiles {
     fn append(&mut self, alloc: Global, name: &str, bytes: &[u8]) -> Result<usize, Fault>
         ensures count { IfOk result (λ n. n ≡ length bytes.now) }
         ensures held { Appended result (Some self.old.held) (Some self.new.held) name.now bytes.now }
-        ensures faults { Counted result self.old.faults self.new.faults }
-        ensures spoiled { Counted result self.old.spoiled self.new.spoiled }
+        ensures faults { Rises (has_failed result) self.old.faults self.new.faults }
+        ensures spoiled { Rises (has_failed result) self.old.spoiled self.new.spoiled }
         ensures answered { IsOk result → IsFalse (next_fails self.old || is_missing self.old name.now) }
         ensures failed { IsErrOf result Fault.Failed → IsTrue (next_fails self.old || is_missing self.old name.now) }
         ensures state { self.new

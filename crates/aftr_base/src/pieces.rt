@@ -1,7 +1,7 @@
 // The loops round the calls of the outside, which may each do less than was asked.
-ghost use Rattle.std.specs.Prelude.{◌≡◌, ◌+◌, ◌^◌, ◌≤◌, length, take, drop, min, IfOk};
+ghost use Rattle.std.specs.Prelude.{◌≡◌, ◌+◌, ◌^◌, ◌<◌, ◌≤◌, length, take, drop, min, IfOk};
 ghost use Rattle.aftr_base.specs.Held.{content, Told};
-ghost use Rattle.aftr_base.specs.Faults.{Counted, LastWithin};
+ghost use Rattle.aftr_base.specs.Outside.{OnlyReads, OnlyWrites, Rises, has_failed};
 ghost use Rattle.aftr_base.specs.Pieces.{AppendedAll, TookAll};
 
 use crate::{Bytes, Fault, Files, Sink};
@@ -18,15 +18,12 @@ pub fn fill<F: Files>(
 ) -> Result<usize, Fault>
     requires { at + length into.old ≤ 2 ^ 64 }
     ensures within { IfOk result (λ n. n ≤ length into.old) }
-    ensures bytes { IfOk result (λ n. Told (F.held files.old)
+    ensures bytes { IfOk result (λ n. Told (F.outside files.old).held
         (λ m. take n into.new ≡ take (length into.old) (drop at (content m name.now)))) }
-    ensures count { IfOk result (λ n. Told (F.held files.old)
+    ensures count { IfOk result (λ n. Told (F.outside files.old).held
         (λ m. n ≡ min (length into.old) (length (drop at (content m name.now))))) }
-    ensures held { F.held files.new ≡ F.held files.old }
-    ensures faults { Counted result (F.faults files.old) (F.faults files.new) }
-    ensures lost { Counted result (F.lost files.old) (F.lost files.new) }
-    ensures spoiled { F.spoiled files.new ≡ F.spoiled files.old }
-    ensures last { LastWithin result name.now at (at + length into.old) (F.last files.old) (F.last files.new) }
+    ensures reads { OnlyReads (has_failed result) name.now (λ place. (at ≤ place) × (place < at + length into.old))
+        (F.outside files.old) (F.outside files.new) }
 {
     let mut got = 0;
     'pieces: while got < into.len() {
@@ -49,14 +46,11 @@ pub fn bytes_at<F: Files>(
     count: usize,
 ) -> Result<Bytes, Fault>
     requires { at + count ≤ 2 ^ 64 }
-    ensures bytes { IfOk result (λ bytes. Told (F.held files.old)
+    ensures bytes { IfOk result (λ bytes. Told (F.outside files.old).held
         (λ m. bytes ≡ take count (drop at (content m name.now)))) }
     ensures within { IfOk result (λ bytes. length bytes ≤ count) }
-    ensures held { F.held files.new ≡ F.held files.old }
-    ensures faults { Counted result (F.faults files.old) (F.faults files.new) }
-    ensures lost { Counted result (F.lost files.old) (F.lost files.new) }
-    ensures spoiled { F.spoiled files.new ≡ F.spoiled files.old }
-    ensures last { LastWithin result name.now at (at + count) (F.last files.old) (F.last files.new) }
+    ensures reads { OnlyReads (has_failed result) name.now (λ place. (at ≤ place) × (place < at + count))
+        (F.outside files.old) (F.outside files.new) }
 {
     let mut list = vec![in alloc; 0; count]?;
     let got = fill(alloc, files, name, at, &mut list)?;
@@ -71,11 +65,8 @@ pub fn append_all<F: Files>(
     name: &str,
     bytes: &[u8],
 ) -> Result<(), Fault>
-    ensures held { AppendedAll result (F.held files.old) (F.held files.new) name.now bytes.now }
-    ensures faults { Counted result (F.faults files.old) (F.faults files.new) }
-    ensures lost { F.lost files.new ≡ F.lost files.old }
-    ensures spoiled { Counted result (F.spoiled files.old) (F.spoiled files.new) }
-    ensures last { F.last files.new ≡ F.last files.old }
+    ensures held { AppendedAll result (F.outside files.old).held (F.outside files.new).held name.now bytes.now }
+    ensures writes { OnlyWrites (has_failed result) (F.outside files.old) (F.outside files.new) }
 {
     let mut done = 0;
     'pieces: while done < bytes.len() {
@@ -87,7 +78,7 @@ pub fn append_all<F: Files>(
 /// Puts all of `bytes` into the sink. After a fault it may have the first few of them.
 pub fn put_all<S: Sink>(alloc: Global, sink: &mut S, bytes: &[u8]) -> Result<(), Fault>
     ensures out { TookAll result (S.out sink.old) (S.out sink.new) bytes.now }
-    ensures faults { Counted result (S.faults sink.old) (S.faults sink.new) }
+    ensures faults { Rises (has_failed result) (S.faults sink.old) (S.faults sink.new) }
 {
     let mut done = 0;
     'pieces: while done < bytes.len() {

@@ -5,7 +5,8 @@ ghost use Rattle.std.specs.FinMap as map;
 ghost use Rattle.aftr_base.specs.declared.outside.Fault.{Fault};
 ghost use Rattle.aftr_base.specs.Held.{content, Created, Appended};
 
-use crate::shelf::{Shelf, copy_from};
+use crate::copying::copy_from;
+use crate::shelf::Shelf;
 use crate::{Fault, Files, OutOfMemory};
 use std::alloc::Global;
 use std::marker::Model;
@@ -56,15 +57,7 @@ impl QuietFiles {
 impl Files for QuietFiles {
     ghost use Rattle.std.specs.Prelude.{Some, None};
 
-    ghost held = { λ files. Some files };
-
-    ghost faults = { λ _. 0 };
-
-    ghost last = { λ _. None };
-
-    ghost lost = { λ _. 0 };
-
-    ghost spoiled = { λ _. 0 };
+    ghost outside = { λ files. record { held = Some files; faults = 0; lost = 0; spoiled = 0; last = None } };
 
     fn read(&mut self, _alloc: Global, name: &str, at: u64, into: &mut [u8]) -> Result<usize, Fault>
         ensures count { IfOk result (λ n. n ≡ min (length into.old) (length (drop at (content self.old name.now)))) }

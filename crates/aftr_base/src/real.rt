@@ -1,9 +1,19 @@
-// The files of the system. Nothing is told of what they hold.
+// The files of the system. Nothing is told of what they hold, so no clause can say that an error of the system is handed
+// on: that each one is answered as `Failed` and counted is code, and `real_tests.rt` tries it. What the system is trusted
+// for, call by call:
+// - `fs::open`: the handle reads the file of this name from its start on. A name that is not there is an error.
+// - `fs::create`: the file is there and empty, and the handle writes behind what it wrote before.
+// - `OpenOptions::append`: the handle writes behind the last byte of the file, whoever wrote it. The file is not made.
+// - `seek`: the handle's next read is at this place.
+// - `read`: so many bytes that stand at the handle's place, which moves behind them; 0 says that none stands there.
+// - `write`: so many of the first bytes are put, once each and in order, and the handle's place moves behind them.
+// - closing, when a handle is dropped: what `write` took is not lost. An error of closing is not seen.
+// An error of any of them did nothing that a later call would have to know of.
 ghost use Rattle.std.specs.Prelude.{◌≡◌, ◌<◌, ◌≤◌, [], None, length, vec_len, IfOk, IfSome, IsErr};
-ghost use Rattle.aftr_base.specs.Faults.{Rose, Counted, last_after};
+ghost use Rattle.aftr_base.specs.Outside.{FailsAt, Rises, Rose, has_failed, nothing_known};
 
+use crate::copying::copy_from;
 use crate::memory::LostRead;
-use crate::shelf::copy_from;
 use crate::{Fault, Files};
 use std::alloc::Global;
 use std::fs;
@@ -13,9 +23,6 @@ use std::rt::Files as FileSystem;
 
 // How many bytes are read ahead at once.
 const WINDOW: usize = 1 << 20;
-
-// How many files are open for appending at most.
-const MOST_WRITERS: usize = 8;
 
 // The file that was read last, with the bytes that were read ahead.
 #[derive(Drop)]
@@ -145,17 +152,11 @@ fn place_of<F: Drop>(writers: &[Writer<F>], name: &str) -> Option<usize>
     None
 }
 
-// Makes room for a writer of this name: the one that it had goes, or the oldest where there are as many as may be.
-fn make_room<F: Drop>(writers: &mut Vec<Writer<F>>, name: &str) -> Result<(), Fault> {
-    match place_of(writers, name) {
-        Some(place) => drop(writers.remove(place)),
-        None => {
-            if writers.len() >= MOST_WRITERS {
-                drop(writers.remove(0));
-            }
-        }
+// Gives the writer of this name up, if there is one.
+fn close<F: Drop>(writers: &mut Vec<Writer<F>>, name: &str) {
+    if let Some(place) = place_of(writers, name) {
+        drop(writers.remove(place));
     }
-    Ok(writers.reserve(1)?)
 }
 
 fn create_file<R: FileSystem>(
@@ -165,7 +166,8 @@ fn create_file<R: FileSystem>(
     name: &str,
 ) -> Result<(), Fault> {
     let kept = String::from_str(alloc, name)?;
-    make_room(writers, name)?;
+    writers.reserve(1)?;
+    close(writers, name);
     let Ok(file) = fs::create(system, name) else {
         return Err(Fault::Failed);
     };
@@ -186,7 +188,7 @@ fn writer_of<R: FileSystem>(
         return Ok(place);
     }
     let kept = String::from_str(alloc, name)?;
-    make_room(writers, name)?;
+    writers.reserve(1)?;
     let Ok(file) = OpenOptions::new().append(true).open(system, name) else {
         return Err(Fault::Failed);
     };
@@ -226,10 +228,10 @@ impl Counts {
     // Counts a read that failed, once its name is copied.
     fn lose(&mut self, alloc: Global, name: &str, at: u64) -> Result<usize, Fault>
         ensures error { IsErr result }
-        ensures faults { Counted result self.old.faults self.new.faults }
-        ensures lost { Counted result self.old.lost self.new.lost }
+        ensures faults { Rises (has_failed result) self.old.faults self.new.faults }
+        ensures lost { Rises (has_failed result) self.old.lost self.new.lost }
         ensures spoiled { self.new.spoiled ≡ self.old.spoiled }
-        ensures last { self.new.last ≡ last_after result name.now at self.old.last }
+        ensures last { FailsAt (has_failed result) name.now (λ place. place ≡ at) self.old.last self.new.last }
     {
         let name = String::from_str(alloc, name)?;
         self.last = Some(LostRead { name, at });
@@ -251,8 +253,8 @@ impl Counts {
 }
 
 /// The files of the system, by their paths. It tells nothing of what they hold. It reads ahead in the file that was
-/// read last, and keeps the files open that were written: each `append` is one write of the system. A `create` or an
-/// `append` gives up what was read ahead of that name.
+/// read last, and keeps every file open that was written: each `append` is one write of the system, and where the system
+/// opens no file more, a call answers `Failed`. A `create` or an `append` gives up what was read ahead of that name.
 #[derive(Drop)]
 pub struct RealFiles<R: FileSystem + Drop> {
     system: R,
@@ -264,10 +266,7 @@ pub struct RealFiles<R: FileSystem + Drop> {
 impl<R: FileSystem + Drop> RealFiles<R> {
     /// No file is open, and nothing has failed.
     pub fn new(rt: R, alloc: Global) -> RealFiles<R>
-        ensures faults { ⟦<RealFiles<R> as Files>⟧.faults result ≡ 0 }
-        ensures lost { ⟦<RealFiles<R> as Files>⟧.lost result ≡ 0 }
-        ensures spoiled { ⟦<RealFiles<R> as Files>⟧.spoiled result ≡ 0 }
-        ensures last { ⟦<RealFiles<R> as Files>⟧.last result ≡ None }
+        ensures { ⟦<RealFiles<R> as Files>⟧.outside result ≡ nothing_known }
     {
         RealFiles {
             system: rt,
@@ -286,15 +285,13 @@ impl<R: FileSystem + Drop> RealFiles<R> {
 impl<R: FileSystem + Drop> Files for RealFiles<R> {
     ghost use Rattle.std.specs.Prelude.{None};
 
-    ghost held = { λ _. None };
-
-    ghost faults = { λ files. files.counts.faults };
-
-    ghost last = { λ files. files.counts.last };
-
-    ghost lost = { λ files. files.counts.lost };
-
-    ghost spoiled = { λ files. files.counts.spoiled };
+    ghost outside = { λ files. record {
+      held = None;
+      faults = files.counts.faults;
+      lost = files.counts.lost;
+      spoiled = files.counts.spoiled;
+      last = files.counts.last;
+    } };
 
     fn read(
         &mut self,

@@ -1,5 +1,5 @@
 // Named lists of bytes in memory, seen as the map from names to bytes.
-ghost use Rattle.std.specs.Prelude.{◌≡◌, ◌↔◌, ◌<◌, ◌++◌, length, take, drop, min, IsTrue, IfOk, OnOk, OnErr, MatchOption};
+ghost use Rattle.std.specs.Prelude.{◌≡◌, ◌↔◌, ◌<◌, ◌++◌, IsTrue, IfOk, OnOk, OnErr, MatchOption};
 ghost use Rattle.std.specs.Option.{option_copied};
 ghost use Rattle.std.specs.FinMap as map;
 ghost use Rattle.aftr_base.specs.Held.{content, Writes};
@@ -61,21 +61,6 @@ fn place(list: &[Entry], name: &str) -> Option<usize>
         }
     }
     None
-}
-
-/// Copies the bytes that stand from a place on into the front of a buffer, as many as it has room for.
-pub fn copy_from(bytes: &[u8], at: u64, into: &mut [u8]) -> usize
-    ensures count { result ≡ min (length into.old) (length (drop at bytes.now)) }
-    ensures bytes { take result into.new ≡ take result (drop at bytes.now) }
-{
-    let from = at as usize;
-    if from >= bytes.len() {
-        return 0;
-    }
-    let rest = &bytes[from..];
-    let count = rest.len().min(into.len());
-    into[..count].copy_from_slice(&rest[..count]);
-    count
 }
 
 #[derive(Drop)]

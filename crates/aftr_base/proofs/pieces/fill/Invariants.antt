@@ -5,13 +5,9 @@ use Rattle.aftr_base.proofs.pieces.fill.Given as goal
 abbrev pub invariant-pieces : goal.invariant-pieces
 invariant-pieces g l = let f = g.F.Files in record {
   within : l.got ≤ length l.into;
-  bytes : Told (f.held l.initial.files) (λ m. take l.got l.into ≡ take l.got (drop l.at (content m l.name)));
-  there : Told (f.held l.initial.files) (λ m. l.got ≤ length (drop l.at (content m l.name)));
-  held : f.held l.files ≡ f.held l.initial.files;
-  faults : f.faults l.files ≡ f.faults l.initial.files;
-  lost : f.lost l.files ≡ f.lost l.initial.files;
-  spoiled : f.spoiled l.files ≡ f.spoiled l.initial.files;
-  last : f.last l.files ≡ f.last l.initial.files;
+  bytes : Told (f.outside l.initial.files).held (λ m. take l.got l.into ≡ take l.got (drop l.at (content m l.name)));
+  there : Told (f.outside l.initial.files).held (λ m. l.got ≤ length (drop l.at (content m l.name)));
+  outside : f.outside l.files ≡ f.outside l.initial.files;
 }
 
 abbrev pub decreases-pieces : goal.decreases-pieces
