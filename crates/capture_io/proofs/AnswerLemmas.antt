@@ -1,9 +1,10 @@
 -- From the bytes that were read to what the file holds, where that is told; and which read failed.
-use Rattle.std.proofs.Common.{◌≡◌, ℕ, ◌+◌, ◌<◌, ◌≤◌, min, Bool, List, ◌∷◌, length, take, drop, Option, Some, None, Result, Ok, Err, sym, ◌∙◌, ap, subst, arith}
+use Rattle.std.proofs.Common.{◌≡◌, ℕ, ◌+◌, ◌<◌, ◌≤◌, min, Bool, true, false, List, ◌∷◌, length, take, drop, Option, Some, None, Result, Ok, Err, sym, ◌∙◌, ap, subst}
 use Rattle.aftr_base.specs.declared.outside.Fault.{Fault}
 use Rattle.aftr_base.specs.declared.outside.Fault.TheVariants as fault
-use Rattle.aftr_base.specs.Faults.{LastWithin}
 use Rattle.aftr_base.specs.Held.{Held, content, Told}
+use Rattle.aftr_base.specs.Outside.{OnlyReads, Outside, has_failed}
+use Rattle.aftr_base.proofs.OutsideLemmas.{reads_wider}
 use Rattle.capture_io.specs.declared.forms.Form.{Form}
 use Rattle.capture_io.specs.declared.forms.Rec.{Rec}
 use Rattle.capture_io.specs.declared.forms.Next.{Next}
@@ -12,7 +13,7 @@ use Rattle.capture_io.specs.declared.forms.CaptureBad.{CaptureBad}
 use Rattle.capture_io.specs.declared.forms.CaptureBad.TheVariants as bad
 use Rattle.capture_io.specs.declared.forms.CaptureError.{CaptureError}
 use Rattle.capture_io.specs.declared.record.Head.{Head}
-use Rattle.capture_io.specs.Answers.{error_of, IsBeforeEnd, LastInside}
+use Rattle.capture_io.specs.Answers.{error_of, is_read_fault, IsBeforeEnd}
 use Rattle.capture_io.specs.Header.{header_in}
 use Rattle.capture_io.specs.Head.{head_in}
 use Rattle.capture_io.specs.Record.{next_in}
@@ -69,16 +70,17 @@ pub in_bytes : (held : Option Held) (name : List ℕ) (big : Bool) (read : List 
 in_bytes None name big read at number place head e h within = tt
 in_bytes (Some m) name big read at number place head e h within = λ r f. record_end big (content m name) read at number place head r e h within f
 
-fault_inside : (T : Type 0) (fault : Fault) (name : List ℕ) (start from end : ℕ) (Inside : ℕ → Type 0) (old new : Option (List ℕ × ℕ)) →
-    start ≤ from → ((place : ℕ) → place < end → Inside place) →
-    LastWithin {T = T} (Err fault) name from end old new → LastInside {T = Next} (Err (error_of fault)) name start Inside old new
-fault_inside T fault.Failed name start from end Inside old new later inside last = (last.0, omega (arith, last.1), inside last.0 last.2, last.3)
-fault_inside T fault.OutOfMemory name start from end Inside old new later inside last = last
+-- a read that failed, as the answer tells it
+fault_inside : (T : Type 0) (fault : Fault) (name : List ℕ) (P Q : ℕ → Type 0) (a b : Outside) → ((place : ℕ) → P place → Q place) →
+    OnlyReads (has_failed {T = T} (Err fault)) name P a b → OnlyReads (is_read_fault {T = Next} (Err (error_of fault))) name Q a b
+fault_inside T fault.Failed name P Q a b wider reads = reads_wider true name P Q a b wider reads
+fault_inside T fault.OutOfMemory name P Q a b wider reads = reads_wider false name P Q a b wider reads
 
--- the read that failed, of those of a call that went from a place to an end
-pub failed_inside : (T : Type 0) (result : Result Next CaptureError) (fault : Fault) (name : List ℕ) (start from end : ℕ) (Inside : ℕ → Type 0) (old new : Option (List ℕ × ℕ)) →
-    result ≡ Err (error_of fault) → start ≤ from → ((place : ℕ) → place < end → Inside place) →
-    LastWithin {T = T} (Err fault) name from end old new → LastInside result name start Inside old new
-failed_inside T result fault name start from end Inside old new is later inside last =
-    let P : Result Next CaptureError → Type 0 = λ r. LastInside r name start Inside old new in
-    subst P (sym is) (fault_inside T fault name start from end Inside old new later inside last)
+-- the same behind reads that did not fail
+pub failed_inside : (T : Type 0) (result : Result Next CaptureError) (fault : Fault) (name : List ℕ) (P Q : ℕ → Type 0) (a b c : Outside) →
+    result ≡ Err (error_of fault) → b ≡ a → ((place : ℕ) → P place → Q place) →
+    OnlyReads (has_failed {T = T} (Err fault)) name P b c → OnlyReads (is_read_fault result) name Q a c
+failed_inside T result fault name P Q a b c is same wider reads =
+    let R : Result Next CaptureError → Type 0 = λ r. OnlyReads (is_read_fault r) name Q a c in
+    let S : Outside → Type 0 = λ o. OnlyReads (is_read_fault {T = Next} (Err (error_of fault))) name Q o c in
+    subst R (sym is) (subst S same (fault_inside T fault name P Q b c wider reads))

@@ -1,8 +1,7 @@
 -- What the answers of reading say of the files' counts, and of what the bytes are.
-use Rattle.std.specs.Prelude.{◌≡◌, ℕ, ◌+◌, ◌<◌, ◌≤◌, Bool, List, [], ◌∷◌, drop, Option, Some, None, Result, Ok, Err}
+use Rattle.std.specs.Prelude.{◌≡◌, ℕ, ◌+◌, ◌<◌, Bool, true, false, List, [], ◌∷◌, drop, Option, Some, None, Result, Ok, Err}
 use Rattle.aftr_base.specs.declared.outside.Fault.{Fault}
 use Rattle.aftr_base.specs.declared.outside.Fault.TheVariants as fault
-use Rattle.aftr_base.specs.Faults.{Rose}
 use Rattle.aftr_base.specs.Held.{Held, content, Told}
 use Rattle.capture_io.specs.declared.forms.Rec.{Rec}
 use Rattle.capture_io.specs.declared.forms.Next.{Next}
@@ -25,19 +24,12 @@ Agrees (Err (error.Bad refusal)) read = read ≡ Err refusal
 Agrees (Err error.ReadFault) read = Unit {0}
 Agrees (Err error.OutOfMemory) read = Unit {0}
 
--- a count of faults rises exactly at the answer `ReadFault`
-abbrev pub CountedRead : {T : Type 0} → Result T CaptureError → ℕ → ℕ → Type 0
-CountedRead (Ok _) before now = now ≡ before
-CountedRead (Err (error.Bad _)) before now = now ≡ before
-CountedRead (Err error.ReadFault) before now = Rose before now
-CountedRead (Err error.OutOfMemory) before now = now ≡ before
-
--- at the answer `ReadFault` the last read that failed is one of this name, from a place on that is `Inside`
-abbrev pub LastInside : {T : Type 0} → Result T CaptureError → List ℕ → ℕ → (ℕ → Type 0) → Option (List ℕ × ℕ) → Option (List ℕ × ℕ) → Type 0
-LastInside (Err error.ReadFault) name from Inside old new = (place : ℕ) × (from ≤ place) × Inside place × (new ≡ Some (name, place))
-LastInside (Err error.OutOfMemory) name from Inside old new = new ≡ old
-LastInside (Err (error.Bad _)) name from Inside old new = new ≡ old
-LastInside (Ok _) name from Inside old new = new ≡ old
+-- whether a read failed, by the answer
+abbrev pub is_read_fault : {T : Type 0} → Result T CaptureError → Bool
+is_read_fault (Ok _) = false
+is_read_fault (Err (error.Bad _)) = false
+is_read_fault (Err error.ReadFault) = true
+is_read_fault (Err error.OutOfMemory) = false
 
 -- before the end of the record, if a whole one stands here
 abbrev pub IsBeforeEnd : Option Held → List ℕ → Bool → ℕ → ℕ → ℕ → Type 0

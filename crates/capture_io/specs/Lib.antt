@@ -4,5 +4,6 @@ pub mod Frames
 pub mod Head
 pub mod Header
 pub mod Record
+pub mod Texts
 pub mod Words
 pub mod Written

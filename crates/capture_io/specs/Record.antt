@@ -1,6 +1,6 @@
 -- The records of a capture: a header of four words (seconds, fraction, captured length, original length) and then the
 -- captured bytes.
-use Rattle.std.specs.Prelude.{◌≡◌, ℕ, ◌+◌, ◌*◌, ◌^◌, ◌<◌, ◌≤◌, ◌==◌, nat_lt, Bool, if◌then◌else◌, List, [], ◌∷◌, length, Result, Ok}
+use Rattle.std.specs.Prelude.{◌≡◌, ℕ, ◌+◌, ◌*◌, ◌^◌, ◌<◌, ◌≤◌, ◌==◌, nat_lt, Bool, if◌then◌else◌, List, [], ◌∷◌, ◌++◌, length, Result, Ok}
 use Rattle.aftr_base.specs.Numbers.{span}
 use Rattle.aftr_base.specs.First.{first_true, refused_or}
 use Rattle.capture_io.specs.declared.forms.Form.{Form}
@@ -24,14 +24,18 @@ record_in big left at = record {
   next_at = at + 16 + captured big left;
 }
 
--- why no record stands there: each condition with its refusal
-abbrev pub record_refusals : Bool → List ℕ → ℕ → ℕ → List (Bool × CaptureBad)
-record_refusals big left at number =
+-- why a record's header is refused, whatever stands behind it: each condition with its refusal
+abbrev pub head_refusals : Bool → List ℕ → ℕ → ℕ → List (Bool × CaptureBad)
+head_refusals big left at number =
     (number == 2 ^ 31, bad.TooMany at)
     ∷ (nat_lt (length left) 16, bad.CutHeader at)
     ∷ (nat_lt 262144 (captured big left), bad.TooLong at)
-    ∷ (nat_lt (length left) (16 + captured big left), bad.CutRecord at)
     ∷ []
+
+-- why no record stands there: its header is refused, or fewer bytes follow than it says
+abbrev pub record_refusals : Bool → List ℕ → ℕ → ℕ → List (Bool × CaptureBad)
+record_refusals big left at number =
+    head_refusals big left at number ++ ((nat_lt (length left) (16 + captured big left), bad.CutRecord at) ∷ [])
 
 -- what comes next, of what is left from a place on, for the record of a number
 abbrev pub next_in : Bool → List ℕ → ℕ → ℕ → Result Next CaptureBad

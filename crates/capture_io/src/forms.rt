@@ -3,6 +3,7 @@ ghost use Rattle.std.specs.Prelude.{◌≡◌};
 ghost use Rattle.capture_io.specs.Answers.{error_of};
 
 use aftr_base::{Bytes, Fault};
+use std::fmt;
 use thiserror::Error;
 
 /// What the file header of a capture says.
@@ -35,30 +36,43 @@ pub enum Next {
     End,
 }
 
-/// Why a capture is refused. A refusal in a record has the place where that record's header stands or ought to stand.
-#[derive(Clone, Copy, Debug, PartialEq, Eq, Error)]
+/// Why a capture is refused. A refusal in a record has the place where that record's header stands or ought to stand. It
+/// prints as `magic`, `link 113`, `cut record at 24`.
+#[derive(Clone, Copy, Debug, PartialEq, Eq)]
 pub enum CaptureBad {
     /// The file does not begin with a magic number of the format.
-    #[error("no magic number of a capture")]
     Magic,
     /// The version is not 2.4.
-    #[error("a version other than 2.4")]
     Version,
     /// The link type is neither 1 nor 101.
-    #[error("link type {number}")]
     Link { number: u32 },
     /// Fewer than 24 bytes are there for the file header (place 0), or fewer than 16 for a record's header.
-    #[error("the header at byte {at} is cut short")]
     CutHeader { at: u64 },
     /// Fewer bytes are left than the record's header says.
-    #[error("the record at byte {at} is cut short")]
     CutRecord { at: u64 },
     /// The record's header says more than 262,144 bytes.
-    #[error("the record at byte {at} is too long")]
     TooLong { at: u64 },
     /// Something stands behind 2^31 records.
-    #[error("the record at byte {at} is one too many")]
     TooMany { at: u64 },
+}
+
+impl fmt::Display for CaptureBad {
+    ghost use Rattle.std.specs.Prelude.{Some};
+    ghost use Rattle.capture_io.specs.Texts.{capture_text};
+
+    ghost output = { λ refusal. Some (capture_text refusal) };
+
+    fn fmt<W: fmt::Write>(&self, f: &mut fmt::Formatter<W>) -> fmt::Result {
+        match *self {
+            CaptureBad::Magic => f.write_str("magic"),
+            CaptureBad::Version => f.write_str("version"),
+            CaptureBad::Link { number } => write!(f, "link {number}"),
+            CaptureBad::CutHeader { at } => write!(f, "cut header at {at}"),
+            CaptureBad::CutRecord { at } => write!(f, "cut record at {at}"),
+            CaptureBad::TooLong { at } => write!(f, "too long at {at}"),
+            CaptureBad::TooMany { at } => write!(f, "too many at {at}"),
+        }
+    }
 }
 
 /// Why reading a capture gave no answer.

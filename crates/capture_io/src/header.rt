@@ -1,7 +1,8 @@
 // The file header of a capture.
 ghost use Rattle.std.specs.Prelude.{◌≡◌, ◌<◌, ◌≤◌, IfOk, IsTrue, length};
 ghost use Rattle.aftr_base.specs.Held.{content, Told};
-ghost use Rattle.capture_io.specs.Answers.{Agrees, CountedRead, LastInside};
+ghost use Rattle.aftr_base.specs.Outside.{OnlyReads};
+ghost use Rattle.capture_io.specs.Answers.{Agrees, is_read_fault};
 ghost use Rattle.capture_io.specs.Header.{has_magic, header_in, is_known_link};
 ghost use Rattle.capture_io.specs.Written.{header_bytes};
 
@@ -24,14 +25,9 @@ const PLAIN_IP: u32 = 101;
 /// `Magic`, `Version`, `Link`. `ReadFault` comes only where a read of this file failed in this call, at a place below
 /// 24. The first record stands at place 24.
 pub fn read_header<F: Files>(alloc: Global, files: &mut F, name: &str) -> Result<Form, CaptureError>
-    ensures told { Told (F.held files.old) (λ m. Agrees result (header_in (content m name.now))) }
+    ensures told { Told (F.outside files.old).held (λ m. Agrees result (header_in (content m name.now))) }
     ensures link { IfOk result (λ form. IsTrue (is_known_link form.link)) }
-    ensures held { F.held files.new ≡ F.held files.old }
-    ensures faults { CountedRead result (F.faults files.old) (F.faults files.new) }
-    ensures lost { CountedRead result (F.lost files.old) (F.lost files.new) }
-    ensures spoiled { F.spoiled files.new ≡ F.spoiled files.old }
-    ensures last { LastInside result name.now 0 (λ place. place < 24)
-        (F.last files.old) (F.last files.new) }
+    ensures reads { OnlyReads (is_read_fault result) name.now (λ place. place < 24) (F.outside files.old) (F.outside files.new) }
 {
     let mut header = [0; HEADER_LEN];
     let count = fill(alloc, files, name, 0, &mut header)?;

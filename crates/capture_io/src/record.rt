@@ -1,8 +1,8 @@
 // The records of a capture.
 ghost use Rattle.std.specs.Prelude.{◌≡◌, ◌+◌, ◌^◌, ◌≤◌, IfOk, length, take, drop};
-ghost use Rattle.aftr_base.specs.Faults.{Counted, LastWithin};
 ghost use Rattle.aftr_base.specs.Held.{content, Told};
-ghost use Rattle.capture_io.specs.Answers.{Agrees, Continues, CountedRead, IsBeforeEnd, LastInside};
+ghost use Rattle.aftr_base.specs.Outside.{OnlyReads};
+ghost use Rattle.capture_io.specs.Answers.{Agrees, Continues, IsBeforeEnd, is_read_fault};
 ghost use Rattle.capture_io.specs.Head.{head_in};
 ghost use Rattle.capture_io.specs.Record.{IsBounded, nanoseconds, next_in};
 ghost use Rattle.capture_io.specs.Written.{record_bytes};
@@ -33,18 +33,14 @@ pub fn next_record<F: Files>(
 ) -> Result<Next, CaptureError>
     requires number { number ≤ 2 ^ 31 }
     requires place { at ≤ 2 ^ 62 }
-    ensures told { Told (F.held files.old)
+    ensures told { Told (F.outside files.old).held
         (λ m. Agrees result (next_in form.big (drop at (content m name.now)) at number)) }
-    ensures step { Told (F.held files.old)
+    ensures step { Told (F.outside files.old).held
         (λ m. Continues result form.big (content m name.now) at number) }
     ensures bounded { IfOk result (λ next. IsBounded next at number) }
-    ensures held { F.held files.new ≡ F.held files.old }
-    ensures faults { CountedRead result (F.faults files.old) (F.faults files.new) }
-    ensures lost { CountedRead result (F.lost files.old) (F.lost files.new) }
-    ensures spoiled { F.spoiled files.new ≡ F.spoiled files.old }
-    ensures last { LastInside result name.now at
-        (λ place. IsBeforeEnd (F.held files.old) name.now form.big at number place)
-        (F.last files.old) (F.last files.new) }
+    ensures reads { OnlyReads (is_read_fault result) name.now
+        (λ place. (at ≤ place) × IsBeforeEnd (F.outside files.old).held name.now form.big at number place)
+        (F.outside files.old) (F.outside files.new) }
 {
     let mut header = [0; HEADER_LEN];
     let count = fill(alloc, files, name, at, &mut header)?;

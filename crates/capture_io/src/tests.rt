@@ -173,15 +173,7 @@ struct Slow {
 }
 
 impl Files for Slow {
-    ghost held = { λ slow. ⟦<MemFiles as Files>⟧.held slow.files };
-
-    ghost faults = { λ slow. ⟦<MemFiles as Files>⟧.faults slow.files };
-
-    ghost last = { λ slow. ⟦<MemFiles as Files>⟧.last slow.files };
-
-    ghost lost = { λ slow. ⟦<MemFiles as Files>⟧.lost slow.files };
-
-    ghost spoiled = { λ slow. ⟦<MemFiles as Files>⟧.spoiled slow.files };
+    ghost outside = { λ slow. ⟦<MemFiles as Files>⟧.outside slow.files };
 
     fn read(
         &mut self,
