@@ -98,15 +98,7 @@ impl Watched {
 }
 
 impl Files for Watched {
-    ghost held = { λ watched. ⟦<MemFiles as Files>⟧.held watched.files };
-
-    ghost faults = { λ watched. ⟦<MemFiles as Files>⟧.faults watched.files };
-
-    ghost last = { λ watched. ⟦<MemFiles as Files>⟧.last watched.files };
-
-    ghost lost = { λ watched. ⟦<MemFiles as Files>⟧.lost watched.files };
-
-    ghost spoiled = { λ watched. ⟦<MemFiles as Files>⟧.spoiled watched.files };
+    ghost outside = { λ watched. ⟦<MemFiles as Files>⟧.outside watched.files };
 
     fn read(
         &mut self,

@@ -4,13 +4,12 @@ use Rattle.std.specs.Borrow.{Bor}
 use Rattle.aftr_base.specs.Held.{Held, content, Moves, Told}
 use Rattle.binding_file.specs.Files.{TableOf}
 use Rattle.binding_file.specs.declared.refusals.FileRefused.{FileRefused}
-use Rattle.binding_rules.specs.Tables.{Rules}
 use Rattle.capture_io.specs.Capture.{IsCapture, Splits}
 use Rattle.capture_io.specs.declared.forms.CaptureBad.{CaptureBad}
 use Rattle.capture_io.specs.declared.forms.Form.{Form}
 use Rattle.capture_io.specs.declared.forms.Rec.{Rec}
 use Rattle.lwaftr_engine.specs.Clauses.{Accepts, Counts, FilesAt, HasCause, IsDue, IsFault, NothingFailed}
-use Rattle.lwaftr_engine.specs.Endings.{IsWholeRun}
+use Rattle.lwaftr_engine.specs.Endings.{IsUntouched, IsWholeRun, OthersKept}
 use Rattle.lwaftr_engine.specs.Jobs.{ForRun, RunNames, names_of, run_in, run_of, texts}
 use Rattle.lwaftr_engine.specs.declared.words.Job.{Job}
 use Rattle.lwaftr_engine.specs.declared.words.Job.TheVariants as asked
@@ -18,6 +17,7 @@ use Rattle.lwaftr_engine.specs.declared.words.RunJob.{RunJob}
 use Rattle.lwaftr_engine.specs.declared.status.Status.{Status}
 use Rattle.lwaftr_engine.specs.declared.status.Status.TheVariants as status
 use Rattle.lwaftr_engine.proofs.Laws.{OneAnswer, OneReading}
+use Rattle.lwaftr_engine.proofs.Moving.{moves_by}
 
 -- a table file has one answer, and a capture one reading
 pub record AreSingle : Type 0 where
@@ -107,6 +107,27 @@ complete_told one n result None b said now last before after moves cause = tt
 complete_told one n result (Some m) None said now last before after moves cause = absurd moves
 complete_told one n result (Some m) (Some o) said now last before after moves cause = λ due none.
     complete_by result before after cause none (is_due one n result m o said now last moves status.Done due)
+
+untouched_kept : (n : RunNames) (old new : Held) (said now : Option (List ℕ)) → IsUntouched old new said now → OthersKept n old new
+untouched_kept n old new said now untouched = λ name x y z. ap (λ m. content m name) untouched.files
+
+others_kept : (n : RunNames) (result : Status) (old new : Held) (said now : Option (List ℕ)) (last : Option (List ℕ × ℕ)) → FilesAt n result old new said now last → OthersKept n old new
+others_kept n status.Done old new said now last f = f.run.others
+others_kept n (status.BadCapture refusal) old new said now last (inl w) = w.run.others
+others_kept n (status.BadCapture refusal) old new said now last (inr b) = untouched_kept n old new said now b.kept
+others_kept n status.ReadFault old new said now last (inl w) = w.run.others
+others_kept n status.ReadFault old new said now last (inr u) = untouched_kept n old new said now u.0
+others_kept n (status.BadTable refusal) old new said now last f = untouched_kept n old new said now f.1
+others_kept n status.WriteFault old new said now last f = f.others
+others_kept n status.OutOfMemory old new said now last f = f
+others_kept n status.DoneRefused old new said now last f = absurd f
+others_kept n status.Usage old new said now last f = absurd f
+
+-- other names hold what they held, whatever the status is
+pub others_told : (n : RunNames) (result : Status) (a b : Option Held) (said now : Option (List ℕ)) (last : Option (List ℕ × ℕ)) →
+    Moves a b (λ old new. FilesAt n result old new said now last) → Moves a b (λ old new. OthersKept n old new)
+others_told n result a b said now last moves =
+    moves_by a b (λ old new. FilesAt n result old new said now last) (λ old new. OthersKept n old new) (λ old new. others_kept n result old new said now last) moves
 
 -- what holds of the run that the words ask for
 pub for_run : (words : List (Bor (List ℕ))) (n : RunNames) (P : RunNames → Type 0) → Some n ≡ run_of (texts words) → P n → ForRun words P

@@ -2,6 +2,7 @@
 use Rattle.std.proofs.Common.{◌≡◌, ◌≢◌, ℕ, ◌+◌, ◌≤◌, Bool, List, ◌++◌, length, drop, All, Option, Some, None, sym, ◌∙◌, ap, subst, append_assoc, length-append, arith}
 use Rattle.std.proofs.lemmas.List.Elements.{All-append}
 use Rattle.aftr_base.specs.Held.{Held, content, Told, Moves, Writes}
+use Rattle.aftr_base.specs.Outside.{FailsAt}
 use Rattle.aftr_text.specs.declared.summaries.Totals.{Totals}
 use Rattle.binding_rules.specs.Tables.{Rules}
 use Rattle.capture_io.specs.Capture.{Splits}
@@ -15,7 +16,7 @@ use Rattle.lwaftr_engine.specs.Counting.{no_totals, totals_from}
 use Rattle.lwaftr_engine.specs.Outputs.{Course, packets_from, lines_from, steady}
 use Rattle.lwaftr_engine.specs.Progress.{GoesOn, HasTaken, Stops}
 use Rattle.lwaftr_engine.specs.Rendering.{IsRendered}
-use Rattle.lwaftr_engine.specs.Rounds.{IsCount, IsEnd, IsPlaced, IsRoundOf, LastOf, Precedes}
+use Rattle.lwaftr_engine.specs.Rounds.{IsCount, IsEnd, IsPlaced, IsInNext, IsRoundOf, Precedes, is_cut}
 use Rattle.lwaftr_engine.specs.declared.rendering.Rendered.{Rendered}
 use Rattle.lwaftr_engine.specs.declared.rounds.Ending.{Ending}
 use Rattle.lwaftr_engine.specs.declared.rounds.Ending.TheVariants as ending
@@ -98,14 +99,14 @@ pub record IsNext (name : List ℕ) (big : Bool) (bytes : List ℕ) (at number :
   pub stopped : Stops name big bytes round.at round.number round.ending last
 
 stops : (m : Held) (name : List ℕ) (big : Bool) (at number : ℕ) (stop : Option Ending) (old new : Option (List ℕ × ℕ)) →
-    IsEnd big (content m name) at number stop → LastOf stop name big (Some m) at number old new → Stops name big (content m name) at number stop new
+    IsEnd big (content m name) at number stop → FailsAt (is_cut stop) name (IsInNext name big (Some m) at number) old new → Stops name big (content m name) at number stop new
 stops m name big at number None old new ended last = tt
 stops m name big at number (Some ending.End) old new ended last = ended
 stops m name big at number (Some (ending.Bad refusal)) old new ended last = ended
-stops m name big at number (Some ending.ReadFault) old new ended last = record { place = last.0; last_is = last.3; begun = last.1; before = last.2 }
+stops m name big at number (Some ending.ReadFault) old new ended last = record { place = last.0; last_is = last.2; begun = last.1.0; before = last.1.1 }
 
 pub next_told : (held : Option Held) (name : List ℕ) (big : Bool) (at number : ℕ) (round : Round) (old new : Option (List ℕ × ℕ)) →
-    Told held (λ m. IsRoundOf big (content m name) at number round) → LastOf round.ending name big held round.at round.number old new →
+    Told held (λ m. IsRoundOf big (content m name) at number round) → FailsAt (is_cut round.ending) name (IsInNext name big held round.at round.number) old new →
     Told held (λ m. IsNext name big (content m name) at number round new)
 next_told None name big at number round old new told last = tt
 next_told (Some m) name big at number round old new told last = record {
@@ -143,7 +144,7 @@ pub went : (n : RunNames) (form : Form) (words : List ℕ) → AreApart n → (p
     IsCount p.at p.number round → IsPlaced p.at round → IsStaged p.stage stage round.records.items es →
     ((t : Rules) → IsCompiled t words → IsRendered (steady t) p.number round.records.items es p.totals totals r) →
     (h0 h1 h2 h3 : Option Held) → h1 ≡ h0 → Told h0 (λ m. IsRoundOf form.big (content m n.input) p.at p.number round) →
-    LastOf round.ending n.input form.big h0 round.at round.number old last →
+    FailsAt (is_cut round.ending) n.input (IsInNext n.input form.big h0 round.at round.number) old last →
     More h1 h2 n.output r.packets.items → More h2 h3 n.verdicts r.lines.items → now ≡ last →
     Moves h0 h3 (λ a d. (t : Rules) → IsCompiled t words → GoesOn n form (steady t) a d p (record { stage = stage; at = round.at; number = round.number; totals = totals }) round.ending now)
 went n form words far p round es stage totals r old last now count placed staged rendered h0 h1 h2 h3 same told stopped first second last_is =
@@ -164,7 +165,7 @@ pub went_seen : (n : RunNames) (form : Form) (words : List ℕ) → AreApart n �
     ((taken : List Rec) → Stands p.stage taken → Stands stage (taken ++ rs1)) → length es ≡ length rs1 → stage.form ≡ p.stage.form →
     ((t : Rules) → IsCompiled t words → IsRendered (steady t) p.number rs2 es1 p.totals totals r) →
     (h0 h1 h2 h3 : Option Held) → h1 ≡ h0 → Told h0 (λ m. IsRoundOf form.big (content m n.input) p.at p.number round) →
-    LastOf round.ending n.input form.big h0 round.at round.number old last →
+    FailsAt (is_cut round.ending) n.input (IsInNext n.input form.big h0 round.at round.number) old last →
     More h1 h2 n.output packets → More h2 h3 n.verdicts lines → now ≡ last →
     Moves h0 h3 (λ a d. (t : Rules) → IsCompiled t words → GoesOn n form (steady t) a d p (record { stage = stage; at = round.at; number = round.number; totals = totals }) round.ending now)
 went_seen n form words far p round es stage totals r old last now rs1 rs2 es1 packets lines is1 is2 is3 is4 is5 count placed entries stands same_count same_form rendered h0 h1 h2 h3 same told stopped first second last_is =

@@ -1,7 +1,7 @@
 -- The promises of the program's call, each by its status.
 use Rattle.std.specs.Prelude.{◌≡◌, ◌≢◌, ℕ, List, [], Option, Some, None, Result, Ok, Err, ◌⊎◌}
-use Rattle.aftr_base.specs.Faults.{Rose}
 use Rattle.aftr_base.specs.Held.{Held, content}
+use Rattle.aftr_base.specs.Outside.{Outside, Rose}
 use Rattle.binding_rules.specs.Tables.{Rules}
 use Rattle.binding_file.specs.Files.{TableOf}
 use Rattle.capture_io.specs.Capture.{IsCapture}
@@ -22,8 +22,8 @@ pub record Counts : Type 0 where
   pub files : ℕ
   pub puts : ℕ
 
-abbrev pub counts : ℕ → ℕ → ℕ → ℕ → Counts
-counts lost spoiled files puts = record { lost = lost; spoiled = spoiled; files = files; puts = puts }
+abbrev pub counts : Outside → ℕ → Counts
+counts o puts = record { lost = o.lost; spoiled = o.spoiled; files = o.faults; puts = puts }
 
 -- no call of the outside failed
 pub record AreSame (before now : Counts) : Type 0 where

@@ -1,9 +1,7 @@
 -- How far a run has come, and what its outputs hold by then.
-use Rattle.std.specs.Prelude.{◌≡◌, ◌≢◌, ℕ, ◌+◌, ◌*◌, ◌^◌, ◌<◌, ◌≤◌, ◌⊎◌, Bool, List, [], ◌++◌, length, drop, All, Option, Some, None, Result, Ok, Err}
-use Rattle.aftr_base.specs.declared.outside.Fault.{Fault}
-use Rattle.aftr_base.specs.declared.outside.Fault.TheVariants as fault
-use Rattle.aftr_base.specs.Faults.{Rose}
+use Rattle.std.specs.Prelude.{◌≡◌, ◌≢◌, ℕ, ◌+◌, ◌*◌, ◌^◌, ◌<◌, ◌≤◌, ◌⊎◌, Bool, true, false, List, [], ◌++◌, length, drop, All, Option, Some, None, Ok}
 use Rattle.aftr_base.specs.Held.{Held, content}
+use Rattle.aftr_base.specs.Outside.{FailsAt, Outside, Rises, Rose}
 use Rattle.capture_io.specs.Capture.{Splits}
 use Rattle.capture_io.specs.declared.forms.Form.{Form}
 use Rattle.capture_io.specs.declared.forms.Next.TheVariants as next
@@ -71,34 +69,11 @@ abbrev pub TakesOn : RunNames → Form → Course → Held → Held → Progress
 TakesOn n form c old new before after = (opened : Held) (taken : List Rec) →
     HasTaken n form c opened old before taken → (all : List Rec) × HasTaken n form c opened new after all
 
--- a count of reads that failed rose exactly where the records stopped with `ReadFault`; nothing is said where writing failed
-abbrev pub ReadCounts : Result (Option Ending) Fault → ℕ → ℕ → Type 0
-ReadCounts (Ok (Some ending.ReadFault)) before now = Rose before now
-ReadCounts (Ok (Some ending.End)) before now = now ≡ before
-ReadCounts (Ok (Some (ending.Bad refusal))) before now = now ≡ before
-ReadCounts (Ok None) before now = now ≡ before
-ReadCounts (Err _) before now = Unit {0}
-
--- the same where the records have stopped
-abbrev pub EndingCounts : Result Ending Fault → ℕ → ℕ → Type 0
-EndingCounts (Ok ending.ReadFault) before now = Rose before now
-EndingCounts (Ok ending.End) before now = now ≡ before
-EndingCounts (Ok (ending.Bad refusal)) before now = now ≡ before
-EndingCounts (Err _) before now = Unit {0}
-
--- the last read that failed, where the records stopped with `ReadFault`, is one of this name
-abbrev pub LastStop : Result (Option Ending) Fault → List ℕ → Option (List ℕ × ℕ) → Option (List ℕ × ℕ) → Type 0
-LastStop (Ok (Some ending.ReadFault)) name old new = (place : ℕ) × (new ≡ Some (name, place))
-LastStop (Ok (Some ending.End)) name old new = new ≡ old
-LastStop (Ok (Some (ending.Bad refusal))) name old new = new ≡ old
-LastStop (Ok None) name old new = new ≡ old
-LastStop (Err _) name old new = Unit {0}
-
-abbrev pub LastEnding : Result Ending Fault → List ℕ → Option (List ℕ × ℕ) → Option (List ℕ × ℕ) → Type 0
-LastEnding (Ok ending.ReadFault) name old new = (place : ℕ) × (new ≡ Some (name, place))
-LastEnding (Ok ending.End) name old new = new ≡ old
-LastEnding (Ok (ending.Bad refusal)) name old new = new ≡ old
-LastEnding (Err _) name old new = Unit {0}
+-- A call that reads this file, and writes: where a read failed, it is one of this file.
+pub record ReadsOf (failed : Bool) (name : List ℕ) (before now : Outside) : Type 0 where
+  pub faults : Rises failed before.faults now.faults
+  pub lost : Rises failed before.lost now.lost
+  pub last : FailsAt failed name (λ _. Unit {0}) before.last now.last
 
 -- what the run leaves, by how the records ended
 abbrev pub EndsAs : RunNames → Ending → Held → Held → Option (List ℕ) → Option (List ℕ) → Option (List ℕ × ℕ) → Type 0
@@ -106,8 +81,7 @@ EndsAs n ending.End old new said now last = IsWholeRun n old new said now None
 EndsAs n (ending.Bad refusal) old new said now last = IsWholeRun n old new said now (Some refusal)
 EndsAs n ending.ReadFault old new said now last = IsCutRun n old new said now last
 
--- counts of writes and puts that failed: one of them rose exactly at the answer `Failed`
-abbrev pub WriteCounts : {T : Type 0} → Result T Fault → ℕ → ℕ → ℕ → ℕ → Type 0
-WriteCounts (Ok _) spoiled spoiled_now puts puts_now = (spoiled_now ≡ spoiled) × (puts_now ≡ puts)
-WriteCounts (Err fault.Failed) spoiled spoiled_now puts puts_now = Rose spoiled spoiled_now ⊎ Rose puts puts_now
-WriteCounts (Err fault.OutOfMemory) spoiled spoiled_now puts puts_now = (spoiled_now ≡ spoiled) × (puts_now ≡ puts)
+-- counts of writes and of puts that failed: one of them rose exactly where a call failed
+abbrev pub OneRises : Bool → ℕ → ℕ → ℕ → ℕ → Type 0
+OneRises true spoiled spoiled_now puts puts_now = Rose spoiled spoiled_now ⊎ Rose puts puts_now
+OneRises false spoiled spoiled_now puts puts_now = (spoiled_now ≡ spoiled) × (puts_now ≡ puts)

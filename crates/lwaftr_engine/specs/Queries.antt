@@ -1,9 +1,8 @@
 -- The two questions about a table file: is it valid, and who owns a port of an address. Each is answered by one line.
-use Rattle.std.specs.Prelude.{◌≡◌, ◌⊎◌, ℕ, ◌≤◌, List, [], ◌∷◌, ◌++◌, codes, decimal, length, take, Option, Some, None, Ok, Err}
+use Rattle.std.specs.Prelude.{◌≡◌, ◌⊎◌, ℕ, ◌≤◌, Bool, true, false, List, [], ◌∷◌, ◌++◌, codes, decimal, length, take, Option, Some, None, Ok, Err}
 use Rattle.std.specs.Option.{option_map}
 use Rattle.std.specs.Borrow.{Bor}
 use Rattle.addr_text.specs.Canonical.{IsCanonical, groups_of}
-use Rattle.aftr_base.specs.Faults.{Rose}
 use Rattle.aftr_base.specs.Held.{Held, content, Told}
 use Rattle.aftr_base.specs.declared.numbers.V4.{V4}
 use Rattle.aftr_base.specs.declared.numbers.V6.{V6}
@@ -115,7 +114,7 @@ Puts status.DoneRefused line said now = ⊥
 Puts status.Usage line said now = ⊥
 Puts (status.BadCapture refusal) line said now = ⊥
 
--- a count of puts that failed rises exactly at `WriteFault`
-abbrev pub PutCounts : Status → ℕ → ℕ → Type 0
-PutCounts status.WriteFault before now = Rose before now
-PutCounts _ before now = now ≡ before
+-- a put failed, by the status
+abbrev pub is_unput : Status → Bool
+is_unput status.WriteFault = true
+is_unput _ = false

@@ -1,8 +1,8 @@
 -- Some records of a capture, and how they ended.
-use Rattle.std.specs.Prelude.{◌≡◌, ◌⊎◌, ℕ, ◌+◌, ◌-◌, ◌*◌, ◌^◌, ◌<◌, ◌≤◌, Bool, List, [], ◌++◌, length, take, drop, sum_by, All, Option, Some, None, Result, Ok, Err}
+use Rattle.std.specs.Prelude.{◌≡◌, ◌⊎◌, ℕ, ◌+◌, ◌-◌, ◌*◌, ◌^◌, ◌<◌, ◌≤◌, Bool, true, false, List, [], ◌++◌, length, take, drop, sum_by, All, Option, Some, None, Result, Ok, Err}
 use Rattle.aftr_base.specs.declared.lists.OutOfMemory.{OutOfMemory}
-use Rattle.aftr_base.specs.Faults.{Rose}
 use Rattle.aftr_base.specs.Held.{Held}
+use Rattle.aftr_base.specs.Outside.{OnlyReads, Outside}
 use Rattle.capture_io.specs.Answers.{IsBeforeEnd}
 use Rattle.capture_io.specs.Capture.{Splits}
 use Rattle.capture_io.specs.declared.forms.CaptureBad.{CaptureBad}
@@ -52,20 +52,18 @@ pub record IsCount (at number : ℕ) (round : Round) : Type 0 where
   pub bytes : captured (all_but_last round.records.items) < 67108864
   pub full : round.ending ≡ None → (length round.records.items ≡ 16384) ⊎ (67108864 ≤ captured round.records.items)
 
--- a count of faults rises exactly where the records ended with `ReadFault`
-abbrev pub Ended : Option Ending → ℕ → ℕ → Type 0
-Ended (Some ending.ReadFault) before now = Rose before now
-Ended _ before now = now ≡ before
+-- the records ended with a read that failed
+abbrev pub is_cut : Option Ending → Bool
+is_cut (Some ending.ReadFault) = true
+is_cut (Some ending.End) = false
+is_cut (Some (ending.Bad _)) = false
+is_cut None = false
 
-abbrev pub EndCounts : Result Round OutOfMemory → ℕ → ℕ → Type 0
-EndCounts (Ok round) before now = Ended round.ending before now
-EndCounts (Err _) before now = now ≡ before
+-- a place of the record that is next
+abbrev pub IsInNext : List ℕ → Bool → Option Held → ℕ → ℕ → ℕ → Type 0
+IsInNext name big held at number place = (at ≤ place) × IsBeforeEnd held name big at number place
 
--- the last read that failed, where the records ended with `ReadFault`, is one of this name, in the record that was next
-abbrev pub LastOf : Option Ending → List ℕ → Bool → Option Held → ℕ → ℕ → Option (List ℕ × ℕ) → Option (List ℕ × ℕ) → Type 0
-LastOf (Some ending.ReadFault) name big held at number old new = (place : ℕ) × (at ≤ place) × IsBeforeEnd held name big at number place × (new ≡ Some (name, place))
-LastOf _ name big held at number old new = new ≡ old
-
-abbrev pub EndLast : Result Round OutOfMemory → List ℕ → Bool → Option Held → Option (List ℕ × ℕ) → Option (List ℕ × ℕ) → Type 0
-EndLast (Ok round) name big held old new = LastOf round.ending name big held round.at round.number old new
-EndLast (Err _) name big held old new = new ≡ old
+-- a round only reads: where the records ended with `ReadFault`, a read of the record that was next failed
+abbrev pub ReadsRound : Result Round OutOfMemory → List ℕ → Bool → Outside → Outside → Type 0
+ReadsRound (Ok round) name big before now = OnlyReads (is_cut round.ending) name (IsInNext name big before.held round.at round.number) before now
+ReadsRound (Err _) name big before now = OnlyReads false name (λ _. Unit {0}) before now

@@ -1,8 +1,7 @@
 -- The codes and texts of the statuses.
-use Rattle.std.specs.Prelude.{ℕ, List, ◌++◌, codes, decimal}
+use Rattle.std.specs.Prelude.{ℕ, List, ◌++◌, codes}
 use Rattle.binding_file.specs.Names.{refused_text}
-use Rattle.capture_io.specs.declared.forms.CaptureBad.{CaptureBad}
-use Rattle.capture_io.specs.declared.forms.CaptureBad.TheVariants as capture
+use Rattle.capture_io.specs.Texts.{capture_text}
 use Rattle.lwaftr_engine.specs.declared.status.Status.{Status}
 use Rattle.lwaftr_engine.specs.declared.status.Status.TheVariants as status
 
@@ -15,16 +14,6 @@ code_of status.WriteFault = 4
 code_of (status.BadTable refusal) = 5
 code_of (status.BadCapture refusal) = 6
 code_of status.OutOfMemory = 7
-
--- why a capture is refused; a place counts the bytes before it
-abbrev pub capture_text : CaptureBad → List ℕ
-capture_text capture.Magic = codes "magic"
-capture_text capture.Version = codes "version"
-capture_text (capture.Link number) = codes "link " ++ decimal number
-capture_text (capture.CutHeader at) = codes "cut header at " ++ decimal at
-capture_text (capture.CutRecord at) = codes "cut record at " ++ decimal at
-capture_text (capture.TooLong at) = codes "too long at " ++ decimal at
-capture_text (capture.TooMany at) = codes "too many at " ++ decimal at
 
 -- a status without its line feed
 abbrev pub status_words : Status → List ℕ

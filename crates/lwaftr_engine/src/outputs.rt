@@ -1,7 +1,7 @@
 // The outputs of a run as they are before the first record.
 ghost use Rattle.std.specs.Prelude.{◌≡◌, OnOk, IsTrue};
-ghost use Rattle.aftr_base.specs.Faults.{Counted};
 ghost use Rattle.aftr_base.specs.Held.{Moves};
+ghost use Rattle.aftr_base.specs.Outside.{OnlyWrites, has_failed};
 ghost use Rattle.lwaftr_engine.specs.Endings.{OthersKept};
 ghost use Rattle.lwaftr_engine.specs.Jobs.{are_apart, names_of};
 ghost use Rattle.lwaftr_engine.specs.Opened.{IsOpened};
@@ -20,12 +20,9 @@ pub fn open_outputs<F: Files>(
     nano: bool,
 ) -> Result<(), Fault>
     requires apart { IsTrue (are_apart (names_of job)) }
-    ensures opened { OnOk result (Moves (F.held files.old) (F.held files.new) (λ m n. IsOpened (names_of job.entry) nano m n)) }
-    ensures others { Moves (F.held files.old) (F.held files.new) (λ m n. OthersKept (names_of job.entry) m n) }
-    ensures faults { Counted result (F.faults files.old) (F.faults files.new) }
-    ensures spoiled { Counted result (F.spoiled files.old) (F.spoiled files.new) }
-    ensures lost { F.lost files.new ≡ F.lost files.old }
-    ensures last { F.last files.new ≡ F.last files.old }
+    ensures opened { OnOk result (Moves (F.outside files.old).held (F.outside files.new).held (λ m n. IsOpened (names_of job.entry) nano m n)) }
+    ensures others { Moves (F.outside files.old).held (F.outside files.new).held (λ m n. OthersKept (names_of job.entry) m n) }
+    ensures writes { OnlyWrites (has_failed result) (F.outside files.old) (F.outside files.new) }
 {
     files.create(alloc, job.output)?;
     files.create(alloc, job.verdicts)?;

@@ -1,11 +1,12 @@
 // Questions about a table file, each answered by one line.
 ghost use Rattle.std.specs.Prelude.{◌≡◌, ◌++◌, ℕ, ◌<◌, IfOk, codes, decimal, length};
 ghost use Rattle.aftr_base.specs.Held.{Told, content};
+ghost use Rattle.aftr_base.specs.Outside.{Rises};
 ghost use Rattle.binding_rules.specs.Bindings.{bound};
 ghost use Rattle.binding_rules.specs.Tables.{Rules};
 ghost use Rattle.binding_rules.specs.declared.binding.Want.TheVariants as want;
 ghost use Rattle.lwaftr_engine.specs.Clauses.{HasCause, counts};
-ghost use Rattle.lwaftr_engine.specs.Queries.{Answers, FailedIn, IsComplete, IsLineOf, IsOwnerLine, IsOwnerText, IsValidLine, PutCounts, Puts, RefusesAs, valid_text};
+ghost use Rattle.lwaftr_engine.specs.Queries.{Answers, FailedIn, IsComplete, IsLineOf, IsOwnerLine, IsOwnerText, IsValidLine, Puts, RefusesAs, is_unput, valid_text};
 ghost use Rattle.table_words.specs.Answers.{first_b4};
 ghost use Rattle.table_words.specs.Layout.{AreCompiled, IsCompiled};
 
@@ -28,15 +29,15 @@ pub fn check_table<F: Files, O: Sink>(
     files: &mut F,
     out: &mut O,
 ) -> Status
-    ensures held { F.held files.new ≡ F.held files.old }
-    ensures line { Answers (λ line. IsLineOf IsValidLine (F.held files.old) name.now line) result (O.out out.old) (O.out out.new) }
-    ensures refused { Told (F.held files.old) (λ m. RefusesAs (content m name.now) result) }
-    ensures cause { HasCause result (counts (F.lost files.old) (F.spoiled files.old) (F.faults files.old) (O.faults out.old))
-        (counts (F.lost files.new) (F.spoiled files.new) (F.faults files.new) (O.faults out.new)) }
-    ensures failed_read { FailedIn name.now result (F.last files.old) (F.last files.new) }
-    ensures complete { Told (F.held files.old) (λ m. IsComplete (content m name.now) result
-        (counts (F.lost files.old) (F.spoiled files.old) (F.faults files.old) (O.faults out.old))
-        (counts (F.lost files.new) (F.spoiled files.new) (F.faults files.new) (O.faults out.new))) }
+    ensures held { (F.outside files.new).held ≡ (F.outside files.old).held }
+    ensures line { Answers (λ line. IsLineOf IsValidLine (F.outside files.old).held name.now line) result (O.out out.old) (O.out out.new) }
+    ensures refused { Told (F.outside files.old).held (λ m. RefusesAs (content m name.now) result) }
+    ensures cause { HasCause result (counts (F.outside files.old) (O.faults out.old))
+        (counts (F.outside files.new) (O.faults out.new)) }
+    ensures failed_read { FailedIn name.now result (F.outside files.old).last (F.outside files.new).last }
+    ensures complete { Told (F.outside files.old).held (λ m. IsComplete (content m name.now) result
+        (counts (F.outside files.old) (O.faults out.old))
+        (counts (F.outside files.new) (O.faults out.new))) }
 {
     // A law, and no step: a table file has one answer.
     one_table();
@@ -62,15 +63,15 @@ pub fn who_owns<F: Files, O: Sink>(
     files: &mut F,
     out: &mut O,
 ) -> Status
-    ensures held { F.held files.new ≡ F.held files.old }
-    ensures line { Answers (λ line. IsLineOf (IsOwnerLine v4 port) (F.held files.old) name.now line) result (O.out out.old) (O.out out.new) }
-    ensures refused { Told (F.held files.old) (λ m. RefusesAs (content m name.now) result) }
-    ensures cause { HasCause result (counts (F.lost files.old) (F.spoiled files.old) (F.faults files.old) (O.faults out.old))
-        (counts (F.lost files.new) (F.spoiled files.new) (F.faults files.new) (O.faults out.new)) }
-    ensures failed_read { FailedIn name.now result (F.last files.old) (F.last files.new) }
-    ensures complete { Told (F.held files.old) (λ m. IsComplete (content m name.now) result
-        (counts (F.lost files.old) (F.spoiled files.old) (F.faults files.old) (O.faults out.old))
-        (counts (F.lost files.new) (F.spoiled files.new) (F.faults files.new) (O.faults out.new))) }
+    ensures held { (F.outside files.new).held ≡ (F.outside files.old).held }
+    ensures line { Answers (λ line. IsLineOf (IsOwnerLine v4 port) (F.outside files.old).held name.now line) result (O.out out.old) (O.out out.new) }
+    ensures refused { Told (F.outside files.old).held (λ m. RefusesAs (content m name.now) result) }
+    ensures cause { HasCause result (counts (F.outside files.old) (O.faults out.old))
+        (counts (F.outside files.new) (O.faults out.new)) }
+    ensures failed_read { FailedIn name.now result (F.outside files.old).last (F.outside files.new).last }
+    ensures complete { Told (F.outside files.old).held (λ m. IsComplete (content m name.now) result
+        (counts (F.outside files.old) (O.faults out.old))
+        (counts (F.outside files.new) (O.faults out.new))) }
 {
     // A law, and no step: a table file has one answer.
     one_table();
@@ -125,7 +126,7 @@ fn owner_line(alloc: Global, owner: Option<V6>) -> Result<Text, OutOfMemory>
 // Puts a line.
 fn put_line<O: Sink>(alloc: Global, out: &mut O, line: &[u8]) -> Status
     ensures puts { Puts result line.now (O.out out.old) (O.out out.new) }
-    ensures faults { PutCounts result (O.faults out.old) (O.faults out.new) }
+    ensures faults { Rises (is_unput result) (O.faults out.old) (O.faults out.new) }
 {
     match put_all(alloc, out, line) {
         Ok(()) => Status::Done,

@@ -1,7 +1,7 @@
 // The records of a capture, read in rounds.
 ghost use Rattle.std.specs.Prelude.{◌≡◌, ◌≤◌, ◌+◌, ◌*◌, ◌^◌, IfOk};
 ghost use Rattle.aftr_base.specs.Held.{content, Told};
-ghost use Rattle.lwaftr_engine.specs.Rounds.{IsRoundOf, IsCount, IsPlaced, EndCounts, EndLast};
+ghost use Rattle.lwaftr_engine.specs.Rounds.{IsCount, IsPlaced, IsRoundOf, ReadsRound};
 
 use aftr_base::{Files, OutOfMemory};
 use capture_io::{CaptureBad, CaptureError, Form, Next, Rec, next_record};
@@ -48,14 +48,10 @@ pub fn read_round<F: Files>(
 ) -> Result<Round, OutOfMemory>
     requires number { number ≤ 2 ^ 31 }
     requires place { at ≤ 24 + 262160 * number }
-    ensures told { IfOk result (λ round. Told (F.held files.old) (λ m. IsRoundOf form.big (content m name.now) at number round)) }
+    ensures told { IfOk result (λ round. Told (F.outside files.old).held (λ m. IsRoundOf form.big (content m name.now) at number round)) }
     ensures count { IfOk result (λ round. IsCount at number round) }
     ensures placed { IfOk result (λ round. IsPlaced at round) }
-    ensures held { F.held files.new ≡ F.held files.old }
-    ensures faults { EndCounts result (F.faults files.old) (F.faults files.new) }
-    ensures lost { EndCounts result (F.lost files.old) (F.lost files.new) }
-    ensures spoiled { F.spoiled files.new ≡ F.spoiled files.old }
-    ensures last { EndLast result name.now form.big (F.held files.old) (F.last files.old) (F.last files.new) }
+    ensures reads { ReadsRound result name.now form.big (F.outside files.old) (F.outside files.new) }
 {
     let mut records = Vec::new(alloc);
     let mut at = at;

@@ -1,8 +1,8 @@
 // The run: records are read, judged and written in rounds.
 ghost use Rattle.std.specs.Prelude.{◌≡◌, ◌<◌, ◌++◌, IfOk, OnOk, IsTrue, false, flat_map, List, None, Some, Ok};
 ghost use Rattle.std.specs.Option.{option_map};
-ghost use Rattle.aftr_base.specs.Faults.{Counted};
 ghost use Rattle.aftr_base.specs.Held.{Moves, Writes, content};
+ghost use Rattle.aftr_base.specs.Outside.{Rises, has_failed};
 ghost use Rattle.aftr_text.specs.Lines.{ended_text, summary_text};
 ghost use Rattle.binding_file.specs.Files.{TableOf};
 ghost use Rattle.binding_rules.specs.Tables.{Rules};
@@ -14,7 +14,8 @@ ghost use Rattle.lwaftr_engine.specs.Clauses.{FailedAt, FilesAt, HasCause, IsOfR
 ghost use Rattle.lwaftr_engine.specs.Endings.{OthersKept};
 ghost use Rattle.lwaftr_engine.specs.Jobs.{are_apart, names_of};
 ghost use Rattle.lwaftr_engine.specs.Outputs.{steady};
-ghost use Rattle.lwaftr_engine.specs.Progress.{EndingCounts, EndsAs, GoesOn, IsBounded, LastEnding, LastStop, ReadCounts, WriteCounts};
+ghost use Rattle.lwaftr_engine.specs.Progress.{EndsAs, GoesOn, IsBounded, OneRises, ReadsOf};
+ghost use Rattle.lwaftr_engine.specs.Rounds.{is_cut};
 ghost use Rattle.table_words.specs.Layout.{AreCompiled, IsCompiled};
 
 use crate::outputs::open_outputs;
@@ -67,15 +68,13 @@ fn run_round<F: Files>(
     requires compiled { AreCompiled words.now }
     requires apart { IsTrue (are_apart (names_of job)) }
     requires bounded { IsBounded progress.old }
-    ensures went { IfOk result (λ ending. Moves (F.held files.old) (F.held files.new) (λ m n. (t : Rules) → IsCompiled t words.now →
-        GoesOn (names_of job.entry) form (steady t) m n progress.old progress.new ending (F.last files.new))) }
+    ensures went { IfOk result (λ ending. Moves (F.outside files.old).held (F.outside files.new).held (λ m n. (t : Rules) → IsCompiled t words.now →
+        GoesOn (names_of job.entry) form (steady t) m n progress.old progress.new ending (F.outside files.new).last)) }
     ensures bounded { IfOk result (λ ending. IsBounded progress.new) }
     ensures further { IfOk result (λ ending. ending ≡ None → progress.old.number < progress.new.number) }
-    ensures others { Moves (F.held files.old) (F.held files.new) (λ m n. OthersKept (names_of job.entry) m n) }
-    ensures faults { ReadCounts result (F.faults files.old) (F.faults files.new) }
-    ensures lost { ReadCounts result (F.lost files.old) (F.lost files.new) }
-    ensures spoiled { Counted result (F.spoiled files.old) (F.spoiled files.new) }
-    ensures last { LastStop result (names_of job.entry).input (F.last files.old) (F.last files.new) }
+    ensures others { Moves (F.outside files.old).held (F.outside files.new).held (λ m n. OthersKept (names_of job.entry) m n) }
+    ensures reads { IfOk result (λ ending. ReadsOf (is_cut ending) (names_of job.entry).input (F.outside files.old) (F.outside files.new)) }
+    ensures spoiled { Rises (has_failed result) (F.outside files.old).spoiled (F.outside files.new).spoiled }
 {
     let start = progress.number;
     let round = read_round(alloc, files, job.input, form, progress.at, start)?;
@@ -108,14 +107,12 @@ fn run_records<F: Files>(
     requires compiled { AreCompiled words.now }
     requires apart { IsTrue (are_apart (names_of job)) }
     requires bounded { IsBounded progress.old }
-    ensures went { IfOk result (λ ending. Moves (F.held files.old) (F.held files.new) (λ m n. (t : Rules) → IsCompiled t words.now →
-        GoesOn (names_of job.entry) form (steady t) m n progress.old progress.new (Some ending) (F.last files.new))) }
+    ensures went { IfOk result (λ ending. Moves (F.outside files.old).held (F.outside files.new).held (λ m n. (t : Rules) → IsCompiled t words.now →
+        GoesOn (names_of job.entry) form (steady t) m n progress.old progress.new (Some ending) (F.outside files.new).last)) }
     ensures bounded { IfOk result (λ ending. IsBounded progress.new) }
-    ensures others { Moves (F.held files.old) (F.held files.new) (λ m n. OthersKept (names_of job.entry) m n) }
-    ensures faults { EndingCounts result (F.faults files.old) (F.faults files.new) }
-    ensures lost { EndingCounts result (F.lost files.old) (F.lost files.new) }
-    ensures spoiled { Counted result (F.spoiled files.old) (F.spoiled files.new) }
-    ensures last { LastEnding result (names_of job.entry).input (F.last files.old) (F.last files.new) }
+    ensures others { Moves (F.outside files.old).held (F.outside files.new).held (λ m n. OthersKept (names_of job.entry) m n) }
+    ensures reads { IfOk result (λ ending. ReadsOf (is_cut (Some ending)) (names_of job.entry).input (F.outside files.old) (F.outside files.new)) }
+    ensures spoiled { Rises (has_failed result) (F.outside files.old).spoiled (F.outside files.new).spoiled }
 {
     'rounds: loop {
         if let Some(ending) = run_round(alloc, files, job, form, words, progress)? {
@@ -143,14 +140,14 @@ fn finish<F: Files, O: Sink>(
     job: RunJob<'_>,
     progress: &Progress,
 ) -> Result<(), Fault>
-    ensures verdicts { OnOk result (Moves (F.held files.old) (F.held files.new) (λ m n. (taken : List Record) → Stands progress.now.stage taken →
+    ensures verdicts { OnOk result (Moves (F.outside files.old).held (F.outside files.new).held (λ m n. (taken : List Record) → Stands progress.now.stage taken →
         Writes m n (names_of job.entry).verdicts (content m (names_of job.entry).verdicts ++ flat_map (ended_text false) (unfinished_of progress.now.stage.form taken)))) }
-    ensures others { Moves (F.held files.old) (F.held files.new) (λ m n. OthersKept (names_of job.entry) m n) }
+    ensures others { Moves (F.outside files.old).held (F.outside files.new).held (λ m n. OthersKept (names_of job.entry) m n) }
     ensures summary { OnOk result (O.out out.new ≡ option_map (λ taken. taken ++ summary_text progress.now.totals) (O.out out.old)) }
-    ensures faults { OnOk result (F.faults files.new ≡ F.faults files.old) }
-    ensures lost { F.lost files.new ≡ F.lost files.old }
-    ensures last { F.last files.new ≡ F.last files.old }
-    ensures writing { WriteCounts result (F.spoiled files.old) (F.spoiled files.new) (O.faults out.old) (O.faults out.new) }
+    ensures faults { OnOk result ((F.outside files.new).faults ≡ (F.outside files.old).faults) }
+    ensures lost { (F.outside files.new).lost ≡ (F.outside files.old).lost }
+    ensures last { (F.outside files.new).last ≡ (F.outside files.old).last }
+    ensures writing { OneRises (has_failed result) (F.outside files.old).spoiled (F.outside files.new).spoiled (O.faults out.old) (O.faults out.new) }
 {
     let lines = unfinished_lines(alloc, &progress.stage)?;
     append_all(alloc, files, job.verdicts, &lines)?;
@@ -169,14 +166,12 @@ fn run_capture<F: Files, O: Sink>(
 ) -> Result<Ending, Fault>
     requires compiled { AreCompiled words.now }
     requires apart { IsTrue (are_apart (names_of job)) }
-    ensures ran { IfOk result (λ ending. Moves (F.held files.old) (F.held files.new) (λ m n. (t : Rules) → IsCompiled t words.now →
+    ensures ran { IfOk result (λ ending. Moves (F.outside files.old).held (F.outside files.new).held (λ m n. (t : Rules) → IsCompiled t words.now →
         TableOf (content m (names_of job.entry).table) (Ok t) → header_in (content m (names_of job.entry).input) ≡ Ok form →
-        EndsAs (names_of job.entry) ending m n (O.out out.old) (O.out out.new) (F.last files.new))) }
-    ensures others { Moves (F.held files.old) (F.held files.new) (λ m n. OthersKept (names_of job.entry) m n) }
-    ensures faults { EndingCounts result (F.faults files.old) (F.faults files.new) }
-    ensures lost { EndingCounts result (F.lost files.old) (F.lost files.new) }
-    ensures last { LastEnding result (names_of job.entry).input (F.last files.old) (F.last files.new) }
-    ensures writing { WriteCounts result (F.spoiled files.old) (F.spoiled files.new) (O.faults out.old) (O.faults out.new) }
+        EndsAs (names_of job.entry) ending m n (O.out out.old) (O.out out.new) (F.outside files.new).last)) }
+    ensures others { Moves (F.outside files.old).held (F.outside files.new).held (λ m n. OthersKept (names_of job.entry) m n) }
+    ensures reads { IfOk result (λ ending. ReadsOf (is_cut (Some ending)) (names_of job.entry).input (F.outside files.old) (F.outside files.new)) }
+    ensures writing { OneRises (has_failed result) (F.outside files.old).spoiled (F.outside files.new).spoiled (O.faults out.old) (O.faults out.new) }
 {
     // Laws, and no steps: bytes have some reading, and records follow one another.
     some_reading();
@@ -201,12 +196,12 @@ pub fn run_job<F: Files, O: Sink>(
     out: &mut O,
 ) -> Status
     requires apart { IsTrue (are_apart (names_of job)) }
-    ensures files { Moves (F.held files.old) (F.held files.new) (λ m n.
-        FilesAt (names_of job.entry) result m n (O.out out.old) (O.out out.new) (F.last files.new)) }
+    ensures files { Moves (F.outside files.old).held (F.outside files.new).held (λ m n.
+        FilesAt (names_of job.entry) result m n (O.out out.old) (O.out out.new) (F.outside files.new).last) }
     ensures cause { HasCause result
-        (counts (F.lost files.old) (F.spoiled files.old) (F.faults files.old) (O.faults out.old))
-        (counts (F.lost files.new) (F.spoiled files.new) (F.faults files.new) (O.faults out.new)) }
-    ensures place { FailedAt (names_of job.entry) result (F.last files.old) (F.last files.new) }
+        (counts (F.outside files.old) (O.faults out.old))
+        (counts (F.outside files.new) (O.faults out.new)) }
+    ensures place { FailedAt (names_of job.entry) result (F.outside files.old).last (F.outside files.new).last }
     ensures of_run { IsOfRun result }
 {
     let table = match table_in(alloc, files, job.table) {

@@ -56,23 +56,8 @@ pub fn status_line(alloc: Global, status: &Status) -> Result<Text, OutOfMemory>
         Status::ReadFault => format!(in alloc; "read fault\n"),
         Status::WriteFault => format!(in alloc; "write fault\n"),
         Status::BadTable(refusal) => format!(in alloc; "table refused: {refusal}\n"),
-        Status::BadCapture(refusal) => return refused_capture(alloc, *refusal),
+        Status::BadCapture(refusal) => format!(in alloc; "capture refused: {refusal}\n"),
         Status::OutOfMemory => format!(in alloc; "out of memory\n"),
-    };
-    Ok(Text::of(line?))
-}
-
-fn refused_capture(alloc: Global, refusal: CaptureBad) -> Result<Text, OutOfMemory>
-    ensures { IfOk result (λ line. line ≡ status_text (Status.BadCapture refusal)) }
-{
-    let line = match refusal {
-        CaptureBad::Magic => format!(in alloc; "capture refused: magic\n"),
-        CaptureBad::Version => format!(in alloc; "capture refused: version\n"),
-        CaptureBad::Link { number } => format!(in alloc; "capture refused: link {number}\n"),
-        CaptureBad::CutHeader { at } => format!(in alloc; "capture refused: cut header at {at}\n"),
-        CaptureBad::CutRecord { at } => format!(in alloc; "capture refused: cut record at {at}\n"),
-        CaptureBad::TooLong { at } => format!(in alloc; "capture refused: too long at {at}\n"),
-        CaptureBad::TooMany { at } => format!(in alloc; "capture refused: too many at {at}\n"),
     };
     Ok(Text::of(line?))
 }

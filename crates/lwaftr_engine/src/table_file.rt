@@ -1,9 +1,9 @@
 // A table, read from a file.
-ghost use Rattle.std.specs.Prelude.{◌≡◌, ◌≤◌, ◌+◌, ◌^◌, IfOk, IfErr, Ok, length, take, drop};
-ghost use Rattle.aftr_base.specs.Faults.{Counted, LastWithin};
+ghost use Rattle.std.specs.Prelude.{◌≡◌, ◌<◌, ◌≤◌, ◌+◌, ◌^◌, IfOk, IfErr, Ok, length, take, drop};
 ghost use Rattle.aftr_base.specs.Held.{content, Told};
+ghost use Rattle.aftr_base.specs.Outside.{OnlyReads, has_failed};
 ghost use Rattle.binding_file.specs.Files.{TableOf};
-ghost use Rattle.lwaftr_engine.specs.Tables.{IsNoTable, TableCounts, TableLast};
+ghost use Rattle.lwaftr_engine.specs.Tables.{IsNoTable, is_unread};
 
 use aftr_base::{Bytes, Fault, Files, bytes_at};
 use binding_file::{FileError, FileRefused, read_table};
@@ -30,13 +30,9 @@ pub enum NoTable {
 /// The table that the file spells; a file that is not there holds no bytes. It is read from its start on, in pieces that
 /// double, and never more of it than decides that it is too big: one byte more than 16,777,216.
 pub fn table_in<F: Files>(alloc: Global, files: &mut F, name: &str) -> Result<Table, NoTable>
-    ensures table { IfOk result (λ t. Told (F.held files.old) (λ m. TableOf (content m name.now) (Ok t))) }
-    ensures refused { IfErr result (λ why. Told (F.held files.old) (λ m. IsNoTable (content m name.now) why)) }
-    ensures held { F.held files.new ≡ F.held files.old }
-    ensures faults { TableCounts result (F.faults files.old) (F.faults files.new) }
-    ensures lost { TableCounts result (F.lost files.old) (F.lost files.new) }
-    ensures spoiled { F.spoiled files.new ≡ F.spoiled files.old }
-    ensures last { TableLast result name.now (F.last files.old) (F.last files.new) }
+    ensures table { IfOk result (λ t. Told (F.outside files.old).held (λ m. TableOf (content m name.now) (Ok t))) }
+    ensures refused { IfErr result (λ why. Told (F.outside files.old).held (λ m. IsNoTable (content m name.now) why)) }
+    ensures reads { OnlyReads (is_unread result) name.now (λ _. Unit {0}) (F.outside files.old) (F.outside files.new) }
 {
     let bytes = match file_front(alloc, files, name, ENOUGH) {
         Ok(bytes) => bytes,
@@ -58,12 +54,8 @@ fn file_front<F: Files>(
     most: usize,
 ) -> Result<Bytes, Fault>
     requires { most ≤ 2 ^ 32 }
-    ensures bytes { IfOk result (λ bytes. Told (F.held files.old) (λ m. bytes ≡ take most (content m name.now))) }
-    ensures held { F.held files.new ≡ F.held files.old }
-    ensures faults { Counted result (F.faults files.old) (F.faults files.new) }
-    ensures lost { Counted result (F.lost files.old) (F.lost files.new) }
-    ensures spoiled { F.spoiled files.new ≡ F.spoiled files.old }
-    ensures last { LastWithin result name.now 0 most (F.last files.old) (F.last files.new) }
+    ensures bytes { IfOk result (λ bytes. Told (F.outside files.old).held (λ m. bytes ≡ take most (content m name.now))) }
+    ensures reads { OnlyReads (has_failed result) name.now (λ place. place < most) (F.outside files.old) (F.outside files.new) }
 {
     let mut list = Vec::new(alloc);
     'pieces: while list.len() < most {

@@ -42,28 +42,28 @@ pub fn lwaftr<F: Files, O: Sink>(
     ensures untouched { result ≡ Status.Usage → (files.new ≡ files.old) × (out.new ≡ out.old) }
 
     // What a run leaves.
-    ensures files_of_a_run { ForRun words.now (λ n. Moves (F.held files.old) (F.held files.new)
-        (λ before now. FilesAt n result before now (O.out out.old) (O.out out.new) (F.last files.new))) }
-    ensures others { ForRun words.now (λ n. Moves (F.held files.old) (F.held files.new) (λ before now. OthersKept n before now)) }
+    ensures files_of_a_run { ForRun words.now (λ n. Moves (F.outside files.old).held (F.outside files.new).held
+        (λ before now. FilesAt n result before now (O.out out.old) (O.out out.new) (F.outside files.new).last)) }
+    ensures others { ForRun words.now (λ n. Moves (F.outside files.old).held (F.outside files.new).held (λ before now. OthersKept n before now)) }
 
     // What a question about a table leaves.
-    ensures queries { ForQuery words.now (λ Asks name. IsAnswered Asks name result (F.held files.old) (F.held files.new) (O.out out.old) (O.out out.new)) }
-    ensures failed_question { ForQuery words.now (λ Asks name. FailedIn name result (F.last files.old) (F.last files.new)) }
-    ensures answered { ForQuery words.now (λ Asks name. Told (F.held files.old) (λ m. IsComplete (content m name) result
-        (counts (F.lost files.old) (F.spoiled files.old) (F.faults files.old) (O.faults out.old))
-        (counts (F.lost files.new) (F.spoiled files.new) (F.faults files.new) (O.faults out.new)))) }
+    ensures queries { ForQuery words.now (λ Asks name. IsAnswered Asks name result (F.outside files.old).held (F.outside files.new).held (O.out out.old) (O.out out.new)) }
+    ensures failed_question { ForQuery words.now (λ Asks name. FailedIn name result (F.outside files.old).last (F.outside files.new).last) }
+    ensures answered { ForQuery words.now (λ Asks name. Told (F.outside files.old).held (λ m. IsComplete (content m name) result
+        (counts (F.outside files.old) (O.faults out.old))
+        (counts (F.outside files.new) (O.faults out.new)))) }
 
     // Which status it is.
-    ensures due { ForRun words.now (λ n. Told (F.held files.old) (λ m. (s : Ended) → IsDue n m s → (result ≡ s) ⊎ IsFault result)) }
+    ensures due { ForRun words.now (λ n. Told (F.outside files.old).held (λ m. (s : Ended) → IsDue n m s → (result ≡ s) ⊎ IsFault result)) }
     ensures no_later_table { result ≡ Status.DoneRefused → ⊥ }
     ensures cause { HasCause result
-        (counts (F.lost files.old) (F.spoiled files.old) (F.faults files.old) (O.faults out.old))
-        (counts (F.lost files.new) (F.spoiled files.new) (F.faults files.new) (O.faults out.new)) }
-    ensures failed_read { ForRun words.now (λ n. FailedAt n result (F.last files.old) (F.last files.new)) }
-    ensures complete { ForRun words.now (λ n. Told (F.held files.old) (λ m. IsDue n m Status.Done →
+        (counts (F.outside files.old) (O.faults out.old))
+        (counts (F.outside files.new) (O.faults out.new)) }
+    ensures failed_read { ForRun words.now (λ n. FailedAt n result (F.outside files.old).last (F.outside files.new).last) }
+    ensures complete { ForRun words.now (λ n. Told (F.outside files.old).held (λ m. IsDue n m Status.Done →
         NothingFailed
-        (counts (F.lost files.old) (F.spoiled files.old) (F.faults files.old) (O.faults out.old))
-        (counts (F.lost files.new) (F.spoiled files.new) (F.faults files.new) (O.faults out.new)) →
+        (counts (F.outside files.old) (O.faults out.old))
+        (counts (F.outside files.new) (O.faults out.new)) →
         (result ≡ Status.Done) ⊎ (result ≡ Status.OutOfMemory))) }
 {
     // Laws, and no steps: a table file has one answer, and a capture one reading.

@@ -1,11 +1,12 @@
-use Rattle.std.proofs.Common.{◌≡◌, ◌≤◌, ◌<◌, ◌+◌, ◌-◌, ◌*◌, ◌^◌, All, length}
+use Rattle.std.proofs.Common.{false, ◌≡◌, ◌≤◌, ◌<◌, ◌+◌, ◌-◌, ◌*◌, ◌^◌, All, length}
 use Rattle.aftr_base.specs.Held.{Told, content}
+use Rattle.aftr_base.specs.Outside.{OnlyReads}
 use Rattle.lwaftr_engine.specs.Rounds.{Precedes, all_but_last, captured}
 use Rattle.lwaftr_engine.proofs.rounds.read_round.Given as goal
 
 abbrev pub invariant-records : goal.invariant-records
 invariant-records g l = let f = g.F.Files in record {
-  follows : Told (f.held l.initial.files) (λ m. Precedes l.form.big (content m l.name) l.initial.at l.initial.number l.records.items l.at l.number);
+  follows : Told (f.outside l.initial.files).held (λ m. Precedes l.form.big (content m l.name) l.initial.at l.initial.number l.records.items l.at l.number);
   number : l.number ≡ l.initial.number + length l.records.items;
   forward : l.initial.at ≤ l.at;
   placed : All (λ r. r.next_at ≤ l.at) l.records.items;
@@ -15,11 +16,7 @@ invariant-records g l = let f = g.F.Files in record {
   some : 0 < l.bytes → 0 < length l.records.items;
   few : length l.records.items ≤ 16384;
   within : captured (all_but_last l.records.items) < 67108864;
-  held : f.held l.files ≡ f.held l.initial.files;
-  faults : f.faults l.files ≡ f.faults l.initial.files;
-  lost : f.lost l.files ≡ f.lost l.initial.files;
-  spoiled : f.spoiled l.files ≡ f.spoiled l.initial.files;
-  last : f.last l.files ≡ f.last l.initial.files;
+  reads : OnlyReads false l.name (λ _. Unit {0}) (f.outside l.initial.files) (f.outside l.files);
 }
 
 abbrev pub decreases-records : goal.decreases-records

@@ -6,5 +6,5 @@ use Rattle.lwaftr_engine.proofs.run.finish.Goals as goal
 pub returns-clause-verdicts : goal.returns-clause-verdicts
 returns-clause-verdicts g c =
     let f = g.F.Files in
-    lines_written c.put_all.result (f.held c.args.files.now) (f.held c.append_all.new.files) (names_of c.args.job).verdicts c.deref.result.now c.args.progress.now.stage
+    lines_written c.put_all.result (f.outside c.args.files.now).held (f.outside c.append_all.new.files).held (names_of c.args.job).verdicts c.deref.result.now c.args.progress.now.stage
     (λ taken stands. c.deref.ensures.value ∙ c.in_ok-lines.ensures taken stands) c.in_ok-append_all.ensures.held

@@ -9,8 +9,8 @@ returns-clause-ran g c =
     let o = g.O.Sink in
     let n = names_of c.args.job in
     ran (record { rise = c.records_rise.ensures; some = c.some_reading.ensures }) n c.args.form c.args.words.now (apart n c.requires.apart)
-    (f.held c.args.files.now) (f.held c.open_outputs.new.files) (f.held c.run_records.new.files) (f.held c.finish.new.files)
+    (f.outside c.args.files.now).held (f.outside c.open_outputs.new.files).held (f.outside c.run_records.new.files).held (f.outside c.finish.new.files).held
     (o.out c.args.out.now) (o.out c.finish.new.out) c.in_ok-new.field-0 c.run_records.new.progress c.in_ok-ending.ending
-    (f.last c.run_records.new.files) (f.last c.finish.new.files)
+    (f.outside c.run_records.new.files).last (f.outside c.finish.new.files).last
     (c.in_ok-new.ensures.stands) (c.in_ok-new.ensures.form) c.in_ok-ending.ensures.bounded
     c.in_ok-open_outputs.ensures.opened c.in_ok-ending.ensures.went c.in_ok-finish.ensures.verdicts c.in_ok-finish.ensures.summary c.in_ok-finish.ensures.last

@@ -10,14 +10,14 @@ use Rattle.lwaftr_engine.proofs.run.run_records.Given as goal
 
 abbrev pub invariant-rounds : goal.invariant-rounds
 invariant-rounds g l = let f = g.F.Files in record {
-  went : Moves (f.held l.initial.files) (f.held l.files) (λ m n. (t : Rules) → IsCompiled t l.words →
+  went : Moves (f.outside l.initial.files).held (f.outside l.files).held (λ m n. (t : Rules) → IsCompiled t l.words →
       TakesOn (names_of l.job) l.form (steady t) m n l.initial.progress l.progress);
   bounded : IsBounded l.progress;
-  others : Moves (f.held l.initial.files) (f.held l.files) (λ m n. OthersKept (names_of l.job) m n);
-  faults : f.faults l.files ≡ f.faults l.initial.files;
-  lost : f.lost l.files ≡ f.lost l.initial.files;
-  last : f.last l.files ≡ f.last l.initial.files;
-  spoiled : f.spoiled l.files ≡ f.spoiled l.initial.files;
+  others : Moves (f.outside l.initial.files).held (f.outside l.files).held (λ m n. OthersKept (names_of l.job) m n);
+  faults : (f.outside l.files).faults ≡ (f.outside l.initial.files).faults;
+  lost : (f.outside l.files).lost ≡ (f.outside l.initial.files).lost;
+  last : (f.outside l.files).last ≡ (f.outside l.initial.files).last;
+  spoiled : (f.outside l.files).spoiled ≡ (f.outside l.initial.files).spoiled;
 }
 
 abbrev pub decreases-rounds : goal.decreases-rounds

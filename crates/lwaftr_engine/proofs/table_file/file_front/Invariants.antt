@@ -5,12 +5,8 @@ use Rattle.lwaftr_engine.proofs.table_file.file_front.Given as goal
 abbrev pub invariant-pieces : goal.invariant-pieces
 invariant-pieces g l = let f = g.F.Files in record {
   within : length l.list.items ≤ l.most;
-  bytes : Told (f.held l.initial.files) (λ m. l.list.items ≡ take (length l.list.items) (content m l.name));
-  held : f.held l.files ≡ f.held l.initial.files;
-  faults : f.faults l.files ≡ f.faults l.initial.files;
-  lost : f.lost l.files ≡ f.lost l.initial.files;
-  spoiled : f.spoiled l.files ≡ f.spoiled l.initial.files;
-  last : f.last l.files ≡ f.last l.initial.files;
+  bytes : Told (f.outside l.initial.files).held (λ m. l.list.items ≡ take (length l.list.items) (content m l.name));
+  outside : f.outside l.files ≡ f.outside l.initial.files;
 }
 
 abbrev pub decreases-pieces : goal.decreases-pieces
