@@ -1,6 +1,10 @@
 mod ShelfLemmas
+pub mod FirstLemmas
 pub mod HeldLemmas
+pub mod MemberLemmas
 pub mod NumberLemmas
 pub mod OutsideLemmas
 pub mod PieceLemmas
+pub mod PlaceLemmas
 pub mod SumLemmas
+pub mod TotalLemmas

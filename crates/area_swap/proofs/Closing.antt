@@ -6,7 +6,7 @@ use Rattle.swap_core.specs.Plans.{Tables, IsPlan, window}
 use Rattle.swap_core.specs.States.{newcomer}
 use Rattle.swap_core.specs.declared.actors.Actor.{Actor}
 use Rattle.swap_core.specs.Sound.{Sound, IsDrawRight, in_force}
-use Rattle.swap_core.proofs.Bounds.{few_records}
+use Rattle.swap_core.proofs.Laws.{few_records}
 use Rattle.area_swap.specs.declared.answers.Seen.{Seen}
 use Rattle.area_swap.specs.declared.board.View.{View}
 use Rattle.area_swap.specs.Views.{now_of, unpacked, with_desk_of}

@@ -11,9 +11,9 @@ use Rattle.swap_core.specs.States.{count_of, spare, next_table, with_desk, writt
 use Rattle.swap_core.specs.Sound.{Sound, IsWriting, IsAtWork}
 use Rattle.swap_core.specs.declared.actors.DeskState.{DeskState}
 use Rattle.swap_core.specs.declared.actors.DeskState.TheVariants.{Resting, Ready, Writing}
-use Rattle.swap_core.proofs.Bounds.{few_records, few_versions}
-use Rattle.swap_core.proofs.DeskMoves.{due_sound, count_sound, write_sound, publish_sound}
-use Rattle.swap_core.proofs.PlanLemmas.{table_fits}
+use Rattle.swap_core.proofs.Laws.{few_records, few_versions}
+use Rattle.swap_core.proofs.Laws.{due_sound, count_sound, write_sound, publish_sound}
+use Rattle.swap_core.proofs.Laws.{table_fits}
 use Rattle.area_swap.specs.declared.answers.Seen.{Seen}
 use Rattle.area_swap.specs.declared.board.View.{View}
 use Rattle.area_swap.specs.Views.{now_of, packed, unpacked, reading, next_of, spare_of, IsUpTo}

@@ -11,8 +11,8 @@ use Rattle.swap_core.specs.States.{CoreState, IsActor}
 use Rattle.swap_core.specs.Sound.{Sound}
 use Rattle.swap_core.specs.declared.actors.Actor.{Actor}
 use Rattle.swap_core.specs.declared.actors.DeskState.{DeskState}
-use Rattle.swap_core.proofs.ListLemmas.{at_there, at_set_else}
-use Rattle.swap_core.proofs.SumLemmas.{sum_kept}
+use Rattle.aftr_base.proofs.PlaceLemmas.{at_there, at_set_else}
+use Rattle.aftr_base.proofs.TotalLemmas.{sum_kept}
 use Rattle.area_swap.specs.declared.answers.Seen.{Seen}
 use Rattle.area_swap.specs.declared.board.View.{View}
 use Rattle.area_swap.specs.Views.{now_of, IsUpTo}

@@ -12,8 +12,8 @@ use Rattle.swap_core.specs.Sound.{Sound, HoldsRightly, IsAtWork, IsDrawRight, ti
 use Rattle.swap_core.specs.declared.actors.Actor.{Actor}
 use Rattle.swap_core.specs.declared.actors.ActorState.TheVariants.{Holds}
 use Rattle.swap_core.specs.declared.actors.DeskState.{DeskState}
-use Rattle.swap_core.proofs.Bounds.{few_records, few_versions}
-use Rattle.swap_core.proofs.Moves.{weight}
+use Rattle.swap_core.proofs.Laws.{few_records, few_versions}
+use Rattle.swap_core.proofs.Laws.{weight}
 use Rattle.area_swap.specs.declared.board.View.{View}
 use Rattle.area_swap.specs.Views.{now_of, unpacked, spare_of}
 use Rattle.area_swap.specs.Rule.{Ruled, Sees, SeesClaims, IsDrawnBy, actor_of, share_of}

@@ -3,7 +3,7 @@ use Rattle.std.proofs.Common.{◌≡◌, ℕ, zero, suc, ◌+◌, ◌≤◌, ◌
 use mathlib.Core.Option.{some, some-injective, some-ne-none}
 use lib.ListN.{get_elem?}
 use Rattle.std.proofs.lemmas.List.Sums.{sum_by-cons}
-use Rattle.swap_core.proofs.SumLemmas.{part_of_sum}
+use Rattle.aftr_base.proofs.TotalLemmas.{part_of_sum}
 
 -- a member of a mapped list comes from a member
 pub map_at : {A B : Type 0} (f : A → B) (xs : List A) (i : ℕ) (b : B) → get_elem? (map f xs) i ≡ some b

@@ -6,8 +6,8 @@ use Rattle.std.proofs.lemmas.List.{take_all, length-replicate}
 use Rattle.atomic_table.specs.Table as states
 use Rattle.swap_core.specs.Plans.{Tables, IsPlan, table, width}
 use Rattle.swap_core.specs.States.{opening}
-use Rattle.swap_core.proofs.Begun.{opening_sound}
-use Rattle.swap_core.proofs.PlanLemmas.{table_fits}
+use Rattle.swap_core.proofs.Laws.{opening_sound}
+use Rattle.swap_core.proofs.Laws.{table_fits}
 use Rattle.area_swap.specs.declared.board.View.{View}
 use Rattle.area_swap.specs.Views.{first_view, now_of}
 use Rattle.area_swap.specs.Rule.{Ruled, Fits, Laid}

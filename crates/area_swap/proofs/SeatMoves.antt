@@ -11,9 +11,9 @@ use Rattle.swap_core.specs.States.{newcomer, joined_by_newcomer, merged}
 use Rattle.swap_core.specs.declared.actors.Actor.{Actor}
 use Rattle.swap_core.specs.declared.actors.ActorState.TheVariants.{Idle}
 use Rattle.swap_core.specs.declared.actors.DeskState.{DeskState}
-use Rattle.swap_core.proofs.ListLemmas.{at_there, at_set_else}
-use Rattle.swap_core.proofs.SumLemmas.{sum_changed}
-use Rattle.swap_core.proofs.Seating.{newcomer_sound, merged_sound}
+use Rattle.aftr_base.proofs.PlaceLemmas.{at_there, at_set_else}
+use Rattle.aftr_base.proofs.TotalLemmas.{sum_changed}
+use Rattle.swap_core.proofs.Laws.{newcomer_sound, merged_sound}
 use Rattle.area_swap.specs.declared.answers.Seen.{Seen}
 use Rattle.area_swap.specs.declared.board.View.{View}
 use Rattle.area_swap.specs.Views.{now_of, first_view, worker_view, desk_view, kept_half, new_half, together, with_desk_of, spent_view, latest, IsUpTo}

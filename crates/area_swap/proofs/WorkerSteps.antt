@@ -11,10 +11,10 @@ use Rattle.swap_core.specs.States.{count_of, looked, entered, confirmed, gone, d
 use Rattle.swap_core.specs.Sound.{HasClaimed, HoldsRightly}
 use Rattle.swap_core.specs.declared.actors.ActorState.{ActorState}
 use Rattle.swap_core.specs.declared.actors.ActorState.TheVariants.{Idle, Looked, Asks, Holds}
-use Rattle.swap_core.proofs.Bounds.{few_records}
-use Rattle.swap_core.proofs.Drawing.{draws_sound}
-use Rattle.swap_core.proofs.Moves.{looks_sound, enters_sound, confirms_sound, leaves_sound, claimed_area, counted_there, reads_whole}
-use Rattle.swap_core.proofs.PlanLemmas.{table_fits}
+use Rattle.swap_core.proofs.Laws.{few_records}
+use Rattle.swap_core.proofs.Laws.{draws_sound}
+use Rattle.swap_core.proofs.Laws.{looks_sound, enters_sound, confirms_sound, leaves_sound, claimed_area, counted_there, reads_whole}
+use Rattle.swap_core.proofs.Laws.{table_fits}
 use Rattle.area_swap.specs.declared.answers.Seen.{Seen}
 use Rattle.area_swap.specs.declared.board.View.{View}
 use Rattle.area_swap.specs.Views.{now_of, packed, unpacked, acting, reading, taking, IsUpTo}

@@ -27,11 +27,7 @@ sound_more own bs i x None e t sound before = λ n y l g. elim (cases_lt n i) [
       subst (IsSound own) (same_binding bs i x y e (subst (λ (m : ℕ). slice_get bs m ≡ Some y) same g)) sound)
 ]
 
--- what holds where an optional refusal is none, or of the one that there is
-pub when_none : (o : Option Refused) (P : Type 0) → is_some o ≡ false → IfNone o P → P
-when_none None P e h = h
-when_none (Some r) P e h = absurd (true≢false e)
-
+-- what holds of the optional refusal that there is
 pub some_map : (o : Option Refused) (P Q : Refused → Type 0) → ((r : Refused) → P r → Q r) → IfSome o P → IfSome o Q
 some_map None P Q turns h = tt
 some_map (Some r) P Q turns h = turns r h

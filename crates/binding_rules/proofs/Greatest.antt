@@ -6,16 +6,10 @@ use Rattle.std.proofs.Math.Nat.{mul-le-mul_right, div-mul-le_self, pow-le-pow_ri
 use Rattle.std.proofs.lemmas.Nat.{pow_pos, pow-add, and_mask, and_block, and_shr, and_mod, and_le_l, and_le_r, and_assoc, and_comm, one_shl, mod_below, div-mul-add, mod-mul-add, div-add-mod', shl_below, shr_below, le-div}
 use Rattle.port_set.specs.Shapes.{IsShape}
 use Rattle.port_set.specs.PortSets.{InSet, in_set}
-use Rattle.port_set.proofs.Members.{in_set_true, in_set_from}
+use Rattle.port_set.proofs.Laws.{all_bits, in_set_true, in_set_from}
 use Rattle.binding_rules.specs.declared.binding.Binding.{Binding}
 use Rattle.binding_rules.specs.Conflicts.{HaveCommonPort}
 use Rattle.binding_rules.specs.Steps.{IsWell, greatest}
-
--- the three numbers of possible values of the bits of the offset, of the identifier and behind it
-all_bits : (a k : ℕ) → IsShape a k → 2 ^ a * 2 ^ k * 2 ^ (16 - a - k) ≡ 65536
-all_bits a k shape =
-    let e : (a + k) + (16 - a - k) ≡ 16 = omega (arith, shape.sum_fits) in
-    ap (λ (n : ℕ). n * 2 ^ (16 - a - k)) (sym (pow-add 2 a k)) ∙ sym (pow-add 2 (a + k) (16 - a - k)) ∙ ap (λ (n : ℕ). 2 ^ n) e
 
 parts_of : (A K M s r : ℕ) → 0 < A → 0 < M → K ≡ s + 1 + r → A * K * M ≡ 65536 → 65535 - r * M ≡ ((A - 1) * K + s) * M + (M - 1)
 parts_of A K M s r some_a some_m e all =

@@ -8,9 +8,9 @@ use Rattle.std.proofs.lemmas.Nat.{pow_pos}
 use Rattle.port_set.specs.Shapes.{IsShape}
 use Rattle.port_set.specs.PortSets.{InSet, owned_ports}
 use Rattle.port_set.specs.Places.{owned_count}
-use Rattle.port_set.proofs.Members.{in_set_true, in_set_from, owned_ports_members}
-use Rattle.port_set.proofs.Shares.{owned_ports_are}
-use Rattle.port_set.proofs.Spans.{length-ports_between}
+use Rattle.port_set.proofs.Laws.{in_set_true, in_set_from, owned_ports_members}
+use Rattle.port_set.proofs.Laws.{owned_ports_are}
+use Rattle.port_set.proofs.Laws.{length-ports_between}
 use Rattle.binding_rules.specs.declared.binding.Binding.{Binding}
 use Rattle.binding_rules.specs.declared.conflicts.Pair.{Pair}
 use Rattle.binding_rules.specs.declared.settings.Edition.TheVariants as edition

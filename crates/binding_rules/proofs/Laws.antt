@@ -6,7 +6,7 @@ use Rattle.std.proofs.lemmas.Option.{same_Some, none-some}
 use Rattle.aftr_base.specs.declared.numbers.V4.{V4}
 use Rattle.port_set.specs.Shapes.{IsShape, IsNoShape}
 use Rattle.port_set.specs.PortSets.{InSet}
-use Rattle.port_set.proofs.Members.{in_set_from}
+use Rattle.port_set.proofs.Laws.{in_set_from}
 use Rattle.binding_rules.specs.declared.binding.Binding.{Binding}
 use Rattle.binding_rules.specs.declared.binding.Want.{Want}
 use Rattle.binding_rules.specs.declared.binding.Want.TheVariants as want

@@ -5,7 +5,7 @@ use Rattle.std.proofs.lemmas.List.{append-nil, get_or-set_same, get_or-set_other
 use Rattle.std.proofs.lemmas.List.Elements.{Contains-append_left, Contains-append_right, Contains-append_cases}
 use Rattle.std.proofs.lemmas.Option.{none-some, same_Some}
 use Rattle.port_set.specs.PortSets.{InSet}
-use Rattle.port_set.proofs.Members.{in_set_true, in_set_from}
+use Rattle.port_set.proofs.Laws.{in_set_true, in_set_from}
 use Rattle.binding_rules.specs.declared.binding.Binding.{Binding}
 use Rattle.binding_rules.specs.Steps.{IsLeast, IsMet, IsTaken, slot, counted, lesser_of}
 use Rattle.binding_rules.proofs.Leasts.{least_iff, least_or}

@@ -1,4 +1,4 @@
 pub mod FieldLemmas
-pub mod FirstLemmas
+pub mod Laws
 pub mod Packet4Lemmas
 pub mod Packet6Lemmas

@@ -13,7 +13,7 @@ use Rattle.aftr_base.proofs.SumLemmas.{checksum-sealed}
 use Rattle.ip_codec.specs.declared.packet4.Head4.{Head4}
 use Rattle.ip_codec.specs.Packet4.{Packet4, ip4_of, refusals4, fields4, header_len_of, total_len_of, bit, flag_worth, flags_of, fixed4, header4, made4}
 use Rattle.ip_codec.proofs.FieldLemmas.{span-append, span-take, big_endian-bytes_high_first, big_endian-word_bytes}
-use Rattle.ip_codec.proofs.FirstLemmas.{first_true-Ok, not-false}
+use Rattle.aftr_base.proofs.FirstLemmas.{first_true-Ok, not-false}
 
 -- the conditions under which nothing is refused, and what is read then
 pub ip4_of-good : (bytes header payload : List ℕ) (header_len total_len : ℕ) →

@@ -7,7 +7,7 @@ use Rattle.aftr_base.specs.Numbers.{big_endian, span}
 use Rattle.ip_codec.specs.declared.packet6.Head6.{Head6}
 use Rattle.ip_codec.specs.Packet6.{Packet6, ip6_of, refusals6, fields6, payload_len, bytes6, made6, version6}
 use Rattle.ip_codec.proofs.FieldLemmas.{big_endian-bytes_high_first, big_endian-word_bytes}
-use Rattle.ip_codec.proofs.FirstLemmas.{first_true-Ok, not-false}
+use Rattle.aftr_base.proofs.FirstLemmas.{first_true-Ok, not-false}
 
 -- the first word's highest four bits are those of the first byte
 pub version6-first : (bytes : List ℕ) → 4 ≤ length bytes → ((i : ℕ) → slice_index bytes i < 256) →

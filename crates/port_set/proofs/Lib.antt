@@ -1,5 +1,6 @@
 pub mod Blocks
 pub mod Fits
+pub mod Laws
 pub mod Members
 pub mod Owners
 pub mod Rows

@@ -6,11 +6,9 @@ use Rattle.std.proofs.lemmas.List.FromFn.{length-range_with_len, get_or-range_wi
 use Rattle.std.proofs.lemmas.List.Elements.{All-contains, All-from_get_or, All-filter, filter_passes}
 use Rattle.std.proofs.lemmas.List.Kept.{IsStrictlyIncreasing-filter}
 use Rattle.std.proofs.lemmas.Bool.{and_parts, and_from, or_cases, or_left, or_right, eqb-true, eq-eqb, ltb-true, lt-ltb, cases_Bool}
+use Rattle.aftr_base.proofs.MemberLemmas.{contains_after}
 use Rattle.port_set.specs.PortSets.{InSet, in_set, port_count, owned_ports}
 use Rattle.port_set.proofs.Shares.{port_count_is}
-
-contains_after : (x : ℕ) (xs : List ℕ) (p : ℕ) → Contains xs p → Contains (x ∷ xs) p
-contains_after x xs p h = (suc h.0, omega (arith, h.1), h.2)
 
 -- a filter keeps an element that passes
 contains_filter : (f : ℕ → Bool) (p : ℕ) → f p ≡ true → (xs : List ℕ) (i : ℕ) → i < length xs

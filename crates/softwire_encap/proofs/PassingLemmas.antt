@@ -5,8 +5,8 @@ use Rattle.aftr_base.specs.Numbers.{big_endian}
 use Rattle.aftr_base.specs.Sums.{checksum, sealed}
 use Rattle.aftr_base.proofs.SumLemmas.{checksum-sealed}
 use Rattle.ip_codec.specs.Packet4.{Packet4, ip4_of, fields4, total_len_of}
-use Rattle.ip_codec.proofs.FieldLemmas.{span-append}
-use Rattle.ip_codec.proofs.Packet4Lemmas.{ip4_of-Ok, ip4_of-joined, ip4_of-shaped}
+use Rattle.ip_codec.proofs.Laws.{span-append}
+use Rattle.ip_codec.proofs.Laws.{ip4_of-Ok, ip4_of-joined, ip4_of-shaped}
 use Rattle.softwire_encap.specs.Passing.{lowered_header, lowered, passed}
 
 -- the first four of a list, and the rest

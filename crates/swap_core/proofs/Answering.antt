@@ -13,7 +13,7 @@ use Rattle.swap_core.specs.declared.steps.NotNow.{NotNow}
 use Rattle.swap_core.specs.declared.steps.NotNow.TheVariants.{Stranger, Phase, Moved, Past, Hold}
 use Rattle.swap_core.specs.declared.steps.Took.{Took}
 use Rattle.swap_core.specs.declared.steps.Took.TheVariants.{Yes, No}
-use Rattle.swap_core.proofs.ListLemmas.{at_past}
+use Rattle.aftr_base.proofs.PlaceLemmas.{at_past}
 use Rattle.swap_core.specs.Sound.{HasClaimed}
 
 -- two reads of one place give one element

@@ -10,7 +10,7 @@ use Rattle.swap_core.specs.States.{CoreState, area, newcomer, opening, row_of}
 use Rattle.swap_core.specs.Sound.{Sound, HoldsRightly, IsDrawRight, times, how_many}
 use Rattle.swap_core.specs.declared.actors.Actor.{Actor}
 use Rattle.swap_core.specs.declared.actors.DeskState.TheVariants.{Resting}
-use Rattle.swap_core.proofs.ListLemmas.{at_replicate}
+use Rattle.aftr_base.proofs.PlaceLemmas.{at_replicate}
 use Rattle.swap_core.proofs.PlanLemmas.{table_fits}
 use Rattle.swap_core.proofs.Moves.{weight}
 

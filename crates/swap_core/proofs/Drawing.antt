@@ -10,8 +10,8 @@ use Rattle.swap_core.specs.Plans.{limit}
 use Rattle.swap_core.specs.States.{CoreState, IsActor, with_draw, drawn}
 use Rattle.swap_core.specs.Sound.{Sound, HoldsRightly, IsDrawRight, times, how_many, once_below, in_force}
 use Rattle.swap_core.specs.declared.actors.Actor.{Actor}
-use Rattle.swap_core.proofs.ListLemmas.{at_set}
-use Rattle.swap_core.proofs.SumLemmas.{sum_changed, sum_kept}
+use Rattle.aftr_base.proofs.PlaceLemmas.{at_set}
+use Rattle.aftr_base.proofs.TotalLemmas.{sum_changed, sum_kept}
 use Rattle.swap_core.proofs.Moves.{weight}
 
 -- at a number that no point is above, the version in force is the number of points

@@ -4,8 +4,7 @@ pub mod Bounds
 pub mod DeskMoves
 pub mod Drawing
 pub mod Kept
-pub mod ListLemmas
+pub mod Laws
 pub mod Moves
 pub mod PlanLemmas
 pub mod Seating
-pub mod SumLemmas

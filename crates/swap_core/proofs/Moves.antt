@@ -9,8 +9,8 @@ use Rattle.swap_core.specs.Sound.{Sound, HoldsRightly, IsDrawRight, HasClaimed, 
 use Rattle.swap_core.specs.declared.actors.Actor.{Actor}
 use Rattle.swap_core.specs.declared.actors.ActorState.{ActorState}
 use Rattle.swap_core.specs.declared.actors.ActorState.TheVariants.{Idle, Looked, Asks, Holds}
-use Rattle.swap_core.proofs.ListLemmas.{at_set}
-use Rattle.swap_core.proofs.SumLemmas.{sum_changed, sum_kept, part_of_sum}
+use Rattle.aftr_base.proofs.PlaceLemmas.{at_set}
+use Rattle.aftr_base.proofs.TotalLemmas.{sum_changed, sum_kept, part_of_sum}
 
 -- 1 where an actor in this state has claimed the area
 abbrev pub claim : ℕ → ActorState → ℕ

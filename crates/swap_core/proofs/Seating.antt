@@ -9,8 +9,8 @@ use Rattle.swap_core.specs.Sound.{Sound, HoldsRightly, IsDrawRight, times, how_m
 use Rattle.swap_core.specs.declared.actors.Actor.{Actor}
 use Rattle.swap_core.specs.declared.actors.ActorState.{ActorState}
 use Rattle.swap_core.specs.declared.actors.ActorState.TheVariants.{Idle}
-use Rattle.swap_core.proofs.ListLemmas.{at_set, at_push}
-use Rattle.swap_core.proofs.SumLemmas.{sum_moved}
+use Rattle.aftr_base.proofs.PlaceLemmas.{at_set, at_push}
+use Rattle.aftr_base.proofs.TotalLemmas.{sum_moved}
 use Rattle.swap_core.proofs.Moves.{claim, weight}
 
 -- the actors change so that no sum does, and each holds rightly and has drawn rightly

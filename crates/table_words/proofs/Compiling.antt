@@ -15,7 +15,7 @@ use Rattle.std.proofs.lemmas.List.Sorted.{IsNonDecreasingBy-from_all_adjacent, I
 use Rattle.std.proofs.lemmas.List.Sums.{length-filter}
 use Rattle.port_set.specs.PortSets.{in_set}
 use Rattle.port_set.specs.Shapes.{IsShape}
-use Rattle.port_set.proofs.Shares.{in_set_at, counts_from, tail_split}
+use Rattle.port_set.proofs.Laws.{in_set_at, counts_from, tail_split}
 use Rattle.binding_rules.specs.Bindings.{is_bound, bound}
 use Rattle.binding_rules.specs.Tables.{Rules, IsValid, IsLawful}
 use Rattle.binding_rules.specs.declared.binding.Binding.{Binding}

@@ -4,13 +4,8 @@ use Rattle.std.specs.List.{count_by}
 use Rattle.std.proofs.lemmas.List.Sums.{sum_by-cons}
 use Rattle.std.proofs.lemmas.Bool.{cases_Bool}
 use Rattle.binding_rules.specs.declared.binding.Binding.{Binding}
+use Rattle.aftr_base.proofs.MemberLemmas.{contains_after, contains_front}
 use Rattle.table_words.specs.Bounds.{greatest}
-
-pub contains_after : {X : Type 0} (x : X) (xs : List X) (y : X) → Contains xs y → Contains (x ∷ xs) y
-contains_after x xs y h = (suc h.0, omega (arith, h.1), h.2)
-
-pub contains_front : {X : Type 0} (x : X) (xs : List X) → Contains (x ∷ xs) x
-contains_front x xs = (0, omega arith, refl)
 
 pub count_cons : {X : Type 0} (test : X → Bool) (x : X) (xs : List X) → count_by test (x ∷ xs) ≡ cond (test x) 1 0 + count_by test xs
 count_cons test x xs = sum_by-cons (λ y. cond (test y) 1 0) x xs

@@ -2,7 +2,7 @@
 use Rattle.std.proofs.Common.{◌≡◌, zero, suc, ◌≤◌, Bool, true, false, List, [], ◌∷◌, length, filter, Contains, refl, ap, ◌∙◌, inl, inr, arith}
 use Rattle.std.specs.List.{list_any}
 use Rattle.std.proofs.lemmas.Bool.{cases_Bool, or_left, or_right, or_from}
-use Rattle.table_words.proofs.Counts.{contains_after, contains_front}
+use Rattle.aftr_base.proofs.MemberLemmas.{contains_after, contains_front}
 
 module _ {X : Type 0} (test : X → Bool) where
   pub any_passes : (xs : List X) (x : X) → Contains xs x → test x ≡ true → list_any test xs ≡ true

@@ -7,6 +7,7 @@ pub mod Filters
 pub mod Groups
 pub mod Halving
 pub mod Keys
+pub mod Laws
 pub mod Members
 pub mod Mixing
 pub mod Trying

@@ -6,7 +6,7 @@ use Rattle.std.proofs.lemmas.Option.{slice_get-get_or}
 use Rattle.binding_rules.specs.Tables.{Rules, IsLawful}
 use Rattle.port_set.specs.Shapes.{IsShape}
 use Rattle.binding_rules.specs.declared.binding.Binding.{Binding}
-use Rattle.table_words.proofs.Counts.{contains_after, contains_front}
+use Rattle.aftr_base.proofs.MemberLemmas.{contains_after, contains_front}
 
 pub contains_map : {X Y : Type 0} (f : X → Y) (xs : List X) (x : X) → Contains xs x → Contains (map f xs) (f x)
 contains_map f [] y (k, l, e) = absurd (omega arith)

@@ -16,7 +16,8 @@ use Rattle.table_words.specs.Bounds.{count_below, has_shape, shape_end, shape_co
 use Rattle.table_words.specs.Layout.{IsCompiled, is_mixed, flag, row, row_at}
 use Rattle.table_words.specs.Parts.{IsAscending, AreMixed}
 use Rattle.table_words.specs.Spans.{first_at, IsGroup, AreAlike}
-use Rattle.table_words.proofs.Counts.{contains_after, contains_front, le_greatest}
+use Rattle.aftr_base.proofs.MemberLemmas.{contains_after, contains_front}
+use Rattle.table_words.proofs.Counts.{le_greatest}
 use Rattle.table_words.proofs.Digits.{count_below_mono, count_below_more}
 use Rattle.table_words.proofs.Filters.{any_passes}
 use Rattle.table_words.proofs.Groups.{fields}

@@ -294,10 +294,6 @@ pub if_some : (o : Option V6) (P : Type 0) → P → IfSome o (λ _. P)
 if_some None P h = tt
 if_some (Some b4) P h = h
 
-pub when_none : (o : Option V6) (P : Type 0) → is_some o ≡ false → IfNone o P → P
-when_none None P e h = h
-when_none (Some b4) P e h = absurd (true≢false e)
-
 pub span_rest : (words : List ℕ) (from to at : ℕ) → IsSpan words from to → at ≤ to → IsSpan words at to
 span_rest words from to at s l = record { ordered = l; few = s.few; within = s.within; ascending = s.ascending; rising = s.rising; shapes = s.shapes }
 

@@ -24,7 +24,8 @@ use Rattle.verdict_core.specs.Fitting.{Carries, Fits, HasRoom, IsPlain}
 use Rattle.verdict_core.specs.Verdicts.{Judged, Line, is_checksum, is_icmp_bad, is_not_built, is_not_built_by_settings, is_softwire, lines, names_no_port, owners, silent, up_lines}
 use Rattle.verdict_core.specs.declared.verdicts.Verdict.{Verdict}
 use Rattle.verdict_core.specs.declared.verdicts.Verdict.TheVariants as verdict
-use Rattle.verdict_core.proofs.Firsts.{Choice, first_line, first_or_later}
+use Rattle.aftr_base.proofs.FirstLemmas.{Choice, first_or_later}
+use Rattle.verdict_core.proofs.Firsts.{first_line}
 
 -- the verdict where the sender may not send
 record IsRefused (t : Rules) (outer : Outer) (inner : List ℕ) (v : Verdict) : Type 0 where

@@ -2,7 +2,8 @@ use Rattle.std.proofs.Common.{subst, sym, ◌∙◌}
 use Rattle.std.proofs.lemmas.Option.{slice_get_within}
 use Rattle.binding_rules.specs.Conflicts.{Conflict}
 use Rattle.binding_rules.specs.Steps.{IsFirstPair}
-use Rattle.binding_rules.proofs.Firsts.{when_none, some_map, first_place, first_pair, none_applies}
+use Rattle.aftr_base.proofs.MemberLemmas.{when_none}
+use Rattle.binding_rules.proofs.Firsts.{some_map, first_place, first_pair, none_applies}
 use Rattle.binding_rules.proofs.table.first_refusal.Goals as goal
 
 pub returns-then-is_some-2-clause-first : goal.returns-then-is_some-2-clause-first

@@ -4,7 +4,8 @@ use Rattle.table_words.specs.Bounds.{group_digits, found_bound}
 use Rattle.table_words.specs.Spans.{first_at, IsBoundary, IsSpan, IsFound, IsNotFound, AreAlike, IsOwner, HasNoOwner}
 use Rattle.table_words.proofs.Mixing.{are_alike, not_one_shape, not_edition_one}
 use Rattle.table_words.proofs.Halving.{reads_on}
-use Rattle.table_words.proofs.Trying.{tried_none, none_left, none_cost, search_cost, rest_small, tried_more, found_here, found_cost, some_is, if_some, when_none, span_rest, next_fits, above_address, found_below, alike_answer, alike_cost}
+use Rattle.aftr_base.proofs.MemberLemmas.{when_none}
+use Rattle.table_words.proofs.Trying.{tried_none, none_left, none_cost, search_cost, rest_small, tried_more, found_here, found_cost, some_is, if_some, span_rest, next_fits, above_address, found_below, alike_answer, alike_cost}
 use Rattle.table_words.proofs.lookups.look.Goals as goal
 
 pub owner_alike-requires-clause-alike : goal.owner_alike-requires-clause-alike

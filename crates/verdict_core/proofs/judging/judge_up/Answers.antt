@@ -2,7 +2,7 @@ use Rattle.std.proofs.Common.{ℕ, ◌-◌, List, sym, ap, ◌∙◌, subst, ari
 use Rattle.aftr_base.specs.First.{first_true}
 use Rattle.ip_codec.specs.Packet4.{packet4}
 use Rattle.table_words.specs.Layout.{IsCompiled}
-use Rattle.table_words.proofs.Halving.{reads_on}
+use Rattle.table_words.proofs.Laws.{reads_on}
 use Rattle.verdict_core.specs.Verdicts.{up_lines}
 use Rattle.verdict_core.specs.declared.verdicts.Verdict.TheVariants as verdict
 use Rattle.verdict_core.proofs.Exits.{at_end, at_foreign, at_icmp_bad, at_no_binding, at_no_port, at_not_built, at_self, not_icmp}

@@ -1,6 +1,6 @@
 use Rattle.std.proofs.Common.{rules, arith, ◌≡◌, ◌<◌, ◌∙◌, ◌%◌, ◌≤◌, length, ap, subst, sym}
 use Rattle.swap_core.specs.Plans.{width}
-use Rattle.swap_core.proofs.PlanLemmas.{table_fits}
+use Rattle.swap_core.proofs.Laws.{table_fits}
 use Rattle.area_swap.specs.Values.{SeatValue, HoldsOne}
 use Rattle.area_swap.specs.Views.{held_table, held_version}
 use Rattle.area_swap.proofs.Belonging.{knows_plan}

@@ -2,7 +2,7 @@ use Rattle.std.proofs.Common.{arith, ◌≡◌, ◌+◌, ◌%◌, ◌<◌, ◌�
 use Rattle.swap_core.specs.Plans.{Tables, IsTableSize, table, width}
 use Rattle.swap_core.specs.Sound.{IsAtWork}
 use Rattle.swap_core.specs.declared.actors.DeskState.{DeskState}
-use Rattle.swap_core.proofs.PlanLemmas.{table_fits}
+use Rattle.swap_core.proofs.Laws.{table_fits}
 use Rattle.area_swap.specs.Values.{SeatValue, IsClear}
 use Rattle.area_swap.proofs.Belonging.{knows_plan}
 use Rattle.area_swap.proofs.Packing.{table_in_row}

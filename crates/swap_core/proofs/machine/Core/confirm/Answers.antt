@@ -6,7 +6,7 @@ use Rattle.swap_core.specs.declared.actors.Actor.{Actor}
 use Rattle.swap_core.specs.declared.actors.ActorState.TheVariants.{Asks}
 use Rattle.swap_core.specs.declared.steps.Took.TheVariants.{Yes}
 use Rattle.swap_core.proofs.Answering.{stranger, stays, acts, same_read, taken, confirm_else, confirm_moved, confirm_held}
-use Rattle.swap_core.proofs.ListLemmas.{at_index}
+use Rattle.aftr_base.proofs.PlaceLemmas.{at_index}
 use Rattle.swap_core.proofs.Moves.{confirms_sound}
 use Rattle.swap_core.proofs.machine.Core.confirm.Goals as goal
 

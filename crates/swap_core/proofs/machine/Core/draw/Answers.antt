@@ -9,7 +9,7 @@ use Rattle.swap_core.specs.declared.actors.Actor.{Actor}
 use Rattle.swap_core.specs.declared.actors.ActorState.TheVariants.{Holds}
 use Rattle.swap_core.specs.declared.steps.Took.TheVariants.{Yes}
 use Rattle.swap_core.proofs.Answering.{stranger, stays, acts, same_read, taken, draw_else, draw_moved, draw_hold, draw_next}
-use Rattle.swap_core.proofs.ListLemmas.{at_index}
+use Rattle.aftr_base.proofs.PlaceLemmas.{at_index}
 use Rattle.swap_core.proofs.Drawing.{draws_sound}
 use Rattle.swap_core.proofs.machine.Core.draw.Goals as goal
 

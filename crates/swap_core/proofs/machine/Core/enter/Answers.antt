@@ -4,7 +4,7 @@ use Rattle.swap_core.specs.Views.{state_of}
 use Rattle.swap_core.specs.declared.actors.Actor.{Actor}
 use Rattle.swap_core.specs.declared.actors.ActorState.TheVariants.{Looked}
 use Rattle.swap_core.proofs.Answering.{stranger, stays, acts, same_read, enter_else}
-use Rattle.swap_core.proofs.ListLemmas.{at_index}
+use Rattle.aftr_base.proofs.PlaceLemmas.{at_index}
 use Rattle.swap_core.proofs.Moves.{enters_sound}
 use Rattle.swap_core.proofs.machine.Core.enter.Goals as goal
 

@@ -5,7 +5,7 @@ use Rattle.swap_core.specs.Steps.{leave}
 use Rattle.swap_core.specs.Views.{state_of}
 use Rattle.swap_core.specs.declared.actors.Actor.{Actor}
 use Rattle.swap_core.proofs.Answering.{stranger, stays, acts, same_read, taken, leave_else, leave_claimed}
-use Rattle.swap_core.proofs.ListLemmas.{at_index}
+use Rattle.aftr_base.proofs.PlaceLemmas.{at_index}
 use Rattle.swap_core.proofs.Moves.{leaves_sound, claimed_area, counted_there}
 use Rattle.swap_core.proofs.machine.Core.leave.Goals as goal
 

@@ -5,7 +5,7 @@ use Rattle.swap_core.specs.declared.actors.Actor.{Actor}
 use Rattle.swap_core.specs.declared.actors.ActorState.TheVariants.{Idle}
 use Rattle.swap_core.specs.declared.steps.Took.TheVariants.{Yes}
 use Rattle.swap_core.proofs.Answering.{stranger, stays, acts, same_read, look_else}
-use Rattle.swap_core.proofs.ListLemmas.{at_index}
+use Rattle.aftr_base.proofs.PlaceLemmas.{at_index}
 use Rattle.swap_core.proofs.Moves.{looks_sound}
 use Rattle.swap_core.proofs.machine.Core.look.Goals as goal
 

@@ -8,7 +8,7 @@ use Rattle.swap_core.specs.declared.steps.Took.TheVariants.{Yes}
 use Rattle.swap_core.proofs.Answering.{stranger, stays, still, taken, read_else, read_past, read_word}
 use Rattle.std.proofs.lemmas.List.{get_or_default}
 use Rattle.swap_core.proofs.PlanLemmas.{table_fits}
-use Rattle.swap_core.proofs.ListLemmas.{at_index}
+use Rattle.aftr_base.proofs.PlaceLemmas.{at_index}
 use Rattle.swap_core.proofs.Moves.{claimed_area, held_there}
 use Rattle.swap_core.proofs.machine.Core.read.Goals as goal
 

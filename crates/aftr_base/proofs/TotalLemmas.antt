@@ -1,9 +1,9 @@
--- Sums over the actors: how they change where one actor does, where one comes, and where draws move.
+-- Sums over a list: how they change where one element does, and where what one counts goes to another.
 use Rattle.std.proofs.Common.{◌≡◌, ℕ, ◌+◌, ◌≤◌, ◌≢◌, List, get_or, set, sum_by, sym, ap, ◌∙◌, arith}
 use mathlib.Core.Option.{some}
 use lib.ListN.{get_elem?}
 use Rattle.std.proofs.lemmas.List.Sums.{sum_by-set, get_or-le-sum_by}
-use Rattle.swap_core.proofs.ListLemmas.{at_there, at_read, at_set_else}
+use Rattle.aftr_base.proofs.PlaceLemmas.{at_there, at_read, at_set_else}
 
 module _ {A : Type 0} (f : A → ℕ) where
   -- the element x gives way to y
