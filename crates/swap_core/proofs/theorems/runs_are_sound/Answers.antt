@@ -1,5 +1,5 @@
 use Rattle.swap_core.proofs.Kept.{runs_sound}
-use Rattle.swap_core.proofs.laws.runs_are_sound.Goals as goal
+use Rattle.swap_core.proofs.theorems.runs_are_sound.Goals as goal
 
 pub returns : goal.returns
 returns c = runs_sound
