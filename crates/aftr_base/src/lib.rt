@@ -28,3 +28,5 @@ pub use sums::{patch16, put_checksum, sum16};
 
 #[cfg(test)]
 mod outside_tests;
+#[cfg(test)]
+mod real_tests;
