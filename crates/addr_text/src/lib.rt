@@ -5,8 +5,6 @@
 mod ipv4;
 mod ipv6;
 mod laws;
-#[cfg(test)]
-mod tests;
 
 pub use ipv4::{BadText, read_v4, write_v4};
 pub use ipv6::{read_v6, write_v6};

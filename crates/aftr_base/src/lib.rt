@@ -25,8 +25,3 @@ pub use quiet::QuietFiles;
 pub use real::RealFiles;
 pub use real_sink::RealSink;
 pub use sums::{patch16, put_checksum, sum16};
-
-#[cfg(test)]
-mod outside_tests;
-#[cfg(test)]
-mod real_tests;

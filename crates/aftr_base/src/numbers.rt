@@ -48,18 +48,3 @@ pub fn put_be16(bytes: &mut [u8], at: usize, word: u16)
 {
     bytes[at..at + 2].copy_from_slice(&word.to_be_bytes());
 }
-
-#[cfg(test)]
-mod tests {
-    use super::*;
-
-    #[test]
-    fn reads_in_network_order(rt: HostRuntime) {
-        let bytes = [
-            9, 0x20, 0x01, 0x0d, 0xb8, 0, 1, 0, 0, 0, 0, 0, 0, 0, 0, 0, 1,
-        ];
-        assert_eq!(rt; be16(&bytes, 1), 0x2001);
-        assert_eq!(rt; be32(&bytes, 1), 0x2001_0db8);
-        assert_eq!(rt; be128(&bytes, 1), 0x2001_0db8_0001_0000_0000_0000_0000_0001);
-    }
-}

@@ -4,8 +4,6 @@
 mod lines;
 mod numbers;
 mod summaries;
-#[cfg(test)]
-mod tests;
 
 pub use lines::{ended_line, initial_line, verdict_line};
 pub use summaries::{Totals, summary};

@@ -10,10 +10,6 @@ mod board;
 mod desk;
 mod history;
 mod plays;
-#[cfg(test)]
-mod tests;
-#[cfg(test)]
-mod thread_tests;
 mod worker;
 
 pub use answers::{Claim, Draw, Due, Quiet, Seen};

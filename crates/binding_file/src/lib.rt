@@ -7,8 +7,6 @@ mod laws;
 mod names;
 mod reading;
 mod refusals;
-#[cfg(test)]
-mod tests;
 mod writing;
 
 pub use laws::one_table;

@@ -20,6 +20,3 @@ pub use lookup::find;
 pub use refused::{Refused, TableError};
 pub use settings::{Edition, Softwire};
 pub use table::{Table, table_of};
-
-#[cfg(test)]
-mod tests;

@@ -7,8 +7,6 @@ mod frames;
 mod header;
 mod laws;
 mod record;
-#[cfg(test)]
-mod tests;
 mod words;
 
 pub use forms::{CaptureBad, CaptureError, Form, Next, Rec};

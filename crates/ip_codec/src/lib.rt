@@ -11,6 +11,3 @@ pub use items::{Item, Outer};
 pub use packet4::{Head4, Ip4Bad, Ip4View, ip4, put4};
 pub use packet6::{Head6, Ip6Bad, Ip6View, ip6, put6};
 pub use rules::Rule;
-
-#[cfg(test)]
-mod tests;

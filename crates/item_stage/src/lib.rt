@@ -5,8 +5,6 @@
 mod entries;
 mod reading;
 mod stage;
-#[cfg(test)]
-mod tests;
 
 pub use entries::{Entries, Entry};
 pub use stage::Stage;

@@ -1,10 +1,11 @@
 // How captures end, which of them are refused, and the words.
-use crate::captures::{HEADER, LOWERED, TUNNELLED, capture, hex, put_record};
+use crate::captures::{HEADER, capture, hex, put_record, tunnelled};
 use crate::cases::words_of;
-use crate::runs::{SHARED, WHOLE, WORDS, files_of, run, run_over};
+use crate::runs::{WORDS, files_of, run, run_over};
 use aftr_base::{MemFiles, MemSink};
 use binding_file::{FileRefused, Name, Place};
 use capture_io::CaptureBad;
+use case_data::{PORT_SET_TABLE, UP_LOWERED, WHOLE_TABLE};
 use lwaftr_engine::{Status, code, status_line};
 use std::alloc::Global;
 use std::test::Fail;
@@ -12,14 +13,14 @@ use std::test::Fail;
 /// A capture of the lowered datagram, of this second and fraction of a second, behind a file header.
 fn written(alloc: Global, header: &str, seconds: u32, fraction: u32) -> Result<Vec<u8>, Fail> {
     let mut list = hex(alloc, header)?;
-    put_record(&mut list, seconds, fraction, &hex(alloc, LOWERED)?)?;
+    put_record(&mut list, seconds, fraction, UP_LOWERED)?;
     Ok(list)
 }
 
 #[test]
 fn the_first_capture_gives_three_files_and_a_summary(rt: HostRuntime) -> Result<(), Fail> {
     let alloc = rt.alloc();
-    let ran = run(alloc, &capture(alloc, 1)?, WHOLE)?;
+    let ran = run(alloc, &capture(alloc, 1)?, WHOLE_TABLE)?;
     let written = written(alloc, HEADER, 1, 0)?;
     assert!(rt; ran.status == Status::Done);
     assert!(rt; ran.packets() == written.as_slice());
@@ -45,7 +46,7 @@ fn status_of(size: usize) -> Status {
 /// The run over the first bytes of one record ends as it should. From the file header's end on there are outputs and a
 /// summary, of one record only where it is whole.
 fn ends_well(alloc: Global, front: &[u8], size: usize) -> Result<bool, Fail> {
-    let ran = run(alloc, front, WHOLE)?;
+    let ran = run(alloc, front, WHOLE_TABLE)?;
     let said = match size {
         0..24 => "",
         112 => "records 1 held 0 forwarded 1 dropped 0 packets 1 version 0\n",
@@ -100,7 +101,7 @@ fn a_refused_capture_is_named(rt: HostRuntime) -> Result<(), Fail> {
         }
         let status = Status::BadCapture(refusal);
         assert!(rt;
-            is_refused(alloc, &bytes, WHOLE, status, 6, line)?,
+            is_refused(alloc, &bytes, WHOLE_TABLE, status, 6, line)?,
             "{line}"
         );
     }
@@ -131,8 +132,10 @@ const NANOSECONDS: &str = "4d3cb2a1 02000400 00000000 00000000 00000400 65000000
 #[test]
 fn a_big_endian_ethernet_capture_in_nanoseconds(rt: HostRuntime) -> Result<(), Fail> {
     let alloc = rt.alloc();
-    let text = format!(in alloc; "{FRONT}{TUNNELLED}{BEHIND}")?;
-    let ran = run(alloc, &hex(alloc, &text)?, SHARED)?;
+    let mut bytes = hex(alloc, FRONT)?;
+    bytes.extend_from_slice(&tunnelled(alloc)?)?;
+    bytes.extend_from_slice(&hex(alloc, BEHIND)?)?;
+    let ran = run(alloc, &bytes, PORT_SET_TABLE)?;
     let written = written(alloc, NANOSECONDS, 0x6553_f100, 0x075b_cd15)?;
     assert!(rt; ran.status == Status::Done);
     assert_eq!(rt;
@@ -184,8 +187,8 @@ fn other_words_ask_for_no_job(rt: HostRuntime) -> Result<(), Fail> {
 #[test]
 fn a_name_may_be_a_dash(rt: HostRuntime) -> Result<(), Fail> {
     let alloc = rt.alloc();
-    let mut files = files_of(alloc, &capture(alloc, 1)?, WHOLE)?;
-    files.set(alloc, "-", WHOLE.as_bytes())?;
+    let mut files = files_of(alloc, &capture(alloc, 1)?, WHOLE_TABLE)?;
+    files.set(alloc, "-", WHOLE_TABLE.as_bytes())?;
     let mut words = WORDS;
     words[5] = "-";
     let ran = run_over(alloc, &words, files, MemSink::new(alloc));

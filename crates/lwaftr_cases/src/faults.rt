@@ -1,8 +1,9 @@
 // Each call of the outside failing in turn.
 use crate::captures::{capture, lowered};
-use crate::runs::{Ran, WHOLE, WORDS, files_of, run_over};
+use crate::runs::{Ran, WORDS, files_of, run_over};
 use aftr_base::MemSink;
 use binding_file::{FileRefused, Name, Place};
+use case_data::WHOLE_TABLE;
 use lwaftr_engine::Status;
 use std::alloc::Global;
 use std::test::Fail;
@@ -81,14 +82,15 @@ impl Seen {
 
 /// The run over this capture in which this call is to fail.
 fn run_failing(alloc: Global, capture: &[u8], call: u64) -> Result<Ran, Fail> {
-    let mut files = files_of(alloc, capture, WHOLE)?;
+    let mut files = files_of(alloc, capture, WHOLE_TABLE)?;
     files.fail_at(alloc, call)?;
     Ok(run_over(alloc, &WORDS, files, MemSink::new(alloc)))
 }
 
 /// The capture and the table are as they were.
 fn keeps_inputs(ran: &Ran, capture: &[u8]) -> bool {
-    ran.files.files.get("in.pcap").unwrap_or(&[]) == capture && ran.files.text("t0.toml") == WHOLE
+    ran.files.files.get("in.pcap").unwrap_or(&[]) == capture
+        && ran.files.text("t0.toml") == WHOLE_TABLE
 }
 
 #[test]
@@ -116,7 +118,7 @@ fn the_sink_may_fail(rt: HostRuntime) -> Result<(), Fail> {
     let alloc = rt.alloc();
     let mut out = MemSink::new(alloc);
     out.fail_at(alloc, 0)?;
-    let files = files_of(alloc, &capture(alloc, 2)?, WHOLE)?;
+    let files = files_of(alloc, &capture(alloc, 2)?, WHOLE_TABLE)?;
     let ran = run_over(alloc, &WORDS, files, out);
     let packets = lowered(alloc, 2)?;
     assert!(rt; ran.status == Status::WriteFault);
@@ -128,7 +130,7 @@ fn the_sink_may_fail(rt: HostRuntime) -> Result<(), Fail> {
 
 /// The run without the file of this word ends with a read fault, after one read that failed, and leaves nothing.
 fn is_missed(alloc: Global, missing: usize) -> Result<bool, Fail> {
-    let files = files_of(alloc, &capture(alloc, 1)?, WHOLE)?;
+    let files = files_of(alloc, &capture(alloc, 1)?, WHOLE_TABLE)?;
     let mut words = WORDS;
     if let Some(word) = words.get_mut(missing) {
         *word = "not-there";

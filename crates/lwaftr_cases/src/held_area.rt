@@ -7,7 +7,8 @@ ghost use Rattle.area_swap.specs.Views.{held_table};
 
 use aftr_base::{V4, V6};
 use area_swap::{Areas, Claim, WorkerSeat, prepare};
-use binding_rules::{Binding, Edition, Softwire, Table, TableError, Want, table_of};
+use binding_rules::{Binding, Edition, Table, TableError, Want, table_of};
+use case_data::{SETTINGS, SHARED, SUBSCRIBER};
 use std::alloc::Global;
 use std::marker::Brand;
 use std::sync::ledger::{Blank, Ledger};
@@ -77,24 +78,12 @@ fn owner(areas: &Areas, seat: &mut WorkerSeat, v4: V4, port: u16) -> Option<V6>
     look_in::<Brand>(areas, seat, v4, Want::Port(port), Blank::new(1))
 }
 
-const SETTINGS: Softwire = Softwire {
-    aftr: V6(0x2001_0db8_0000_0000_0000_0000_0000_0001),
-    own: V4(0xc000_0201),
-    mtu4: 1500,
-    mtu6: 1500,
-    hop_limit: 64,
-    hairpin: true,
-    icmp_in: true,
-    errors_up: false,
-    errors_down: false,
-};
-
 // The table of one subscriber, who owns the ports 1232 to 1235, 2256 and more of 203.0.113.1 (RFC 7597, appendix A).
 fn one_binding(alloc: Global) -> Result<Table, TableError> {
     let mut bindings = Vec::new(alloc);
     let binding = Binding {
-        b4: V6(0x2001_0db8_0001_0000_0000_0000_0000_0001),
-        v4: V4(0xcb00_7101),
+        b4: SUBSCRIBER,
+        v4: SHARED,
         offset: 6,
         length: 8,
         psid: 52,
@@ -114,12 +103,9 @@ fn looks_a_port_up_in_a_held_area(rt: HostRuntime) -> Result<(), Fail> {
     let Claim::Held { version: 0 } = areas.claim(&mut seat) else {
         panic!(rt; "not held")
     };
-    let b4 = owner(&areas, &mut seat, V4(0xcb00_7101), 1232);
-    let none = owner(&areas, &mut seat, V4(0xcb00_7101), 1236);
+    let b4 = owner(&areas, &mut seat, SHARED, 1232);
+    let none = owner(&areas, &mut seat, SHARED, 1236);
     areas.leave(&mut seat);
-    assert_eq!(rt;
-        (b4, none),
-        (Some(V6(0x2001_0db8_0001_0000_0000_0000_0000_0001)), None)
-    );
+    assert_eq!(rt; (b4, none), (Some(SUBSCRIBER), None));
     Ok(())
 }

@@ -1,5 +1,5 @@
-//! Tests that cross crates: the worked cases of the whole program over files in memory, and lookups of a table in a held
-//! area. Nothing stands on this crate.
+//! Tests of the whole program over files in memory (lwaftr_engine), and of lookups of a table in a held area. Nothing
+//! stands on this crate.
 #![tactic(auto)]
 
 #[cfg(test)]

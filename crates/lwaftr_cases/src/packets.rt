@@ -1,7 +1,8 @@
 // Packets from subscribers: which of them go out, and what is written.
 use crate::captures::{HEADER, hex, put_record};
 use crate::cases::parts;
-use crate::runs::{ERRORS, ERRORS_DOWN, SHARED, WHOLE, run};
+use crate::runs::run;
+use case_data::{PORT_SET_TABLE, WHOLE_TABLE};
 use lwaftr_engine::Status;
 use std::alloc::Global;
 use std::test::Fail;
@@ -48,13 +49,21 @@ no IP|whole|drop frame-type 0|500000000020044020010db800010000000000000000000120
 empty|whole|drop frame-short 0|-|-
 ";
 
+/// The whole address, and this key among the settings.
+fn whole_with(alloc: Global, key: &str) -> Result<String, Fail> {
+    let (settings, bindings) = WHOLE_TABLE
+        .split_once("[[binding]]")
+        .ok_or("a table with a binding")?;
+    Ok(format!(in alloc; "{settings}{key}\n[[binding]]{bindings}")?)
+}
+
 /// The table of this name.
-fn table(name: &str) -> &'static str {
+fn table(alloc: Global, name: &str) -> Result<String, Fail> {
     match name {
-        "shared" => SHARED,
-        "errors" => ERRORS,
-        "errors down" => ERRORS_DOWN,
-        _ => WHOLE,
+        "shared" => Ok(String::from_str(alloc, PORT_SET_TABLE)?),
+        "errors" => whole_with(alloc, "errors_up = true"),
+        "errors down" => whole_with(alloc, "errors_down = true"),
+        _ => Ok(String::from_str(alloc, WHOLE_TABLE)?),
     }
 }
 
@@ -77,7 +86,8 @@ fn written_of(alloc: Global, sent: &str) -> Result<Vec<u8>, Fail> {
 fn is_right(alloc: Global, case: &str) -> Result<bool, Fail> {
     let (_, kind, outcome, packets) = parts(case).ok_or("a case")?;
     let (packet, sent) = packets.split_once('|').ok_or("a packet")?;
-    let ran = run(alloc, &capture_of(alloc, packet)?, table(kind))?;
+    let table = table(alloc, kind)?;
+    let ran = run(alloc, &capture_of(alloc, packet)?, table.as_str())?;
     let written = written_of(alloc, sent)?;
     let said = ran.files.text("verdicts.txt");
     Ok(

@@ -1,7 +1,8 @@
 // Questions about a table file.
 use crate::cases::{parts, words_of};
-use crate::runs::{Ran, SHARED, WHOLE, run_over};
+use crate::runs::{Ran, run_over};
 use aftr_base::{MemFiles, MemSink};
+use case_data::{PORT_SET_TABLE, WHOLE_TABLE};
 use lwaftr_engine::{Status, code, status_line};
 use std::alloc::Global;
 use std::test::Fail;
@@ -77,8 +78,8 @@ who t 203.0.113.1 0x1|whole|2|usage";
 /// The texts that make the table of this name, one behind another.
 fn texts(name: &str) -> [&'static str; 4] {
     match name {
-        "whole" => [WHOLE, "", "", ""],
-        "shared" => [SHARED, "", "", ""],
+        "whole" => [WHOLE_TABLE, "", "", ""],
+        "shared" => [PORT_SET_TABLE, "", "", ""],
         "none" => ["version = 1", SETTINGS, "", ""],
         "one 80" => ["version = 1", SETTINGS, FIRST, "80\n"],
         "two 80" => ["version = 2", SETTINGS, FIRST, "80\n"],
@@ -153,7 +154,7 @@ fn questions_are_answered(rt: HostRuntime) -> Result<(), Fail> {
     for case in CASES.lines() {
         assert!(rt; is_right(alloc, case)?, "{case}");
     }
-    let files = table_file(alloc, WHOLE)?;
+    let files = table_file(alloc, WHOLE_TABLE)?;
     let ran = ask(alloc, "check t", files, MemSink::new(alloc))?;
     assert_eq!(rt; ran.said(), "valid 1 bindings\n");
     Ok(())
@@ -191,14 +192,14 @@ fn a_table_has_65536_bindings_at_most(rt: HostRuntime) -> Result<(), Fail> {
 fn is_lost_at_the_sink(alloc: Global, question: &str) -> Result<bool, Fail> {
     let mut out = MemSink::new(alloc);
     out.fail_at(alloc, 0)?;
-    let ran = ask(alloc, question, table_file(alloc, WHOLE)?, out)?;
+    let ran = ask(alloc, question, table_file(alloc, WHOLE_TABLE)?, out)?;
     Ok(ran.status == Status::WriteFault && ran.said() == "" && ran.files.lost == 0)
 }
 
 /// The question is done where this call of the files is to fail, as it comes to no such call; else it ends with a read fault,
 /// and nothing is put.
 fn is_done_without(alloc: Global, question: &str, call: u64) -> Result<Option<bool>, Fail> {
-    let mut files = table_file(alloc, WHOLE)?;
+    let mut files = table_file(alloc, WHOLE_TABLE)?;
     files.fail_at(alloc, call)?;
     let ran = ask(alloc, question, files, MemSink::new(alloc))?;
     Ok(match ran.status {

@@ -1,7 +1,8 @@
 // More records than one round takes.
-use crate::captures::{HEADER, LOWERED, TUNNELLED, hex, put_record};
-use crate::runs::{SHARED, WORDS, Watched, files_of, run_watched};
+use crate::captures::{HEADER, hex, put_record, tunnelled};
+use crate::runs::{WORDS, Watched, files_of, run_watched};
 use aftr_base::MemSink;
+use case_data::{PORT_SET_TABLE, UP_LOWERED};
 use lwaftr_engine::Status;
 use std::alloc::Global;
 use std::test::Fail;
@@ -13,7 +14,7 @@ const PLACE: u64 = 24 + 32_768 * 88;
 
 /// The datagram in the tunnel from port 1236, which is another subscriber's.
 fn foreign(alloc: Global) -> Result<Vec<u8>, Fail> {
-    let mut packet = hex(alloc, TUNNELLED)?;
+    let mut packet = tunnelled(alloc)?;
     if let Some(low) = packet.get_mut(61) {
         *low = 0xd4;
     }
@@ -26,7 +27,7 @@ fn is_owned(number: u32) -> bool {
 }
 
 fn records(alloc: Global) -> Result<Vec<u8>, Fail> {
-    let owned = hex(alloc, TUNNELLED)?;
+    let owned = tunnelled(alloc)?;
     let foreign = foreign(alloc)?;
     let mut bytes = hex(alloc, HEADER)?;
     for number in 0..COUNT {
@@ -38,11 +39,10 @@ fn records(alloc: Global) -> Result<Vec<u8>, Fail> {
 
 /// The packets that leave, each with the time of its record.
 fn packets(alloc: Global) -> Result<Vec<u8>, Fail> {
-    let packet = hex(alloc, LOWERED)?;
     let mut bytes = hex(alloc, HEADER)?;
     for number in 0..COUNT {
         if is_owned(number) {
-            put_record(&mut bytes, number, 5, &packet)?;
+            put_record(&mut bytes, number, 5, UP_LOWERED)?;
         }
     }
     Ok(bytes)
@@ -65,7 +65,7 @@ fn verdicts(alloc: Global) -> Result<String, Fail> {
 #[test]
 fn records_are_written_in_rounds(rt: HostRuntime) -> Result<(), Fail> {
     let alloc = rt.alloc();
-    let mut files = Watched::new(files_of(alloc, &records(alloc)?, SHARED)?);
+    let mut files = Watched::new(files_of(alloc, &records(alloc)?, PORT_SET_TABLE)?);
     files.place = PLACE;
     let ran = run_watched(alloc, &WORDS, files, MemSink::new(alloc));
     let lines = verdicts(alloc)?;

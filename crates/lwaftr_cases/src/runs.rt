@@ -14,51 +14,6 @@ pub const WORDS: [&str; 6] = [
     "t0.toml",
 ];
 
-/// One subscriber with a whole address.
-pub const WHOLE: &str = "version = 1
-[softwire]
-aftr = \"2001:db8::1\"
-own = \"192.0.2.1\"
-[[binding]]
-b4 = \"2001:db8:1::1\"
-ipv4 = \"203.0.113.1\"
-";
-
-/// One subscriber with a port set.
-pub const SHARED: &str = "version = 1
-[softwire]
-aftr = \"2001:db8::1\"
-own = \"192.0.2.1\"
-[[binding]]
-b4 = \"2001:db8:1::1\"
-ipv4 = \"203.0.113.1\"
-offset = 6
-length = 8
-psid = 52
-";
-
-/// The whole address, and errors are sent to subscribers.
-pub const ERRORS: &str = "version = 1
-[softwire]
-aftr = \"2001:db8::1\"
-own = \"192.0.2.1\"
-errors_up = true
-[[binding]]
-b4 = \"2001:db8:1::1\"
-ipv4 = \"203.0.113.1\"
-";
-
-/// The whole address, and errors are sent to the IPv4 network.
-pub const ERRORS_DOWN: &str = "version = 1
-[softwire]
-aftr = \"2001:db8::1\"
-own = \"192.0.2.1\"
-errors_down = true
-[[binding]]
-b4 = \"2001:db8:1::1\"
-ipv4 = \"203.0.113.1\"
-";
-
 /// Files in memory that note which calls failed, and in which order lines are written and records are read.
 #[derive(Drop)]
 pub struct Watched {

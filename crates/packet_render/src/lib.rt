@@ -4,6 +4,3 @@
 mod rendering;
 
 pub use rendering::packets;
-
-#[cfg(test)]
-mod tests;

@@ -7,6 +7,3 @@ mod tunnel;
 
 pub use passing::lower;
 pub use tunnel::encap;
-
-#[cfg(test)]
-mod tests;

@@ -7,6 +7,3 @@ mod verdicts;
 
 pub use judging::judge;
 pub use verdicts::{Path, Reply, Verdict};
-
-#[cfg(test)]
-mod tests;

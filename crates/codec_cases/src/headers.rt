@@ -1,0 +1,151 @@
+// Packets from outside: hand-made ones of a softwire, and others whose fields an independent packet builder gave.
+use aftr_base::V4;
+use case_data::{AFTR, DOWN, LAST_HOP, OPTIONS, SERVER, SHARED, SUBSCRIBER, UP, UP_TUNNEL};
+use ip_codec::{Head4, Head6, Ip4Bad, Ip6Bad, Rule, ip4, ip6, put4, put6};
+use std::test::Fail;
+
+// All bits of flags and offset, forty bytes of options, no payload.
+const GREATEST: &[u8; 60] =
+    b"\x4f\xff\0\x3c\xff\xff\xff\xff\xff\xff\x9b\xaf\xff\xff\xff\xff\0\0\0\x01\x01\x01\x01\x01\x01\x01\x01\x01\x01\x01\x01\x01\x01\x01\x01\x01\x01\x01\x01\x01\x01\x01\x01\x01\x01\x01\x01\x01\x01\x01\x01\x01\x01\x01\x01\x01\x01\x01\x01\x01";
+
+fn udp(id: u16, ttl: u8, src: V4, dst: V4) -> Head4 {
+    Head4 {
+        tos: 0,
+        id,
+        reserved: false,
+        df: false,
+        mf: false,
+        offset: 0,
+        ttl,
+        protocol: 17,
+        src,
+        dst,
+    }
+}
+
+#[test]
+fn ip4_packets_are_read_and_written(rt: HostRuntime) -> Result<(), Fail> {
+    let fragment = Head4 {
+        tos: 0xb8,
+        id: 0xbeef,
+        reserved: true,
+        df: false,
+        mf: true,
+        offset: 185,
+        ttl: 7,
+        protocol: 6,
+        src: V4(0x0a00_0001),
+        dst: V4(0xffff_fffe),
+    };
+    let greatest = Head4 {
+        tos: 255,
+        id: 65535,
+        reserved: true,
+        df: true,
+        mf: true,
+        offset: 8191,
+        ttl: 255,
+        protocol: 255,
+        src: V4(0xffff_ffff),
+        dst: V4(1),
+    };
+    let cases: [(&[u8], Head4, usize); 5] = [
+        (UP, udp(1, 64, SHARED, SERVER), 20),
+        (DOWN, udp(2, 64, SERVER, SHARED), 20),
+        (LAST_HOP, udp(1, 1, SHARED, SERVER), 20),
+        (OPTIONS, fragment, 28),
+        (GREATEST, greatest, 60),
+    ];
+    for (bytes, want, header_len) in cases {
+        let view = ip4(bytes).ok().ok_or("a packet")?;
+        let head = Head4 {
+            tos: view.tos,
+            id: view.id,
+            reserved: view.reserved,
+            df: view.df,
+            mf: view.mf,
+            offset: view.offset,
+            ttl: view.ttl,
+            protocol: view.protocol,
+            src: view.src,
+            dst: view.dst,
+        };
+        assert_eq!(rt; head, want);
+        assert_eq!(rt; view.header.len(), header_len);
+        let written = put4(rt.alloc(), &head, &view.header[20..], view.payload)?;
+        assert_eq!(rt; written.as_slice(), bytes);
+    }
+    Ok(())
+}
+
+#[test]
+fn faulty_ip4_packets_are_refused(rt: HostRuntime) {
+    for have in 0..20 {
+        assert_eq!(rt; ip4(&UP[..have]).err(), Some(Ip4Bad::Short { have }));
+    }
+    assert_eq!(rt; ip4(&UP[..20]).err(), Some(Ip4Bad::TotalLength));
+    let cases = [
+        (0, 0x55, Ip4Bad::Version),
+        (0, 0x44, Ip4Bad::HeaderLength),
+        (0, 0x49, Ip4Bad::HeaderLength),
+        (3, 19, Ip4Bad::TotalLength),
+        (3, 33, Ip4Bad::TotalLength),
+        (3, 31, Ip4Bad::Checksum),
+        (11, 0x91, Ip4Bad::Checksum),
+        (19, 8, Ip4Bad::Checksum),
+    ];
+    for (place, value, refusal) in cases {
+        let mut bytes = *UP;
+        assert!(rt; place < bytes.len());
+        bytes[place] = value;
+        assert_eq!(rt; ip4(&bytes).err(), Some(refusal), "{value} at {place}");
+    }
+    let mut bytes = *OPTIONS;
+    bytes[27] = 1;
+    assert_eq!(rt; ip4(&bytes).err(), Some(Ip4Bad::Checksum));
+}
+
+#[test]
+fn ip6_packets_are_read_and_written(rt: HostRuntime) -> Result<(), Fail> {
+    let head = Head6 {
+        word: 0x6000_0000,
+        next: 4,
+        hop: 64,
+        src: SUBSCRIBER,
+        dst: AFTR,
+    };
+    let packet = put6(rt.alloc(), &head, UP)?;
+    let bytes = packet.as_slice();
+    assert_eq!(rt; bytes.len(), 72);
+    assert_eq!(rt; &bytes[..40], UP_TUNNEL.as_slice());
+    assert_eq!(rt; &bytes[40..], UP.as_slice());
+    assert_eq!(rt; ip6(&bytes[..39]).err(), Some(Ip6Bad::Short { have: 39 }));
+    assert_eq!(rt; ip6(&bytes[..71]).err(), Some(Ip6Bad::Payload));
+    assert_eq!(rt; ip6(UP).err(), Some(Ip6Bad::Short { have: 32 }));
+    let view = ip6(bytes).ok().ok_or("a packet")?;
+    assert_eq!(rt; (view.word, view.next, view.hop), (head.word, 4, 64));
+    assert_eq!(rt; (view.src, view.dst), (head.src, head.dst));
+    assert_eq!(rt; view.body, UP.as_slice());
+    let mut other = *UP_TUNNEL;
+    other[0] = 0x46;
+    assert_eq!(rt; ip6(&other).err(), Some(Ip6Bad::Version));
+    Ok(())
+}
+
+#[test]
+fn rules_have_numbers_and_names(rt: HostRuntime) -> Result<(), Fail> {
+    let cases = [
+        (Rule::FrameShort, 1, "frame-short"),
+        (Rule::Ip4Checksum, 4, "ip4-checksum"),
+        (Rule::NotOurs, 12, "not-ours"),
+        (Rule::NoBinding, 20, "no-binding"),
+        (Rule::Ttl, 21, "ttl"),
+        (Rule::HairpinNoBinding, 24, "hairpin-no-binding"),
+        (Rule::NotBuilt, 0, "not-built"),
+    ];
+    for (rule, number, name) in cases {
+        assert_eq!(rt; rule.number(), number);
+        assert_eq!(rt; format!(in rt.alloc(); "{rule}")?.as_str(), name);
+    }
+    Ok(())
+}

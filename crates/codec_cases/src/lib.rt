@@ -1,0 +1,18 @@
+//! Tests of the ground and the codecs by their public calls: numbers, lists, checksums and the outside (aftr_base), texts
+//! of addresses (addr_text), IPv4 and IPv6 headers (ip_codec), captures (capture_io). Nothing stands on this crate.
+#![tactic(auto)]
+
+#[cfg(test)]
+mod address_texts;
+#[cfg(test)]
+mod captures;
+#[cfg(test)]
+mod headers;
+#[cfg(test)]
+mod lists;
+#[cfg(test)]
+mod numbers;
+#[cfg(test)]
+mod outside;
+#[cfg(test)]
+mod real_files;

@@ -1,0 +1,86 @@
+// The lines of verdicts, of tables and of the summary.
+use aftr_text::{Totals, ended_line, initial_line, summary, verdict_line};
+use case_data::{AFTR, SUBSCRIBER};
+use ip_codec::Rule;
+use std::test::Fail;
+use verdict_core::{Reply, Verdict};
+
+#[test]
+fn verdicts_have_lines(rt: HostRuntime) -> Result<(), Fail> {
+    let up = Verdict::Outward { mtu: 1500 };
+    let down = Verdict::Inward {
+        from: AFTR,
+        to: SUBSCRIBER,
+        hop: 64,
+        mtu: 1500,
+        back: false,
+    };
+    let hairpin = Verdict::Inward {
+        from: AFTR,
+        to: SUBSCRIBER,
+        hop: 64,
+        mtu: 1500,
+        back: true,
+    };
+    let no_binding = Verdict::Drop {
+        why: Rule::NoBinding,
+        reply: Reply::Silent,
+    };
+    let longest = Verdict::Drop {
+        why: Rule::HairpinNoBinding,
+        reply: Reply::Silent,
+    };
+    let most = u32::MAX;
+    let cases = [
+        (0, 0, up, 1, "0 0 up 1\n"),
+        (0, 0, no_binding, 0, "0 0 drop no-binding 0\n"),
+        (3, 1, down, 2, "3 1 down 2\n"),
+        (10, 255, hairpin, 1, "10 255 hairpin 1\n"),
+        (2, 0, Verdict::Held, 0, "2 0 held 0\n"),
+        (
+            most,
+            most,
+            longest,
+            most,
+            "4294967295 4294967295 drop hairpin-no-binding 4294967295\n",
+        ),
+    ];
+    for (number, version, verdict, packets, line) in cases {
+        let written = verdict_line(rt.alloc(), number, version, verdict, packets)?;
+        assert_eq!(rt; written.as_str(), line);
+    }
+    Ok(())
+}
+
+#[test]
+fn other_lines_are_written(rt: HostRuntime) -> Result<(), Fail> {
+    let alloc = rt.alloc();
+    assert_eq!(rt; ended_line(alloc, true, 0)?.as_str(), "expired 0\n");
+    assert_eq!(rt; ended_line(alloc, false, 1)?.as_str(), "unfinished 1\n");
+    assert_eq!(rt;
+        initial_line(alloc, "t0.toml")?.as_str(),
+        "0 t0.toml initial\n"
+    );
+    assert_eq!(rt; initial_line(alloc, "tä\n0")?.as_str(), "0 tä\n0 initial\n");
+    let totals = Totals {
+        records: 1,
+        held: 0,
+        forwarded: 1,
+        dropped: 0,
+        packets: 1,
+        version: 0,
+    };
+    let line = "records 1 held 0 forwarded 1 dropped 0 packets 1 version 0\n";
+    assert_eq!(rt; summary(alloc, totals)?.as_str(), line);
+    let totals = Totals {
+        records: 9,
+        held: 2,
+        forwarded: 3,
+        dropped: 4,
+        packets: u64::MAX,
+        version: 5,
+    };
+    let line = "records 9 held 2 forwarded 3 dropped 4 packets 18446744073709551615 version 5\n";
+    assert_eq!(rt; summary(alloc, totals)?.as_str(), line);
+    Ok(())
+}

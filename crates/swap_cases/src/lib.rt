@@ -1,0 +1,12 @@
+//! Tests of the swap of tables by public calls: the pure machine (swap_core), and the areas of atomic words, on one thread
+//! and with workers in threads beside the desk (area_swap). Nothing stands on this crate.
+#![tactic(auto)]
+
+#[cfg(test)]
+mod areas;
+#[cfg(test)]
+mod machine;
+#[cfg(test)]
+mod threads;
+#[cfg(test)]
+mod words;

@@ -1,0 +1,281 @@
+// What the words of a table say: their layout, the owners of ports, and how many words are read for one.
+ghost use Rattle.std.specs.Prelude.{◌≡◌, ◌<◌};
+ghost use Rattle.table_words.specs.Layout.{AreCompiled};
+
+use aftr_base::{V4, V6, WordList};
+use binding_rules::{Binding, Edition, Softwire, Table, TableError, Want, find, table_of};
+use case_data::{SETTINGS, SHARED, subscriber};
+use std::alloc::Global;
+use std::marker::Brand;
+use std::sync::ledger::{Blank, Ledger};
+use std::test::Fail;
+use table_words::{SliceWords, Steps, Words, compile, has_address, look, softwire};
+
+// The words of a slice, and how many were read.
+#[derive(Drop)]
+struct CountedWords<'a> {
+    words: &'a [u64],
+    count: u64,
+}
+
+impl<'a> Words for CountedWords<'a> {
+    ghost use Rattle.std.proofs.Common.{◌∙◌};
+    ghost use Rattle.std.specs.Prelude.{None, refl};
+
+    ghost list = { λ s. s.words.now };
+
+    ghost reads = { λ _. None };
+
+    ghost goes = { λ x y. y.words.now ≡ x.words.now };
+
+    ghost stays = { λ _. refl };
+
+    ghost goes_on = { λ x y z h k. k ∙ h };
+
+    fn word<L: Ledger>(&mut self, j: u32, steps: &mut Steps<L>) -> u64 {
+        steps.tick();
+        self.count = self.count.saturating_add(1);
+        self.words[j as usize]
+    }
+}
+
+fn counted_look<L: Ledger>(words: &[u64], v4: V4, want: Want, blank: Blank) -> (Option<V6>, u64)
+    requires compiled { AreCompiled words.now }
+    requires name { blank.name ≡ L.name }
+    requires parts { blank.parts ≡ L.parts }
+    requires some { 0 < blank.parts }
+{
+    let mut counted = CountedWords { words, count: 0 };
+    let mut steps = Steps::<L>::start(blank);
+    let owner = look(&mut counted, v4, want, &mut steps);
+    (owner, counted.count)
+}
+
+// The owner, and how many words were read for it.
+fn owner(words: &WordList, v4: V4, want: Want) -> (Option<V6>, u64)
+    requires { AreCompiled words.now }
+{
+    counted_look::<Brand>(words.as_slice(), v4, want, Blank::new(1))
+}
+
+fn facts_in<L: Ledger>(words: &[u64], v4: V4, blank: Blank) -> (bool, Softwire)
+    requires compiled { AreCompiled words.now }
+    requires name { blank.name ≡ L.name }
+    requires parts { blank.parts ≡ L.parts }
+    requires some { 0 < blank.parts }
+{
+    let mut words = SliceWords(words);
+    let mut steps = Steps::<L>::start(blank);
+    let has = has_address(&mut words, v4, &mut steps);
+    (has, softwire(&mut words, &mut steps))
+}
+
+// Whether some binding has the address, and the settings.
+fn facts(words: &WordList, v4: V4) -> (bool, Softwire)
+    requires { AreCompiled words.now }
+{
+    facts_in::<Brand>(words.as_slice(), v4, Blank::new(1))
+}
+
+// The table of rows (address, offset, length, identifier), of subscribers from 1 on.
+fn table(
+    alloc: Global,
+    edition: Edition,
+    rows: &[(u32, u8, u8, u16)],
+) -> Result<Table, TableError> {
+    let mut bindings = Vec::new(alloc);
+    let mut number = 0u32;
+    for (v4, offset, length, psid) in rows {
+        number = number.wrapping_add(1);
+        let binding = Binding {
+            b4: subscriber(number),
+            v4: V4(*v4),
+            offset: *offset,
+            length: *length,
+            psid: *psid,
+        };
+        if bindings.push(binding).is_err() {
+            return Err(TableError::OutOfMemory);
+        }
+    }
+    if bindings.len() > 65_536 {
+        return Err(TableError::OutOfMemory);
+    }
+    table_of(alloc, edition, SETTINGS, bindings)
+}
+
+#[test]
+fn has_the_words_of_the_layout(rt: HostRuntime) -> Result<(), Fail> {
+    let alloc = rt.alloc();
+    let words = compile(alloc, &table(alloc, Edition::One, &[(SHARED.0, 6, 8, 52)])?)?;
+    let list = words.as_slice();
+    assert_eq!(rt; list.len(), 65_548);
+    let ends = [
+        (0, 1),
+        (1, 0x2001_0db8_0000_0000),
+        (2, 1),
+        (3, 0xc000_0201_0000_0003),
+        (4, 0x0000_05dc_05dc_0040),
+        (65_545, 0xcb00_7101_0608_0034),
+        (65_546, 0x2001_0db8_0001_0000),
+        (65_547, 1),
+    ];
+    for (j, word) in ends {
+        assert_eq!(rt; list.get(j).copied(), Some(word), "{j}");
+    }
+    for j in 5..51_977 {
+        assert_eq!(rt; list.get(j).copied(), Some(0), "{j}");
+    }
+    for j in 51_977..65_545 {
+        assert_eq!(rt; list.get(j).copied(), Some(1), "{j}");
+    }
+    assert_eq!(rt; facts(&words, SHARED), (true, SETTINGS));
+    Ok(())
+}
+
+#[test]
+fn finds_the_owner_by_its_ports(rt: HostRuntime) -> Result<(), Fail> {
+    let alloc = rt.alloc();
+    let shared = SHARED.0;
+    let one_shape = [(shared, 6, 8, 52), (shared, 6, 8, 53)];
+    let two_shapes = [(shared, 6, 8, 52), (shared, 0, 16, 80)];
+    // Identifier 52 owns the ports 1232 to 1235, 2256 and more, and 53 the four behind them (RFC 7597, appendix A).
+    let cases = [
+        (Edition::One, &one_shape, 1232, Some(subscriber(1))),
+        (Edition::One, &one_shape, 1235, Some(subscriber(1))),
+        (Edition::One, &one_shape, 1236, Some(subscriber(2))),
+        (Edition::One, &one_shape, 1240, None),
+        (Edition::One, &one_shape, 208, None),
+        (Edition::Two, &two_shapes, 80, Some(subscriber(2))),
+        (Edition::Two, &two_shapes, 1232, Some(subscriber(1))),
+        (Edition::Two, &two_shapes, 81, None),
+    ];
+    for (edition, rows, port, expected) in cases {
+        let words = compile(alloc, &table(alloc, edition, rows)?)?;
+        assert_eq!(rt;
+            owner(&words, SHARED, Want::Port(port)).0,
+            expected,
+            "{port}"
+        );
+        assert_eq!(rt; owner(&words, SHARED, Want::Whole).0, None, "{port}");
+    }
+    Ok(())
+}
+
+#[test]
+fn tells_where_an_address_has_two_shapes(rt: HostRuntime) -> Result<(), Fail> {
+    let alloc = rt.alloc();
+    let shared = SHARED.0;
+    let cases = [
+        ([(shared, 6, 8, 52), (shared, 6, 8, 53)], 0),
+        ([(shared, 6, 8, 52), (shared + 1, 6, 10, 5)], 0),
+        ([(shared, 6, 8, 52), (shared, 6, 10, 5)], 1),
+        ([(shared, 6, 8, 52), (shared, 0, 16, 80)], 1),
+    ];
+    for (rows, told) in cases {
+        let words = compile(alloc, &table(alloc, Edition::Two, &rows)?)?;
+        let list = words.as_slice();
+        assert_eq!(rt; list.get(5).copied(), Some(told));
+        assert_eq!(rt; list.get(6).copied(), Some(0));
+        assert_eq!(rt; list.get(7).copied(), Some(0));
+    }
+    Ok(())
+}
+
+// The owner by a reading of the list.
+fn owner_in_list(table: &Table, v4: V4, want: Want) -> Option<V6> {
+    let place = find(table, v4, want)?;
+    Some(table.bindings().get(place)?.b4)
+}
+
+#[test]
+fn agrees_with_the_list(rt: HostRuntime) -> Result<(), Fail> {
+    let alloc = rt.alloc();
+    let addresses = [
+        0,
+        1,
+        0xffff,
+        0x1_0000,
+        0xcb00_7100,
+        0xcb00_7101,
+        0xcb00_7102,
+        0xcb00_ffff,
+        0xcb01_0000,
+        0xffff_0000,
+        0xffff_ffff,
+    ];
+    let many_shapes = [
+        (0xcb00_7101, 15, 0, 0),
+        (0xcb00_7100, 0, 16, 1024),
+        (0xcb00_7100, 6, 8, 52),
+        (0xcb00_7100, 2, 14, 70),
+        (0xcb00_7100, 6, 8, 53),
+        (0xcb00_7100, 6, 10, 5),
+        (0xcb00_7100, 0, 12, 4000),
+        (0xcb00_7100, 0, 16, 80),
+        (0xcb00_7102, 0, 0, 0),
+        (0xffff_ffff, 0, 16, 65_535),
+        (0xffff_ffff, 10, 6, 62),
+        (0, 0, 0, 0),
+        (0xffff, 1, 15, 9),
+    ];
+    let one_shape = [
+        (0xffff_0000, 0, 1, 1),
+        (0x1_0000, 4, 2, 3),
+        (0xffff_0000, 0, 1, 0),
+        (1, 0, 0, 0),
+    ];
+    let one_group = [
+        (0xcb00_7102, 6, 8, 255),
+        (0xcb00_7102, 6, 8, 53),
+        (0xcb00_7102, 6, 8, 52),
+        (0xcb00_7102, 6, 8, 5),
+        (0xcb00_7102, 6, 8, 0),
+        (0xcb00_7100, 0, 0, 0),
+        (0xcb00_7101, 2, 2, 2),
+        (0xcb00_7101, 2, 2, 0),
+        (0xcb00_ffff, 15, 1, 1),
+        (0xcb00_ffff, 15, 1, 0),
+    ];
+    for (edition, rows) in [
+        (Edition::Two, many_shapes.as_slice()),
+        (Edition::One, one_shape.as_slice()),
+        (Edition::One, one_group.as_slice()),
+        (Edition::One, [].as_slice()),
+    ] {
+        let table = table(alloc, edition, rows)?;
+        let words = compile(alloc, &table)?;
+        for address in addresses {
+            let v4 = V4(address);
+            let has = rows.iter().any(|row| row.0 == address);
+            assert_eq!(rt; facts(&words, v4).0, has, "{address}");
+            let whole = owner_in_list(&table, v4, Want::Whole);
+            assert_eq!(rt; owner(&words, v4, Want::Whole).0, whole, "{address}");
+            for port in [
+                0, 80, 81, 1023, 1024, 1029, 1232, 1236, 1240, 16_454, 32_777, 64_000, 64_016,
+                65_534, 65_535,
+            ] {
+                let want = Want::Port(port);
+                let expected = owner_in_list(&table, v4, want);
+                assert_eq!(rt; owner(&words, v4, want).0, expected, "{address} {port}");
+            }
+        }
+    }
+    Ok(())
+}
+
+#[test]
+fn reads_ten_words_at_most_for_one_of_65536_addresses(rt: HostRuntime) -> Result<(), Fail> {
+    let alloc = rt.alloc();
+    let mut rows = Vec::new(alloc);
+    for high in 0..65_536u32 {
+        rows.push((high * 65_536 + 1, 0, 0, 0))?;
+    }
+    let words = compile(alloc, &table(alloc, Edition::One, &rows)?)?;
+    for high in 0..65_536u32 {
+        let (found, count) = owner(&words, V4(high * 65_536 + 1), Want::Whole);
+        assert_eq!(rt; found, Some(subscriber(high + 1)), "{high}");
+        assert!(rt; count <= 10, "{high} {count}");
+    }
+    Ok(())
+}

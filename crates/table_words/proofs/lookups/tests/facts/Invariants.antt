@@ -1,4 +1,0 @@
-use Rattle.table_words.proofs.lookups.tests.facts.Given as goal
-
-abbrev pub ghosts-facts_in : goal.ghosts-facts_in
-ghosts-facts_in a = record { name = a.blank.name; parts = a.blank.parts }

@@ -1,4 +1,0 @@
-use Rattle.table_words.proofs.lookups.tests.owner.Given as goal
-
-abbrev pub ghosts-counted_look : goal.ghosts-counted_look
-ghosts-counted_look a = record { name = a.blank.name; parts = a.blank.parts }
