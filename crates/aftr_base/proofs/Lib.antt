@@ -1,6 +1,6 @@
 mod ShelfLemmas
 pub mod FirstLemmas
-pub mod HeldLemmas
+pub mod ContentLemmas
 pub mod MemberLemmas
 pub mod NumberLemmas
 pub mod OutsideLemmas

@@ -1,11 +1,11 @@
 -- Calls of the files, one after another, as one.
 use Rattle.std.proofs.Common.{◌≡◌, ℕ, Bool, true, false, List, Option, ◌∙◌, ap, subst}
-use Rattle.aftr_base.specs.Held.{Held}
+use Rattle.aftr_base.specs.Contents.{Contents}
 use Rattle.aftr_base.specs.Outside.{FailsAt, OnlyReads, Outside}
 
 pub same_outside : (a b : Outside) → b.held ≡ a.held → b.faults ≡ a.faults → b.lost ≡ a.lost → b.spoiled ≡ a.spoiled → b.last ≡ a.last → b ≡ a
 same_outside a b held faults lost spoiled last =
-    ap (λ (x : Option Held). let o : Outside = record b { held = x } in o) held
+    ap (λ (x : Option Contents). let o : Outside = record b { held = x } in o) held
     ∙ ap (λ (x : ℕ). let o : Outside = record b { held = a.held; faults = x } in o) faults
     ∙ ap (λ (x : ℕ). let o : Outside = record b { held = a.held; faults = a.faults; lost = x } in o) lost
     ∙ ap (λ (x : ℕ). let o : Outside = record a { spoiled = x; last = b.last } in o) spoiled

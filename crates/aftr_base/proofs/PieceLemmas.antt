@@ -5,7 +5,7 @@ use Rattle.std.proofs.lemmas.List.{take_rest, take-append-le, drop_at, drop-drop
 use Rattle.std.proofs.lemmas.Slice.{take-put_mid_below}
 use borrow.Rule.Slice.PartMut.{put_mid}
 use Rattle.std.specs.Option.{option_map}
-use Rattle.aftr_base.specs.Held.{Held, content, Told, Moves, Writes}
+use Rattle.aftr_base.specs.Contents.{Contents, content, Told, Moves, Writes}
 
 -- the first `done`, then `count` of the others
 pub front_more : (bytes : List ℕ) (done count : ℕ) → take done bytes ++ take count (take (length bytes - done) (drop done bytes)) ≡ take (done + count) bytes
@@ -17,7 +17,7 @@ took_then None b c x y z first second both = second ∙ ap (option_map (λ taken
 took_then (Some taken) b c x y z first second both = second ∙ ap (option_map (λ taken. taken ++ y)) first ∙ ap (λ l. Some l) (append_assoc taken x y ∙ ap (λ l. taken ++ l) both)
 
 -- a file that got x and then y got both
-pub moves_then : (a b c : Option Held) (name x y z : List ℕ) → Moves a b (λ m n. Writes m n name (content m name ++ x)) → Moves b c (λ m n. Writes m n name (content m name ++ y)) → x ++ y ≡ z → Moves a c (λ m n. Writes m n name (content m name ++ z))
+pub moves_then : (a b c : Option Contents) (name x y z : List ℕ) → Moves a b (λ m n. Writes m n name (content m name ++ x)) → Moves b c (λ m n. Writes m n name (content m name ++ y)) → x ++ y ≡ z → Moves a c (λ m n. Writes m n name (content m name ++ z))
 moves_then None None None name x y z first second both = tt
 moves_then None None (Some c) name x y z first second both = second
 moves_then None (Some b) c name x y z first second both = absurd first
@@ -37,7 +37,7 @@ front_over got k count into part in_into in_part =
     ∙ ap (λ l. take got into ++ l) (ap (take count) behind ∙ take-append-le count part (drop k (drop got into)) in_part)
 
 -- what was read at `place`, and then right behind it
-pub told_front : (a b : Option Held) (name : List ℕ) (place got count : ℕ) (before part after : List ℕ) → b ≡ a
+pub told_front : (a b : Option Contents) (name : List ℕ) (place got count : ℕ) (before part after : List ℕ) → b ≡ a
     → take (got + count) after ≡ take got before ++ take count part
     → Told a (λ m. take got before ≡ take got (drop place (content m name)))
     → Told b (λ m. take count part ≡ take count (drop (place + got) (content m name)))
@@ -51,7 +51,7 @@ told_front (Some m) b name place got count before part after same joined first s
     ∙ sym (take-add got count (drop place bytes))
 
 -- so many bytes stand there
-pub told_there : (a b : Option Held) (name : List ℕ) (place got count : ℕ) (part : List ℕ) → b ≡ a → count ≤ length part
+pub told_there : (a b : Option Contents) (name : List ℕ) (place got count : ℕ) (part : List ℕ) → b ≡ a → count ≤ length part
     → Told a (λ m. got ≤ length (drop place (content m name)))
     → Told b (λ m. take count part ≡ take count (drop (place + got) (content m name)))
     → Told a (λ m. got + count ≤ length (drop place (content m name)))

@@ -5,8 +5,8 @@ use Rattle.std.specs.Ordering.{nat_cmp}
 use Rattle.std.specs.Cmp.Lexicographic.{slice_cmp, nat_list_cmp_total}
 use Rattle.std.specs.FinMap.{get, insert, from_entries, get-from_entries, get-insert, same_map, from_entries_push}
 use Rattle.std.specs.FinMap.Entries.{find}
-use Rattle.aftr_base.specs.Held.{Held, content}
-use Rattle.aftr_base.proofs.HeldLemmas.{same_name, apart_names, equal_names, same_as_itself, different}
+use Rattle.aftr_base.specs.Contents.{Contents, content}
+use Rattle.aftr_base.proofs.ContentLemmas.{same_name, apart_names, equal_names, same_as_itself, different}
 use Rattle.aftr_base.specs.Entries.{name_at, bytes_at, IsFirstOf, HasNoneOf}
 
 cond_over : (b c : Bool) (x y z : Option (List ℕ)) → c ≡ b → cond b x z ≡ cond b x (cond c y z)
@@ -68,7 +68,7 @@ module _ (es : List (List ℕ × List ℕ)) (name : List ℕ) where
   push_new bytes h = from_entries_push nat_list_cmp_total apart_names es name bytes (find_none es name h)
 
 -- what a call that looked the name up in the list says of the map
-module _ (es seen : List (List ℕ × List ℕ)) (held : Held) (name : List ℕ) (view : from_entries es ≡ held) (same : seen ≡ es) where
+module _ (es seen : List (List ℕ × List ℕ)) (held : Contents) (name : List ℕ) (view : from_entries es ≡ held) (same : seen ≡ es) where
   there : (i : ℕ) → IsFirstOf seen name i → IsFirstOf es name i
   there i first = subst (λ l. IsFirstOf l name i) same first
 

@@ -1,6 +1,6 @@
 pub mod Entries
 pub mod First
-pub mod Held
+pub mod Contents
 pub mod Memory
 pub mod Numbers
 pub mod Outside

@@ -5,7 +5,7 @@ use Rattle.std.specs.FinMap.{empty, get}
 use Rattle.std.specs.Coded.{Coded, code_by, coded×, coded_ℕ, coded_list, coded_option}
 use Rattle.aftr_base.specs.declared.outside.Fault.{Fault}
 use Rattle.aftr_base.specs.declared.outside.Fault.TheVariants as fault
-use Rattle.aftr_base.specs.Held.{Held, held_code}
+use Rattle.aftr_base.specs.Contents.{Contents, contents_code}
 use Rattle.aftr_base.specs.Outside.{one_more}
 
 -- whether the call of this number is one of those that are to fail
@@ -13,7 +13,7 @@ abbrev pub is_to_fail : ℕ → List ℕ → Bool
 is_to_fail call failing = list_any (λ told. told == call) failing
 
 pub record FilesInMemory : Type 0 where
-  pub held : Held
+  pub held : Contents
   -- how many calls of `read`, `create` and `append` there were, which is the next call's number
   pub calls : ℕ
   -- the numbers of the calls that are to fail
@@ -25,7 +25,7 @@ pub record FilesInMemory : Type 0 where
 
 abbrev pub files_code : Coded FilesInMemory
 files_code =
-    code_by (Held × (ℕ × (List ℕ × (ℕ × (ℕ × (ℕ × Option (List ℕ × ℕ))))))) (coded× held_code (coded× coded_ℕ (coded× (coded_list coded_ℕ) (coded× coded_ℕ (coded× coded_ℕ (coded× coded_ℕ (coded_option (coded× (coded_list coded_ℕ) coded_ℕ))))))))
+    code_by (Contents × (ℕ × (List ℕ × (ℕ × (ℕ × (ℕ × Option (List ℕ × ℕ))))))) (coded× contents_code (coded× coded_ℕ (coded× (coded_list coded_ℕ) (coded× coded_ℕ (coded× coded_ℕ (coded× coded_ℕ (coded_option (coded× (coded_list coded_ℕ) coded_ℕ))))))))
     (λ m. (m.held, (m.calls, (m.failing, (m.faults, (m.lost, (m.spoiled, m.last)))))))
     (λ t. record { held = t.0; calls = t.1.0; failing = t.1.1.0; faults = t.1.1.1.0; lost = t.1.1.1.1.0; spoiled = t.1.1.1.1.1.0; last = t.1.1.1.1.1.1 }) (λ _. refl)
 
@@ -45,7 +45,7 @@ after_read (Err fault.Failed) name place m = record m { calls = one_more m.calls
 after_read _ name place m = record m { calls = one_more m.calls }
 
 -- what a create or an append leaves that makes the files hold this
-abbrev pub after_write : {T : Type 0} → Result T Fault → Held → FilesInMemory → FilesInMemory
+abbrev pub after_write : {T : Type 0} → Result T Fault → Contents → FilesInMemory → FilesInMemory
 after_write (Ok _) held m = record m { held = held; calls = one_more m.calls }
 after_write (Err fault.Failed) held m = record m { calls = one_more m.calls; faults = one_more m.faults; spoiled = one_more m.spoiled }
 after_write (Err fault.OutOfMemory) held m = record m { calls = one_more m.calls }

@@ -3,11 +3,11 @@
 use Rattle.std.specs.Prelude.{◌≡◌, ℕ, ◌+◌, ◌-◌, ◌^◌, ◌≤◌, min, Bool, true, false, List, Option, Some, None, Result, Ok, Err}
 use Rattle.aftr_base.specs.declared.outside.Fault.{Fault}
 use Rattle.aftr_base.specs.declared.outside.Fault.TheVariants as fault
-use Rattle.aftr_base.specs.Held.{Held}
+use Rattle.aftr_base.specs.Contents.{Contents}
 
 pub record Outside : Type 0 where
   -- What the files hold, where it is told: a file that has no entry holds no bytes.
-  pub held : Option Held
+  pub held : Option Contents
   -- How many calls have answered `Failed`. It never falls, and stands still at 2^64 - 1 where 64 bits keep it.
   pub faults : ℕ
   -- How many calls of `read` have answered `Failed`.

@@ -2,10 +2,10 @@
 use Rattle.std.specs.Prelude.{◌≡◌, ℕ, ◌≤◌, List, ◌++◌, length, take, Option, Result, Ok, Err}
 use Rattle.std.specs.Option.{option_map}
 use Rattle.aftr_base.specs.declared.outside.Fault.{Fault}
-use Rattle.aftr_base.specs.Held.{Held, content, Moves, Writes}
+use Rattle.aftr_base.specs.Contents.{Contents, content, Moves, Writes}
 
 -- all bytes are put behind what the file held; after an error only the first few of them, or none
-abbrev pub AppendedAll : Result Unit Fault → Option Held → Option Held → List ℕ → List ℕ → Type 0
+abbrev pub AppendedAll : Result Unit Fault → Option Contents → Option Contents → List ℕ → List ℕ → Type 0
 AppendedAll (Ok _) old new name bytes = Moves old new (λ m n. Writes m n name (content m name ++ bytes))
 AppendedAll (Err _) old new name bytes = Moves old new (λ m n. (count : ℕ) × (count ≤ length bytes) × Writes m n name (content m name ++ take count bytes))
 

@@ -3,7 +3,7 @@ ghost use Rattle.std.specs.Prelude.{◌≡◌, [], ◌∷◌, ◌++◌, ◌||◌
 ghost use Rattle.std.specs.Option.{option_copied};
 ghost use Rattle.std.specs.FinMap as map;
 ghost use Rattle.aftr_base.specs.declared.outside.Fault.{Fault};
-ghost use Rattle.aftr_base.specs.Held.{content, Created, Appended};
+ghost use Rattle.aftr_base.specs.Contents.{content, Created, Appended};
 ghost use Rattle.aftr_base.specs.Memory.{no_files, is_to_fail, next_fails, is_missing, after_read, after_write};
 ghost use Rattle.aftr_base.specs.Outside.{Rises, Rose, has_failed, one_more};
 

@@ -1,7 +1,7 @@
 // Files and standard output as the programs see them.
 ghost use Rattle.std.specs.Prelude.{◌≡◌, ℕ, ◌<◌, ◌≤◌, ◌++◌, [], List, length, take, drop, Option, IfOk, OnErr};
 ghost use Rattle.std.specs.Option.{option_map};
-ghost use Rattle.aftr_base.specs.Held.{content, Told, Created, Appended};
+ghost use Rattle.aftr_base.specs.Contents.{content, Told, Created, Appended};
 ghost use Rattle.aftr_base.specs.Outside.{OnlyReads, OnlyWrites, Outside, Rises, has_failed};
 
 use crate::OutOfMemory as NoMemory;

@@ -1,6 +1,6 @@
 // The loops round the calls of the outside, which may each do less than was asked.
 ghost use Rattle.std.specs.Prelude.{◌≡◌, ◌+◌, ◌^◌, ◌<◌, ◌≤◌, length, take, drop, min, IfOk};
-ghost use Rattle.aftr_base.specs.Held.{content, Told};
+ghost use Rattle.aftr_base.specs.Contents.{content, Told};
 ghost use Rattle.aftr_base.specs.Outside.{OnlyReads, OnlyWrites, Rises, has_failed};
 ghost use Rattle.aftr_base.specs.Pieces.{AppendedAll, TookAll};
 

@@ -3,7 +3,7 @@ ghost use Rattle.std.specs.Prelude.{◌≡◌, [], ◌++◌, length, take, drop,
 ghost use Rattle.std.specs.Option.{option_copied};
 ghost use Rattle.std.specs.FinMap as map;
 ghost use Rattle.aftr_base.specs.declared.outside.Fault.{Fault};
-ghost use Rattle.aftr_base.specs.Held.{content, Created, Appended};
+ghost use Rattle.aftr_base.specs.Contents.{content, Created, Appended};
 
 use crate::copying::copy_from;
 use crate::shelf::Shelf;
@@ -19,11 +19,11 @@ pub struct QuietFiles {
 }
 
 impl Model for QuietFiles {
-    ghost use Rattle.aftr_base.specs.Held.{Held, held_code};
+    ghost use Rattle.aftr_base.specs.Contents.{Contents, contents_code};
 
-    ghost Value = { Held };
+    ghost Value = { Contents };
 
-    ghost coded = { held_code };
+    ghost coded = { contents_code };
 
     ghost view = { λ files. files.shelf };
 }

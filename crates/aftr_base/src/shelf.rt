@@ -2,7 +2,7 @@
 ghost use Rattle.std.specs.Prelude.{◌≡◌, ◌↔◌, ◌<◌, ◌++◌, IsTrue, IfOk, OnOk, OnErr, MatchOption};
 ghost use Rattle.std.specs.Option.{option_copied};
 ghost use Rattle.std.specs.FinMap as map;
-ghost use Rattle.aftr_base.specs.Held.{content, Writes};
+ghost use Rattle.aftr_base.specs.Contents.{content, Writes};
 ghost use Rattle.aftr_base.specs.Entries.{IsFirstOf, HasNoneOf};
 
 use std::alloc::{AllocError, Global};
@@ -70,11 +70,11 @@ pub struct Shelf {
 
 impl Model for Shelf {
     ghost use Rattle.std.specs.FinMap.{from_entries};
-    ghost use Rattle.aftr_base.specs.Held.{Held, held_code};
+    ghost use Rattle.aftr_base.specs.Contents.{Contents, contents_code};
 
-    ghost Value = { Held };
+    ghost Value = { Contents };
 
-    ghost coded = { held_code };
+    ghost coded = { contents_code };
 
     ghost view = { λ shelf. from_entries shelf.list.items };
 }

@@ -8,7 +8,7 @@ use Rattle.area_swap.specs.declared.board.View.{View}
 use Rattle.area_swap.specs.Views.{unpacked, acting, reading, asking}
 use Rattle.area_swap.specs.Rule.{Sees}
 use Rattle.area_swap.specs.Answers.{HoldsNow, HasMoved}
-use Rattle.area_swap.specs.Told.{Stepped, Seated, LookedAt, Entered, Confirmed, LeftIt}
+use Rattle.area_swap.specs.SeatSteps.{Stepped, Seated, LookedAt, Entered, Confirmed, LeftIt}
 use Rattle.area_swap.specs.Values.{IsWorker}
 
 same_looked : (s : ActorState) (v w : ℕ) → s ≡ Looked v → s ≡ Looked w → v ≡ w

@@ -10,7 +10,7 @@ use Rattle.swap_core.proofs.Laws.{few_records}
 use Rattle.area_swap.specs.declared.answers.Seen.{Seen}
 use Rattle.area_swap.specs.declared.board.View.{View}
 use Rattle.area_swap.specs.Views.{now_of, unpacked, with_desk_of}
-use Rattle.area_swap.specs.Told.{Stepped, Seated, Glanced}
+use Rattle.area_swap.specs.SeatSteps.{Stepped, Seated, Glanced}
 use Rattle.area_swap.specs.Values.{IsDesk}
 use Rattle.area_swap.specs.Rule.{Ruled, Sees}
 use Rattle.area_swap.specs.Histories.{HistoryValue, IsHistory, AreDrawn}

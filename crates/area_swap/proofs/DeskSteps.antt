@@ -17,8 +17,8 @@ use Rattle.swap_core.proofs.Laws.{table_fits}
 use Rattle.area_swap.specs.declared.answers.Seen.{Seen}
 use Rattle.area_swap.specs.declared.board.View.{View}
 use Rattle.area_swap.specs.Views.{now_of, packed, unpacked, reading, next_of, spare_of, IsUpTo}
-use Rattle.area_swap.specs.Rule.{Ruled, Fits, ShowsWords}
-use Rattle.area_swap.specs.Told.{Seated, FoundDue, Counted, Wrote, Published}
+use Rattle.area_swap.specs.Rule.{Ruled, IsLawfulView, ShowsWords}
+use Rattle.area_swap.specs.SeatSteps.{Seated, FoundDue, ReadClaims, Wrote, Published}
 use Rattle.area_swap.proofs.Packing.{up_to, laid_now, laid_row}
 use Rattle.area_swap.proofs.Keeping.{same_actors, same_words, shows_desk, fits, seat_step, moment_after}
 use Rattle.area_swap.proofs.Learning.{sees_word, sees_claims, unpacks}
@@ -42,7 +42,7 @@ module _ (p : Tables) (s : State (Unit {0}) View) (r : Ruled p s) (id : ℕ) (v 
 
   -- a view of the desk, whose other parts stay, fits
   fits_desk : (now : Seen) (w : View) → IsUpTo (now_of r.core) now → w.plan ≡ v.plan → w.actor ≡ v.actor → w.share ≡ v.share
-      → w.has_desk ≡ v.has_desk → w.seen ≡ v.seen → w.prior ≡ v.prior → Fits p now w
+      → w.has_desk ≡ v.has_desk → w.seen ≡ v.seen → w.prior ≡ v.prior → IsLawfulView p now w
   fits_desk now w later plan actor share desk seen prior =
       let f = fits p s r id v at in
       record {
@@ -237,7 +237,7 @@ module _ (p : Tables) (slots id : ℕ) (me : Seated) (same : me.0.plan ≡ p) (h
             ]
       ]
 
-  pub counts_claims : (i : ℕ) → me.0.desk ≡ Ready → i ≡ 1 + spare_of me.0 → Allows (Ruled p) slots id me i (λ n. n) (Counted (step slots i 0 0 none) me)
+  pub counts_claims : (i : ℕ) → me.0.desk ≡ Ready → i ≡ 1 + spare_of me.0 → Allows (Ruled p) slots id me i (λ n. n) (ReadClaims (step slots i 0 0 none) me)
   counts_claims i ready place s r deep at range =
       elim (cases_eq (slice_index s.words i) 0) [
         | inl no_claims ↦

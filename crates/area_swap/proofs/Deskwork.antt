@@ -10,7 +10,7 @@ use Rattle.area_swap.specs.declared.answers.Seen.{Seen}
 use Rattle.area_swap.specs.Views.{unpacked, reading, next_of, spare_of}
 use Rattle.area_swap.specs.Rule.{Ruled, Sees}
 use Rattle.area_swap.specs.Answers.{NoneDue, LaterDue, NowDue, HasPublished}
-use Rattle.area_swap.specs.Told.{Stepped, Seated, FoundDue, Wrote, Published}
+use Rattle.area_swap.specs.SeatSteps.{Stepped, Seated, FoundDue, Wrote, Published}
 use Rattle.area_swap.proofs.DeskSteps.{writes_word}
 
 -- who rests or is ready does not write

@@ -6,8 +6,8 @@ use Rattle.area_swap.specs.declared.answers.Seen.{Seen}
 use Rattle.area_swap.specs.declared.board.View.{View}
 use Rattle.area_swap.specs.Views.{packed, unpacked, reading, taking, held_version, IsUpTo}
 use Rattle.area_swap.specs.Rule.{Sees}
-use Rattle.area_swap.specs.Answers.{HasTaken, IsNotHeld, IsAtEnd, IsAtLimit, HasLost}
-use Rattle.area_swap.specs.Told.{Stepped, Seated, Glanced, Drew}
+use Rattle.area_swap.specs.Answers.{HasDrawn, IsNotHeld, IsAtEnd, IsAtLimit, HasLost}
+use Rattle.area_swap.specs.SeatSteps.{Stepped, Seated, Glanced, Drew}
 use Rattle.area_swap.specs.Values.{IsWorker, HoldsOne}
 
 pub pack_unpack : (n : ℕ) → packed (unpacked n) ≡ n
@@ -97,10 +97,10 @@ module _ {st1 : Stepped} {m0 m1 : Seated} {n1 : ℕ} (k1 : Glanced st1 m0 n1 m1)
         ∙ ap (λ (m : Seated). (taking (reading m.0 s) s.records s.version, m.1)) glanced_view
 
     pub taken_is : (p : Tables) (end held most : ℕ) → m0.0.plan ≡ p → st2.first ≡ n1 → n2 ≡ n1 → s.version ≡ held → s.records < end
-        → most ≡ limit p s.version → s.records ≢ most → HasTaken p end s.records held m0.0 m2.0
+        → most ≡ limit p s.version → s.records ≢ most → HasDrawn p end s.records held m0.0 m2.0
     taken_is p end held most plan first hit same l e other =
         let twice : m0.0.looks + 1 + 1 ≡ m0.0.looks + 2 = omega arith in
-        let P : Seated → Type 0 = λ m. HasTaken p end s.records held m0.0 m.0 in
+        let P : Seated → Type 0 = λ m. HasDrawn p end s.records held m0.0 m.0 in
         let Room : ℕ → Type 0 = λ w. s.records < limit p w in
         subst P (sym (taken_view first hit))
         (record {

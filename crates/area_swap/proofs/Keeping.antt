@@ -16,7 +16,7 @@ use Rattle.aftr_base.proofs.TotalLemmas.{sum_kept}
 use Rattle.area_swap.specs.declared.answers.Seen.{Seen}
 use Rattle.area_swap.specs.declared.board.View.{View}
 use Rattle.area_swap.specs.Views.{now_of, IsUpTo}
-use Rattle.area_swap.specs.Rule.{Ruled, Fits, Moment, ShowsDesk, ShowsWords, actor_of, share_of}
+use Rattle.area_swap.specs.Rule.{Ruled, IsLawfulView, Moment, ShowsDesk, ShowsWords, actor_of, share_of}
 use Rattle.area_swap.proofs.Packing.{up_to_then}
 
 bool_cases : (P : Type 0) (b : Bool) → (b ≡ true → P) → (b ≡ false → P) → P
@@ -75,7 +75,7 @@ desk_after views state next points later id v w h at keeps with without =
         ]
 
 -- what held of a view holds of it later
-pub fits_later : (p : Tables) (now next : Seen) (v : View) → IsUpTo now next → Fits p now v → Fits p next v
+pub fits_later : (p : Tables) (now next : Seen) (v : View) → IsUpTo now next → IsLawfulView p now v → IsLawfulView p next v
 fits_later p now next v l f =
     record { same_plan = f.same_plan; unshared = f.unshared; seen = up_to_then v.seen now next f.seen l; prior = f.prior }
 
@@ -99,7 +99,7 @@ module _ (p : Tables) (s : State (Unit {0}) View) (r : Ruled p s) (id : ℕ) (v 
   pub ruled_as : v.plan ≡ p → Ruled v.plan s
   ruled_as same = let P : Tables → Type 0 = λ q. Ruled q s in subst P (sym same) r
 
-  pub fits : Fits p (now_of r.core) v
+  pub fits : IsLawfulView p (now_of r.core) v
   fits = r.each id v at
 
   -- the seat has a new view, one word is written, and the machine's state is another
@@ -107,7 +107,7 @@ module _ (p : Tables) (s : State (Unit {0}) View) (r : Ruled p s) (id : ℕ) (v 
       → set r.core.actors id w.actor ≡ c.actors → w.has_desk ≡ v.has_desk
       → (v.has_desk ≡ true → (w.desk ≡ c.desk) × (w.points ≡ c.points))
       → (v.has_desk ≡ false → (r.core.desk ≡ c.desk) × (r.core.points ≡ c.points))
-      → IsUpTo (now_of r.core) (now_of c) → w.share ≡ v.share → Fits p (now_of c) w
+      → IsUpTo (now_of r.core) (now_of c) → w.share ≡ v.share → IsLawfulView p (now_of c) w
       → Ruled p (record { words = set s.words i x; homes = s.homes; views = set s.views id w })
   seat_step i x w c sound plan words actors keeps with without later share fit =
       record {
@@ -121,10 +121,10 @@ module _ (p : Tables) (s : State (Unit {0}) View) (r : Ruled p s) (id : ℕ) (v 
         each = each;
       }
     where
-      each : (j : ℕ) (u : View) → get_elem? (set s.views id w) j ≡ some u → Fits p (now_of c) u
+      each : (j : ℕ) (u : View) → get_elem? (set s.views id w) j ≡ some u → IsLawfulView p (now_of c) u
       each j u e =
           elim (at_set s.views id j w u e) [
-            | inl t ↦ let P : View → Type 0 = λ z. Fits p (now_of c) z in subst P t.1 fit
+            | inl t ↦ let P : View → Type 0 = λ z. IsLawfulView p (now_of c) z in subst P t.1 fit
             | inr t ↦ fits_later p (now_of r.core) (now_of c) u later (r.each j u t.1)
           ]
 

@@ -8,7 +8,7 @@ use Rattle.std.proofs.lemmas.List.Sums.{count_by-le-length}
 use Rattle.atomic_table.specs.Table.{State}
 use Rattle.swap_core.specs.Plans.{Tables, IsPlan, limit, window}
 use Rattle.swap_core.specs.States.{IsActor, newcomer, count_of}
-use Rattle.swap_core.specs.Sound.{Sound, HoldsRightly, IsAtWork, IsDrawRight, times, how_many, once_below, in_force}
+use Rattle.swap_core.specs.Sound.{Sound, HoldsRightly, IsAtWork, IsDrawRight, times, draw_count, once_below, in_force}
 use Rattle.swap_core.specs.declared.actors.Actor.{Actor}
 use Rattle.swap_core.specs.declared.actors.ActorState.TheVariants.{Holds}
 use Rattle.swap_core.specs.declared.actors.DeskState.{DeskState}
@@ -66,8 +66,8 @@ module _ (p : Tables) (s : State (Unit {0}) View) (r : Ruled p s) where
 
     pub draws_all : v.share ≡ 65536 → length v.actor.draws ≡ r.core.records
     draws_all whole =
-        sym (sum_alone how_many r.core.actors id v.actor (actor_at p s r id v at)
-        (λ j y n e. ap (λ (x : Actor). how_many x) (others_new whole j y n e)))
+        sym (sum_alone draw_count r.core.actors id v.actor (actor_at p s r id v at)
+        (λ j y n e. ap (λ (x : Actor). draw_count x) (others_new whole j y n e)))
         ∙ r.sound.all_drawn
 
     pub draws_each : v.share ≡ 65536 → (number : ℕ) → times number v.actor ≡ once_below number r.core.records

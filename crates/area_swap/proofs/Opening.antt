@@ -10,7 +10,7 @@ use Rattle.swap_core.proofs.Laws.{opening_sound}
 use Rattle.swap_core.proofs.Laws.{table_fits}
 use Rattle.area_swap.specs.declared.board.View.{View}
 use Rattle.area_swap.specs.Views.{first_view, now_of}
-use Rattle.area_swap.specs.Rule.{Ruled, Fits, Laid}
+use Rattle.area_swap.specs.Rule.{Ruled, IsLawfulView, Laid}
 use Rattle.area_swap.proofs.Packing.{up_to}
 
 -- the words at the beginning
@@ -100,9 +100,9 @@ module _ (p : Tables) (plan : IsPlan p) where
           let long : length (replicate 3 0 ++ table p 0) ≡ 3 + length (table p 0) = simp (length-append, length-replicate) in
           subst P (sym e) (laid (3 + 2 * width p - length (replicate 3 0 ++ table p 0)) (omega (arith, table_fits p 0)))
 
-      each : (i : ℕ) (v : View) → get_elem? (first_view p ∷ []) i ≡ some v → Fits p (now_of (opening p 1)) v
+      each : (i : ℕ) (v : View) → get_elem? (first_view p ∷ []) i ≡ some v → IsLawfulView p (now_of (opening p 1)) v
       each i v at =
-          let P : View → Type 0 = λ u. Fits p (now_of (opening p 1)) u in
+          let P : View → Type 0 = λ u. IsLawfulView p (now_of (opening p 1)) u in
           subst P (first_only i v at).1
           (record { same_plan = λ _. refl; unshared = λ e. absurd (omega arith); seen = up_to (now_of (opening p 1)); prior = up_to (now_of (opening p 1)) })
 

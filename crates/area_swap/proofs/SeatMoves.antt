@@ -17,7 +17,7 @@ use Rattle.swap_core.proofs.Laws.{newcomer_sound, merged_sound}
 use Rattle.area_swap.specs.declared.answers.Seen.{Seen}
 use Rattle.area_swap.specs.declared.board.View.{View}
 use Rattle.area_swap.specs.Views.{now_of, first_view, worker_view, desk_view, kept_half, new_half, together, with_desk_of, spent_view, latest, IsUpTo}
-use Rattle.area_swap.specs.Rule.{Ruled, Moment, Fits, ShowsDesk, actor_of, share_of}
+use Rattle.area_swap.specs.Rule.{Ruled, Moment, IsLawfulView, ShowsDesk, actor_of, share_of}
 use Rattle.area_swap.proofs.Opening.{opens, first_words}
 use Rattle.area_swap.proofs.Members.{at_end}
 use Rattle.area_swap.proofs.Keeping.{actor_at, desk_after, has_desk_of}
@@ -46,7 +46,7 @@ module _ (p : Tables) (s : State (Unit {0}) View) (r : Ruled p s) (id : ℕ) (v 
   -- a seat is cut in two: the second has drawn nothing and claimed nothing
   cuts : left.actor ≡ v.actor → right.actor ≡ newcomer → left.share + right.share ≡ v.share
       → ShowsDesk (set s.views id left ++ right ∷ []) r.core.desk r.core.points
-      → Fits p (now_of r.core) left → Fits p (now_of r.core) right
+      → IsLawfulView p (now_of r.core) left → IsLawfulView p (now_of r.core) right
       → Ruled p (record { words = s.words; homes = s.homes; views = set s.views id left ++ right ∷ [] })
   cuts same new shares desk fits_left fits_right =
       record {
@@ -74,9 +74,9 @@ module _ (p : Tables) (s : State (Unit {0}) View) (r : Ruled p s) (id : ℕ) (v 
           sum_changed share_of s.views id v left at in
           omega (arith, r.shares)
 
-      each : (i : ℕ) (u : View) → get_elem? (set s.views id left ++ right ∷ []) i ≡ some u → Fits p (now_of r.core) u
+      each : (i : ℕ) (u : View) → get_elem? (set s.views id left ++ right ∷ []) i ≡ some u → IsLawfulView p (now_of r.core) u
       each i u e =
-          let P : View → Type 0 = λ z. Fits p (now_of r.core) z in
+          let P : View → Type 0 = λ z. IsLawfulView p (now_of r.core) z in
           elim (at_snoc (set s.views id left) right u i e) [
             | inl k ↦
                 elim (at_set s.views id i left u k) [
@@ -90,7 +90,7 @@ module _ (p : Tables) (s : State (Unit {0}) View) (r : Ruled p s) (id : ℕ) (v 
 pub halves_keep : (p : Tables) (id : ℕ) (v : View) → v.plan ≡ p → 0 < v.share → v.share % 2 ≡ 0 → v.has_desk ≡ false
     → Splits (Ruled p) id v (kept_half v) (new_half v)
 halves_keep p id v plan shared even lacks s r at =
-    let f : Fits p (now_of r.core) v = r.each id v at in
+    let f : IsLawfulView p (now_of r.core) v = r.each id v at in
     cuts p s r id v (kept_half v) (new_half v) at refl refl (omega arith)
     (desk_stays (set s.views id (kept_half v)) r.core.desk r.core.points (new_half v)
     (desk_after s.views r.core.desk r.core.desk r.core.points r.core.points id v (kept_half v) r.desk at refl
@@ -102,7 +102,7 @@ halves_keep p id v plan shared even lacks s r at =
 pub desk_apart : (p : Tables) (id : ℕ) (v : View) → v.plan ≡ p → 0 < v.share → v.has_desk ≡ true
     → Splits (Ruled p) id v (worker_view v) (desk_view v)
 desk_apart p id v plan shared has s r at =
-    let f : Fits p (now_of r.core) v = r.each id v at in
+    let f : IsLawfulView p (now_of r.core) v = r.each id v at in
     cuts p s r id v (worker_view v) (desk_view v) at refl refl (omega arith) shown
     (record { same_plan = λ _. plan; unshared = λ none. absurd (omega arith); seen = f.seen; prior = f.prior })
     (record { same_plan = λ _. plan; unshared = λ _. refl; seen = f.seen; prior = f.prior })
@@ -138,7 +138,7 @@ desk_apart p id v plan shared has s r at =
             ]
 
 -- a joined seat leaves a view behind that fits
-spent_fits : (p : Tables) (now : Seen) → Fits p now spent_view
+spent_fits : (p : Tables) (now : Seen) → IsLawfulView p now spent_view
 spent_fits p now =
     record {
       same_plan = λ seated. elim seated [ inl l ↦ absurd (omega arith) | inr e ↦ absurd (let is : false ≡ true = e in cc) ];
@@ -151,7 +151,7 @@ module _ (p : Tables) (s : State (Unit {0}) View) (r : Ruled p s) (id other : �
   -- one seat takes in another, whose draws move behind its own
   merges : v.actor.state ≡ Idle → w.actor.state ≡ Idle
       → both.actor ≡ record { state = v.actor.state; draws = v.actor.draws ++ w.actor.draws } → both.share ≡ v.share + w.share
-      → Fits p (now_of r.core) both → ShowsDesk (set (set s.views id both) other spent_view) r.core.desk r.core.points
+      → IsLawfulView p (now_of r.core) both → ShowsDesk (set (set s.views id both) other spent_view) r.core.desk r.core.points
       → Ruled p (record { words = s.words; homes = s.homes; views = set (set s.views id both) other spent_view })
   merges idle other_idle actor share fit desk =
       record {
@@ -181,9 +181,9 @@ module _ (p : Tables) (s : State (Unit {0}) View) (r : Ruled p s) (id other : �
           sum_changed share_of (set s.views id both) other w spent_view still in
           omega (arith, r.shares)
 
-      each : (i : ℕ) (u : View) → get_elem? (set (set s.views id both) other spent_view) i ≡ some u → Fits p (now_of r.core) u
+      each : (i : ℕ) (u : View) → get_elem? (set (set s.views id both) other spent_view) i ≡ some u → IsLawfulView p (now_of r.core) u
       each i u e =
-          let P : View → Type 0 = λ z. Fits p (now_of r.core) z in
+          let P : View → Type 0 = λ z. IsLawfulView p (now_of r.core) z in
           elim (at_set (set s.views id both) other i spent_view u e) [
             | inl t ↦ subst P t.1 (spent_fits p (now_of r.core))
             | inr t ↦
@@ -239,8 +239,8 @@ pub together_keeps : (p : Tables) (id : ℕ) (v : View) (other : ℕ) (w : View)
     → Joins (Ruled p) id v other w (together v w) spent_view
 together_keeps p id v other w plan shared idle other_idle lacks w_lacks s r at apart there =
     let there' : get_elem? s.views other ≡ some w = sym (set_else s.views id other (together v w) apart) ∙ there in
-    let f : Fits p (now_of r.core) v = r.each id v at in
-    let g : Fits p (now_of r.core) w = r.each other w there' in
+    let f : IsLawfulView p (now_of r.core) v = r.each id v at in
+    let g : IsLawfulView p (now_of r.core) w = r.each other w there' in
     merges p s r id other v w (together v w) at apart there' idle other_idle refl refl
     (record {
       same_plan = λ _. plan;
@@ -256,8 +256,8 @@ pub with_desk_keeps : (p : Tables) (id : ℕ) (v : View) (other : ℕ) (w : View
     → Joins (Ruled p) id v other w (with_desk_of v w) spent_view
 with_desk_keeps p id v other w plan shared idle other_idle lacks w_has s r at apart there =
     let there' : get_elem? s.views other ≡ some w = sym (set_else s.views id other (with_desk_of v w) apart) ∙ there in
-    let f : Fits p (now_of r.core) v = r.each id v at in
-    let g : Fits p (now_of r.core) w = r.each other w there' in
+    let f : IsLawfulView p (now_of r.core) v = r.each id v at in
+    let g : IsLawfulView p (now_of r.core) w = r.each other w there' in
     merges p s r id other v w (with_desk_of v w) at apart there' idle other_idle refl refl
     (record {
       same_plan = λ _. plan;

@@ -18,21 +18,21 @@ use Rattle.swap_core.proofs.Laws.{table_fits}
 use Rattle.area_swap.specs.declared.answers.Seen.{Seen}
 use Rattle.area_swap.specs.declared.board.View.{View}
 use Rattle.area_swap.specs.Views.{now_of, packed, unpacked, acting, reading, taking, IsUpTo}
-use Rattle.area_swap.specs.Rule.{Ruled, Fits}
-use Rattle.area_swap.specs.Told.{Seated, Glanced, LookedAt, Entered, Confirmed, LeftIt, ReadOne, Drew}
+use Rattle.area_swap.specs.Rule.{Ruled, IsLawfulView}
+use Rattle.area_swap.specs.SeatSteps.{Seated, Glanced, LookedAt, Entered, Confirmed, LeftIt, ReadOne, Drew}
 use Rattle.area_swap.proofs.Packing.{up_to, laid_claims, laid_now, same_packed}
 use Rattle.area_swap.proofs.Keeping.{actor_at, same_actors, same_words, shows_desk, fits, seat_step, moment_after}
 use Rattle.area_swap.proofs.Learning.{sees_word, unpacks, few_claims}
 
 module _ (p : Tables) (s : State (Unit {0}) View) (r : Ruled p s) (id : ℕ) (v : View) (at : get_elem? s.views id ≡ some v) where
   -- a view that reads the version word fits
-  fits_reading : Fits p (now_of r.core) (reading v (now_of r.core))
+  fits_reading : IsLawfulView p (now_of r.core) (reading v (now_of r.core))
   fits_reading =
       let f = fits p s r id v at in
       record { same_plan = f.same_plan; unshared = f.unshared; seen = up_to (now_of r.core); prior = f.seen }
 
   -- a view with a share fits, whatever its actor does
-  fits_acting : (now : Seen) (w : View) (x : ActorState) → 0 < w.share → Fits p now w → Fits p now (acting w x)
+  fits_acting : (now : Seen) (w : View) (x : ActorState) → 0 < w.share → IsLawfulView p now w → IsLawfulView p now (acting w x)
   fits_acting now w x shared f =
       record { same_plan = f.same_plan; unshared = λ none. absurd (omega arith); seen = f.seen; prior = f.prior }
 
@@ -69,7 +69,7 @@ module _ (p : Tables) (s : State (Unit {0}) View) (r : Ruled p s) (id : ℕ) (v 
       (same_words p s r id v at 0) refl refl (shows_desk p s r id v at) (λ _. (refl, refl)) (up_to (now_of r.core)) refl
       (fits_acting (now_of r.core) (reading v (now_of r.core)) (Holds a r.core.version) shared fits_reading))
 
-  fits_still : (x : ActorState) → 0 < v.share → Fits p (now_of r.core) (acting v x)
+  fits_still : (x : ActorState) → 0 < v.share → IsLawfulView p (now_of r.core) (acting v x)
   fits_still x shared = fits_acting (now_of r.core) v x shared (fits p s r id v at)
 
   -- one claim more on an area

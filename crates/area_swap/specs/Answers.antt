@@ -53,7 +53,7 @@ Claimed (claim.Held version) v w = HoldsNow version v w
 Claimed (claim.Moved before after) v w = HasMoved before after v w
 
 -- One record's number is the seat's, under the version that it holds, which is the one in force.
-pub record HasTaken (p : Tables) (end number held : ℕ) (v w : View) : Type 0 where
+pub record HasDrawn (p : Tables) (end number held : ℕ) (v w : View) : Type 0 where
   pub after : w ≡ taking (read_twice v w) number held
   pub in_force : w.seen.version ≡ held
   pub is_next : w.seen.records ≡ number
@@ -103,7 +103,7 @@ pub record HasLost (p : Tables) (end saw found held : ℕ) (v w : View) : Type 0
   pub drawn : All (IsDrawnBy w.prior) v.actor.draws
 
 abbrev pub Drawn : Draw → Tables → ℕ → ℕ → View → View → Type 0
-Drawn (draw.Taken number) p end held v w = HasTaken p end number held v w
+Drawn (draw.Taken number) p end held v w = HasDrawn p end number held v w
 Drawn (draw.Moved now) p end held v w = IsNotHeld now held v w
 Drawn draw.End p end held v w = IsAtEnd end held v w
 Drawn (draw.Hold most) p end held v w = IsAtLimit p end most held v w

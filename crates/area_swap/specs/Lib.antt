@@ -2,6 +2,6 @@ pub mod Answers
 pub mod Histories
 pub mod Reading
 pub mod Rule
-pub mod Told
+pub mod SeatSteps
 pub mod Values
 pub mod Views

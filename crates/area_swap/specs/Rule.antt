@@ -41,7 +41,7 @@ pub record ShowsDesk (views : List View) (state : DeskState) (points : List ℕ)
 
 -- What holds of each view. All seats in use know the plan. A view without a share has claimed nothing and drawn nothing:
 -- it is the desk's, or that of a seat that was joined into another.
-pub record Fits (plan : Tables) (now : Seen) (v : View) : Type 0 where
+pub record IsLawfulView (plan : Tables) (now : Seen) (v : View) : Type 0 where
   pub same_plan : IsSeated v → v.plan ≡ plan
   pub unshared : v.share ≡ 0 → v.actor ≡ newcomer
   pub seen : IsUpTo v.seen now
@@ -56,7 +56,7 @@ pub record Ruled (p : Tables) (s : State Unit View) : Type 0 where
   pub actors : map actor_of s.views ≡ core.actors
   pub desk : ShowsDesk s.views core.desk core.points
   pub shares : sum_by share_of s.views ≡ 65536
-  pub each : (i : ℕ) (v : View) → get_elem? s.views i ≡ some v → Fits p (now_of core) v
+  pub each : (i : ℕ) (v : View) → get_elem? s.views i ≡ some v → IsLawfulView p (now_of core) v
 
 -- A moment at which the rule held and a seat had this view.
 pub record Moment (v : View) : Type 0 where

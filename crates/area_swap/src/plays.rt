@@ -6,7 +6,7 @@ use atomic_table::{Join, Play, Split};
 pub struct Glance;
 
 impl Play<(), View> for Glance {
-    ghost use Rattle.area_swap.specs.Told.{Glanced};
+    ghost use Rattle.area_swap.specs.SeatSteps.{Glanced};
 
     ghost then = { Glanced };
 }
@@ -15,7 +15,7 @@ impl Play<(), View> for Glance {
 pub struct Look;
 
 impl Play<(), View> for Look {
-    ghost use Rattle.area_swap.specs.Told.{LookedAt};
+    ghost use Rattle.area_swap.specs.SeatSteps.{LookedAt};
 
     ghost then = { LookedAt };
 }
@@ -24,7 +24,7 @@ impl Play<(), View> for Look {
 pub struct Enter;
 
 impl Play<(), View> for Enter {
-    ghost use Rattle.area_swap.specs.Told.{Entered};
+    ghost use Rattle.area_swap.specs.SeatSteps.{Entered};
 
     ghost then = { Entered };
 }
@@ -33,7 +33,7 @@ impl Play<(), View> for Enter {
 pub struct Confirm;
 
 impl Play<(), View> for Confirm {
-    ghost use Rattle.area_swap.specs.Told.{Confirmed};
+    ghost use Rattle.area_swap.specs.SeatSteps.{Confirmed};
 
     ghost then = { Confirmed };
 }
@@ -42,7 +42,7 @@ impl Play<(), View> for Confirm {
 pub struct Leave;
 
 impl Play<(), View> for Leave {
-    ghost use Rattle.area_swap.specs.Told.{LeftIt};
+    ghost use Rattle.area_swap.specs.SeatSteps.{LeftIt};
 
     ghost then = { LeftIt };
 }
@@ -51,7 +51,7 @@ impl Play<(), View> for Leave {
 pub struct ReadWord;
 
 impl Play<(), View> for ReadWord {
-    ghost use Rattle.area_swap.specs.Told.{ReadOne};
+    ghost use Rattle.area_swap.specs.SeatSteps.{ReadOne};
 
     ghost then = { ReadOne };
 }
@@ -60,7 +60,7 @@ impl Play<(), View> for ReadWord {
 pub struct Exchange;
 
 impl Play<(), View> for Exchange {
-    ghost use Rattle.area_swap.specs.Told.{Drew};
+    ghost use Rattle.area_swap.specs.SeatSteps.{Drew};
 
     ghost then = { Drew };
 }
@@ -69,7 +69,7 @@ impl Play<(), View> for Exchange {
 pub struct FindDue;
 
 impl Play<(), View> for FindDue {
-    ghost use Rattle.area_swap.specs.Told.{FoundDue};
+    ghost use Rattle.area_swap.specs.SeatSteps.{FoundDue};
 
     ghost then = { FoundDue };
 }
@@ -78,16 +78,16 @@ impl Play<(), View> for FindDue {
 pub struct CountClaims;
 
 impl Play<(), View> for CountClaims {
-    ghost use Rattle.area_swap.specs.Told.{Counted};
+    ghost use Rattle.area_swap.specs.SeatSteps.{ReadClaims};
 
-    ghost then = { Counted };
+    ghost then = { ReadClaims };
 }
 
 /// The desk's store of a word of the next table.
 pub struct WriteWord;
 
 impl Play<(), View> for WriteWord {
-    ghost use Rattle.area_swap.specs.Told.{Wrote};
+    ghost use Rattle.area_swap.specs.SeatSteps.{Wrote};
 
     ghost then = { Wrote };
 }
@@ -96,7 +96,7 @@ impl Play<(), View> for WriteWord {
 pub struct PublishTable;
 
 impl Play<(), View> for PublishTable {
-    ghost use Rattle.area_swap.specs.Told.{Published};
+    ghost use Rattle.area_swap.specs.SeatSteps.{Published};
 
     ghost then = { Published };
 }

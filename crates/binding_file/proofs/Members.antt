@@ -10,7 +10,7 @@ use Rattle.toml.specs.View.{view, members_view, table_view, items_view}
 use Rattle.toml.specs.declared.value.Value.{Value}
 use Rattle.binding_file.specs.Files.{are_tables}
 use Rattle.binding_file.specs.Keys.{keys_of as member_keys}
-use Rattle.binding_file.specs.Steps.{with_member}
+use Rattle.binding_file.specs.Parts.{with_member}
 
 abbrev pub Entry : Type 0
 Entry = String Global × Value

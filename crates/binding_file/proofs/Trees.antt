@@ -1,19 +1,19 @@
 -- The tree that the writer makes, and the first refusals of the reader.
 use Rattle.std.proofs.Common.{◌≡◌, ℕ, ◌+◌, ◌≤◌, ◌<◌, length, BTreeMap, String, Global, List, [], ◌∷◌, ◌++◌, true, Result, Ok, Err, refl, sym, subst, arith}
 use Rattle.std.proofs.lemmas.Bool.Decides.{nat_tests}
-use Rattle.binding_rules.specs.Tables.{Rules, IsValid}
+use Rattle.binding_rules.specs.Tables.{BindingTable, IsValid}
 use Rattle.binding_rules.specs.declared.binding.Binding.{Binding}
 use Rattle.toml.specs.Data.{Data, Items, no_items, item, Members, items_depth, push_item}
 use Rattle.binding_file.specs.Keys.{Then}
-use Rattle.binding_file.specs.Files.{AreElements, are_tables, fits, IsDocument, IsTree, Says, TextOf, TableOf, IsCause}
-use Rattle.binding_file.specs.Steps.{IsSpelled, AreSpelled, IsRead, error_of}
+use Rattle.binding_file.specs.Files.{AreElements, are_tables, fits, IsDocument, IsTree, Says, TextOf, TableOf, IsFileCause}
+use Rattle.binding_file.specs.Parts.{IsSpelled, AreSpelled, IsRead, file_error_of}
 use Rattle.binding_file.specs.declared.refusals.FileRefused.{FileRefused}
 use Rattle.binding_file.specs.declared.refusals.FileRefused.TheVariants as refused
 use Rattle.binding_file.specs.declared.refusals.FileError.{FileError}
 use Rattle.binding_file.specs.declared.refusals.FileError.TheVariants as file_error
 use Rattle.binding_rules.specs.declared.refused.TableError.{TableError}
 use Rattle.binding_rules.specs.declared.refused.TableError.TheVariants as table_error
-use Rattle.binding_rules.specs.Refusals.{IsCause as IsRulesCause}
+use Rattle.binding_rules.specs.Refusals.{IsCause}
 use Rattle.toml.specs.View.{table_view}
 use Rattle.toml.specs.declared.value.Value.{Value}
 
@@ -56,31 +56,31 @@ fits_small bytes small = grind (arith, nat_tests)
 
 -- the causes of the reader's errors
 pub cause_big : (bytes : List ℕ) → 16777216 < length bytes → TableOf bytes (Err refused.TooBig)
-cause_big bytes big = let e : fits bytes ≡ Err refused.TooBig = grind (arith, nat_tests) in then_err Rules (fits bytes) refused.TooBig _ e
+cause_big bytes big = let e : fits bytes ≡ Err refused.TooBig = grind (arith, nat_tests) in then_err BindingTable (fits bytes) refused.TooBig _ e
 
 refused_text : (bytes : List ℕ) (r : FileRefused) → length bytes ≤ 16777216 → Says bytes (Err r) → TableOf bytes (Err r)
 refused_text bytes r small said = then_ok (fits bytes) bytes _ _ (fits_small bytes small) (record { gives = Err r; given = said; rest = refl })
 
-pub cause_document : (bytes : List ℕ) (e : FileError) → length bytes ≤ 16777216 → IsRead (λ (t : Document). table_view t) (IsDocument bytes) (Err e) → IsCause bytes e
+pub cause_document : (bytes : List ℕ) (e : FileError) → length bytes ≤ 16777216 → IsRead (λ (t : Document). table_view t) (IsDocument bytes) (Err e) → IsFileCause bytes e
 cause_document bytes (file_error.Refused r) small h = refused_text bytes r small (record { gives = Err r; given = h; rest = refl })
 cause_document bytes file_error.OutOfMemory small h = tt
 
-pub cause_tree : (S : Type 0) (f : S → Rules) (bytes : List ℕ) (ms : Members) (e : FileError) → length bytes ≤ 16777216 → IsDocument bytes (Ok ms) → IsRead f (IsTree ms) (Err e) → IsCause bytes e
+pub cause_tree : (S : Type 0) (f : S → BindingTable) (bytes : List ℕ) (ms : Members) (e : FileError) → length bytes ≤ 16777216 → IsDocument bytes (Ok ms) → IsRead f (IsTree ms) (Err e) → IsFileCause bytes e
 cause_tree S f bytes ms (file_error.Refused r) small d h = refused_text bytes r small (record { gives = Ok ms; given = d; rest = h })
 cause_tree S f bytes ms file_error.OutOfMemory small d h = tt
 
-said : (bytes : List ℕ) (ms : Members) (t : Rules) → IsDocument bytes (Ok ms) → IsTree ms (Ok t) → Says bytes (Ok t)
+said : (bytes : List ℕ) (ms : Members) (t : BindingTable) → IsDocument bytes (Ok ms) → IsTree ms (Ok t) → Says bytes (Ok t)
 said bytes ms t d h = record { gives = Ok ms; given = d; rest = h }
 
-pub cause_rules : (bytes : List ℕ) (ms : Members) (t : Rules) (e : TableError) → length bytes ≤ 16777216 → IsDocument bytes (Ok ms) → IsTree ms (Ok t) → IsRulesCause t.edition t.softwire t.bindings e → IsCause bytes (error_of e)
+pub cause_rules : (bytes : List ℕ) (ms : Members) (t : BindingTable) (e : TableError) → length bytes ≤ 16777216 → IsDocument bytes (Ok ms) → IsTree ms (Ok t) → IsCause t.edition t.softwire t.bindings e → IsFileCause bytes (file_error_of e)
 cause_rules bytes ms t (table_error.Refused q) small d h k = then_ok (fits bytes) bytes _ _ (fits_small bytes small) (record { gives = Ok t; given = said bytes ms t d h; rest = (q, refl, k) })
 cause_rules bytes ms t table_error.OutOfMemory small d h k = tt
 
-pub table_text : (bytes : List ℕ) (ms : Members) (t : Rules) → IsDocument bytes (Ok ms) → IsTree ms (Ok t) → IsValid t → TextOf bytes (Ok t)
+pub table_text : (bytes : List ℕ) (ms : Members) (t : BindingTable) → IsDocument bytes (Ok ms) → IsTree ms (Ok t) → IsValid t → TextOf bytes (Ok t)
 table_text bytes ms t d h valid = record { gives = Ok t; given = said bytes ms t d h; rest = (refl, valid) }
 
-pub table_file : (bytes : List ℕ) (ms : Members) (t : Rules) → length bytes ≤ 16777216 → IsDocument bytes (Ok ms) → IsTree ms (Ok t) → IsValid t → TableOf bytes (Ok t)
+pub table_file : (bytes : List ℕ) (ms : Members) (t : BindingTable) → length bytes ≤ 16777216 → IsDocument bytes (Ok ms) → IsTree ms (Ok t) → IsValid t → TableOf bytes (Ok t)
 table_file bytes ms t small d h valid = then_ok (fits bytes) bytes _ _ (fits_small bytes small) (table_text bytes ms t d h valid)
 
-pub text_file : (bytes : List ℕ) (t : Rules) → length bytes ≤ 16777216 → TextOf bytes (Ok t) → TableOf bytes (Ok t)
+pub text_file : (bytes : List ℕ) (t : BindingTable) → length bytes ≤ 16777216 → TextOf bytes (Ok t) → TableOf bytes (Ok t)
 text_file bytes t small h = then_ok (fits bytes) bytes _ _ (fits_small bytes small) h

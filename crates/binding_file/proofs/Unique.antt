@@ -2,7 +2,7 @@
 use Rattle.std.proofs.Common.{◌≡◌, ℕ, ◌+◌, List, [], ◌∷◌, Some, None, Result, Ok, Err, ap, sym, ◌∙◌, subst}
 use Rattle.addr_text.specs.Ipv4.{IsV4Text}
 use Rattle.addr_text.specs.Ipv6.{IsV6Text}
-use Rattle.binding_rules.specs.Tables.{Rules, rules}
+use Rattle.binding_rules.specs.Tables.{BindingTable, binding_table}
 use Rattle.toml.specs.Data.{Data, Members, Items, no_items, item, as_table}
 use Rattle.binding_file.specs.Keys.{Then, After, of_kind, table_at, text_at, IsAddress6, IsAddress4, IsAddress6At, IsAddress4At}
 use Rattle.binding_file.specs.Files.{top_edition, elements_of, settings_of, port_set_of, IsSoftwire, IsBinding, IsElement, AreElements, AreBindings, IsTree, IsDocument, Says, IsJudged, TextOf, TableOf, fits}
@@ -83,10 +83,10 @@ bindings_unique six four ms = then_unique (elements_of ms) (λ ds r. AreElements
 
 tree_unique : One6 → One4 → (ms : Members) → Unique (IsTree ms)
 tree_unique six four ms =
-    then_unique (top_edition ms) (λ e r. Then (table_at ms (place.Top name.Softwire)) (λ inner. After (IsSoftwire inner) (λ s. After (AreBindings ms) (λ bs. r ≡ Ok (rules e s bs)) r) r) r)
-    (λ e. then_unique (table_at ms (place.Top name.Softwire)) (λ inner r. After (IsSoftwire inner) (λ s. After (AreBindings ms) (λ bs. r ≡ Ok (rules e s bs)) r) r)
-    (λ inner. after_unique (IsSoftwire inner) (λ s r. After (AreBindings ms) (λ bs. r ≡ Ok (rules e s bs)) r) (softwire_unique six four inner)
-    (λ s. after_unique (AreBindings ms) (λ bs r. r ≡ Ok (rules e s bs)) (bindings_unique six four ms) (λ bs. exact_unique (Ok (rules e s bs))))))
+    then_unique (top_edition ms) (λ e r. Then (table_at ms (place.Top name.Softwire)) (λ inner. After (IsSoftwire inner) (λ s. After (AreBindings ms) (λ bs. r ≡ Ok (binding_table e s bs)) r) r) r)
+    (λ e. then_unique (table_at ms (place.Top name.Softwire)) (λ inner r. After (IsSoftwire inner) (λ s. After (AreBindings ms) (λ bs. r ≡ Ok (binding_table e s bs)) r) r)
+    (λ inner. after_unique (IsSoftwire inner) (λ s r. After (AreBindings ms) (λ bs. r ≡ Ok (binding_table e s bs)) r) (softwire_unique six four inner)
+    (λ s. after_unique (AreBindings ms) (λ bs r. r ≡ Ok (binding_table e s bs)) (bindings_unique six four ms) (λ bs. exact_unique (Ok (binding_table e s bs))))))
 
 document_unique : (bytes : List ℕ) → Unique (IsDocument bytes)
 document_unique bytes (Ok x) (Ok y) h k = ap Ok (same_some x y (sym h.1 ∙ k.1))
@@ -98,7 +98,7 @@ says_unique : One6 → One4 → (bytes : List ℕ) → Unique (Says bytes)
 says_unique six four bytes = after_unique (IsDocument bytes) (λ ms r. IsTree ms r) (document_unique bytes) (λ ms. tree_unique six four ms)
 
 -- a table has one judgement
-judged_unique : (t : Rules) → Unique (IsJudged t)
+judged_unique : (t : BindingTable) → Unique (IsJudged t)
 judged_unique t (Ok u) (Ok v) h k = ap Ok (h.0 ∙ sym k.0)
 judged_unique t (Ok u) (Err f) h k = absurd (h.1 k.0 k.2.applies)
 judged_unique t (Err e) (Ok v) h k = absurd (k.1 h.0 h.2.applies)

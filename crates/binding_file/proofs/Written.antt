@@ -7,7 +7,7 @@ use Rattle.toml.specs.declared.value.Value.{Value}
 use Rattle.toml.proofs.Views.{items_view-push}
 use Rattle.addr_text.specs.Ipv4.{IsV4Text}
 use Rattle.addr_text.specs.Ipv6.{IsV6Text}
-use Rattle.binding_rules.specs.Tables.{Rules, rules}
+use Rattle.binding_rules.specs.Tables.{BindingTable, binding_table}
 use Rattle.binding_rules.specs.declared.binding.Binding.{Binding}
 use Rattle.binding_rules.specs.declared.settings.Edition.{Edition}
 use Rattle.binding_rules.specs.declared.settings.Edition.TheVariants as edition
@@ -15,7 +15,7 @@ use Rattle.binding_rules.specs.declared.settings.Softwire.{Softwire}
 use Rattle.toml.specs.Data.{Data, string, integer, boolean, array, table, Items, Members, no_members, member, members_depth, push_item}
 use Rattle.binding_file.specs.Keys.{number_at, flag_at, has_other}
 use Rattle.binding_file.specs.Files.{settings_of, port_set_of, IsSoftwire, IsElement, IsTree, AreBindings}
-use Rattle.binding_file.specs.Steps.{with_member, edition_number, IsSpelled, AreSpelled, IsSoftwireData, AreBindingsData}
+use Rattle.binding_file.specs.Parts.{with_member, edition_number, IsSpelled, AreSpelled, IsSoftwireData, AreBindingsData}
 use Rattle.binding_file.proofs.Trees.{spelled_elements, spelled_tables, spelled_depth, spelled_push}
 
 -- a table's settings, as a tree
@@ -56,7 +56,7 @@ binding_written d b4 v4 b e six four o l p = record {
   flat = rw e (omega arith);
 }
 
-tree_of_edition : (e : Edition) (s : Softwire) (bs : List Binding) (sm : Members) (ds : Items) → IsSoftwire sm (Ok s) → AreBindings (top_members e (table sm) (array ds)) (Ok bs) → IsTree (top_members e (table sm) (array ds)) (Ok (rules e s bs))
+tree_of_edition : (e : Edition) (s : Softwire) (bs : List Binding) (sm : Members) (ds : Items) → IsSoftwire sm (Ok s) → AreBindings (top_members e (table sm) (array ds)) (Ok bs) → IsTree (top_members e (table sm) (array ds)) (Ok (binding_table e s bs))
 unfolding has_other
 tree_of_edition edition.One s bs sm ds h k = record { gives = Ok s; given = h; rest = record { gives = Ok bs; given = k; rest = refl } }
 tree_of_edition edition.Two s bs sm ds h k = record { gives = Ok s; given = h; rest = record { gives = Ok bs; given = k; rest = refl } }
@@ -64,12 +64,12 @@ tree_of_edition edition.Two s bs sm ds h k = record { gives = Ok s; given = h; r
 bindings_written : (e : Edition) (s : Data) (ds : Items) (bs : List Binding) → AreSpelled ds bs → AreBindings (top_members e s (array ds)) (Ok bs)
 bindings_written e s ds bs h = rw (spelled_tables ds bs h) (spelled_elements 0 ds bs h)
 
-pub tree_written : (m : Members) (t : Rules) (s bs : Data) → m ≡ top_members t.edition s bs → IsSoftwireData s t.softwire → AreBindingsData bs t.bindings → IsTree m (Ok t)
+pub tree_written : (m : Members) (t : BindingTable) (s bs : Data) → m ≡ top_members t.edition s bs → IsSoftwireData s t.softwire → AreBindingsData bs t.bindings → IsTree m (Ok t)
 tree_written m t s bs e h k =
     let same : m ≡ top_members t.edition (table h.members) (array k.items) = e ∙ ap (λ x. top_members t.edition x bs) h.is ∙ ap (λ y. top_members t.edition (table h.members) y) k.is in
     subst (λ x. IsTree x (Ok t)) (sym same) (tree_of_edition t.edition t.softwire t.bindings h.members k.items h.spelled (bindings_written t.edition (table h.members) k.items t.bindings k.spelled))
 
-pub flat_written : (m : Members) (t : Rules) (s bs : Data) → m ≡ top_members t.edition s bs → IsSoftwireData s t.softwire → AreBindingsData bs t.bindings → members_depth m ≤ 2
+pub flat_written : (m : Members) (t : BindingTable) (s bs : Data) → m ≡ top_members t.edition s bs → IsSoftwireData s t.softwire → AreBindingsData bs t.bindings → members_depth m ≤ 2
 flat_written m t s bs e h k =
     let same : m ≡ top_members t.edition (table h.members) (array k.items) = e ∙ ap (λ x. top_members t.edition x bs) h.is ∙ ap (λ y. top_members t.edition (table h.members) y) k.is in
     rw same (omega (arith, h.flat, spelled_depth k.items t.bindings k.spelled))

@@ -4,7 +4,7 @@ use Rattle.std.specs.Prelude.{◌≡◌, ℕ, ◌+◌, ℤ, pos, negsuc, ◌==�
 use Rattle.aftr_base.specs.declared.numbers.V4.{V4}
 use Rattle.aftr_base.specs.declared.numbers.V6.{V6}
 use Rattle.binding_rules.specs.Refusals.{IsFirstRefusal}
-use Rattle.binding_rules.specs.Tables.{Rules, rules, IsValid}
+use Rattle.binding_rules.specs.Tables.{BindingTable, binding_table, IsValid}
 use Rattle.binding_rules.specs.declared.binding.Binding.{Binding}
 use Rattle.binding_rules.specs.declared.settings.Edition.{Edition}
 use Rattle.binding_rules.specs.declared.settings.Edition.TheVariants as edition
@@ -109,13 +109,13 @@ abbrev pub AreBindings : Members → Result (List Binding) FileRefused → Type 
 AreBindings ms r = Then (elements_of ms) (λ ds. AreElements 0 ds r) r
 
 -- what the tree says, before the rules of tables
-abbrev pub IsTree : Members → Result Rules FileRefused → Type 0
+abbrev pub IsTree : Members → Result BindingTable FileRefused → Type 0
 IsTree ms r =
     Then (top_edition ms) (λ e.
     Then (table_at ms (place.Top name.Softwire)) (λ table.
     After (IsSoftwire table) (λ softwire.
     After (AreBindings ms) (λ bindings.
-    r ≡ Ok (rules e softwire bindings)) r) r) r) r
+    r ≡ Ok (binding_table e softwire bindings)) r) r) r) r
 
 -- the document that the bytes are
 abbrev pub IsDocument : List ℕ → Result Members FileRefused → Type 0
@@ -123,16 +123,16 @@ IsDocument bytes (Ok ms) = IsUtf8 bytes × (parse_document bytes ≡ Some ms)
 IsDocument bytes (Err e) = (e ≡ refused.NotToml) × (IsUtf8 bytes → parse_document bytes ≡ None)
 
 -- what the bytes say, before the rules of tables
-abbrev pub Says : List ℕ → Result Rules FileRefused → Type 0
+abbrev pub Says : List ℕ → Result BindingTable FileRefused → Type 0
 Says bytes r = After (IsDocument bytes) (λ ms. IsTree ms r) r
 
 -- the rules of tables: nothing is wrong, or this is the first refusal by them
-abbrev pub IsJudged : Rules → Result Rules FileRefused → Type 0
+abbrev pub IsJudged : BindingTable → Result BindingTable FileRefused → Type 0
 IsJudged t (Ok u) = (u ≡ t) × IsValid t
 IsJudged t (Err e) = (rule : Refused) × (e ≡ refused.Rules rule) × IsFirstRefusal t.edition t.softwire t.bindings rule
 
 -- the table that a text spells, whatever its size, or its first refusal
-abbrev pub TextOf : List ℕ → Result Rules FileRefused → Type 0
+abbrev pub TextOf : List ℕ → Result BindingTable FileRefused → Type 0
 TextOf bytes r = After (Says bytes) (λ t. IsJudged t r) r
 
 -- the most bytes that a file may have
@@ -143,10 +143,10 @@ abbrev pub fits : List ℕ → Result (List ℕ) FileRefused
 fits bytes = if nat_lt most_bytes (length bytes) then Err refused.TooBig else Ok bytes
 
 -- the table that a file spells, or its first refusal
-abbrev pub TableOf : List ℕ → Result Rules FileRefused → Type 0
+abbrev pub TableOf : List ℕ → Result BindingTable FileRefused → Type 0
 TableOf bytes r = Then (fits bytes) (λ text. TextOf text r) r
 
 -- an error other than want of memory is the first refusal
-abbrev pub IsCause : List ℕ → FileError → Type 0
-IsCause bytes (file_error.Refused r) = TableOf bytes (Err r)
-IsCause bytes file_error.OutOfMemory = Unit {0}
+abbrev pub IsFileCause : List ℕ → FileError → Type 0
+IsFileCause bytes (file_error.Refused r) = TableOf bytes (Err r)
+IsFileCause bytes file_error.OutOfMemory = Unit {0}

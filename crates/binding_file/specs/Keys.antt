@@ -6,7 +6,7 @@ use Rattle.aftr_base.specs.declared.numbers.V6.{V6}
 use Rattle.addr_text.specs.Ipv4.{IsV4Text}
 use Rattle.addr_text.specs.Ipv6.{IsV6Text}
 use Rattle.toml.specs.Data.{Data, as_str, as_integer, as_bool, as_table, Members, no_members, member, get_member}
-use Rattle.binding_file.specs.Names.{key_of, name_of}
+use Rattle.binding_file.specs.Names.{key_of, name_at}
 use Rattle.binding_file.specs.declared.names.Name.{Name}
 use Rattle.binding_file.specs.declared.names.Place.{Place}
 use Rattle.binding_file.specs.declared.refusals.FileRefused.{FileRefused}
@@ -31,7 +31,7 @@ pub record After {A B : Type 0} (P : Result A FileRefused → Type 0) (Q : A →
 
 -- what the key of a place has in the table where it stands
 abbrev pub member_at : Members → Place → Option Data
-member_at ms p = get_member (key_of (name_of p)) ms
+member_at ms p = get_member (key_of (name_at p)) ms
 
 -- a key that has to be there
 abbrev pub required : Place → Option Data → Result Data FileRefused

@@ -1,4 +1,4 @@
 pub mod Names
 pub mod Keys
 pub mod Files
-pub mod Steps
+pub mod Parts

@@ -29,10 +29,10 @@ key_of name.Length = codes "length"
 key_of name.Psid = codes "psid"
 
 -- the key that stands at a place
-abbrev pub name_of : Place → Name
-name_of (place.Top name) = name
-name_of (place.Softwire name) = name
-name_of (place.Binding at name) = name
+abbrev pub name_at : Place → Name
+name_at (place.Top name) = name
+name_at (place.Softwire name) = name
+name_at (place.Binding at name) = name
 
 abbrev pub place_text : Place → List ℕ
 place_text (place.Top name) = key_of name
@@ -62,13 +62,13 @@ refused_text (refused.Rules rule) = codes "rules " ++ rule_text rule
 refused_text refused.Version = codes "version"
 
 -- the refusals in the order of their declaration, from 1
-abbrev pub number_of : FileRefused → ℕ
-number_of refused.TooBig = 1
-number_of refused.NotToml = 2
-number_of (refused.Missing place) = 3
-number_of (refused.Kind place) = 4
-number_of refused.UnknownKey = 5
-number_of (refused.Address place) = 6
-number_of (refused.Range place) = 7
-number_of (refused.Rules rule) = 8
-number_of refused.Version = 9
+abbrev pub file_refusal_number : FileRefused → ℕ
+file_refusal_number refused.TooBig = 1
+file_refusal_number refused.NotToml = 2
+file_refusal_number (refused.Missing place) = 3
+file_refusal_number (refused.Kind place) = 4
+file_refusal_number refused.UnknownKey = 5
+file_refusal_number (refused.Address place) = 6
+file_refusal_number (refused.Range place) = 7
+file_refusal_number (refused.Rules rule) = 8
+file_refusal_number refused.Version = 9

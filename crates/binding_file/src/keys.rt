@@ -2,7 +2,7 @@
 ghost use Rattle.std.specs.Prelude.{◌≡◌, ◌≤◌, IfOk, option_map};
 ghost use Rattle.toml.specs.View.{view, table_view};
 ghost use Rattle.binding_file.specs.Keys.{member_at, required, table_at, text_at, number_at, flag_at, IsAddress6At, IsAddress4At, is_one_of, has_other};
-ghost use Rattle.binding_file.specs.Steps.{outcome};
+ghost use Rattle.binding_file.specs.Parts.{value_or_refusal};
 
 use crate::names::{Name, Place};
 use crate::refusals::FileRefused;
@@ -19,7 +19,7 @@ pub(crate) fn member_at(table: &Table, place: Place) -> Option<&Value>
 
 /// The value at a place that has to be there.
 pub(crate) fn required(table: &Table, place: Place) -> Result<&Value, FileRefused>
-    ensures { outcome (λ v. view v.now) result ≡ required place (member_at (table_view table.now) place) }
+    ensures { value_or_refusal (λ v. view v.now) result ≡ required place (member_at (table_view table.now) place) }
 {
     match member_at(table, place) {
         Some(value) => Ok(value),
@@ -28,7 +28,7 @@ pub(crate) fn required(table: &Table, place: Place) -> Result<&Value, FileRefuse
 }
 
 pub(crate) fn table_at(table: &Table, place: Place) -> Result<&Table, FileRefused>
-    ensures { outcome (λ t. table_view t.now) result ≡ table_at (table_view table.now) place }
+    ensures { value_or_refusal (λ t. table_view t.now) result ≡ table_at (table_view table.now) place }
 {
     match required(table, place)?.as_table() {
         Some(inner) => Ok(inner),
@@ -37,7 +37,7 @@ pub(crate) fn table_at(table: &Table, place: Place) -> Result<&Table, FileRefuse
 }
 
 fn text_at(table: &Table, place: Place) -> Result<&str, FileRefused>
-    ensures { outcome (λ t. t.now) result ≡ text_at (table_view table.now) place }
+    ensures { value_or_refusal (λ t. t.now) result ≡ text_at (table_view table.now) place }
 {
     match required(table, place)?.as_str() {
         Some(text) => Ok(text),

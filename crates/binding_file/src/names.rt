@@ -64,11 +64,11 @@ pub enum Place {
 
 impl Place {
     ghost use Rattle.std.specs.Prelude.{◌≡◌};
-    ghost use Rattle.binding_file.specs.Names.{name_of};
+    ghost use Rattle.binding_file.specs.Names.{name_at};
 
     /// The key that stands there.
     pub fn name(self) -> Name
-        ensures { result ≡ name_of self }
+        ensures { result ≡ name_at self }
     {
         match self {
             Place::Top(name) => name,

@@ -1,9 +1,9 @@
 // Reads a table file: the document's tree first, then the keys in their order, then the rules of tables.
 ghost use Rattle.std.specs.Prelude.{◌≡◌, ◌≤◌, IfOk, IfErr, vec_len};
 ghost use Rattle.toml.specs.View.{view, table_view, items_view};
-ghost use Rattle.binding_rules.specs.Tables.{rules};
-ghost use Rattle.binding_file.specs.Files.{top_edition, settings_of, port_set_of, elements_of, are_tables, IsSoftwire, IsElement, AreBindings, IsDocument, IsTree, TableOf, IsCause};
-ghost use Rattle.binding_file.specs.Steps.{IsRead, outcome};
+ghost use Rattle.binding_rules.specs.Tables.{binding_table};
+ghost use Rattle.binding_file.specs.Files.{top_edition, settings_of, port_set_of, elements_of, are_tables, IsSoftwire, IsElement, AreBindings, IsDocument, IsTree, TableOf, IsFileCause};
+ghost use Rattle.binding_file.specs.Parts.{IsRead, value_or_refusal};
 
 use crate::keys::{
     address4_at, address6_at, byte_at, flag_at, has_other, member_at, number_at, required, table_at,
@@ -41,7 +41,7 @@ const BINDING_NAMES: [Name; 5] = [Name::B4, Name::Ipv4, Name::Offset, Name::Leng
 /// the test of the rules.
 pub fn read_table(alloc: Global, text: &[u8]) -> Result<Table, FileError>
     ensures table { IfOk result (λ t. TableOf text.now (Ok t)) }
-    ensures cause { IfErr result (IsCause text.now) }
+    ensures cause { IfErr result (IsFileCause text.now) }
 {
     if text.len() > MOST_BYTES {
         return Err(FileError::Refused(FileRefused::TooBig));
@@ -70,7 +70,7 @@ fn document_of(alloc: Global, text: &[u8]) -> Result<toml::Table, FileError>
 }
 
 fn tree_of(alloc: Global, document: &toml::Table) -> Result<Spelled, FileError>
-    ensures read { IsRead (λ s. rules s.edition s.softwire s.bindings.items) (IsTree (table_view document.now)) result }
+    ensures read { IsRead (λ s. binding_table s.edition s.softwire s.bindings.items) (IsTree (table_view document.now)) result }
     ensures few { IfOk result (λ s. vec_len s.bindings ≤ 16777216) }
 {
     let edition = edition_of(document)?;
@@ -132,7 +132,7 @@ fn settings_of(table: &toml::Table, aftr: V6, own: V4) -> Result<Softwire, FileR
 
 /// The elements of `binding`, none where the key is not there.
 fn elements_of(document: &toml::Table) -> Result<&[Value], FileRefused>
-    ensures { outcome (λ values. items_view values.now) result ≡ elements_of (table_view document.now) }
+    ensures { value_or_refusal (λ values. items_view values.now) result ≡ elements_of (table_view document.now) }
 {
     let place = Place::Top(Name::Binding);
     let Some(value) = member_at(document, place) else {

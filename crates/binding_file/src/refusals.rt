@@ -30,11 +30,11 @@ pub enum FileRefused {
 
 impl FileRefused {
     ghost use Rattle.std.specs.Prelude.{◌≡◌};
-    ghost use Rattle.binding_file.specs.Names.{number_of};
+    ghost use Rattle.binding_file.specs.Names.{file_refusal_number};
 
     /// The number of the cause, from 1 to 9 in the order written here.
     pub fn number(&self) -> u8
-        ensures { result ≡ number_of self.now }
+        ensures { result ≡ file_refusal_number self.now }
     {
         match self {
             FileRefused::TooBig => 1,
@@ -142,9 +142,9 @@ impl<T: Drop> From<AllocFailed<T>> for FileError {
 
 impl From<TableError> for FileError {
     ghost use Rattle.std.specs.Prelude.{◌≡◌};
-    ghost use Rattle.binding_file.specs.Steps.{error_of};
+    ghost use Rattle.binding_file.specs.Parts.{file_error_of};
 
-    ghost from_gives = { λ error e. e ≡ error_of error };
+    ghost from_gives = { λ error e. e ≡ file_error_of error };
 
     fn from(error: TableError) -> Self {
         match error {

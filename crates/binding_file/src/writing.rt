@@ -5,7 +5,7 @@ ghost use Rattle.toml.specs.View.{view, table_view};
 ghost use Rattle.binding_rules.specs.Tables.{IsValid};
 ghost use Rattle.binding_file.specs.Names.{key_of};
 ghost use Rattle.binding_file.specs.Files.{IsTree, TextOf};
-ghost use Rattle.binding_file.specs.Steps.{edition_number, with_member, IsSpelled, IsSoftwireData, AreBindingsData};
+ghost use Rattle.binding_file.specs.Parts.{edition_number, with_member, IsSpelled, IsSoftwireData, AreBindingsData};
 
 use crate::names::Name;
 use addr_text::{write_v4, write_v6};

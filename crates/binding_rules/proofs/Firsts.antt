@@ -12,8 +12,8 @@ use Rattle.binding_rules.specs.declared.refused.Refused.{Refused}
 use Rattle.binding_rules.specs.declared.refused.Refused.TheVariants as refused
 use Rattle.binding_rules.specs.Conflicts.{Conflict}
 use Rattle.binding_rules.specs.Refusals.{AtBoth, Applies, turn, IsEarlier, IsFirstRefusal, IsMixed, IsTwice, Turn}
-use Rattle.binding_rules.specs.Steps.{IsFine, IsSound, AreSound, IsPlaceRefusal, IsFirstPair, IsConflictRefusal, IsNotAfter}
-use Rattle.binding_rules.specs.Tables.{IsValid, rules}
+use Rattle.binding_rules.specs.Scans.{IsFine, IsSound, AreSound, IsPlaceRefusal, IsFirstPair, IsConflictRefusal, IsNotAfter}
+use Rattle.binding_rules.specs.Tables.{IsValid, binding_table}
 use Rattle.binding_rules.proofs.Keys.{both_map}
 use Rattle.binding_rules.proofs.Laws.{shape_not_both}
 use Rattle.binding_rules.proofs.Links.{same_binding}
@@ -175,7 +175,7 @@ module _ (e : Edition) (s : Softwire) (bs : List Binding) (fine : IsFine s) wher
       of_pair (refused.MixedShape f g) h = (f, g, refl, mixed_conflict e bs f g h)
       of_pair (refused.Twice f g) h = (f, g, refl, twice_conflict e bs f g h)
 
-      pub none_applies : IsFirstPair bs (Conflict e) (λ n. Unit {0}) None → IsValid (rules e s bs)
+      pub none_applies : IsFirstPair bs (Conflict e) (λ n. Unit {0}) None → IsValid (binding_table e s bs)
       unfolding IsOfPair
       none_applies none q h = let p = of_pair q h in none p.0 p.1 (tt, p.3)
 

@@ -8,7 +8,7 @@ use Rattle.binding_rules.specs.declared.binding.Binding.{Binding}
 use Rattle.binding_rules.specs.declared.conflicts.Pair.{Pair}
 use Rattle.binding_rules.specs.declared.settings.Edition.{Edition}
 use Rattle.binding_rules.specs.Conflicts.{Conflict}
-use Rattle.binding_rules.specs.Steps.{IsFirstPair, ArePair, IsNearest, IsLast, HasAddress, IsOwnersOf, AreFresh, counted, has_address, slot, earlier_of}
+use Rattle.binding_rules.specs.Scans.{IsFirstPair, ArePair, IsNearest, IsLast, HasAddress, IsOwnersOf, AreFresh, owner_named, has_address, slot, earlier_of}
 use Rattle.binding_rules.proofs.Leasts.{pair_iff, pair_or}
 use Rattle.binding_rules.proofs.Links.{has_address_of, same_binding}
 
@@ -83,7 +83,7 @@ fresh_for bs i y owners here gone key l = by_slot (slot owners key) refl
           | inr t ↦ t
         ]
 
-    by_slot : (o : Option ℕ) → slot owners key ≡ o → counted bs y.v4.0 o ≡ None
+    by_slot : (o : Option ℕ) → slot owners key ≡ o → owner_named bs y.v4.0 o ≡ None
     by_slot None e = refl
     by_slot (Some n) e = rw (by_binding n (slice_get bs n) refl e) refl
 

@@ -9,7 +9,7 @@ use Rattle.port_set.specs.PortSets.{InSet, in_set}
 use Rattle.port_set.proofs.Laws.{all_bits, in_set_true, in_set_from}
 use Rattle.binding_rules.specs.declared.binding.Binding.{Binding}
 use Rattle.binding_rules.specs.Conflicts.{HaveCommonPort}
-use Rattle.binding_rules.specs.Steps.{IsWell, greatest}
+use Rattle.binding_rules.specs.Scans.{IsWell, greatest_port}
 
 parts_of : (A K M s r : ℕ) → 0 < A → 0 < M → K ≡ s + 1 + r → A * K * M ≡ 65536 → 65535 - r * M ≡ ((A - 1) * K + s) * M + (M - 1)
 parts_of A K M s r some_a some_m e all =
@@ -22,7 +22,7 @@ parts_of A K M s r some_a some_m e all =
     omega (arith, i, j, l, m)
 
 pub greatest_parts : (a k s : ℕ) → IsShape a k → s < 2 ^ k
-    → greatest a k s ≡ ((2 ^ a - 1) * 2 ^ k + s) * 2 ^ (16 - a - k) + (2 ^ (16 - a - k) - 1)
+    → greatest_port a k s ≡ ((2 ^ a - 1) * 2 ^ k + s) * 2 ^ (16 - a - k) + (2 ^ (16 - a - k) - 1)
 greatest_parts a k s shape psid =
     parts_of (2 ^ a) (2 ^ k) (2 ^ (16 - a - k)) s (2 ^ k - 1 - s) (pow_pos a) (pow_pos (16 - a - k)) (omega arith) (all_bits a k shape)
 
@@ -32,7 +32,7 @@ absent_fits a k s shape psid =
     let most : 2 ^ (k + (16 - a - k)) ≤ 2 ^ 16 = pow-le-pow_right {n = 2} (omega arith) {i = k + (16 - a - k)} {j = 16} (omega (arith, shape.sum_fits)) in
     omega (arith, less, most)
 
-greatest_psid : (a k s : ℕ) → IsShape a k → s < 2 ^ k → greatest a k s / 2 ^ (16 - a - k) % 2 ^ k ≡ s
+greatest_psid : (a k s : ℕ) → IsShape a k → s < 2 ^ k → greatest_port a k s / 2 ^ (16 - a - k) % 2 ^ k ≡ s
 greatest_psid a k s shape psid =
     let last : 2 ^ (16 - a - k) - 1 < 2 ^ (16 - a - k) = omega (arith, pow_pos (16 - a - k)) in
     ap (λ (n : ℕ). n / 2 ^ (16 - a - k) % 2 ^ k) (greatest_parts a k s shape psid)
@@ -52,7 +52,7 @@ offset_below a k p shape small =
     let all : p < 2 ^ ((a + k) + (16 - a - k)) = rw e small in
     shr_below (p / 2 ^ (16 - a - k)) a k (shr_below p (a + k) (16 - a - k) all)
 
-pub covers : (a k s p : ℕ) → IsShape a k → s < 2 ^ k → InSet a k s p → bit_and p (greatest a k s) ≡ p
+pub covers : (a k s p : ℕ) → IsShape a k → s < 2 ^ k → InSet a k s p → bit_and p (greatest_port a k s) ≡ p
 covers a k s p shape psid h =
     let K : ℕ = 2 ^ k in
     let M : ℕ = 2 ^ (16 - a - k) in
@@ -76,9 +76,9 @@ still_above n p w some more above =
     le-div 1 w n some (omega (arith, one, div-mul-le_self p n))
 
 -- where both greatest ports have all bits of a port of the identifier, so have they what is common to both
-pub meets : (a k s g p : ℕ) → IsShape a k → s < 2 ^ k → InSet a k s p → bit_and p g ≡ p → InSet a k s (bit_and (greatest a k s) g)
+pub meets : (a k s g p : ℕ) → IsShape a k → s < 2 ^ k → InSet a k s p → bit_and p g ≡ p → InSet a k s (bit_and (greatest_port a k s) g)
 meets a k s g p shape psid h other =
-    let G : ℕ = greatest a k s in
+    let G : ℕ = greatest_port a k s in
     let K : ℕ = 2 ^ k in
     let M : ℕ = 2 ^ (16 - a - k) in
     let own : bit_and s (g / M % K) ≡ s =
@@ -104,20 +104,20 @@ absent_exact a k s shape psid =
 
 -- the port that two greatest ports have in common
 abbrev pub tried : Binding → Binding → ℕ
-tried x y = bit_and (greatest x.offset x.length x.psid) (greatest y.offset y.length y.psid)
+tried x y = bit_and (greatest_port x.offset x.length x.psid) (greatest_port y.offset y.length y.psid)
 
 pub tried_first : (x y : Binding) → IsWell x → IsWell y → HaveCommonPort x y → in_set x.offset x.length x.psid (tried x y) ≡ true
 tried_first x y first second common =
-    in_set_true _ _ _ _ (meets x.offset x.length x.psid (greatest y.offset y.length y.psid) common.0 first.shape first.psid common.1
+    in_set_true _ _ _ _ (meets x.offset x.length x.psid (greatest_port y.offset y.length y.psid) common.0 first.shape first.psid common.1
     (covers y.offset y.length y.psid common.0 second.shape second.psid common.2))
 
 pub tried_second : (x y : Binding) → IsWell x → IsWell y → HaveCommonPort x y → in_set y.offset y.length y.psid (tried x y) ≡ true
 tried_second x y first second common =
-    ap (in_set y.offset y.length y.psid) (and_comm (greatest x.offset x.length x.psid) (greatest y.offset y.length y.psid))
+    ap (in_set y.offset y.length y.psid) (and_comm (greatest_port x.offset x.length x.psid) (greatest_port y.offset y.length y.psid))
     ∙ tried_first y x second first (common.0, common.2, common.1)
 
 pub tried_is_common : (x y : Binding) → in_set x.offset x.length x.psid (tried x y) ≡ true → in_set y.offset y.length y.psid (tried x y) ≡ true
     → HaveCommonPort x y
 tried_is_common x y first second =
-    let small : tried x y < 65536 = omega (arith, and_le_l (greatest x.offset x.length x.psid) (greatest y.offset y.length y.psid)) in
+    let small : tried x y < 65536 = omega (arith, and_le_l (greatest_port x.offset x.length x.psid) (greatest_port y.offset y.length y.psid)) in
     (tried x y, in_set_from _ _ _ _ small first, in_set_from _ _ _ _ small second)

@@ -16,7 +16,7 @@ use Rattle.binding_rules.specs.declared.conflicts.Pair.{Pair}
 use Rattle.binding_rules.specs.declared.settings.Edition.TheVariants as edition
 use Rattle.binding_rules.specs.Conflicts.{HaveCommonPort, HaveOneShape, Conflict}
 use Rattle.binding_rules.specs.Refusals.{AtBoth}
-use Rattle.binding_rules.specs.Steps.{IsLeast, IsFirstPair, ArePair, IsLeastUnlike, HasAddress, HaveCommonKey, AreShared, AreUnlike, IsWell, AreWell, paired, earlier_of}
+use Rattle.binding_rules.specs.Scans.{IsLeast, IsFirstPair, ArePair, IsLeastUnlike, HasAddress, HaveCommonKey, AreShared, AreUnlike, IsWell, AreWell, paired, earlier_of}
 use Rattle.binding_rules.proofs.Leasts.{pair_iff, pair_or}
 use Rattle.binding_rules.proofs.Links.{has_address_of, same_binding}
 

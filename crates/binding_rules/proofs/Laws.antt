@@ -15,7 +15,7 @@ use Rattle.binding_rules.specs.declared.settings.Edition.{Edition}
 use Rattle.binding_rules.specs.declared.settings.Edition.TheVariants as edition
 use Rattle.binding_rules.specs.Bindings.{is_bound, owns, IsPlaceOf}
 use Rattle.binding_rules.specs.Conflicts.{Conflict, HaveCommonPort, AreMixed}
-use Rattle.binding_rules.specs.Tables.{Rules, IsValid, IsLawful, rules}
+use Rattle.binding_rules.specs.Tables.{BindingTable, IsValid, IsLawful, binding_table}
 use Rattle.binding_rules.proofs.Keys.{shape_cases}
 
 -- a filter of which no element, exactly that at one place, or at most one passes the test
@@ -72,7 +72,7 @@ whole_owns x o l below =
     rw (o, l, none) (record { is_port = omega arith; identifier = refl; not_low = inl refl })
 
 -- what follows for a table of which no refusal is true
-module _ (t : Rules) (valid : IsValid t) where
+module _ (t : BindingTable) (valid : IsValid t) where
   at_least : (x y : ℕ) → (x < y → ⊥) → y ≤ x
   at_least x y h = elim (cases_lt x y) [ inl l ↦ absurd (h l) | inr l ↦ l ]
 
@@ -125,7 +125,7 @@ module _ (t : Rules) (valid : IsValid t) where
         cause = inr (common_owned w x y (psids m x e) (psids n y g) u.1 v.1);
       })
 
-  in_two : IsValid (rules edition.Two t.softwire t.bindings)
+  in_two : IsValid (binding_table edition.Two t.softwire t.bindings)
   in_two refused.Mtu h = valid refused.Mtu h
   in_two refused.Hop h = valid refused.Hop h
   in_two (refused.TooMany n) h = valid (refused.TooMany n) h

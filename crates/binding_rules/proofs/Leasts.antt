@@ -3,7 +3,7 @@ use Rattle.std.proofs.Common.{◌≡◌, ℕ, ◌<◌, ◌≤◌, ◌⊎◌, inl
 use Rattle.std.proofs.lemmas.Bool.{cases_Bool, cases_lt, ltb-true, ltb-false, or_cases, or_parts, and_parts, and_cases, eqb-true, eqb-false}
 use Rattle.std.specs.Prelude.{nat_lt, ◌||◌, ◌==◌, ◌&&◌}
 use Rattle.binding_rules.specs.declared.conflicts.Pair.{Pair}
-use Rattle.binding_rules.specs.Steps.{IsLeast, IsLeastPair, IsNotAfter, lesser_of, earlier_of}
+use Rattle.binding_rules.specs.Scans.{IsLeast, IsLeastPair, IsNotAfter, lesser_of, earlier_of}
 
 pub least_iff : (P Q : ℕ → Type 0) (o : Option ℕ) → ((n : ℕ) → P n → Q n) → ((n : ℕ) → Q n → P n) → IsLeast P o → IsLeast Q o
 least_iff P Q None there back least = λ n q. least n (back n q)

@@ -12,7 +12,7 @@ use Rattle.std.specs.BTreeMap.{BTreeMap, get, is_at}
 use Rattle.binding_rules.specs.Conflicts.{HaveOneShape}
 use Rattle.binding_rules.specs.declared.binding.Binding.{Binding}
 use Rattle.binding_rules.specs.Refusals.{At}
-use Rattle.binding_rules.specs.Steps.{IsNearest, IsAbove, IsLater, HasAddress, IsLeast, IsLast, IsLinked, ends_within, slot}
+use Rattle.binding_rules.specs.Scans.{IsNearest, IsAbove, IsLater, HasAddress, IsLeast, IsLast, IsLinked, ends_within, slot}
 use Rattle.binding_rules.proofs.Leasts.{least_iff}
 
 -- what a place has, without the property

@@ -6,7 +6,7 @@ use Rattle.std.proofs.lemmas.Option.{same_Some}
 use Rattle.binding_rules.specs.declared.binding.Binding.{Binding}
 use Rattle.binding_rules.specs.declared.conflicts.Pair.{Pair}
 use Rattle.binding_rules.specs.Refusals.{AtBoth}
-use Rattle.binding_rules.specs.Steps.{IsLeast, IsLeastPair, IsFirstPair, ArePair, IsNearest, IsLinked, IsLast, IsLater, HasAddress, HaveCommonKey, AreShared, AreFresh, IsMet, IsTaken, IsOwnersOf, has_key, counted, slot, paired, earlier_of}
+use Rattle.binding_rules.specs.Scans.{IsLeast, IsLeastPair, IsFirstPair, ArePair, IsNearest, IsLinked, IsLast, IsLater, HasAddress, HaveCommonKey, AreShared, AreFresh, IsMet, IsTaken, IsOwnersOf, has_key, owner_named, slot, paired, earlier_of}
 use Rattle.binding_rules.specs.Conflicts.{HaveCommonPort}
 use Rattle.binding_rules.proofs.Keys.{port_is_key, key_is_port}
 use Rattle.binding_rules.proofs.Leasts.{least_iff, pair_iff, pair_or}
@@ -19,7 +19,7 @@ IsBehind bs a at n = IsLater bs a at (λ x. Unit {0}) n
 -- each slot names the least place behind `at` that has its key
 abbrev pub AreCounted : Bool → List Binding → ℕ → Option ℕ → List (Option ℕ) → Type 0
 AreCounted bp bs a at owners = (key : ℕ) → key < 65536
-    → IsLeast (IsLater bs a at (λ x. has_key bp x key ≡ true)) (counted bs a (slot owners key))
+    → IsLeast (IsLater bs a at (λ x. has_key bp x key ≡ true)) (owner_named bs a (slot owners key))
 
 -- what holds before each place of the walk
 pub record IsWalked (bp : Bool) (bs : List Binding) (a : ℕ) (at : Option ℕ) (before owners : List (Option ℕ)) (best : Option Pair) : Type 0 where
@@ -28,7 +28,7 @@ pub record IsWalked (bp : Bool) (bs : List Binding) (a : ℕ) (at : Option ℕ) 
   pub first : IsFirstPair bs (AreShared bp) (IsBehind bs a at) best
   pub names : IsOwnersOf bs a before owners
 
-pub counted_here : (bs : List Binding) (a p : ℕ) (x : Binding) → slice_get bs p ≡ Some x → x.v4.0 ≡ a → counted bs a (Some p) ≡ Some p
+pub counted_here : (bs : List Binding) (a p : ℕ) (x : Binding) → slice_get bs p ≡ Some x → x.v4.0 ≡ a → owner_named bs a (Some p) ≡ Some p
 counted_here bs a p x e h =
     let same = eq-eqb x.v4.0 a h in
     rw (e, same) refl
@@ -82,9 +82,9 @@ module _ (bp : Bool) (bs : List Binding) (a p : ℕ) (x : Binding) (owners : Lis
   -- a place behind with a key of the binding is not before one that a slot names
   reached : (key n : ℕ) → key < 65536 → has_key bp x key ≡ true → IsLater bs a (Some p) (λ y. has_key bp y key ≡ true) n
       → (m : ℕ) × IsMet bp x bs a owners m × (m ≤ n)
-  reached key n l has h = by_value (counted bs a (slot owners key)) refl (slots key l)
+  reached key n l has h = by_value (owner_named bs a (slot owners key)) refl (slots key l)
     where
-      by_value : (o : Option ℕ) → counted bs a (slot owners key) ≡ o → IsLeast (IsLater bs a (Some p) (λ y. has_key bp y key ≡ true)) o
+      by_value : (o : Option ℕ) → owner_named bs a (slot owners key) ≡ o → IsLeast (IsLater bs a (Some p) (λ y. has_key bp y key ≡ true)) o
           → (m : ℕ) × IsMet bp x bs a owners m × (m ≤ n)
       by_value None e least = absurd (least n h)
       by_value (Some m) e least = (m, record { key = key; in_range = l; has = has; named = e }, least.1 n h)
@@ -114,7 +114,7 @@ module _ (bp : Bool) (bs : List Binding) (a p : ℕ) (x : Binding) (owners : Lis
         | inl t ↦ rw (taken.taken key l t, counted_here bs a p x there address)
             (least_here bs a p o (λ y. has_key bp y key ≡ true) nearest (x, there, (address, t)))
         | inr t ↦ rw (taken.kept key l t)
-            (least_kept bs a p o (λ y. has_key bp y key ≡ true) (counted bs a (slot owners key)) nearest
+            (least_kept bs a p o (λ y. has_key bp y key ≡ true) (owner_named bs a (slot owners key)) nearest
             (λ h. true≢false (sym h.2.1 ∙ (ap (λ (z : Binding). has_key bp z key) (same_binding bs p h.0 x h.1 there) ∙ t)))
             (slots key l))
       ]

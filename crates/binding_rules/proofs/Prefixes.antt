@@ -6,7 +6,7 @@ use Rattle.std.proofs.lemmas.List.{get_or-take, length-take}
 use Rattle.std.proofs.lemmas.Option.{slice_get_within, slice_get-get_or}
 use Rattle.binding_rules.specs.declared.binding.Binding.{Binding}
 use Rattle.binding_rules.specs.declared.conflicts.Pair.{Pair}
-use Rattle.binding_rules.specs.Steps.{IsFirstPair, ArePair, IsNearest, IsLinked, IsLast, HasAddress, AreShared, AreWell, AreFresh, IsOwnersOf, counted, has_address, slot}
+use Rattle.binding_rules.specs.Scans.{IsFirstPair, ArePair, IsNearest, IsLinked, IsLast, HasAddress, AreShared, AreWell, AreFresh, IsOwnersOf, owner_named, has_address, slot}
 use Rattle.binding_rules.proofs.Links.{last_to_come, has_address_of}
 
 module _ (bs : List Binding) (n : ℕ) where
@@ -54,12 +54,12 @@ module _ (bs : List Binding) (n : ℕ) where
   pub prefix_fresh : (a : ℕ) (owners : List (Option ℕ)) → AreFresh bs a owners → AreFresh (take n bs) a owners
   prefix_fresh a owners fresh key l = by_slot (slot owners key) (fresh key l)
     where
-      by_binding : (p : ℕ) (y : Option Binding) → slice_get (take n bs) p ≡ y → counted bs a (Some p) ≡ None → counted (take n bs) a (Some p) ≡ None
+      by_binding : (p : ℕ) (y : Option Binding) → slice_get (take n bs) p ≡ y → owner_named bs a (Some p) ≡ None → owner_named (take n bs) a (Some p) ≡ None
       by_binding p None g e = rw g refl
       by_binding p (Some x) g e =
           ap (λ (y : Option Binding). if has_address a y then Some p else None) (g ∙ sym (from_prefix p x g).1) ∙ e
 
-      by_slot : (o : Option ℕ) → counted bs a o ≡ None → counted (take n bs) a o ≡ None
+      by_slot : (o : Option ℕ) → owner_named bs a o ≡ None → owner_named (take n bs) a o ≡ None
       by_slot None e = refl
       by_slot (Some p) e = by_binding p (slice_get (take n bs) p) refl e
 

@@ -7,7 +7,7 @@ use Rattle.std.proofs.lemmas.Option.{none-some, same_Some}
 use Rattle.port_set.specs.PortSets.{InSet}
 use Rattle.port_set.proofs.Laws.{in_set_true, in_set_from}
 use Rattle.binding_rules.specs.declared.binding.Binding.{Binding}
-use Rattle.binding_rules.specs.Steps.{IsLeast, IsMet, IsTaken, slot, counted, lesser_of}
+use Rattle.binding_rules.specs.Scans.{IsLeast, IsMet, IsTaken, slot, owner_named, lesser_of}
 use Rattle.binding_rules.proofs.Leasts.{least_iff, least_or}
 
 pub contains_one : (p q : ℕ) → Contains (p ∷ []) q → q ≡ p
@@ -23,12 +23,12 @@ least_is None = λ n e. none-some n e
 least_is (Some m) = (refl, λ n e. omega (arith, same_Some m n e))
 
 pub met_by_identifier : (bs : List Binding) (a : ℕ) (x : Binding) (owners : List (Option ℕ)) → x.psid < 65536
-    → IsLeast (IsMet false x bs a owners) (counted bs a (slot owners x.psid))
+    → IsLeast (IsMet false x bs a owners) (owner_named bs a (slot owners x.psid))
 met_by_identifier bs a x owners l =
-    least_iff (λ n. counted bs a (slot owners x.psid) ≡ Some n) (IsMet false x bs a owners) (counted bs a (slot owners x.psid))
+    least_iff (λ n. owner_named bs a (slot owners x.psid) ≡ Some n) (IsMet false x bs a owners) (owner_named bs a (slot owners x.psid))
     (λ n e. record { key = x.psid; in_range = l; has = eq-eqb x.psid x.psid refl; named = e })
-    (λ n m. ap (λ (k : ℕ). counted bs a (slot owners k)) (eqb-true x.psid m.key m.has) ∙ m.named)
-    (least_is (counted bs a (slot owners x.psid)))
+    (λ n m. ap (λ (k : ℕ). owner_named bs a (slot owners k)) (eqb-true x.psid m.key m.has) ∙ m.named)
+    (least_is (owner_named bs a (slot owners x.psid)))
 
 -- what an iterator gave and what is left in it are the whole list
 pub given_more : (all given left rest : List ℕ) (p : ℕ) → all ≡ given ++ left → left ≡ p ∷ rest → all ≡ (given ++ p ∷ []) ++ rest
@@ -39,26 +39,26 @@ given_all all given left e f = e ∙ ap (λ l. given ++ l) f ∙ append-nil give
 
 -- a slot of one of the ports names the place
 abbrev pub IsNamed : List ℕ → List Binding → ℕ → List (Option ℕ) → ℕ → Type 0
-IsNamed ports bs a owners n = (key : ℕ) × Contains ports key × (counted bs a (slot owners key) ≡ Some n)
+IsNamed ports bs a owners n = (key : ℕ) × Contains ports key × (owner_named bs a (slot owners key) ≡ Some n)
 
 pub named_none : (bs : List Binding) (a : ℕ) (owners : List (Option ℕ)) → IsLeast (IsNamed [] bs a owners) None
 named_none bs a owners = λ n h. absurd (omega (arith, h.1.1))
 
 pub named_more : (ports : List ℕ) (p : ℕ) (bs : List Binding) (a : ℕ) (owners : List (Option ℕ)) (m : Option ℕ)
     → IsLeast (IsNamed ports bs a owners) m
-    → IsLeast (IsNamed (ports ++ p ∷ []) bs a owners) (lesser_of m (counted bs a (slot owners p)))
+    → IsLeast (IsNamed (ports ++ p ∷ []) bs a owners) (lesser_of m (owner_named bs a (slot owners p)))
 named_more ports p bs a owners m least =
-    least_iff (λ n. IsNamed ports bs a owners n ⊎ (counted bs a (slot owners p) ≡ Some n)) (IsNamed (ports ++ p ∷ []) bs a owners)
-    (lesser_of m (counted bs a (slot owners p)))
+    least_iff (λ n. IsNamed ports bs a owners n ⊎ (owner_named bs a (slot owners p) ≡ Some n)) (IsNamed (ports ++ p ∷ []) bs a owners)
+    (lesser_of m (owner_named bs a (slot owners p)))
     (λ n e. elim e [
       | inl h ↦ (h.0, Contains-append_left ports (p ∷ []) h.0 h.1, h.2)
       | inr h ↦ (p, Contains-append_right ports (p ∷ []) p (one_contains p), h)
     ])
     (λ n h. elim (Contains-append_cases ports (p ∷ []) h.0 h.1) [
       | inl c ↦ inl (h.0, c, h.2)
-      | inr c ↦ inr (ap (λ (k : ℕ). counted bs a (slot owners k)) (sym (contains_one p h.0 c)) ∙ h.2)
+      | inr c ↦ inr (ap (λ (k : ℕ). owner_named bs a (slot owners k)) (sym (contains_one p h.0 c)) ∙ h.2)
     ])
-    (least_or _ _ m (counted bs a (slot owners p)) least (least_is (counted bs a (slot owners p))))
+    (least_or _ _ m (owner_named bs a (slot owners p)) least (least_is (owner_named bs a (slot owners p))))
 
 pub named_all : (ports : List ℕ) (x : Binding) (bs : List Binding) (a : ℕ) (owners : List (Option ℕ)) (m : Option ℕ)
     → ((p : ℕ) → Contains ports p ↔ InSet x.offset x.length x.psid p)

@@ -1,5 +1,5 @@
 pub mod Bindings
 pub mod Conflicts
 pub mod Refusals
-pub mod Steps
+pub mod Scans
 pub mod Tables

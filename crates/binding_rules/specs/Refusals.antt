@@ -72,12 +72,12 @@ IsCause e s bindings (table_error.Refused r) = IsFirstRefusal e s bindings r
 IsCause e s bindings table_error.OutOfMemory = Unit {0}
 
 -- the refusals in the order of their declaration, from 1
-abbrev pub number_of : Refused → ℕ
-number_of (refused.TooMany count) = 1
-number_of (refused.Shape place) = 2
-number_of (refused.Psid place) = 3
-number_of (refused.MixedShape first second) = 4
-number_of (refused.Twice first second) = 5
-number_of (refused.OwnAddress place) = 6
-number_of refused.Mtu = 7
-number_of refused.Hop = 8
+abbrev pub refusal_number : Refused → ℕ
+refusal_number (refused.TooMany count) = 1
+refusal_number (refused.Shape place) = 2
+refusal_number (refused.Psid place) = 3
+refusal_number (refused.MixedShape first second) = 4
+refusal_number (refused.Twice first second) = 5
+refusal_number (refused.OwnAddress place) = 6
+refusal_number refused.Mtu = 7
+refusal_number refused.Hop = 8

@@ -12,20 +12,20 @@ use Rattle.binding_rules.specs.declared.settings.Edition.TheVariants as edition
 use Rattle.binding_rules.specs.declared.settings.Softwire.{Softwire}
 use Rattle.binding_rules.specs.declared.refused.Refused.{Refused}
 
-pub record Rules : Type 0 where
+pub record BindingTable : Type 0 where
   pub edition : Edition
   pub softwire : Softwire
   pub bindings : List Binding
 
-abbrev pub rules : Edition → Softwire → List Binding → Rules
-rules e s bindings = record { edition = e; softwire = s; bindings = bindings }
+abbrev pub binding_table : Edition → Softwire → List Binding → BindingTable
+binding_table e s bindings = record { edition = e; softwire = s; bindings = bindings }
 
 -- no refusal is true of it
-abbrev pub IsValid : Rules → Type 0
+abbrev pub IsValid : BindingTable → Type 0
 IsValid t = (r : Refused) → Applies t.edition t.softwire t.bindings r → ⊥
 
 -- what follows, in the terms of the table
-pub record IsLawful (t : Rules) : Type 0 where
+pub record IsLawful (t : BindingTable) : Type 0 where
   pub mtu6 : 1280 ≤ t.softwire.mtu6
   pub mtu4 : 576 ≤ t.softwire.mtu4
   pub hop_limit : 1 ≤ t.softwire.hop_limit
@@ -38,4 +38,4 @@ pub record IsLawful (t : Rules) : Type 0 where
   -- an address and a port have at most one owner, and so has a whole address
   pub at_most_one : (v4 : V4) (w : Want) → length (bound t.bindings v4 w) ≤ 1
   -- what one edition takes, edition Two takes
-  pub valid_in_two : IsValid (rules edition.Two t.softwire t.bindings)
+  pub valid_in_two : IsValid (binding_table edition.Two t.softwire t.bindings)

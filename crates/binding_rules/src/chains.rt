@@ -3,7 +3,7 @@ ghost use Rattle.std.specs.Prelude.{ℕ, ◌≡◌, ◌<◌, ◌≤◌, ◌↔�
 ghost use Rattle.std.specs.Ordering.{nat_cmp};
 ghost use Rattle.std.specs.BTreeMap.{get};
 ghost use Rattle.binding_rules.specs.Conflicts.{HaveCommonPort, HaveOneShape};
-ghost use Rattle.binding_rules.specs.Steps.{IsLinked, IsNearest, IsLast, IsLeast, IsLeastUnlike, IsLater, HasAddress, AreWell, ends_within};
+ghost use Rattle.binding_rules.specs.Scans.{IsLinked, IsNearest, IsLast, IsLeast, IsLeastUnlike, IsLater, HasAddress, AreWell, ends_within};
 
 use crate::binding::Binding;
 use crate::ports::{have_common_port, port_count};

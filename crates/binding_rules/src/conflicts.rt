@@ -1,7 +1,7 @@
 // The first conflict, found address by address.
 ghost use Rattle.std.specs.Prelude.{◌≡◌, ℕ, ◌<◌, ◌≤◌, true, None, length, IfOk};
 ghost use Rattle.binding_rules.specs.Conflicts.{Conflict};
-ghost use Rattle.binding_rules.specs.Steps.{IsLinked, IsLast, IsFirstPair, HasAddress, AreShared, IsOwnersOf, AreWell, AreFresh, earlier_of, paired, slot};
+ghost use Rattle.binding_rules.specs.Scans.{IsLinked, IsLast, IsFirstPair, HasAddress, AreShared, IsOwnersOf, AreWell, AreFresh, earlier_of, paired, slot};
 
 use crate::binding::Binding;
 use crate::chains::{chains_of, crowded_place, has_at_most, head_of, least_common, least_unlike};

@@ -2,7 +2,7 @@
 // an address only where the binding at the place has that address, so the slots need no clearing between addresses.
 ghost use Rattle.std.specs.Prelude.{◌≡◌, ◌<◌, ◌^◌, true, length};
 ghost use Rattle.port_set.specs.Shapes.{IsShape};
-ghost use Rattle.binding_rules.specs.Steps.{IsLeast, IsMet, IsTaken, counted, lesser_of};
+ghost use Rattle.binding_rules.specs.Scans.{IsLeast, IsMet, IsTaken, owner_named, lesser_of};
 
 use crate::binding::Binding;
 use aftr_base::V4;
@@ -10,7 +10,7 @@ use port_set::{ports_of, shape_of};
 
 /// The place that a slot names, where the binding there has the address.
 fn owner_of(bindings: &[Binding], v4: V4, slot: Option<u32>) -> Option<u32>
-    ensures { result ≡ counted bindings.now v4.0 slot }
+    ensures { result ≡ owner_named bindings.now v4.0 slot }
 {
     match bindings.get(slot? as usize) {
         Some(binding) if binding.v4 == v4 => slot,

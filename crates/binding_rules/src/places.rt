@@ -3,7 +3,7 @@ ghost use Rattle.std.specs.Prelude.{◌≤◌, IfSome, IfNone, List, length};
 ghost use Rattle.binding_rules.specs.Refusals.{IsFirstRefusal};
 ghost use Rattle.binding_rules.specs.declared.binding.Binding.{Binding};
 ghost use Rattle.binding_rules.specs.declared.settings.Edition.{Edition};
-ghost use Rattle.binding_rules.specs.Steps.{IsFine, IsSound, AreSound, IsOwnRefusal, IsPlaceRefusal};
+ghost use Rattle.binding_rules.specs.Scans.{IsFine, IsSound, AreSound, IsOwnRefusal, IsPlaceRefusal};
 
 use crate::binding::Binding;
 use crate::refused::Refused;

@@ -3,7 +3,7 @@ ghost use Rattle.std.specs.Prelude.{◌≡◌, ◌↔◌, IsTrue, length};
 ghost use Rattle.port_set.specs.PortSets.{in_set, owned_ports};
 ghost use Rattle.port_set.specs.Shapes.{IsShape};
 ghost use Rattle.binding_rules.specs.Conflicts.{HaveCommonPort};
-ghost use Rattle.binding_rules.specs.Steps.{IsWell, greatest};
+ghost use Rattle.binding_rules.specs.Scans.{IsWell, greatest_port};
 
 use crate::binding::Binding;
 use port_set::{count, owns, shape_of};
@@ -32,7 +32,7 @@ pub(crate) fn port_count(binding: Binding) -> u32
 /// The greatest port of the binding. It has each bit that some port of the binding has.
 fn greatest_port(binding: Binding) -> u16
     requires { IsWell binding }
-    ensures { result ≡ greatest binding.offset binding.length binding.psid }
+    ensures { result ≡ greatest_port binding.offset binding.length binding.psid }
 {
     let tail = 16 - binding.offset - binding.length;
     let absent = (1 << binding.length) - 1 - u32::from(binding.psid);

@@ -1,6 +1,6 @@
 // Why settings and bindings are no table.
 ghost use Rattle.std.specs.Prelude.{◌≡◌};
-ghost use Rattle.binding_rules.specs.Refusals.{number_of};
+ghost use Rattle.binding_rules.specs.Refusals.{refusal_number};
 ghost use Rattle.binding_rules.specs.declared.refused.TableError.TheVariants as table_error;
 
 use aftr_base::OutOfMemory;
@@ -31,7 +31,7 @@ pub enum Refused {
 impl Refused {
     /// The number of the cause, from 1 to 8 in the order written here.
     pub fn number(&self) -> u8
-        ensures { result ≡ number_of self.now }
+        ensures { result ≡ refusal_number self.now }
     {
         match self {
             Refused::TooMany { .. } => 1,

@@ -2,8 +2,8 @@
 ghost use Rattle.std.specs.Prelude.{◌≡◌, ◌<◌, ◌^◌, IfOk, IfErr, IfNone, IfSome, length, vec_len};
 ghost use Rattle.binding_rules.specs.Refusals.{IsCause, IsFirstRefusal, AtBoth};
 ghost use Rattle.binding_rules.specs.Conflicts.{Conflict};
-ghost use Rattle.binding_rules.specs.Steps.{IsConflictRefusal};
-ghost use Rattle.binding_rules.specs.Tables.{IsValid, IsLawful, rules};
+ghost use Rattle.binding_rules.specs.Scans.{IsConflictRefusal};
+ghost use Rattle.binding_rules.specs.Tables.{IsValid, IsLawful, binding_table};
 ghost use Rattle.binding_rules.specs.declared.settings.Softwire.{Softwire};
 
 use crate::binding::Binding;
@@ -28,9 +28,9 @@ pub struct Table {
 }
 
 impl Model for Table {
-    ghost use Rattle.binding_rules.specs.Tables.{Rules, IsValid};
+    ghost use Rattle.binding_rules.specs.Tables.{BindingTable, IsValid};
 
-    ghost Value = { Rules };
+    ghost Value = { BindingTable };
 
     ghost view = { λ t. record { edition = t.edition; softwire = t.softwire; bindings = t.bindings.items } };
 
@@ -98,7 +98,7 @@ fn first_refusal(
     bindings: &[Binding],
 ) -> Result<Option<Refused>, OutOfMemory>
     requires { length bindings.now < 2 ^ 32 }
-    ensures valid { IfOk result (λ o. IfNone o (IsValid (rules edition softwire.now bindings.now))) }
+    ensures valid { IfOk result (λ o. IfNone o (IsValid (binding_table edition softwire.now bindings.now))) }
     ensures first { IfOk result (λ o. IfSome o (λ r. IsFirstRefusal edition softwire.now bindings.now r)) }
 {
     let refusal = settings_refusal(softwire);

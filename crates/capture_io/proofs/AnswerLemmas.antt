@@ -2,7 +2,7 @@
 use Rattle.std.proofs.Common.{◌≡◌, ℕ, ◌+◌, ◌<◌, ◌≤◌, min, Bool, true, false, List, ◌∷◌, length, take, drop, Option, Some, None, Result, Ok, Err, sym, ◌∙◌, ap, subst}
 use Rattle.aftr_base.specs.declared.outside.Fault.{Fault}
 use Rattle.aftr_base.specs.declared.outside.Fault.TheVariants as fault
-use Rattle.aftr_base.specs.Held.{Held, content, Told}
+use Rattle.aftr_base.specs.Contents.{Contents, content, Told}
 use Rattle.aftr_base.specs.Outside.{OnlyReads, Outside, has_failed}
 use Rattle.aftr_base.proofs.OutsideLemmas.{reads_wider}
 use Rattle.capture_io.specs.declared.forms.Form.{Form}
@@ -22,36 +22,36 @@ use Rattle.capture_io.proofs.FrontLemmas.{header_front}
 use Rattle.capture_io.proofs.RecordLemmas.{continued, cut_at, header_end, record_end, refused_at, whole_at}
 
 -- the header of a file that was read is that of the file
-pub header_told : (held : Option Held) (name read : List ℕ) (answer : Result Form CaptureBad) →
+pub header_told : (held : Option Contents) (name read : List ℕ) (answer : Result Form CaptureBad) →
     Told held (λ m. read ≡ take 24 (drop 0 (content m name))) → header_in read ≡ answer → Told held (λ m. header_in (content m name) ≡ answer)
 header_told None name read answer e h = tt
 header_told (Some m) name read answer e h = sym (header_front (content m name)) ∙ (sym (ap header_in e) ∙ h)
 
-pub refused_told : (held : Option Held) (name : List ℕ) (big : Bool) (read : List ℕ) (at number count : ℕ) (refusal : CaptureBad) →
+pub refused_told : (held : Option Contents) (name : List ℕ) (big : Bool) (read : List ℕ) (at number count : ℕ) (refusal : CaptureBad) →
     Told held (λ m. read ≡ take 16 (drop at (content m name))) → Told held (λ m. count ≡ min 16 (length (drop at (content m name)))) → (count ≡ 0 → ⊥) →
     head_in big read at number ≡ Err refusal → Told held (λ m. next_in big (drop at (content m name)) at number ≡ Err refusal)
 refused_told None name big read at number count refusal e n some h = tt
 refused_told (Some m) name big read at number count refusal e n some h = refused_at big (content m name) read at number count refusal e n some h
 
 -- what is told of the same files
-pub told_same : (after held : Option Held) (P : Held → Type 0) → after ≡ held → Told after P → Told held P
-told_same after held P same told = let Q : Option Held → Type 0 = λ h. Told h P in subst Q same told
+pub told_same : (after held : Option Contents) (P : Contents → Type 0) → after ≡ held → Told after P → Told held P
+told_same after held P same told = let Q : Option Contents → Type 0 = λ h. Told h P in subst Q same told
 
-pub cut_told : (held : Option Held) (name : List ℕ) (big : Bool) (read list : List ℕ) (at number : ℕ) (head : Head) →
+pub cut_told : (held : Option Contents) (name : List ℕ) (big : Bool) (read list : List ℕ) (at number : ℕ) (head : Head) →
     Told held (λ m. read ≡ take 16 (drop at (content m name))) → head_in big read at number ≡ Ok head →
     Told held (λ m. list ≡ take head.captured (drop (at + 16) (content m name))) → length list < head.captured →
     Told held (λ m. next_in big (drop at (content m name)) at number ≡ Err (bad.CutRecord at))
 cut_told None name big read list at number head e h l less = tt
 cut_told (Some m) name big read list at number head e h l less = cut_at big (content m name) read list at number head e h l less
 
-pub whole_told : (held : Option Held) (name : List ℕ) (big : Bool) (read list : List ℕ) (at number end : ℕ) (head : Head) →
+pub whole_told : (held : Option Contents) (name : List ℕ) (big : Bool) (read list : List ℕ) (at number end : ℕ) (head : Head) →
     Told held (λ m. read ≡ take 16 (drop at (content m name))) → head_in big read at number ≡ Ok head →
     Told held (λ m. list ≡ take head.captured (drop (at + 16) (content m name))) → head.captured ≤ length list → end ≡ at + 16 + head.captured →
     Told held (λ m. next_in big (drop at (content m name)) at number ≡ Ok (next.Rec (record { seconds = head.seconds; fraction = head.fraction; bytes = list; next_at = end })))
 whole_told None name big read list at number end head e h l enough n = tt
 whole_told (Some m) name big read list at number end head e h l enough n = whole_at big (content m name) read list at number end head e h l enough n
 
-pub continued_told : (held : Option Held) (name : List ℕ) (big : Bool) (at number : ℕ) (r : Rec) →
+pub continued_told : (held : Option Contents) (name : List ℕ) (big : Bool) (at number : ℕ) (r : Rec) →
     Told held (λ m. next_in big (drop at (content m name)) at number ≡ Ok (next.Rec r)) → r.next_at ≡ at + 16 + length r.bytes →
     Told held (λ m. (rs : List Rec) (ending : Option CaptureBad) → Splits big (drop r.next_at (content m name)) r.next_at (number + 1) rs ending →
     Splits big (drop at (content m name)) at number (r ∷ rs) ending)
@@ -59,12 +59,12 @@ continued_told None name big at number r e n = tt
 continued_told (Some m) name big at number r e n = continued big (content m name) at number r e n
 
 -- a place in a record's header is before the record's end
-pub in_header : (held : Option Held) (name : List ℕ) (big : Bool) (at number place : ℕ) → place < at + 16 → IsBeforeEnd held name big at number place
+pub in_header : (held : Option Contents) (name : List ℕ) (big : Bool) (at number place : ℕ) → place < at + 16 → IsBeforeEnd held name big at number place
 in_header None name big at number place within = tt
 in_header (Some m) name big at number place within = λ r e. header_end big (drop at (content m name)) at number place r within e
 
 -- so is a place among its bytes
-pub in_bytes : (held : Option Held) (name : List ℕ) (big : Bool) (read : List ℕ) (at number place : ℕ) (head : Head) →
+pub in_bytes : (held : Option Contents) (name : List ℕ) (big : Bool) (read : List ℕ) (at number place : ℕ) (head : Head) →
     Told held (λ m. read ≡ take 16 (drop at (content m name))) → head_in big read at number ≡ Ok head →
     place < at + 16 + head.captured → IsBeforeEnd held name big at number place
 in_bytes None name big read at number place head e h within = tt

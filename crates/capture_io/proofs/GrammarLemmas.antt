@@ -5,7 +5,7 @@ use Rattle.std.proofs.lemmas.Nat.{le_bytes_4, be_bytes_4}
 use Rattle.aftr_base.specs.Numbers.{span}
 use Rattle.capture_io.specs.declared.forms.Rec.{Rec}
 use Rattle.capture_io.specs.declared.forms.Next.TheVariants as next
-use Rattle.capture_io.specs.Words.{word, word_at}
+use Rattle.capture_io.specs.Words.{word_bytes, word_at}
 use Rattle.capture_io.specs.Record.{captured, next_in, record_in}
 use Rattle.capture_io.specs.Written.{spelled}
 use Rattle.capture_io.proofs.RecordLemmas.{record_is, record_whole}
@@ -28,7 +28,7 @@ length_of_span : (left : List ℕ) (at : ℕ) → at + 4 ≤ length left → len
 length_of_span left at within = omega (arith, length-take 4 (drop at left), length-drop at left)
 
 -- a word that is read is spelled by the bytes that it was read from
-word_spelled : (big : Bool) (left : List ℕ) (at : ℕ) → All (λ b. b < 256) left → at + 4 ≤ length left → word big (word_at big left at) ≡ span left at 4
+word_spelled : (big : Bool) (left : List ℕ) (at : ℕ) → All (λ b. b < 256) left → at + 4 ≤ length left → word_bytes big (word_at big left at) ≡ span left at 4
 word_spelled true left at each within = be_bytes_4 (span left at 4) (word_at true left at) (length_of_span left at within) (λ i. byte_of_span left at i each) refl
 word_spelled false left at each within = le_bytes_4 (span left at 4) (word_at false left at) (length_of_span left at within) (λ i. byte_of_span left at i each) refl
 
@@ -41,9 +41,9 @@ joined a b c d e f l l4 l8 l12 l16 p q r s t =
     p ∙ (ap (λ x. a ++ x) (q ∙ ap (λ x. b ++ x) (r ∙ ap (λ x. c ++ x) (s ∙ ap (λ x. d ++ x) t))) ∙ flat)
 
 front_spelled : (big : Bool) (left : List ℕ) (at : ℕ) → All (λ b. b < 256) left → 16 + captured big left ≤ length left →
-    left ≡ word big (word_at big left 0) ++ word big (word_at big left 4) ++ word big (word_at big left 8) ++ word big (word_at big left 12) ++ span left 16 (captured big left) ++ drop (16 + captured big left) left
+    left ≡ word_bytes big (word_at big left 0) ++ word_bytes big (word_at big left 4) ++ word_bytes big (word_at big left 8) ++ word_bytes big (word_at big left 12) ++ span left 16 (captured big left) ++ drop (16 + captured big left) left
 front_spelled big left at each enough =
-    joined (word big (word_at big left 0)) (word big (word_at big left 4)) (word big (word_at big left 8)) (word big (word_at big left 12)) (span left 16 (captured big left)) (drop (16 + captured big left) left)
+    joined (word_bytes big (word_at big left 0)) (word_bytes big (word_at big left 4)) (word_bytes big (word_at big left 8)) (word_bytes big (word_at big left 12)) (span left 16 (captured big left)) (drop (16 + captured big left) left)
     left (drop 4 left) (drop 8 left) (drop 12 left) (drop 16 left)
     (four left 0 ∙ ap (λ w. w ++ drop 4 left) (sym (word_spelled big left 0 each (omega arith))))
     (four left 4 ∙ ap (λ w. w ++ drop 8 left) (sym (word_spelled big left 4 each (omega arith))))
@@ -57,7 +57,7 @@ BeginsWith big left r = (original : ℕ) × (left ≡ spelled big r.seconds r.fr
 record_spelled : (big : Bool) (left : List ℕ) (at : ℕ) → All (λ b. b < 256) left → 16 + captured big left ≤ length left → BeginsWith big left (record_in big left at)
 record_spelled big left at each enough =
     let size : captured big left ≡ length (span left 16 (captured big left)) = omega (arith, length-take (captured big left) (drop 16 left), length-drop 16 left) in
-    let P : ℕ → Type 0 = λ n. left ≡ word big (word_at big left 0) ++ word big (word_at big left 4) ++ word big n ++ word big (word_at big left 12) ++ span left 16 (captured big left) ++ drop (16 + n) left in
+    let P : ℕ → Type 0 = λ n. left ≡ word_bytes big (word_at big left 0) ++ word_bytes big (word_at big left 4) ++ word_bytes big n ++ word_bytes big (word_at big left 12) ++ span left 16 (captured big left) ++ drop (16 + n) left in
     (word_at big left 12, subst P size (front_spelled big left at each enough))
 
 pub read_spelled : (big : Bool) (left : List ℕ) (at number : ℕ) (r : Rec) → All (λ b. b < 256) left → next_in big left at number ≡ Ok (next.Rec r) → BeginsWith big left r

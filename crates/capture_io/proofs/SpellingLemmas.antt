@@ -11,7 +11,7 @@ use Rattle.capture_io.specs.Words.{word_at}
 use Rattle.capture_io.specs.Header.{form_in, header_in, has_some_magic, is_version_2_4, is_known_link}
 use Rattle.capture_io.specs.Record.{captured, next_in, record_in}
 use Rattle.capture_io.specs.Capture.{IsCapture, Splits}
-use Rattle.capture_io.specs.Written.{IsRecordable, TimedPacket, header_bytes, record_bytes, recorded, spelled, timed, written, written_form}
+use Rattle.capture_io.specs.Written.{IsRecordable, TimedPacket, header_bytes, record_bytes, recorded, spelled, timed, capture_bytes, written_form}
 
 -- a header that meets none of the refusals is read
 header_read : (bytes : List ℕ) → nat_lt (length bytes) 24 ≡ false → has_some_magic bytes ≡ true → is_version_2_4 bytes ≡ true → is_known_link (form_in bytes).link ≡ true →
@@ -105,7 +105,7 @@ records_back (p ∷ packets) at number each few =
     one_more p packets at number (flat_map spelling (p ∷ packets)) (flat_map spelling packets) (omega arith) first.size back after
 
 pub capture_back : (nano : Bool) (packets : List TimedPacket) → All IsRecordable packets → length packets ≤ 2 ^ 31 →
-    (rs : List Rec) × IsCapture (written nano packets) (Ok (written_form nano)) rs None × (map timed rs ≡ packets)
+    (rs : List Rec) × IsCapture (capture_bytes nano packets) (Ok (written_form nano)) rs None × (map timed rs ≡ packets)
 capture_back nano packets each few =
     let found : Records (flat_map spelling packets) packets 24 0 = records_back packets 24 0 each (omega arith) in
     (found.0, (header_back nano (flat_map spelling packets), found.1), found.2)

@@ -2,7 +2,7 @@
 use Rattle.std.specs.Prelude.{◌≡◌, ℕ, ◌+◌, ◌<◌, Bool, true, false, List, [], ◌∷◌, drop, Option, Some, None, Result, Ok, Err}
 use Rattle.aftr_base.specs.declared.outside.Fault.{Fault}
 use Rattle.aftr_base.specs.declared.outside.Fault.TheVariants as fault
-use Rattle.aftr_base.specs.Held.{Held, content, Told}
+use Rattle.aftr_base.specs.Contents.{Contents, content, Told}
 use Rattle.capture_io.specs.declared.forms.Rec.{Rec}
 use Rattle.capture_io.specs.declared.forms.Next.{Next}
 use Rattle.capture_io.specs.declared.forms.Next.TheVariants as next
@@ -32,7 +32,7 @@ is_read_fault (Err error.ReadFault) = true
 is_read_fault (Err error.OutOfMemory) = false
 
 -- before the end of the record, if a whole one stands here
-abbrev pub IsBeforeEnd : Option Held → List ℕ → Bool → ℕ → ℕ → ℕ → Type 0
+abbrev pub IsBeforeEnd : Option Contents → List ℕ → Bool → ℕ → ℕ → ℕ → Type 0
 IsBeforeEnd held name big at number place = Told held (λ m. (r : Rec) → next_in big (drop at (content m name)) at number ≡ Ok (next.Rec r) → place < r.next_at)
 
 -- The answer for a place of the file is a step of its definition: a record goes before whatever the rest of the file is

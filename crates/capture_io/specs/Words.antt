@@ -12,9 +12,9 @@ abbrev pub word_at : Bool → List ℕ → ℕ → ℕ
 word_at big bytes at = if big then from_be_bytes w32 (span bytes at 4) else from_le_bytes w32 (span bytes at 4)
 
 -- 16 bits as bytes
-abbrev pub half : Bool → ℕ → List ℕ
-half big number = if big then to_be_bytes w16 number else to_le_bytes w16 number
+abbrev pub half_bytes : Bool → ℕ → List ℕ
+half_bytes big number = if big then to_be_bytes w16 number else to_le_bytes w16 number
 
 -- 32 bits as bytes
-abbrev pub word : Bool → ℕ → List ℕ
-word big number = if big then to_be_bytes w32 number else to_le_bytes w32 number
+abbrev pub word_bytes : Bool → ℕ → List ℕ
+word_bytes big number = if big then to_be_bytes w32 number else to_le_bytes w32 number

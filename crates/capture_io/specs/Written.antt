@@ -2,16 +2,16 @@
 use Rattle.std.specs.Prelude.{ℕ, ◌+◌, ◌^◌, ◌<◌, ◌≤◌, Bool, false, List, ◌++◌, length, flat_map}
 use Rattle.capture_io.specs.declared.forms.Form.{Form}
 use Rattle.capture_io.specs.declared.forms.Rec.{Rec}
-use Rattle.capture_io.specs.Words.{half, word}
+use Rattle.capture_io.specs.Words.{half_bytes, word_bytes}
 use Rattle.capture_io.specs.Header.{magic}
 
 -- a file header: no correction of the clock and no accuracy, a snapshot length of 262144, and plain IP
 abbrev pub header_bytes : Bool → List ℕ
-header_bytes nano = word false (magic nano) ++ half false 2 ++ half false 4 ++ word false 0 ++ word false 0 ++ word false 262144 ++ word false 101
+header_bytes nano = word_bytes false (magic nano) ++ half_bytes false 2 ++ half_bytes false 4 ++ word_bytes false 0 ++ word_bytes false 0 ++ word_bytes false 262144 ++ word_bytes false 101
 
 -- a record as a capture of this byte order spells it, with some original length
 abbrev pub spelled : Bool → ℕ → ℕ → ℕ → List ℕ → List ℕ
-spelled big seconds fraction original bytes = word big seconds ++ word big fraction ++ word big (length bytes) ++ word big original ++ bytes
+spelled big seconds fraction original bytes = word_bytes big seconds ++ word_bytes big fraction ++ word_bytes big (length bytes) ++ word_bytes big original ++ bytes
 
 -- a record as it is written: the original length is the captured one
 abbrev pub record_bytes : ℕ → ℕ → List ℕ → List ℕ
@@ -30,8 +30,8 @@ pub record IsRecordable (p : TimedPacket) : Type 0 where
   pub size : length p.packet ≤ 262144
 
 -- the capture of a list of packets
-abbrev pub written : Bool → List TimedPacket → List ℕ
-written nano packets = header_bytes nano ++ flat_map (λ p. record_bytes p.seconds p.fraction p.packet) packets
+abbrev pub capture_bytes : Bool → List TimedPacket → List ℕ
+capture_bytes nano packets = header_bytes nano ++ flat_map (λ p. record_bytes p.seconds p.fraction p.packet) packets
 
 -- a record that was read, as a packet with its time
 abbrev pub timed : Rec → TimedPacket

@@ -1,6 +1,6 @@
 // The file header of a capture.
 ghost use Rattle.std.specs.Prelude.{◌≡◌, ◌<◌, ◌≤◌, IfOk, IsTrue, length};
-ghost use Rattle.aftr_base.specs.Held.{content, Told};
+ghost use Rattle.aftr_base.specs.Contents.{content, Told};
 ghost use Rattle.aftr_base.specs.Outside.{OnlyReads};
 ghost use Rattle.capture_io.specs.Answers.{Agrees, is_read_fault};
 ghost use Rattle.capture_io.specs.Header.{has_magic, header_in, is_known_link};

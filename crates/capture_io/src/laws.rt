@@ -5,7 +5,7 @@ ghost use Rattle.capture_io.specs.declared.forms.CaptureBad.{CaptureBad as Refus
 ghost use Rattle.capture_io.specs.declared.forms.Next.TheVariants as next;
 ghost use Rattle.capture_io.specs.Record.{next_in};
 ghost use Rattle.capture_io.specs.Capture.{IsCapture, Splits};
-ghost use Rattle.capture_io.specs.Written.{IsRecordable, TimedPacket, recorded, spelled, timed, written, written_form};
+ghost use Rattle.capture_io.specs.Written.{IsRecordable, TimedPacket, recorded, spelled, timed, capture_bytes, written_form};
 
 /// Bytes are split into records in one way, with one ending.
 pub fn one_reading()
@@ -39,5 +39,5 @@ pub fn spelling_is_read()
 /// A capture that was written is read back: the records have the packets with their times, and then it ends.
 pub fn written_is_read()
     ensures { (nano : Bool) (packets : List TimedPacket) → All IsRecordable packets → length packets ≤ 2 ^ 31 →
-        (rs : List Record) × IsCapture (written nano packets) (Ok (written_form nano)) rs None × (map timed rs ≡ packets) }
+        (rs : List Record) × IsCapture (capture_bytes nano packets) (Ok (written_form nano)) rs None × (map timed rs ≡ packets) }
 {}

@@ -1,6 +1,6 @@
 // The records of a capture.
 ghost use Rattle.std.specs.Prelude.{◌≡◌, ◌+◌, ◌^◌, ◌≤◌, IfOk, length, take, drop};
-ghost use Rattle.aftr_base.specs.Held.{content, Told};
+ghost use Rattle.aftr_base.specs.Contents.{content, Told};
 ghost use Rattle.aftr_base.specs.Outside.{OnlyReads};
 ghost use Rattle.capture_io.specs.Answers.{Agrees, Continues, IsBeforeEnd, is_read_fault};
 ghost use Rattle.capture_io.specs.Head.{head_in};

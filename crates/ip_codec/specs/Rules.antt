@@ -3,32 +3,32 @@ use Rattle.std.specs.Prelude.{ℕ, List, codes}
 use Rattle.ip_codec.specs.declared.rules.Rule.{Rule}
 use Rattle.ip_codec.specs.declared.rules.Rule.TheVariants.{FrameShort, FrameType, Ip4Malformed, Ip4Checksum, Ip6Malformed, Ip6Chain, FragOdd, FragLong, FragOverlap, FragMany, FragFull, NotOurs, NotSoftwire, InnerMalformed, InnerChecksum, ToSelf, IcmpOff, IcmpBad, NoPort, NoBinding, Ttl, TooBig, HairpinOff, HairpinNoBinding, NotBuilt}
 
-abbrev pub number_of : Rule → ℕ
-number_of FrameShort = 1
-number_of FrameType = 2
-number_of Ip4Malformed = 3
-number_of Ip4Checksum = 4
-number_of Ip6Malformed = 5
-number_of Ip6Chain = 6
-number_of FragOdd = 7
-number_of FragLong = 8
-number_of FragOverlap = 9
-number_of FragMany = 10
-number_of FragFull = 11
-number_of NotOurs = 12
-number_of NotSoftwire = 13
-number_of InnerMalformed = 14
-number_of InnerChecksum = 15
-number_of ToSelf = 16
-number_of IcmpOff = 17
-number_of IcmpBad = 18
-number_of NoPort = 19
-number_of NoBinding = 20
-number_of Ttl = 21
-number_of TooBig = 22
-number_of HairpinOff = 23
-number_of HairpinNoBinding = 24
-number_of NotBuilt = 0
+abbrev pub rule_number : Rule → ℕ
+rule_number FrameShort = 1
+rule_number FrameType = 2
+rule_number Ip4Malformed = 3
+rule_number Ip4Checksum = 4
+rule_number Ip6Malformed = 5
+rule_number Ip6Chain = 6
+rule_number FragOdd = 7
+rule_number FragLong = 8
+rule_number FragOverlap = 9
+rule_number FragMany = 10
+rule_number FragFull = 11
+rule_number NotOurs = 12
+rule_number NotSoftwire = 13
+rule_number InnerMalformed = 14
+rule_number InnerChecksum = 15
+rule_number ToSelf = 16
+rule_number IcmpOff = 17
+rule_number IcmpBad = 18
+rule_number NoPort = 19
+rule_number NoBinding = 20
+rule_number Ttl = 21
+rule_number TooBig = 22
+rule_number HairpinOff = 23
+rule_number HairpinNoBinding = 24
+rule_number NotBuilt = 0
 
 abbrev pub name_of : Rule → List ℕ
 name_of FrameShort = codes "frame-short"

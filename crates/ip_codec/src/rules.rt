@@ -1,6 +1,6 @@
 // The rules by which packets are dropped.
 ghost use Rattle.std.specs.Prelude.{◌≡◌, Some};
-ghost use Rattle.ip_codec.specs.Rules.{number_of, name_of};
+ghost use Rattle.ip_codec.specs.Rules.{rule_number, name_of};
 
 use std::fmt;
 
@@ -62,7 +62,7 @@ pub enum Rule {
 impl Rule {
     /// The rule's number, from 1 to 24; 0 for `NotBuilt`.
     pub fn number(&self) -> u8
-        ensures { result ≡ number_of self.now }
+        ensures { result ≡ rule_number self.now }
     {
         match self {
             Rule::FrameShort => 1,

@@ -28,14 +28,14 @@ abbrev pub whole4 : four.Packet4 → List ℕ
 whole4 packet = packet.header ++ packet.payload
 
 -- inner packets that are not staged yet: fragments, which would have to be put together, and ICMP (protocol 1)
-abbrev pub is_not_built : four.Packet4 → Bool
-is_not_built inner = four.is_fragment inner || (inner.protocol == 1)
+abbrev pub is_not_staged : four.Packet4 → Bool
+is_not_staged inner = four.is_fragment inner || (inner.protocol == 1)
 
 -- A packet in the tunnel, by what its body is read as: an IPv4 packet is cut to its total length, anything else stays as
 -- it came, and is judged later (RFC 2473, section 3.3; RFC 7596, section 6.2).
 abbrev pub up_item : six.Packet6 → Result four.Packet4 Ip4Bad → Item
 up_item packet (Ok inner) =
-    if is_not_built inner then item.Bad rule.NotBuilt
+    if is_not_staged inner then item.Bad rule.NotBuilt
     else item.Up (outer_of packet) (whole4 inner)
 up_item packet (Err _) = item.Up (outer_of packet) packet.body
 

@@ -5,7 +5,7 @@ use Rattle.capture_io.specs.declared.forms.Form.{Form}
 use Rattle.capture_io.specs.declared.forms.Rec.{Rec}
 use Rattle.item_stage.specs.declared.entries.Entry.{Entry}
 use Rattle.item_stage.specs.Items.{entries_of}
-use Rattle.lwaftr_engine.specs.Counting.{counted, no_totals, one_if, totals_from}
+use Rattle.lwaftr_engine.specs.Counting.{with_record, no_totals, one_if, totals_from}
 use Rattle.lwaftr_engine.specs.Outputs.{Course, all_sent_from, how_many, is_dropped, is_forwarded, is_held, sent_at, totals_of, verdict_at, verdicts_from}
 use Rattle.verdict_core.specs.declared.verdicts.Verdict.{Verdict}
 
@@ -29,7 +29,7 @@ added c totals number [] = record { held = omega arith; forwarded = omega arith;
 added c totals number (e ∷ es) =
     let v : Verdict = verdict_at c number e.item in
     let vs : List Verdict = verdicts_from c (number + 1) es in
-    let rest : AreAdded c (counted totals v (length (sent_at c number e.item))) (totals_from c totals number (e ∷ es)) (number + 1) es = added c (counted totals v (length (sent_at c number e.item))) (number + 1) es in
+    let rest : AreAdded c (with_record totals v (length (sent_at c number e.item))) (totals_from c totals number (e ∷ es)) (number + 1) es = added c (with_record totals v (length (sent_at c number e.item))) (number + 1) es in
     record {
       held = omega (arith, rest.held, one_more is_held v vs);
       forwarded = omega (arith, rest.forwarded, one_more is_forwarded v vs);

@@ -4,11 +4,11 @@ use Rattle.std.proofs.Math.Seq.{take-append_seam}
 use Rattle.std.proofs.lemmas.Bool.{le-leb, leb-true}
 use Rattle.std.proofs.lemmas.List.Elements.{filter-append}
 use Rattle.std.specs.Option.{option_map}
-use Rattle.aftr_base.specs.Held.{Held, content, Moves, Writes}
+use Rattle.aftr_base.specs.Contents.{Contents, content, Moves, Writes}
 use Rattle.aftr_text.specs.declared.summaries.Totals.{Totals}
 use Rattle.aftr_text.specs.Lines.{ended_text, summary_text}
 use Rattle.binding_file.specs.Files.{TableOf}
-use Rattle.binding_rules.specs.Tables.{Rules}
+use Rattle.binding_rules.specs.Tables.{BindingTable}
 use Rattle.capture_io.specs.Capture.{Splits}
 use Rattle.capture_io.specs.Header.{header_in}
 use Rattle.capture_io.specs.Record.{next_in}
@@ -23,7 +23,7 @@ use Rattle.lwaftr_engine.specs.Jobs.{RunNames}
 use Rattle.lwaftr_engine.specs.Opened.{IsOpened}
 use Rattle.lwaftr_engine.specs.Counting.{no_totals}
 use Rattle.lwaftr_engine.specs.Outputs.{Course, lines_from, packets_from, steady, totals_of}
-use Rattle.lwaftr_engine.specs.Progress.{EndsAs, GoesOn, HasGone, HasTaken, IsBounded, IsCutAt, Stops}
+use Rattle.lwaftr_engine.specs.Progress.{EndsAs, GoesOn, HasGone, HasTaken, IsInRange, IsCutAt, Stops}
 use Rattle.lwaftr_engine.specs.declared.rounds.Ending.{Ending}
 use Rattle.lwaftr_engine.specs.declared.rounds.Ending.TheVariants as ending
 use Rattle.lwaftr_engine.specs.declared.run.Progress.{Progress}
@@ -34,7 +34,7 @@ use Rattle.lwaftr_engine.proofs.Touching.{AreApart}
 use Rattle.table_words.specs.Layout.{IsCompiled}
 
 -- before the first record
-pub none_taken : (n : RunNames) (form : Form) (c : Course) (opened : Held) (stage : Staged) → Stands stage [] → stage.form ≡ form →
+pub none_taken : (n : RunNames) (form : Form) (c : Course) (opened : Contents) (stage : Staged) → Stands stage [] → stage.form ≡ form →
     HasTaken n form c opened opened (record { stage = stage; at = 24; number = 0; totals = no_totals }) []
 none_taken n form c opened stage stands is = record {
   stands = stands;
@@ -51,8 +51,8 @@ none_taken n form c opened stage stands is = record {
 }
 
 -- the files of a run: opened, filled round by round, and finished
-is_run : (n : RunNames) (form : Form) (t : Rules) → AreApart n → (a b c d : Held) (said now : Option (List ℕ)) (p : Progress) (rs : List Rec) →
-    TableOf (content a n.table) (Ok t) → IsOpened n form.nano a b → IsBounded p → HasTaken n form (steady t) b c p rs →
+is_run : (n : RunNames) (form : Form) (t : BindingTable) → AreApart n → (a b c d : Contents) (said now : Option (List ℕ)) (p : Progress) (rs : List Rec) →
+    TableOf (content a n.table) (Ok t) → IsOpened n form.nano a b → IsInRange p → HasTaken n form (steady t) b c p rs →
     Writes c d n.verdicts (content c n.verdicts ++ flat_map (ended_text false) (unfinished_of p.stage.form rs)) →
     now ≡ option_map (λ taken. taken ++ summary_text p.totals) said →
     IsRun n a d said now t form rs
@@ -103,18 +103,18 @@ cut rise place big left at number taken rest e within begun splits before =
     ∙ (ap (λ l. l ++ filter (λ r. nat_le r.next_at place) rest) (all_of place taken (λ k d w. omega (arith, within k d w)))
     ∙ (ap (λ l. taken ++ l) (none_of rise big left at number place rest e splits before) ∙ append-nil taken))
 
-whole : (n : RunNames) (form : Form) (t : Rules) (a d : Held) (said now : Option (List ℕ)) (rs : List Rec) (ended : Option CaptureBad) →
+whole : (n : RunNames) (form : Form) (t : BindingTable) (a d : Contents) (said now : Option (List ℕ)) (rs : List Rec) (ended : Option CaptureBad) →
     header_in (content a n.input) ≡ Ok form → Splits form.big (drop 24 (content a n.input)) 24 0 (rs ++ []) ended → IsRun n a d said now t form rs →
     IsWholeRun n a d said now ended
 whole n form t a d said now rs ended header splits run = record {
-  rules = t;
+  bindings = t;
   form = form;
   records = rs;
   capture = (header, (let P : List Rec → Type 0 = λ l. Splits form.big (drop 24 (content a n.input)) 24 0 l ended in subst P (append-nil rs) splits));
   run = run;
 }
 
-cut_short : AreLaws → (n : RunNames) (form : Form) (t : Rules) (a d : Held) (said now : Option (List ℕ)) (rs : List Rec) (at number : ℕ) (last : Option (List ℕ × ℕ)) →
+cut_short : AreLaws → (n : RunNames) (form : Form) (t : BindingTable) (a d : Contents) (said now : Option (List ℕ)) (rs : List Rec) (at number : ℕ) (last : Option (List ℕ × ℕ)) →
     header_in (content a n.input) ≡ Ok form → 24 ≤ at → All (λ r. r.next_at ≤ at) rs →
     ((rest : List Rec) (e : Option CaptureBad) → Splits form.big (drop at (content a n.input)) at number rest e → Splits form.big (drop 24 (content a n.input)) 24 0 (rs ++ rest) e) →
     IsCutAt n.input form.big (content a n.input) at number last → IsRun n a d said now t form rs →
@@ -125,7 +125,7 @@ cut_short laws n form t a d said now rs at number last header behind within foll
     let F : List Rec → Type 0 = λ l. take (length l) (rs ++ rest.0) ≡ l in
     let same : rs ≡ ended_by stopped.place (rs ++ rest.0) = sym (cut laws.rise stopped.place form.big (drop at (content a n.input)) at number rs rest.0 rest.1 within stopped.begun rest.2 stopped.before) in
     record {
-      rules = t;
+      bindings = t;
       form = form;
       all = rs ++ rest.0;
       ending = rest.1;
@@ -137,7 +137,7 @@ cut_short laws n form t a d said now rs at number last header behind within foll
       run = subst P same run;
     }
 
-ends_by : AreLaws → (n : RunNames) (form : Form) (t : Rules) (a b d : Held) (said now : Option (List ℕ)) (rs : List Rec) (p : Progress) (stop : Ending) (last : Option (List ℕ × ℕ)) →
+ends_by : AreLaws → (n : RunNames) (form : Form) (t : BindingTable) (a b d : Contents) (said now : Option (List ℕ)) (rs : List Rec) (p : Progress) (stop : Ending) (last : Option (List ℕ × ℕ)) →
     header_in (content a n.input) ≡ Ok form → 24 ≤ p.at → All (λ r. r.next_at ≤ p.at) rs →
     ((rest : List Rec) (e : Option CaptureBad) → Splits form.big (drop p.at (content a n.input)) p.at p.number rest e → Splits form.big (drop 24 (content a n.input)) 24 0 (rs ++ rest) e) →
     content b n.input ≡ content a n.input → Stops n.input form.big (content b n.input) p.at p.number (Some stop) last → IsRun n a d said now t form rs →
@@ -152,8 +152,8 @@ ends_by laws n form t a b d said now rs p ending.ReadFault last header behind wi
     let P : List ℕ → Type 0 = λ l. IsCutAt n.input form.big l p.at p.number last in
     cut_short laws n form t a d said now rs p.at p.number last header behind within follows (subst P input stopped) run
 
-ends : AreLaws → (n : RunNames) (form : Form) (t : Rules) → AreApart n → (a b c d : Held) (said now : Option (List ℕ)) (p : Progress) (stop : Ending) (last : Option (List ℕ × ℕ)) →
-    TableOf (content a n.table) (Ok t) → header_in (content a n.input) ≡ Ok form → IsOpened n form.nano a b → IsBounded p → HasGone n form (steady t) b c p (Some stop) last →
+ends : AreLaws → (n : RunNames) (form : Form) (t : BindingTable) → AreApart n → (a b c d : Contents) (said now : Option (List ℕ)) (p : Progress) (stop : Ending) (last : Option (List ℕ × ℕ)) →
+    TableOf (content a n.table) (Ok t) → header_in (content a n.input) ≡ Ok form → IsOpened n form.nano a b → IsInRange p → HasGone n form (steady t) b c p (Some stop) last →
     ((taken : List Rec) → Stands p.stage taken → Writes c d n.verdicts (content c n.verdicts ++ flat_map (ended_text false) (unfinished_of p.stage.form taken))) →
     now ≡ option_map (λ taken. taken ++ summary_text p.totals) said →
     EndsAs n stop a d said now last
@@ -166,27 +166,27 @@ ends laws n form t far a b c d said now p stop last table header opened bounded 
     ends_by laws n form t a b d said now gone.records p stop last header gone.taken.behind gone.taken.within follows input gone.stopped run
 
 -- the outputs were opened, and all rounds are done
-record IsHalfDone (n : RunNames) (form : Form) (words : List ℕ) (p : Progress) (stop : Ending) (last : Option (List ℕ × ℕ)) (m o : Held) : Type 0 where
-  middle : Held
+record IsHalfDone (n : RunNames) (form : Form) (words : List ℕ) (p : Progress) (stop : Ending) (last : Option (List ℕ × ℕ)) (m o : Contents) : Type 0 where
+  middle : Contents
   opened : IsOpened n form.nano m middle
-  gone : (t : Rules) → IsCompiled t words → HasGone n form (steady t) middle o p (Some stop) last
+  gone : (t : BindingTable) → IsCompiled t words → HasGone n form (steady t) middle o p (Some stop) last
 
-pub ran : AreLaws → (n : RunNames) (form : Form) (words : List ℕ) → AreApart n → (h0 h1 h2 h3 : Option Held) (said now : Option (List ℕ)) (stage : Staged) (p : Progress) (stop : Ending) (before last : Option (List ℕ × ℕ)) →
-    Stands stage [] → stage.form ≡ form → IsBounded p →
+pub ran : AreLaws → (n : RunNames) (form : Form) (words : List ℕ) → AreApart n → (h0 h1 h2 h3 : Option Contents) (said now : Option (List ℕ)) (stage : Staged) (p : Progress) (stop : Ending) (before last : Option (List ℕ × ℕ)) →
+    Stands stage [] → stage.form ≡ form → IsInRange p →
     Moves h0 h1 (λ m o. IsOpened n form.nano m o) →
-    Moves h1 h2 (λ m o. (t : Rules) → IsCompiled t words → GoesOn n form (steady t) m o (record { stage = stage; at = 24; number = 0; totals = no_totals }) p (Some stop) before) →
+    Moves h1 h2 (λ m o. (t : BindingTable) → IsCompiled t words → GoesOn n form (steady t) m o (record { stage = stage; at = 24; number = 0; totals = no_totals }) p (Some stop) before) →
     Moves h2 h3 (λ m o. (taken : List Rec) → Stands p.stage taken → Writes m o n.verdicts (content m n.verdicts ++ flat_map (ended_text false) (unfinished_of p.stage.form taken))) →
     now ≡ option_map (λ taken. taken ++ summary_text p.totals) said → last ≡ before →
-    Moves h0 h3 (λ m o. (t : Rules) → IsCompiled t words → TableOf (content m n.table) (Ok t) → header_in (content m n.input) ≡ Ok form → EndsAs n stop m o said now last)
+    Moves h0 h3 (λ m o. (t : BindingTable) → IsCompiled t words → TableOf (content m n.table) (Ok t) → header_in (content m n.input) ≡ Ok form → EndsAs n stop m o said now last)
 ran laws n form words far h0 h1 h2 h3 said now stage p stop before last stands is bounded first going third summary same =
     let q : Progress = record { stage = stage; at = 24; number = 0; totals = no_totals } in
-    let L : Option (List ℕ × ℕ) → Type 0 = λ l. Moves h1 h2 (λ m o. (t : Rules) → IsCompiled t words → GoesOn n form (steady t) m o q p (Some stop) l) in
-    let second : Moves h1 h2 (λ m o. (t : Rules) → IsCompiled t words → GoesOn n form (steady t) m o q p (Some stop) last) = subst L (sym same) going in
+    let L : Option (List ℕ × ℕ) → Type 0 = λ l. Moves h1 h2 (λ m o. (t : BindingTable) → IsCompiled t words → GoesOn n form (steady t) m o q p (Some stop) l) in
+    let second : Moves h1 h2 (λ m o. (t : BindingTable) → IsCompiled t words → GoesOn n form (steady t) m o q p (Some stop) last) = subst L (sym same) going in
     let half : Moves h0 h2 (λ m o. IsHalfDone n form words p stop last m o) =
-    moves_join h0 h1 h2 (λ m o. IsOpened n form.nano m o) (λ m o. (t : Rules) → IsCompiled t words → GoesOn n form (steady t) m o q p (Some stop) last) (λ m o. IsHalfDone n form words p stop last m o)
+    moves_join h0 h1 h2 (λ m o. IsOpened n form.nano m o) (λ m o. (t : BindingTable) → IsCompiled t words → GoesOn n form (steady t) m o q p (Some stop) last) (λ m o. IsHalfDone n form words p stop last m o)
     (λ m b o x y. record { middle = b; opened = x; gone = λ t compiled. y t compiled b [] (none_taken n form (steady t) b stage stands is) }) first second in
     moves_join h0 h2 h3 (λ m o. IsHalfDone n form words p stop last m o)
     (λ m o. (taken : List Rec) → Stands p.stage taken → Writes m o n.verdicts (content m n.verdicts ++ flat_map (ended_text false) (unfinished_of p.stage.form taken)))
-    (λ m o. (t : Rules) → IsCompiled t words → TableOf (content m n.table) (Ok t) → header_in (content m n.input) ≡ Ok form → EndsAs n stop m o said now last)
+    (λ m o. (t : BindingTable) → IsCompiled t words → TableOf (content m n.table) (Ok t) → header_in (content m n.input) ≡ Ok form → EndsAs n stop m o said now last)
     (λ m c o x y t compiled table header. ends laws n form t far m x.middle c o said now p stop last table header x.opened bounded (x.gone t compiled) y summary)
     half third

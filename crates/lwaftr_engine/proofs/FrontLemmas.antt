@@ -6,15 +6,15 @@ use Rattle.std.proofs.lemmas.Bool.Decides.{nat_tests}
 use Rattle.std.proofs.lemmas.List.{take_all}
 use Rattle.binding_file.specs.declared.refusals.FileError.{FileError}
 use Rattle.binding_file.specs.declared.refusals.FileError.TheVariants as file_error
-use Rattle.binding_file.specs.Files.{IsCause, TableOf, TextOf, fits, most_bytes}
+use Rattle.binding_file.specs.Files.{IsFileCause, TableOf, TextOf, fits, most_bytes}
 use Rattle.binding_file.specs.Keys.{Then}
 use Rattle.binding_file.specs.declared.refusals.FileRefused.{FileRefused}
 use Rattle.binding_file.specs.declared.refusals.FileRefused.TheVariants as refused
-use Rattle.binding_rules.specs.Tables.{Rules}
-use Rattle.aftr_base.specs.Held.{Held, content, Told}
+use Rattle.binding_rules.specs.Tables.{BindingTable}
+use Rattle.aftr_base.specs.Contents.{Contents, content, Told}
 
 -- what was read of the front, and then right behind it
-pub front_joined : (a b : Option Held) (name list piece : List ℕ) (have count : ℕ) → b ≡ a → have ≡ length list
+pub front_joined : (a b : Option Contents) (name list piece : List ℕ) (have count : ℕ) → b ≡ a → have ≡ length list
     → Told a (λ m. list ≡ take have (content m name))
     → Told b (λ m. piece ≡ take count (drop have (content m name)))
     → Told a (λ m. list ++ piece ≡ take (have + count) (content m name))
@@ -25,7 +25,7 @@ front_joined (Some m) b name list piece have count same len first second =
     ap (λ l. l ++ piece) first ∙ ap (λ l. take have bytes ++ l) next ∙ sym (take-add have count bytes)
 
 -- the same of a list that has so many bytes
-pub front_longer : (a b : Option Held) (name list piece more : List ℕ) (have count : ℕ) → b ≡ a → have ≡ length list → length piece ≡ count → more ≡ list ++ piece
+pub front_longer : (a b : Option Contents) (name list piece more : List ℕ) (have count : ℕ) → b ≡ a → have ≡ length list → length piece ≡ count → more ≡ list ++ piece
     → Told a (λ m. list ≡ take (length list) (content m name))
     → Told b (λ m. piece ≡ take count (drop have (content m name)))
     → Told a (λ m. more ≡ take (length more) (content m name))
@@ -42,7 +42,7 @@ fits_big bytes long =
     ap (λ (t : Bool). let r : Result (List ℕ) FileRefused = if t then Err refused.TooBig else Ok bytes in r) test
 
 -- one byte more than a table file may have is enough to judge it
-pub table_of_front : (bytes : List ℕ) (r : Result Rules FileRefused) → TableOf (take 16777217 bytes) r → TableOf bytes r
+pub table_of_front : (bytes : List ℕ) (r : Result BindingTable FileRefused) → TableOf (take 16777217 bytes) r → TableOf bytes r
 table_of_front bytes r says = elim (cases_lt 16777216 (length bytes)) [
   | inl long ↦
       let cut : 16777216 < length (take 16777217 bytes) = omega (arith, long, length-take 16777217 bytes) in
@@ -50,11 +50,11 @@ table_of_front bytes r says = elim (cases_lt 16777216 (length bytes)) [
   | inr short ↦ subst (λ b. TableOf b r) (take_all 16777217 bytes (omega (arith, short))) says
 ]
 
-pub table_told : (h : Option Held) (name bytes text : List ℕ) (r : Result Rules FileRefused) → text ≡ bytes
+pub table_told : (h : Option Contents) (name bytes text : List ℕ) (r : Result BindingTable FileRefused) → text ≡ bytes
     → Told h (λ m. bytes ≡ take 16777217 (content m name)) → TableOf text r → Told h (λ m. TableOf (content m name) r)
 table_told None name bytes text r is front says = tt
 table_told (Some m) name bytes text r is front says = table_of_front (content m name) r (subst (λ b. TableOf b r) (is ∙ front) says)
 
-pub refusal_told : (h : Option Held) (name bytes text : List ℕ) (error : FileError) (refusal : FileRefused) → text ≡ bytes → error ≡ file_error.Refused refusal
-    → Told h (λ m. bytes ≡ take 16777217 (content m name)) → IsCause text error → Told h (λ m. TableOf (content m name) (Err refusal))
-refusal_told h name bytes text error refusal is cause front says = table_told h name bytes text (Err refusal) is front (subst (IsCause text) cause says)
+pub refusal_told : (h : Option Contents) (name bytes text : List ℕ) (error : FileError) (refusal : FileRefused) → text ≡ bytes → error ≡ file_error.Refused refusal
+    → Told h (λ m. bytes ≡ take 16777217 (content m name)) → IsFileCause text error → Told h (λ m. TableOf (content m name) (Err refusal))
+refusal_told h name bytes text error refusal is cause front says = table_told h name bytes text (Err refusal) is front (subst (IsFileCause text) cause says)

@@ -1,10 +1,10 @@
 -- One round more.
 use Rattle.std.proofs.Common.{◌≡◌, ◌≢◌, ℕ, ◌+◌, ◌≤◌, Bool, List, ◌++◌, length, drop, All, Option, Some, None, sym, ◌∙◌, ap, subst, append_assoc, length-append, arith}
 use Rattle.std.proofs.lemmas.List.Elements.{All-append}
-use Rattle.aftr_base.specs.Held.{Held, content, Told, Moves, Writes}
+use Rattle.aftr_base.specs.Contents.{Contents, content, Told, Moves, Writes}
 use Rattle.aftr_base.specs.Outside.{FailsAt}
 use Rattle.aftr_text.specs.declared.summaries.Totals.{Totals}
-use Rattle.binding_rules.specs.Tables.{Rules}
+use Rattle.binding_rules.specs.Tables.{BindingTable}
 use Rattle.capture_io.specs.Capture.{Splits}
 use Rattle.capture_io.specs.declared.forms.Form.{Form}
 use Rattle.capture_io.specs.declared.forms.Rec.{Rec}
@@ -16,7 +16,7 @@ use Rattle.lwaftr_engine.specs.Counting.{no_totals, totals_from}
 use Rattle.lwaftr_engine.specs.Outputs.{Course, packets_from, lines_from, steady}
 use Rattle.lwaftr_engine.specs.Progress.{GoesOn, HasTaken, Stops}
 use Rattle.lwaftr_engine.specs.Rendering.{IsRendered}
-use Rattle.lwaftr_engine.specs.Rounds.{IsCount, IsEnd, IsPlaced, IsInNext, IsRoundOf, Precedes, is_cut}
+use Rattle.lwaftr_engine.specs.Rounds.{IsCount, IsEnding, IsPlaced, IsInNext, IsRoundOf, Precedes, is_cut}
 use Rattle.lwaftr_engine.specs.declared.rendering.Rendered.{Rendered}
 use Rattle.lwaftr_engine.specs.declared.rounds.Ending.{Ending}
 use Rattle.lwaftr_engine.specs.declared.rounds.Ending.TheVariants as ending
@@ -49,11 +49,11 @@ follows_more big bytes taken records here number there next first second = λ rs
     subst P (sym (append_assoc taken records rs)) (first (records ++ rs) e (second rs e splits))
 
 -- a file that is no output holds what it held
-kept : (n : RunNames) → AreApart n → (a b c : Held) (packets lines : List ℕ) → Writes a b n.output packets → Writes b c n.verdicts lines →
+kept : (n : RunNames) → AreApart n → (a b c : Contents) (packets lines : List ℕ) → Writes a b n.output packets → Writes b c n.verdicts lines →
     (name : List ℕ) → name ≢ n.output → name ≢ n.verdicts → content c name ≡ content a name
 kept n far a b c packets lines first second name x y = second.others name y ∙ first.others name x
 
-pub taken_more : (n : RunNames) (form : Form) (c : Course) → AreApart n → (opened a b d : Held) (p : Progress) (round : Round) (es : List Entry) (stage : Staged) (totals : Totals) (r : Rendered) (taken : List Rec) →
+pub taken_more : (n : RunNames) (form : Form) (c : Course) → AreApart n → (opened a b d : Contents) (p : Progress) (round : Round) (es : List Entry) (stage : Staged) (totals : Totals) (r : Rendered) (taken : List Rec) →
     IsCount p.at p.number round → IsPlaced p.at round → IsStaged p.stage stage round.records.items es →
     IsRendered c p.number round.records.items es p.totals totals r →
     Precedes form.big (content a n.input) p.at p.number round.records.items round.at round.number →
@@ -98,14 +98,14 @@ pub record IsNext (name : List ℕ) (big : Bool) (bytes : List ℕ) (at number :
   pub follows : Precedes big bytes at number round.records.items round.at round.number
   pub stopped : Stops name big bytes round.at round.number round.ending last
 
-stops : (m : Held) (name : List ℕ) (big : Bool) (at number : ℕ) (stop : Option Ending) (old new : Option (List ℕ × ℕ)) →
-    IsEnd big (content m name) at number stop → FailsAt (is_cut stop) name (IsInNext name big (Some m) at number) old new → Stops name big (content m name) at number stop new
+stops : (m : Contents) (name : List ℕ) (big : Bool) (at number : ℕ) (stop : Option Ending) (old new : Option (List ℕ × ℕ)) →
+    IsEnding big (content m name) at number stop → FailsAt (is_cut stop) name (IsInNext name big (Some m) at number) old new → Stops name big (content m name) at number stop new
 stops m name big at number None old new ended last = tt
 stops m name big at number (Some ending.End) old new ended last = ended
 stops m name big at number (Some (ending.Bad refusal)) old new ended last = ended
 stops m name big at number (Some ending.ReadFault) old new ended last = record { place = last.0; last_is = last.2; begun = last.1.0; before = last.1.1 }
 
-pub next_told : (held : Option Held) (name : List ℕ) (big : Bool) (at number : ℕ) (round : Round) (old new : Option (List ℕ × ℕ)) →
+pub next_told : (held : Option Contents) (name : List ℕ) (big : Bool) (at number : ℕ) (round : Round) (old new : Option (List ℕ × ℕ)) →
     Told held (λ m. IsRoundOf big (content m name) at number round) → FailsAt (is_cut round.ending) name (IsInNext name big held round.at round.number) old new →
     Told held (λ m. IsNext name big (content m name) at number round new)
 next_told None name big at number round old new told last = tt
@@ -115,20 +115,20 @@ next_told (Some m) name big at number round old new told last = record {
 }
 
 -- the round's packets are written, after it was read
-record IsHalf (n : RunNames) (big : Bool) (at number : ℕ) (round : Round) (last : Option (List ℕ × ℕ)) (packets : List ℕ) (a b : Held) : Type 0 where
+record IsHalf (n : RunNames) (big : Bool) (at number : ℕ) (round : Round) (last : Option (List ℕ × ℕ)) (packets : List ℕ) (a b : Contents) : Type 0 where
   taken : IsNext n.input big (content a n.input) at number round last
   wrote : Writes a b n.output (content a n.output ++ packets)
 
 -- and its lines
-record IsBoth (n : RunNames) (big : Bool) (at number : ℕ) (round : Round) (last : Option (List ℕ × ℕ)) (packets lines : List ℕ) (a d : Held) : Type 0 where
-  middle : Held
+record IsBoth (n : RunNames) (big : Bool) (at number : ℕ) (round : Round) (last : Option (List ℕ × ℕ)) (packets lines : List ℕ) (a d : Contents) : Type 0 where
+  middle : Contents
   half : IsHalf n big at number round last packets a middle
   wrote : Writes middle d n.verdicts (content middle n.verdicts ++ lines)
 
 gone : (n : RunNames) (form : Form) (c : Course) → AreApart n → (p : Progress) (round : Round) (es : List Entry) (stage : Staged) (totals : Totals) (r : Rendered) (last : Option (List ℕ × ℕ)) →
     IsCount p.at p.number round → IsPlaced p.at round → IsStaged p.stage stage round.records.items es →
     IsRendered c p.number round.records.items es p.totals totals r →
-    (a d : Held) → IsBoth n form.big p.at p.number round last r.packets.items r.lines.items a d →
+    (a d : Contents) → IsBoth n form.big p.at p.number round last r.packets.items r.lines.items a d →
     GoesOn n form c a d p (record { stage = stage; at = round.at; number = round.number; totals = totals }) round.ending last
 gone n form c far p round es stage totals r last count placed staged rendered a d both opened taken h =
     let input : content a n.input ≡ content opened n.input = h.others n.input (λ e. far.output_input (sym e)) (λ e. far.verdicts_input (sym e)) in
@@ -142,18 +142,18 @@ gone n form c far p round es stage totals r last count placed staged rendered a 
 -- the files before and after a round
 pub went : (n : RunNames) (form : Form) (words : List ℕ) → AreApart n → (p : Progress) (round : Round) (es : List Entry) (stage : Staged) (totals : Totals) (r : Rendered) (old last now : Option (List ℕ × ℕ)) →
     IsCount p.at p.number round → IsPlaced p.at round → IsStaged p.stage stage round.records.items es →
-    ((t : Rules) → IsCompiled t words → IsRendered (steady t) p.number round.records.items es p.totals totals r) →
-    (h0 h1 h2 h3 : Option Held) → h1 ≡ h0 → Told h0 (λ m. IsRoundOf form.big (content m n.input) p.at p.number round) →
+    ((t : BindingTable) → IsCompiled t words → IsRendered (steady t) p.number round.records.items es p.totals totals r) →
+    (h0 h1 h2 h3 : Option Contents) → h1 ≡ h0 → Told h0 (λ m. IsRoundOf form.big (content m n.input) p.at p.number round) →
     FailsAt (is_cut round.ending) n.input (IsInNext n.input form.big h0 round.at round.number) old last →
     More h1 h2 n.output r.packets.items → More h2 h3 n.verdicts r.lines.items → now ≡ last →
-    Moves h0 h3 (λ a d. (t : Rules) → IsCompiled t words → GoesOn n form (steady t) a d p (record { stage = stage; at = round.at; number = round.number; totals = totals }) round.ending now)
+    Moves h0 h3 (λ a d. (t : BindingTable) → IsCompiled t words → GoesOn n form (steady t) a d p (record { stage = stage; at = round.at; number = round.number; totals = totals }) round.ending now)
 went n form words far p round es stage totals r old last now count placed staged rendered h0 h1 h2 h3 same told stopped first second last_is =
     let half : Moves h0 h2 (λ a b. IsHalf n form.big p.at p.number round last r.packets.items a b) =
     told_then h0 h1 h2 (λ m. IsNext n.input form.big (content m n.input) p.at p.number round last) _ (λ a b. IsHalf n form.big p.at p.number round last r.packets.items a b)
     (λ a b x w. record { taken = x; wrote = w }) same (next_told h0 n.input form.big p.at p.number round old last told stopped) first in
-    let M : Option (List ℕ × ℕ) → Type 0 = λ l. Moves h0 h3 (λ a d. (t : Rules) → IsCompiled t words → GoesOn n form (steady t) a d p (record { stage = stage; at = round.at; number = round.number; totals = totals }) round.ending l) in
+    let M : Option (List ℕ × ℕ) → Type 0 = λ l. Moves h0 h3 (λ a d. (t : BindingTable) → IsCompiled t words → GoesOn n form (steady t) a d p (record { stage = stage; at = round.at; number = round.number; totals = totals }) round.ending l) in
     subst M (sym last_is) (moves_join h0 h2 h3 (λ a b. IsHalf n form.big p.at p.number round last r.packets.items a b) _
-    (λ a d. (t : Rules) → IsCompiled t words → GoesOn n form (steady t) a d p (record { stage = stage; at = round.at; number = round.number; totals = totals }) round.ending last)
+    (λ a d. (t : BindingTable) → IsCompiled t words → GoesOn n form (steady t) a d p (record { stage = stage; at = round.at; number = round.number; totals = totals }) round.ending last)
     (λ a b d x w t compiled. gone n form (steady t) far p round es stage totals r last count placed staged (rendered t compiled) a d (record { middle = b; half = x; wrote = w }))
     half second)
 
@@ -163,16 +163,16 @@ pub went_seen : (n : RunNames) (form : Form) (words : List ℕ) → AreApart n �
     IsCount p.at p.number round → IsPlaced p.at round →
     ((taken : List Rec) → Stands p.stage taken → entries_of p.stage.form (taken ++ rs1) ≡ entries_of p.stage.form taken ++ es) →
     ((taken : List Rec) → Stands p.stage taken → Stands stage (taken ++ rs1)) → length es ≡ length rs1 → stage.form ≡ p.stage.form →
-    ((t : Rules) → IsCompiled t words → IsRendered (steady t) p.number rs2 es1 p.totals totals r) →
-    (h0 h1 h2 h3 : Option Held) → h1 ≡ h0 → Told h0 (λ m. IsRoundOf form.big (content m n.input) p.at p.number round) →
+    ((t : BindingTable) → IsCompiled t words → IsRendered (steady t) p.number rs2 es1 p.totals totals r) →
+    (h0 h1 h2 h3 : Option Contents) → h1 ≡ h0 → Told h0 (λ m. IsRoundOf form.big (content m n.input) p.at p.number round) →
     FailsAt (is_cut round.ending) n.input (IsInNext n.input form.big h0 round.at round.number) old last →
     More h1 h2 n.output packets → More h2 h3 n.verdicts lines → now ≡ last →
-    Moves h0 h3 (λ a d. (t : Rules) → IsCompiled t words → GoesOn n form (steady t) a d p (record { stage = stage; at = round.at; number = round.number; totals = totals }) round.ending now)
+    Moves h0 h3 (λ a d. (t : BindingTable) → IsCompiled t words → GoesOn n form (steady t) a d p (record { stage = stage; at = round.at; number = round.number; totals = totals }) round.ending now)
 went_seen n form words far p round es stage totals r old last now rs1 rs2 es1 packets lines is1 is2 is3 is4 is5 count placed entries stands same_count same_form rendered h0 h1 h2 h3 same told stopped first second last_is =
     let S : List Rec → Type 0 = λ l. IsStaged p.stage stage l es in
     let staged : IsStaged p.stage stage rs1 es = record { entries = entries; stands = stands; count = same_count; form = same_form } in
-    let R : List Rec → Type 0 = λ l. (t : Rules) → IsCompiled t words → IsRendered (steady t) p.number l es1 p.totals totals r in
-    let E : List Entry → Type 0 = λ l. (t : Rules) → IsCompiled t words → IsRendered (steady t) p.number round.records.items l p.totals totals r in
+    let R : List Rec → Type 0 = λ l. (t : BindingTable) → IsCompiled t words → IsRendered (steady t) p.number l es1 p.totals totals r in
+    let E : List Entry → Type 0 = λ l. (t : BindingTable) → IsCompiled t words → IsRendered (steady t) p.number round.records.items l p.totals totals r in
     let O : List ℕ → Type 0 = λ l. More h1 h2 n.output l in
     let V : List ℕ → Type 0 = λ l. More h2 h3 n.verdicts l in
     went n form words far p round es stage totals r old last now count placed (subst S is1 staged) (subst E is3 (subst R is2 rendered)) h0 h1 h2 h3 same told stopped (subst O is4 first) (subst V is5 second) last_is

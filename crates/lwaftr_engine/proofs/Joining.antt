@@ -3,7 +3,7 @@ use Rattle.std.proofs.Common.{◌≡◌, ℕ, ◌+◌, List, [], ◌∷◌, ◌+
 use Rattle.aftr_text.specs.declared.summaries.Totals.{Totals}
 use Rattle.capture_io.specs.declared.forms.Rec.{Rec}
 use Rattle.item_stage.specs.declared.entries.Entry.{Entry}
-use Rattle.lwaftr_engine.specs.Counting.{counted, totals_from}
+use Rattle.lwaftr_engine.specs.Counting.{with_record, totals_from}
 use Rattle.lwaftr_engine.specs.Outputs.{Course, lines_at, lines_from, packets_at, packets_from, sent_at, verdict_at}
 
 pub packets_join : (c : Course) (number at : ℕ) (rs ss : List Rec) (es fs : List Entry) → length es ≡ length rs → at ≡ number + length rs →
@@ -29,4 +29,4 @@ pub totals_join : (c : Course) (totals : Totals) (number at : ℕ) (es fs : List
 totals_join c totals number at [] fs is =
     let here : number ≡ at = omega arith in ap (λ (k : ℕ). totals_from c totals k fs) here
 totals_join c totals number at (e ∷ es) fs is =
-    totals_join c (counted totals (verdict_at c number e.item) (length (sent_at c number e.item))) (number + 1) at es fs (omega arith)
+    totals_join c (with_record totals (verdict_at c number e.item) (length (sent_at c number e.item))) (number + 1) at es fs (omega arith)

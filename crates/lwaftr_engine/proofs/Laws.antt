@@ -2,7 +2,7 @@
 use Rattle.std.proofs.Common.{◌≡◌, ℕ, ◌+◌, ◌≤◌, Bool, List, Option, Result, Ok}
 use Rattle.binding_file.specs.Files.{TableOf}
 use Rattle.binding_file.specs.declared.refusals.FileRefused.{FileRefused}
-use Rattle.binding_rules.specs.Tables.{Rules}
+use Rattle.binding_rules.specs.Tables.{BindingTable}
 use Rattle.capture_io.specs.Capture.{Splits}
 use Rattle.capture_io.specs.Record.{next_in}
 use Rattle.capture_io.specs.declared.forms.CaptureBad.{CaptureBad}
@@ -11,7 +11,7 @@ use Rattle.capture_io.specs.declared.forms.Rec.{Rec}
 
 -- a file has one answer as a table
 abbrev pub OneAnswer : Type 0
-OneAnswer = (bytes : List ℕ) (answer other : Result Rules FileRefused) → TableOf bytes answer → TableOf bytes other → answer ≡ other
+OneAnswer = (bytes : List ℕ) (answer other : Result BindingTable FileRefused) → TableOf bytes answer → TableOf bytes other → answer ≡ other
 
 -- bytes are split into records in one way
 abbrev pub OneReading : Type 0

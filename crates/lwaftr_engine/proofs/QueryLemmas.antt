@@ -2,13 +2,13 @@
 use Rattle.std.proofs.Common.{◌≡◌, inl, inr, ℕ, ◌≤◌, List, [], ◌∷◌, length, Option, Some, None, Result, Ok, Err, refl, sym, ap, subst, arith}
 use Rattle.std.specs.Borrow.{Bor}
 use Rattle.std.specs.Prelude.{◌↔◌}
-use Rattle.aftr_base.specs.Held.{Held, content, Told}
+use Rattle.aftr_base.specs.Contents.{Contents, content, Told}
 use Rattle.aftr_base.specs.declared.numbers.V4.{V4}
 use Rattle.aftr_base.specs.declared.numbers.V6.{V6}
 use Rattle.binding_file.specs.Files.{TableOf}
 use Rattle.binding_file.specs.declared.refusals.FileRefused.{FileRefused}
 use Rattle.binding_rules.specs.Bindings.{bound}
-use Rattle.binding_rules.specs.Tables.{Rules}
+use Rattle.binding_rules.specs.Tables.{BindingTable}
 use Rattle.binding_rules.specs.declared.binding.Binding.{Binding}
 use Rattle.binding_rules.specs.declared.binding.Want.TheVariants as want
 use Rattle.lwaftr_engine.specs.Jobs.{AskNothing, AsksWho, IsWho}
@@ -27,7 +27,7 @@ use Rattle.table_words.specs.Layout.{IsCompiled}
 same_status : (x y : FileRefused) → status.BadTable x ≡ status.BadTable y → x ≡ y
 same_status x y e = cc
 
-same_error : (x y : FileRefused) → (let a : Result Rules FileRefused = Err x in a) ≡ Err y → x ≡ y
+same_error : (x y : FileRefused) → (let a : Result BindingTable FileRefused = Err x in a) ≡ Err y → x ≡ y
 same_error x y e = cc
 
 -- a refused file is answered with its cause
@@ -37,7 +37,7 @@ refuses one bytes x is y = (
   λ other. inl (ap status.BadTable (same_error x y (one bytes (Err x) (Err y) is other))),
 )
 
-pub refuses_told : OneAnswer → (h : Option Held) (name : List ℕ) (x : FileRefused) (why : NoTable) → why ≡ none.Refused x
+pub refuses_told : OneAnswer → (h : Option Contents) (name : List ℕ) (x : FileRefused) (why : NoTable) → why ≡ none.Refused x
     → Told h (λ m. IsNoTable (content m name) why) → Told h (λ m. RefusesAs (content m name) (status.BadTable x))
 refuses_told one None name x why because is = tt
 refuses_told one (Some m) name x why because is = refuses one (content m name) x (subst (λ w. IsNoTable (content m name) w) because is)
@@ -60,9 +60,9 @@ answered IsLine line status.Usage said now it p = absurd p
 answered IsLine line (status.BadCapture refusal) said now it p = absurd p
 
 -- what is put of the line of an owner under the words of the file's table
-pub owner_answers : (h : Option Held) (name : List ℕ) (v4 : V4) (port : ℕ) (t : Rules) (words slice : List ℕ) (owner : Option V6) (line put : List ℕ) (s : Status) (said now : Option (List ℕ))
+pub owner_answers : (h : Option Contents) (name : List ℕ) (v4 : V4) (port : ℕ) (t : BindingTable) (words slice : List ℕ) (owner : Option V6) (line put : List ℕ) (s : Status) (said now : Option (List ℕ))
     → Told h (λ m. TableOf (content m name) (Ok t)) → IsCompiled t words → slice ≡ words
-    → ((u : Rules) → IsCompiled u slice → owner ≡ first_b4 (bound u.bindings v4 (want.Port port)))
+    → ((u : BindingTable) → IsCompiled u slice → owner ≡ first_b4 (bound u.bindings v4 (want.Port port)))
     → IsOwnerText owner line → put ≡ line → Puts s put said now → Answers (λ text. IsLineOf (IsOwnerLine v4 port) h name text) s said now
 owner_answers h name v4 port t words slice owner line put s said now spelled compiled is found text same puts =
     let owner_is = found t (subst (λ l. IsCompiled t l) (sym is) compiled) in

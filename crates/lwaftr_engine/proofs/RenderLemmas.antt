@@ -2,14 +2,14 @@
 use Rattle.std.proofs.Common.{◌≡◌, ℕ, suc, ◌+◌, ◌<◌, ◌≤◌, true, List, [], ◌∷◌, ◌++◌, length, drop, flat_map, get_or, sym, ◌∙◌, ap, subst, add-one, arith, append_assoc}
 use Rattle.std.proofs.Math.Seq.{drop-cons}
 use Rattle.std.proofs.lemmas.List.{append-nil, drop_all}
-use Rattle.binding_rules.specs.Tables.{Rules}
+use Rattle.binding_rules.specs.Tables.{BindingTable}
 use Rattle.aftr_text.specs.declared.summaries.Totals.{Totals}
 use Rattle.aftr_text.specs.Lines.{ended_text, verdict_text}
 use Rattle.capture_io.specs.declared.forms.Rec.{Rec}
 use Rattle.capture_io.specs.Written.{record_bytes}
 use Rattle.item_stage.specs.declared.entries.Entry.{Entry}
 use Rattle.lwaftr_engine.specs.declared.rendering.Rendered.{Rendered}
-use Rattle.lwaftr_engine.specs.Counting.{counted, totals_from}
+use Rattle.lwaftr_engine.specs.Counting.{with_record, totals_from}
 use Rattle.lwaftr_engine.specs.Outputs.{Course, lines_from, packets_from, steady}
 use Rattle.lwaftr_engine.specs.Rendering.{IsRendered, IsRenderedOne}
 use Rattle.packet_render.specs.Sent.{sent}
@@ -23,13 +23,13 @@ pub one_rendered : (number : ℕ) (r : Rec) (e : Entry) (v : Verdict) (old new :
     → new.packets.items ≡ old.packets.items ++ flat_map (λ packet. record_bytes r.seconds r.fraction packet) list
     → line ≡ verdict_text number 0 v count
     → new.lines.items ≡ old.lines.items ++ (flat_map (ended_text true) e.ended ++ line)
-    → now ≡ counted before v count
+    → now ≡ with_record before v count
     → IsRenderedOne number r e v old new before now
 one_rendered number r e v old new before now list line count is many packets text lines totals =
     let n : count ≡ length (sent e.item v number) = many ∙ ap length is in record {
       packets = packets ∙ ap (λ l. old.packets.items ++ flat_map (λ packet. record_bytes r.seconds r.fraction packet) l) is;
       lines = lines ∙ ap (λ l. old.lines.items ++ (flat_map (ended_text true) e.ended ++ l)) (text ∙ ap (verdict_text number 0 v) n);
-      totals = totals ∙ ap (counted before v) n;
+      totals = totals ∙ ap (with_record before v) n;
     }
 
 -- with what the records from a place on write, what stands there is what all of them write
@@ -65,7 +65,7 @@ record IsLeft (c : Course) (number : ℕ) (rs : List Rec) (es : List Entry) (pac
   pub left_lines : r.lines.items ++ lines_from c number es ≡ lines
   pub left_totals : totals_from c now number es ≡ totals
 
-one_of_left : (t : Rules) (number : ℕ) (r : Rec) (e : Entry) (rs : List Rec) (es : List Entry) (v : Verdict) (packets lines : List ℕ) (totals before now : Totals) (old new : Rendered)
+one_of_left : (t : BindingTable) (number : ℕ) (r : Rec) (e : Entry) (rs : List Rec) (es : List Entry) (v : Verdict) (packets lines : List ℕ) (totals before now : Totals) (old new : Rendered)
     → v ≡ verdict_of t e.item → IsRenderedOne number r e v old new before now
     → IsLeft (steady t) number (r ∷ rs) (e ∷ es) packets lines totals before old
     → IsLeft (steady t) (number + 1) rs es packets lines totals now new
@@ -77,7 +77,7 @@ one_of_left t number r e rs es v packets lines totals before now old new is one 
     }
 
 -- one record more
-pub remains_more : (t : Rules) (start i : ℕ) (records : List Rec) (entries : List Entry) (r : Rec) (e : Entry) (v : Verdict) (initial before now : Totals) (old new : Rendered)
+pub remains_more : (t : BindingTable) (start i : ℕ) (records : List Rec) (entries : List Entry) (r : Rec) (e : Entry) (v : Verdict) (initial before now : Totals) (old new : Rendered)
     → i < length records → length entries ≡ length records
     → r ≡ get_or records i r → e ≡ get_or entries i e
     → v ≡ verdict_of t e.item

@@ -2,7 +2,7 @@
 use Rattle.std.proofs.Common.{◌≡◌, ◌≢◌, ℕ, Bool, true, false, not, ◌&&◌, List, ◌++◌, Option, refl}
 use Rattle.std.specs.Prelude.{IsTrue}
 use Rattle.std.proofs.lemmas.Slice.Eq.{bytes_eq-Decides}
-use Rattle.aftr_base.specs.Held.{Held, content, Moves, Writes}
+use Rattle.aftr_base.specs.Contents.{Contents, content, Moves, Writes}
 use Rattle.lwaftr_engine.specs.Jobs.{RunNames, are_apart, same}
 
 -- the names of the outputs differ from each other and from those of the files that are read
@@ -54,5 +54,5 @@ apart n e =
     }
 
 -- a file that gets some bytes more
-abbrev pub More : Option Held → Option Held → List ℕ → List ℕ → Type 0
+abbrev pub More : Option Contents → Option Contents → List ℕ → List ℕ → Type 0
 More a b name bytes = Moves a b (λ m n. Writes m n name (content m name ++ bytes))

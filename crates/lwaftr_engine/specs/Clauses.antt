@@ -1,8 +1,8 @@
 -- The promises of the program's call, each by its status.
 use Rattle.std.specs.Prelude.{◌≡◌, ◌≢◌, ℕ, List, [], Option, Some, None, Result, Ok, Err, ◌⊎◌}
-use Rattle.aftr_base.specs.Held.{Held, content}
+use Rattle.aftr_base.specs.Contents.{Contents, content}
 use Rattle.aftr_base.specs.Outside.{Outside, Rose}
-use Rattle.binding_rules.specs.Tables.{Rules}
+use Rattle.binding_rules.specs.Tables.{BindingTable}
 use Rattle.binding_file.specs.Files.{TableOf}
 use Rattle.capture_io.specs.Capture.{IsCapture}
 use Rattle.capture_io.specs.Header.{header_in}
@@ -64,28 +64,28 @@ pub record NothingFailed (before now : Counts) : Type 0 where
   pub puts : Rose before.puts now.puts → ⊥
 
 -- the capture ends so, behind all of its records, under a sound header
-abbrev pub Ends : RunNames → Held → Option CaptureBad → Type 0
+abbrev pub Ends : RunNames → Contents → Option CaptureBad → Type 0
 Ends n m ending = (form : Form) × (rs : List Rec) × IsCapture (content m n.input) (Ok form) rs ending
 
 -- the capture is refused with this cause: its header, or what stands behind its last whole record
-abbrev pub Refuses : RunNames → Held → CaptureBad → Type 0
+abbrev pub Refuses : RunNames → Contents → CaptureBad → Type 0
 Refuses n m refusal = (header : Result Form CaptureBad) × (rs : List Rec) × IsCapture (content m n.input) header rs (Some refusal)
 
 -- the table file spells a table
-abbrev pub Accepts : RunNames → Held → Type 0
-Accepts n m = (t : Rules) × TableOf (content m n.table) (Ok t)
+abbrev pub Accepts : RunNames → Contents → Type 0
+Accepts n m = (t : BindingTable) × TableOf (content m n.table) (Ok t)
 
 -- The status that the table and the capture ask for, whatever the outside does: the table's refusal, else the capture's,
 -- else `Done`.
-abbrev pub IsDue : RunNames → Held → Status → Type 0
-IsDue n m (status.BadTable refusal) = TableOf (content m n.table) (Err refusal)
-IsDue n m (status.BadCapture refusal) = Accepts n m × Refuses n m refusal
-IsDue n m status.Done = Accepts n m × Ends n m None
-IsDue n m status.DoneRefused = ⊥
-IsDue n m status.Usage = ⊥
-IsDue n m status.ReadFault = ⊥
-IsDue n m status.WriteFault = ⊥
-IsDue n m status.OutOfMemory = ⊥
+abbrev pub IsAskedFor : RunNames → Contents → Status → Type 0
+IsAskedFor n m (status.BadTable refusal) = TableOf (content m n.table) (Err refusal)
+IsAskedFor n m (status.BadCapture refusal) = Accepts n m × Refuses n m refusal
+IsAskedFor n m status.Done = Accepts n m × Ends n m None
+IsAskedFor n m status.DoneRefused = ⊥
+IsAskedFor n m status.Usage = ⊥
+IsAskedFor n m status.ReadFault = ⊥
+IsAskedFor n m status.WriteFault = ⊥
+IsAskedFor n m status.OutOfMemory = ⊥
 
 -- the run ended by a fault of the outside or for want of memory
 abbrev pub IsFault : Status → Type 0
@@ -100,23 +100,23 @@ IsFault (status.BadCapture refusal) = ⊥
 
 -- The table is read before the capture: where the read that failed is one of the capture, and no table is read from the
 -- capture's file, the table is accepted.
-abbrev pub IsBehindTable : RunNames → Held → Option (List ℕ × ℕ) → Type 0
+abbrev pub IsBehindTable : RunNames → Contents → Option (List ℕ × ℕ) → Type 0
 IsBehindTable n old last = (place : ℕ) → last ≡ Some (n.input, place) → n.input ≢ n.table → Accepts n old
 
 -- the capture's header is refused under a table that is accepted, and nothing was written
-pub record IsBadHeader (n : RunNames) (old new : Held) (said now : Option (List ℕ)) (refusal : CaptureBad) : Type 0 where
+pub record IsBadHeader (n : RunNames) (old new : Contents) (said now : Option (List ℕ)) (refusal : CaptureBad) : Type 0 where
   pub table : Accepts n old
   pub capture : IsCapture (content old n.input) (Err refusal) [] (Some refusal)
   pub kept : IsUntouched old new said now
 
 -- the outputs are made only under a table and a header that are accepted
-pub record IsBegun (n : RunNames) (old new : Held) : Type 0 where
+pub record IsBegun (n : RunNames) (old new : Contents) : Type 0 where
   pub table : Accepts n old
   pub header : (form : Form) × (header_in (content old n.input) ≡ Ok form)
   pub others : OthersKept n old new
 
 -- what the files hold at a status, and what the sink took
-abbrev pub FilesAt : RunNames → Status → Held → Held → Option (List ℕ) → Option (List ℕ) → Option (List ℕ × ℕ) → Type 0
+abbrev pub FilesAt : RunNames → Status → Contents → Contents → Option (List ℕ) → Option (List ℕ) → Option (List ℕ × ℕ) → Type 0
 FilesAt n status.Done old new said now last = IsWholeRun n old new said now None
 FilesAt n (status.BadCapture refusal) old new said now last =
     IsWholeRun n old new said now (Some refusal) ⊎ IsBadHeader n old new said now refusal

@@ -9,8 +9,8 @@ abbrev pub one_if : Bool → ℕ
 one_if test = if test then 1 else 0
 
 -- the totals with one record more
-abbrev pub counted : Totals → Verdict → ℕ → Totals
-counted totals v packets = record {
+abbrev pub with_record : Totals → Verdict → ℕ → Totals
+with_record totals v packets = record {
   records = totals.records + 1;
   held = totals.held + one_if (is_held v);
   forwarded = totals.forwarded + one_if (is_forwarded v);
@@ -23,7 +23,7 @@ counted totals v packets = record {
 abbrev pub totals_from : Course → Totals → ℕ → List Entry → Totals
 totals_from c totals number [] = totals
 totals_from c totals number (e ∷ es) =
-    totals_from c (counted totals (verdict_at c number e.item) (length (sent_at c number e.item))) (number + 1) es
+    totals_from c (with_record totals (verdict_at c number e.item) (length (sent_at c number e.item))) (number + 1) es
 
 abbrev pub no_totals : Totals
 no_totals = record { records = 0; held = 0; forwarded = 0; dropped = 0; packets = 0; version = 0 }

@@ -1,9 +1,9 @@
 -- What a run leaves: the files of its records, by how the reading ended.
 use Rattle.std.specs.Prelude.{◌≡◌, ◌≢◌, ℕ, ◌≤◌, nat_le, List, ◌++◌, length, take, filter, Option, Some, Ok}
 use Rattle.std.specs.Option.{option_map}
-use Rattle.aftr_base.specs.Held.{Held, content}
+use Rattle.aftr_base.specs.Contents.{Contents, content}
 use Rattle.aftr_text.specs.Lines.{summary_text}
-use Rattle.binding_rules.specs.Tables.{Rules}
+use Rattle.binding_rules.specs.Tables.{BindingTable}
 use Rattle.binding_file.specs.Files.{TableOf}
 use Rattle.capture_io.specs.Capture.{IsCapture}
 use Rattle.capture_io.specs.Header.{header_in}
@@ -14,12 +14,12 @@ use Rattle.lwaftr_engine.specs.Jobs.{RunNames}
 use Rattle.lwaftr_engine.specs.Outputs.{steady, output_of, verdicts_of, versions_of, totals_of}
 
 -- a name other than the three outputs holds what it held
-abbrev pub OthersKept : RunNames → Held → Held → Type 0
+abbrev pub OthersKept : RunNames → Contents → Contents → Type 0
 OthersKept n old new = (name : List ℕ) → name ≢ n.output → name ≢ n.verdicts → name ≢ n.versions → content new name ≡ content old name
 
 -- The files are those of one router that took these records of the capture, under the table of the run; the sink took the
 -- summary.
-pub record IsRun (n : RunNames) (old new : Held) (said now : Option (List ℕ)) (t : Rules) (form : Form) (rs : List Rec) : Type 0 where
+pub record IsRun (n : RunNames) (old new : Contents) (said now : Option (List ℕ)) (t : BindingTable) (form : Form) (rs : List Rec) : Type 0 where
   pub table : TableOf (content old n.table) (Ok t)
   pub output : content new n.output ≡ output_of (steady t) form rs
   pub verdicts : content new n.verdicts ≡ verdicts_of (steady t) form rs
@@ -28,12 +28,12 @@ pub record IsRun (n : RunNames) (old new : Held) (said now : Option (List ℕ)) 
   pub summary : now ≡ option_map (λ taken. taken ++ summary_text (totals_of (steady t) form rs)) said
 
 -- a run of all whole records of the capture, which ends so
-pub record IsWholeRun (n : RunNames) (old new : Held) (said now : Option (List ℕ)) (ending : Option CaptureBad) : Type 0 where
-  pub rules : Rules
+pub record IsWholeRun (n : RunNames) (old new : Contents) (said now : Option (List ℕ)) (ending : Option CaptureBad) : Type 0 where
+  pub bindings : BindingTable
   pub form : Form
   pub records : List Rec
   pub capture : IsCapture (content old n.input) (Ok form) records ending
-  pub run : IsRun n old new said now rules form records
+  pub run : IsRun n old new said now bindings form records
 
 -- the records that end at or before a place
 abbrev pub ended_by : ℕ → List Rec → List Rec
@@ -41,8 +41,8 @@ ended_by place all = filter (λ r. nat_le r.next_at place) all
 
 -- A run cut short by a read that failed at a place of the capture: it took the records that end at or before it, which are
 -- the first ones.
-pub record IsCutRun (n : RunNames) (old new : Held) (said now : Option (List ℕ)) (last : Option (List ℕ × ℕ)) : Type 0 where
-  pub rules : Rules
+pub record IsCutRun (n : RunNames) (old new : Contents) (said now : Option (List ℕ)) (last : Option (List ℕ × ℕ)) : Type 0 where
+  pub bindings : BindingTable
   pub form : Form
   pub all : List Rec
   pub ending : Option CaptureBad
@@ -51,16 +51,16 @@ pub record IsCutRun (n : RunNames) (old new : Held) (said now : Option (List ℕ
   pub last_is : last ≡ Some (n.input, place)
   pub in_records : 24 ≤ place
   pub first_ones : take (length (ended_by place all)) all ≡ ended_by place all
-  pub run : IsRun n old new said now rules form (ended_by place all)
+  pub run : IsRun n old new said now bindings form (ended_by place all)
 
 -- nothing was written: the files are as they were, and the sink took nothing
-pub record IsUntouched (old new : Held) (said now : Option (List ℕ)) : Type 0 where
+pub record IsUntouched (old new : Contents) (said now : Option (List ℕ)) : Type 0 where
   pub files : new ≡ old
   pub sink : now ≡ said
 
 -- The read that failed is one of a record, and of nothing else: the last place is one of the capture behind its header,
 -- the header is sound, and no table is read from the capture's file.
-pub record IsInRecords (n : RunNames) (old : Held) (last : Option (List ℕ × ℕ)) : Type 0 where
+pub record IsInRecords (n : RunNames) (old : Contents) (last : Option (List ℕ × ℕ)) : Type 0 where
   pub form : Form
   pub header : header_in (content old n.input) ≡ Ok form
   pub place : ℕ

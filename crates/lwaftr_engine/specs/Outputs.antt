@@ -1,7 +1,7 @@
 -- What one router writes that takes the records in order, each under the table in force at its number: the packets sent, a
 -- line for each record, and the totals. No worker, area or thread stands here.
 use Rattle.std.specs.Prelude.{ℕ, ◌+◌, Bool, true, false, List, [], ◌∷◌, ◌++◌, length, filter, flat_map}
-use Rattle.binding_rules.specs.Tables.{Rules}
+use Rattle.binding_rules.specs.Tables.{BindingTable}
 use Rattle.capture_io.specs.declared.forms.Form.{Form}
 use Rattle.capture_io.specs.declared.forms.Rec.{Rec}
 use Rattle.capture_io.specs.Written.{header_bytes, record_bytes}
@@ -19,11 +19,11 @@ use Rattle.aftr_text.specs.Lines.{verdict_text, ended_text, initial_text}
 -- The tables of a run by their versions, and the points: the number of the record before which each later one came into
 -- force.
 pub record Course : Type 0 where
-  pub tables : ℕ → Rules
+  pub tables : ℕ → BindingTable
   pub points : List ℕ
 
 -- one table from the first record to the last
-abbrev pub steady : Rules → Course
+abbrev pub steady : BindingTable → Course
 steady t = record { tables = λ _. t; points = [] }
 
 abbrev pub version_at : Course → ℕ → ℕ

@@ -1,6 +1,6 @@
 -- How far a run has come, and what its outputs hold by then.
 use Rattle.std.specs.Prelude.{◌≡◌, ◌≢◌, ℕ, ◌+◌, ◌*◌, ◌^◌, ◌<◌, ◌≤◌, ◌⊎◌, Bool, true, false, List, [], ◌++◌, length, drop, All, Option, Some, None, Ok}
-use Rattle.aftr_base.specs.Held.{Held, content}
+use Rattle.aftr_base.specs.Contents.{Contents, content}
 use Rattle.aftr_base.specs.Outside.{FailsAt, Outside, Rises, Rose}
 use Rattle.capture_io.specs.Capture.{Splits}
 use Rattle.capture_io.specs.declared.forms.Form.{Form}
@@ -20,13 +20,13 @@ use Rattle.lwaftr_engine.specs.Rendering.{IsWithin}
 use Rattle.lwaftr_engine.specs.Rounds.{Precedes}
 
 -- the places and counts are in their ranges
-pub record IsBounded (p : Progress) : Type 0 where
+pub record IsInRange (p : Progress) : Type 0 where
   pub number : p.number ≤ 2 ^ 31
   pub place : p.at ≤ 24 + 262160 * p.number
   pub totals : IsWithin p.totals p.number
 
 -- since the outputs were opened, these records were taken, and their packets and lines stand behind what was there
-pub record HasTaken (n : RunNames) (form : Form) (c : Course) (opened now : Held) (p : Progress) (taken : List Rec) : Type 0 where
+pub record HasTaken (n : RunNames) (form : Form) (c : Course) (opened now : Contents) (p : Progress) (taken : List Rec) : Type 0 where
   pub stands : Stands p.stage taken
   pub stage_form : p.stage.form ≡ form
   pub number : p.number ≡ length taken
@@ -54,19 +54,19 @@ Stops name big bytes at number (Some ending.ReadFault) last = IsCutAt name big b
 Stops name big bytes at number None last = Unit {0}
 
 -- some records are taken by now, and this is how they stopped
-pub record HasGone (n : RunNames) (form : Form) (c : Course) (opened now : Held) (p : Progress) (stop : Option Ending) (last : Option (List ℕ × ℕ)) : Type 0 where
+pub record HasGone (n : RunNames) (form : Form) (c : Course) (opened now : Contents) (p : Progress) (stop : Option Ending) (last : Option (List ℕ × ℕ)) : Type 0 where
   pub records : List Rec
   pub taken : HasTaken n form c opened now p records
   pub stopped : Stops n.input form.big (content opened n.input) p.at p.number stop last
 
 -- whatever was taken before, more is taken now
-abbrev pub GoesOn : RunNames → Form → Course → Held → Held → Progress → Progress → Option Ending → Option (List ℕ × ℕ) → Type 0
-GoesOn n form c old new before after stop last = (opened : Held) (taken : List Rec) →
+abbrev pub GoesOn : RunNames → Form → Course → Contents → Contents → Progress → Progress → Option Ending → Option (List ℕ × ℕ) → Type 0
+GoesOn n form c old new before after stop last = (opened : Contents) (taken : List Rec) →
     HasTaken n form c opened old before taken → HasGone n form c opened new after stop last
 
 -- the same for rounds behind which the records have not stopped
-abbrev pub TakesOn : RunNames → Form → Course → Held → Held → Progress → Progress → Type 0
-TakesOn n form c old new before after = (opened : Held) (taken : List Rec) →
+abbrev pub TakesOn : RunNames → Form → Course → Contents → Contents → Progress → Progress → Type 0
+TakesOn n form c old new before after = (opened : Contents) (taken : List Rec) →
     HasTaken n form c opened old before taken → (all : List Rec) × HasTaken n form c opened new after all
 
 -- A call that reads this file, and writes: where a read failed, it is one of this file.
@@ -76,7 +76,7 @@ pub record ReadsOf (failed : Bool) (name : List ℕ) (before now : Outside) : Ty
   pub last : FailsAt failed name (λ _. Unit {0}) before.last now.last
 
 -- what the run leaves, by how the records ended
-abbrev pub EndsAs : RunNames → Ending → Held → Held → Option (List ℕ) → Option (List ℕ) → Option (List ℕ × ℕ) → Type 0
+abbrev pub EndsAs : RunNames → Ending → Contents → Contents → Option (List ℕ) → Option (List ℕ) → Option (List ℕ × ℕ) → Type 0
 EndsAs n ending.End old new said now last = IsWholeRun n old new said now None
 EndsAs n (ending.Bad refusal) old new said now last = IsWholeRun n old new said now (Some refusal)
 EndsAs n ending.ReadFault old new said now last = IsCutRun n old new said now last

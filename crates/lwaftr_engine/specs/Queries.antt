@@ -3,13 +3,13 @@ use Rattle.std.specs.Prelude.{◌≡◌, ◌⊎◌, ℕ, ◌≤◌, Bool, true, 
 use Rattle.std.specs.Option.{option_map}
 use Rattle.std.specs.Borrow.{Bor}
 use Rattle.addr_text.specs.Canonical.{IsCanonical, groups_of}
-use Rattle.aftr_base.specs.Held.{Held, content, Told}
+use Rattle.aftr_base.specs.Contents.{Contents, content, Told}
 use Rattle.aftr_base.specs.declared.numbers.V4.{V4}
 use Rattle.aftr_base.specs.declared.numbers.V6.{V6}
 use Rattle.binding_file.specs.Files.{TableOf}
 use Rattle.binding_file.specs.declared.refusals.FileRefused.{FileRefused}
 use Rattle.binding_rules.specs.Bindings.{bound}
-use Rattle.binding_rules.specs.Tables.{Rules, IsValid}
+use Rattle.binding_rules.specs.Tables.{BindingTable, IsValid}
 use Rattle.binding_rules.specs.declared.binding.Binding.{Binding}
 use Rattle.binding_rules.specs.declared.binding.Want.TheVariants as want
 use Rattle.lwaftr_engine.specs.Clauses.{Counts, NothingFailed}
@@ -22,7 +22,7 @@ abbrev pub valid_text : ℕ → List ℕ
 valid_text count = codes "valid " ++ decimal count ++ codes " bindings\n"
 
 -- `check`: the line says how many bindings the table has
-abbrev pub IsValidLine : Rules → List ℕ → Type 0
+abbrev pub IsValidLine : BindingTable → List ℕ → Type 0
 IsValidLine t line = line ≡ valid_text (length t.bindings)
 
 -- the address in its canonical text (RFC 5952, section 4), and a line feed
@@ -36,13 +36,13 @@ NamesOwner (b ∷ []) line = IsAddressLine b.b4 line
 NamesOwner (b ∷ c ∷ bs) line = ⊥
 
 -- `who`: the line names the owner of the port of the address (RFC 7597, section 5.1)
-abbrev pub IsOwnerLine : V4 → ℕ → Rules → List ℕ → Type 0
+abbrev pub IsOwnerLine : V4 → ℕ → BindingTable → List ℕ → Type 0
 IsOwnerLine v4 port t line = NamesOwner (bound t.bindings v4 (want.Port port)) line
 
 -- The line that a question asks for, of the table that the file spells. Where what files hold is not told, it is that of some
 -- valid table.
-pub record IsLineOf (Asks : Rules → List ℕ → Type 0) (held : Option Held) (name line : List ℕ) : Type 0 where
-  pub table : Rules
+pub record IsLineOf (Asks : BindingTable → List ℕ → Type 0) (held : Option Contents) (name line : List ℕ) : Type 0 where
+  pub table : BindingTable
   pub valid : IsValid table
   pub spelled : Told held (λ m. TableOf (content m name) (Ok table))
   pub asked : Asks table line
@@ -74,7 +74,7 @@ RefusesAs bytes result = (refusal : FileRefused) →
 
 -- a file that is accepted is answered, where nothing of the outside fails and the allocator has room
 abbrev pub IsComplete : List ℕ → Status → Counts → Counts → Type 0
-IsComplete bytes result before now = (t : Rules) → TableOf bytes (Ok t) → NothingFailed before now →
+IsComplete bytes result before now = (t : BindingTable) → TableOf bytes (Ok t) → NothingFailed before now →
     (result ≡ status.Done) ⊎ (result ≡ status.OutOfMemory)
 
 -- at `ReadFault` the last read that failed is one of the file, and at every other status no read failed
@@ -89,13 +89,13 @@ FailedIn name (status.BadCapture refusal) old new = new ≡ old
 FailedIn name status.OutOfMemory old new = new ≡ old
 
 -- What a question leaves: every name holds what it held, and the sink took the line; `BadTable` has its cause.
-pub record IsAnswered (Asks : Rules → List ℕ → Type 0) (name : List ℕ) (result : Status) (old new : Option Held) (said now : Option (List ℕ)) : Type 0 where
+pub record IsAnswered (Asks : BindingTable → List ℕ → Type 0) (name : List ℕ) (result : Status) (old new : Option Contents) (said now : Option (List ℕ)) : Type 0 where
   pub kept : new ≡ old
   pub line : Answers (λ line. IsLineOf Asks old name line) result said now
   pub refused : Told old (λ m. RefusesAs (content m name) result)
 
 -- P of the question that the words ask: of the line that it asks for, and of the name of the file
-abbrev pub ForQuery : List (Bor (List ℕ)) → ((Rules → List ℕ → Type 0) → List ℕ → Type 0) → Type 0
+abbrev pub ForQuery : List (Bor (List ℕ)) → ((BindingTable → List ℕ → Type 0) → List ℕ → Type 0) → Type 0
 ForQuery words P = ForCheck words (λ name. P IsValidLine name) × ForWho words (λ name v4 port. P (IsOwnerLine v4 port) name)
 
 -- the line of an owner, if there is one

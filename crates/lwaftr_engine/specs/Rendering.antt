@@ -6,7 +6,7 @@ use Rattle.capture_io.specs.declared.forms.Rec.{Rec}
 use Rattle.capture_io.specs.Written.{record_bytes}
 use Rattle.item_stage.specs.declared.entries.Entry.{Entry}
 use Rattle.lwaftr_engine.specs.declared.rendering.Rendered.{Rendered}
-use Rattle.lwaftr_engine.specs.Counting.{counted, totals_from}
+use Rattle.lwaftr_engine.specs.Counting.{with_record, totals_from}
 use Rattle.lwaftr_engine.specs.Outputs.{Course, packets_from, lines_from}
 use Rattle.packet_render.specs.Sent.{sent}
 use Rattle.verdict_core.specs.declared.verdicts.Verdict.{Verdict}
@@ -21,7 +21,7 @@ pub record IsRendered (c : Course) (start : ℕ) (records : List Rec) (entries :
 pub record IsRenderedOne (number : ℕ) (r : Rec) (e : Entry) (v : Verdict) (old new : Rendered) (before now : Totals) : Type 0 where
   pub packets : new.packets.items ≡ old.packets.items ++ flat_map (λ packet. record_bytes r.seconds r.fraction packet) (sent e.item v number)
   pub lines : new.lines.items ≡ old.lines.items ++ (flat_map (ended_text true) e.ended ++ verdict_text number 0 v (length (sent e.item v number)))
-  pub totals : now ≡ counted before v (length (sent e.item v number))
+  pub totals : now ≡ with_record before v (length (sent e.item v number))
 
 -- so many records were counted, and no count is above their number
 pub record IsWithin (totals : Totals) (number : ℕ) : Type 0 where

@@ -1,6 +1,6 @@
 // The outputs of a run as they are before the first record.
 ghost use Rattle.std.specs.Prelude.{◌≡◌, OnOk, IsTrue};
-ghost use Rattle.aftr_base.specs.Held.{Moves};
+ghost use Rattle.aftr_base.specs.Contents.{Moves};
 ghost use Rattle.aftr_base.specs.Outside.{OnlyWrites, has_failed};
 ghost use Rattle.lwaftr_engine.specs.Endings.{OthersKept};
 ghost use Rattle.lwaftr_engine.specs.Jobs.{are_apart, names_of};

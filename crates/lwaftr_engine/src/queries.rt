@@ -1,9 +1,9 @@
 // Questions about a table file, each answered by one line.
 ghost use Rattle.std.specs.Prelude.{◌≡◌, ◌++◌, ℕ, ◌<◌, IfOk, codes, decimal, length};
-ghost use Rattle.aftr_base.specs.Held.{Told, content};
+ghost use Rattle.aftr_base.specs.Contents.{Told, content};
 ghost use Rattle.aftr_base.specs.Outside.{Rises};
 ghost use Rattle.binding_rules.specs.Bindings.{bound};
-ghost use Rattle.binding_rules.specs.Tables.{Rules};
+ghost use Rattle.binding_rules.specs.Tables.{BindingTable};
 ghost use Rattle.binding_rules.specs.declared.binding.Want.TheVariants as want;
 ghost use Rattle.lwaftr_engine.specs.Clauses.{HasCause, counts};
 ghost use Rattle.lwaftr_engine.specs.Queries.{Answers, FailedIn, IsComplete, IsLineOf, IsOwnerLine, IsOwnerText, IsValidLine, Puts, RefusesAs, is_unput, valid_text};
@@ -98,7 +98,7 @@ fn owner_in<L: Ledger>(words: &[u64], v4: V4, port: u16, blank: Blank) -> Option
     requires name { blank.name ≡ L.name }
     requires parts { blank.parts ≡ L.parts }
     requires some { 0 < blank.parts }
-    ensures { (t : Rules) → IsCompiled t words.now → result ≡ first_b4 (bound t.bindings v4 (want.Port port)) }
+    ensures { (t : BindingTable) → IsCompiled t words.now → result ≡ first_b4 (bound t.bindings v4 (want.Port port)) }
 {
     let mut steps = Steps::<L>::start(blank);
     look(&mut SliceWords(words), v4, Want::Port(port), &mut steps)

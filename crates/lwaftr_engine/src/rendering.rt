@@ -2,9 +2,9 @@
 ghost use Rattle.std.specs.Prelude.{◌≡◌, ◌≤◌, ◌<◌, ◌+◌, ◌++◌, ◌^◌, IfOk, flat_map, length, true};
 ghost use Rattle.std.specs.List.{All};
 ghost use Rattle.aftr_text.specs.Lines.{ended_text};
-ghost use Rattle.binding_rules.specs.Tables.{Rules};
+ghost use Rattle.binding_rules.specs.Tables.{BindingTable};
 ghost use Rattle.capture_io.specs.Written.{record_bytes};
-ghost use Rattle.lwaftr_engine.specs.Counting.{counted};
+ghost use Rattle.lwaftr_engine.specs.Counting.{with_record};
 ghost use Rattle.lwaftr_engine.specs.Outputs.{steady};
 ghost use Rattle.lwaftr_engine.specs.Rendering.{IsRendered, IsRenderedOne, IsWithin};
 ghost use Rattle.table_words.specs.Layout.{AreCompiled, IsCompiled};
@@ -52,7 +52,7 @@ pub fn render_round<L: Ledger>(
     requires name { blank.name ≡ L.name }
     requires parts { blank.parts ≡ L.parts }
     requires some { 0 < blank.parts }
-    ensures rendered { IfOk result (λ r. (t : Rules) → IsCompiled t words.now →
+    ensures rendered { IfOk result (λ r. (t : BindingTable) → IsCompiled t words.now →
         IsRendered (steady t) start records.now entries.now totals.old totals.new r) }
     ensures within { IfOk result (λ r. IsWithin totals.new (start + length records.now)) }
 {
@@ -164,7 +164,7 @@ fn count(totals: &mut Totals, verdict: Verdict, packets: u64)
     requires within { IsWithin totals.old totals.old.records }
     requires few { totals.old.records < 2 ^ 31 }
     requires packets { packets ≤ 1 }
-    ensures { totals.new ≡ counted totals.old verdict packets }
+    ensures { totals.new ≡ with_record totals.old verdict packets }
 {
     totals.records += 1;
     totals.packets += packets;

@@ -1,6 +1,6 @@
 // The records of a capture, read in rounds.
 ghost use Rattle.std.specs.Prelude.{◌≡◌, ◌≤◌, ◌+◌, ◌*◌, ◌^◌, IfOk};
-ghost use Rattle.aftr_base.specs.Held.{content, Told};
+ghost use Rattle.aftr_base.specs.Contents.{content, Told};
 ghost use Rattle.lwaftr_engine.specs.Rounds.{IsCount, IsPlaced, IsRoundOf, ReadsRound};
 
 use aftr_base::{Files, OutOfMemory};

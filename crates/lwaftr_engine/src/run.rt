@@ -1,11 +1,11 @@
 // The run: records are read, judged and written in rounds.
 ghost use Rattle.std.specs.Prelude.{◌≡◌, ◌<◌, ◌++◌, IfOk, OnOk, IsTrue, false, flat_map, List, None, Some, Ok};
 ghost use Rattle.std.specs.Option.{option_map};
-ghost use Rattle.aftr_base.specs.Held.{Moves, Writes, content};
+ghost use Rattle.aftr_base.specs.Contents.{Moves, Writes, content};
 ghost use Rattle.aftr_base.specs.Outside.{Rises, has_failed};
 ghost use Rattle.aftr_text.specs.Lines.{ended_text, summary_text};
 ghost use Rattle.binding_file.specs.Files.{TableOf};
-ghost use Rattle.binding_rules.specs.Tables.{Rules};
+ghost use Rattle.binding_rules.specs.Tables.{BindingTable};
 ghost use Rattle.capture_io.specs.declared.forms.Rec.{Rec as Record};
 ghost use Rattle.capture_io.specs.Header.{header_in};
 ghost use Rattle.item_stage.specs.Items.{unfinished_of};
@@ -14,7 +14,7 @@ ghost use Rattle.lwaftr_engine.specs.Clauses.{FailedAt, FilesAt, HasCause, IsOfR
 ghost use Rattle.lwaftr_engine.specs.Endings.{OthersKept};
 ghost use Rattle.lwaftr_engine.specs.Jobs.{are_apart, names_of};
 ghost use Rattle.lwaftr_engine.specs.Outputs.{steady};
-ghost use Rattle.lwaftr_engine.specs.Progress.{EndsAs, GoesOn, IsBounded, OneRises, ReadsOf};
+ghost use Rattle.lwaftr_engine.specs.Progress.{EndsAs, GoesOn, IsInRange, OneRises, ReadsOf};
 ghost use Rattle.lwaftr_engine.specs.Rounds.{is_cut};
 ghost use Rattle.table_words.specs.Layout.{AreCompiled, IsCompiled};
 
@@ -67,10 +67,10 @@ fn run_round<F: Files>(
 ) -> Result<Option<Ending>, Fault>
     requires compiled { AreCompiled words.now }
     requires apart { IsTrue (are_apart (names_of job)) }
-    requires bounded { IsBounded progress.old }
-    ensures went { IfOk result (λ ending. Moves (F.outside files.old).held (F.outside files.new).held (λ m n. (t : Rules) → IsCompiled t words.now →
+    requires bounded { IsInRange progress.old }
+    ensures went { IfOk result (λ ending. Moves (F.outside files.old).held (F.outside files.new).held (λ m n. (t : BindingTable) → IsCompiled t words.now →
         GoesOn (names_of job.entry) form (steady t) m n progress.old progress.new ending (F.outside files.new).last)) }
-    ensures bounded { IfOk result (λ ending. IsBounded progress.new) }
+    ensures bounded { IfOk result (λ ending. IsInRange progress.new) }
     ensures further { IfOk result (λ ending. ending ≡ None → progress.old.number < progress.new.number) }
     ensures others { Moves (F.outside files.old).held (F.outside files.new).held (λ m n. OthersKept (names_of job.entry) m n) }
     ensures reads { IfOk result (λ ending. ReadsOf (is_cut ending) (names_of job.entry).input (F.outside files.old) (F.outside files.new)) }
@@ -106,10 +106,10 @@ fn run_records<F: Files>(
 ) -> Result<Ending, Fault>
     requires compiled { AreCompiled words.now }
     requires apart { IsTrue (are_apart (names_of job)) }
-    requires bounded { IsBounded progress.old }
-    ensures went { IfOk result (λ ending. Moves (F.outside files.old).held (F.outside files.new).held (λ m n. (t : Rules) → IsCompiled t words.now →
+    requires bounded { IsInRange progress.old }
+    ensures went { IfOk result (λ ending. Moves (F.outside files.old).held (F.outside files.new).held (λ m n. (t : BindingTable) → IsCompiled t words.now →
         GoesOn (names_of job.entry) form (steady t) m n progress.old progress.new (Some ending) (F.outside files.new).last)) }
-    ensures bounded { IfOk result (λ ending. IsBounded progress.new) }
+    ensures bounded { IfOk result (λ ending. IsInRange progress.new) }
     ensures others { Moves (F.outside files.old).held (F.outside files.new).held (λ m n. OthersKept (names_of job.entry) m n) }
     ensures reads { IfOk result (λ ending. ReadsOf (is_cut (Some ending)) (names_of job.entry).input (F.outside files.old) (F.outside files.new)) }
     ensures spoiled { Rises (has_failed result) (F.outside files.old).spoiled (F.outside files.new).spoiled }
@@ -166,7 +166,7 @@ fn run_capture<F: Files, O: Sink>(
 ) -> Result<Ending, Fault>
     requires compiled { AreCompiled words.now }
     requires apart { IsTrue (are_apart (names_of job)) }
-    ensures ran { IfOk result (λ ending. Moves (F.outside files.old).held (F.outside files.new).held (λ m n. (t : Rules) → IsCompiled t words.now →
+    ensures ran { IfOk result (λ ending. Moves (F.outside files.old).held (F.outside files.new).held (λ m n. (t : BindingTable) → IsCompiled t words.now →
         TableOf (content m (names_of job.entry).table) (Ok t) → header_in (content m (names_of job.entry).input) ≡ Ok form →
         EndsAs (names_of job.entry) ending m n (O.out out.old) (O.out out.new) (F.outside files.new).last)) }
     ensures others { Moves (F.outside files.old).held (F.outside files.new).held (λ m n. OthersKept (names_of job.entry) m n) }

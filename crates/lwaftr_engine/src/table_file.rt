@@ -1,6 +1,6 @@
 // A table, read from a file.
 ghost use Rattle.std.specs.Prelude.{◌≡◌, ◌<◌, ◌≤◌, ◌+◌, ◌^◌, IfOk, IfErr, Ok, length, take, drop};
-ghost use Rattle.aftr_base.specs.Held.{content, Told};
+ghost use Rattle.aftr_base.specs.Contents.{content, Told};
 ghost use Rattle.aftr_base.specs.Outside.{OnlyReads, has_failed};
 ghost use Rattle.binding_file.specs.Files.{TableOf};
 ghost use Rattle.lwaftr_engine.specs.Tables.{IsNoTable, is_unread};

@@ -1,7 +1,7 @@
 // The program's call.
 ghost use Rattle.std.specs.Prelude.{◌≡◌, ◌⊎◌, ◌↔◌};
-ghost use Rattle.aftr_base.specs.Held.{Moves, Told, content};
-ghost use Rattle.lwaftr_engine.specs.Clauses.{FailedAt, FilesAt, HasCause, IsDue, IsFault, NothingFailed, counts};
+ghost use Rattle.aftr_base.specs.Contents.{Moves, Told, content};
+ghost use Rattle.lwaftr_engine.specs.Clauses.{FailedAt, FilesAt, HasCause, IsAskedFor, IsFault, NothingFailed, counts};
 ghost use Rattle.lwaftr_engine.specs.Endings.{OthersKept};
 ghost use Rattle.lwaftr_engine.specs.Jobs.{AskNothing, ForRun, texts};
 ghost use Rattle.lwaftr_engine.specs.Queries.{FailedIn, ForQuery, IsAnswered, IsComplete};
@@ -54,13 +54,13 @@ pub fn lwaftr<F: Files, O: Sink>(
         (counts (F.outside files.new) (O.faults out.new)))) }
 
     // Which status it is.
-    ensures due { ForRun words.now (λ n. Told (F.outside files.old).held (λ m. (s : Ended) → IsDue n m s → (result ≡ s) ⊎ IsFault result)) }
+    ensures due { ForRun words.now (λ n. Told (F.outside files.old).held (λ m. (s : Ended) → IsAskedFor n m s → (result ≡ s) ⊎ IsFault result)) }
     ensures no_later_table { result ≡ Status.DoneRefused → ⊥ }
     ensures cause { HasCause result
         (counts (F.outside files.old) (O.faults out.old))
         (counts (F.outside files.new) (O.faults out.new)) }
     ensures failed_read { ForRun words.now (λ n. FailedAt n result (F.outside files.old).last (F.outside files.new).last) }
-    ensures complete { ForRun words.now (λ n. Told (F.outside files.old).held (λ m. IsDue n m Status.Done →
+    ensures complete { ForRun words.now (λ n. Told (F.outside files.old).held (λ m. IsAskedFor n m Status.Done →
         NothingFailed
         (counts (F.outside files.old) (O.faults out.old))
         (counts (F.outside files.new) (O.faults out.new)) →

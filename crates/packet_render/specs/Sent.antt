@@ -14,12 +14,12 @@ if_read (Ok packet) = Some packet
 if_read (Err refusal) = None
 
 -- the item's IPv4 packet, where it has one that can be read
-abbrev pub carried : Item → Option Packet4
-carried i = option_and_then (λ bytes. if_read (ip4_of bytes)) (ipv4_bytes i)
+abbrev pub packet_of_item : Item → Option Packet4
+packet_of_item i = option_and_then (λ bytes. if_read (ip4_of bytes)) (ipv4_bytes i)
 
 -- the same as a list of one packet, or of none
 abbrev pub all_carried : Item → List Packet4
-all_carried i = option_to_list (carried i)
+all_carried i = option_to_list (packet_of_item i)
 
 -- The packets sent for a verdict on the item of a record with this number. What is kept or dropped sends none. What goes
 -- on has its time to live one less, and goes to a subscriber in the tunnel. Where a packet would have to be cut, or a

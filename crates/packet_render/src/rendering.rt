@@ -5,7 +5,7 @@ ghost use Rattle.ip_codec.specs.Packet4.{ip4_of, packet4, IsBounded4};
 ghost use Rattle.softwire_encap.specs.Passing.{lowered};
 ghost use Rattle.softwire_encap.specs.Tunnel.{wrapped};
 ghost use Rattle.verdict_core.specs.Fitting.{Fits, IsPlain};
-ghost use Rattle.packet_render.specs.Sent.{carried, all_carried, sent};
+ghost use Rattle.packet_render.specs.Sent.{packet_of_item, all_carried, sent};
 
 use aftr_base::{Bytes, OutOfMemory, Packets, V6};
 use ip_codec::{Ip4View, Item, ip4};
@@ -38,7 +38,7 @@ pub fn packets(
 
 // The item's packet as it goes out.
 fn outward(alloc: Global, item: &Item) -> Result<Packets, OutOfMemory>
-    requires alive { IfSome (carried item.now) (λ packet. 1 ≤ packet.ttl) }
+    requires alive { IfSome (packet_of_item item.now) (λ packet. 1 ≤ packet.ttl) }
     ensures packets { IfOk result (λ list. list ≡ map lowered (all_carried item.now)) }
     ensures sizes { IfOk result (λ list. All (λ packet. length packet ≤ 65575) list) }
     ensures count { IfOk result (λ list. length list ≤ 1) }
@@ -52,7 +52,7 @@ fn outward(alloc: Global, item: &Item) -> Result<Packets, OutOfMemory>
 
 // The item's packet in the tunnel to a subscriber.
 fn inward(alloc: Global, item: &Item, from: V6, to: V6, hop: u8) -> Result<Packets, OutOfMemory>
-    requires alive { IfSome (carried item.now) (λ packet. 1 ≤ packet.ttl) }
+    requires alive { IfSome (packet_of_item item.now) (λ packet. 1 ≤ packet.ttl) }
     ensures packets { IfOk result (λ list.
         list ≡ map (λ packet. wrapped from to hop (lowered packet)) (all_carried item.now)) }
     ensures sizes { IfOk result (λ list. All (λ packet. length packet ≤ 65575) list) }
@@ -68,7 +68,7 @@ fn inward(alloc: Global, item: &Item, from: V6, to: V6, hop: u8) -> Result<Packe
 
 // The item's IPv4 packet, where it has one that can be read.
 fn packet_of(item: &Item) -> Option<Ip4View<'_>>
-    ensures read { option_map packet4 result ≡ carried item.now }
+    ensures read { option_map packet4 result ≡ packet_of_item item.now }
     ensures whole { IfSome result (λ view. ip4_of (view.header.now ++ view.payload.now) ≡ Ok (packet4 view)) }
     ensures bounded { IfSome result (λ view. IsBounded4 (packet4 view)) }
 {

@@ -21,7 +21,7 @@ abbrev pub ports_between : ℕ → ℕ → ℕ → ℕ → ℕ → List ℕ
 ports_between a k s from to = map (port_at a k s) (range_with_len from (to - from))
 
 -- the two are places of the list, in order
-pub record IsSpan (a k s from to : ℕ) : Type 0 where
+pub record IsPlaceRange (a k s from to : ℕ) : Type 0 where
   pub shape : IsShape a k
   pub psid : s < 2 ^ k
   pub ordered : from ≤ to

@@ -23,13 +23,13 @@ pub struct Ports {
 
 impl Model for Ports {
     ghost use Rattle.std.specs.Prelude.{List, ℕ};
-    ghost use Rattle.port_set.specs.Places.{ports_between, IsSpan};
+    ghost use Rattle.port_set.specs.Places.{ports_between, IsPlaceRange};
 
     ghost Value = { List ℕ };
 
     ghost view = { λ p. ports_between p.shape.offset p.shape.length p.psid p.front p.back };
 
-    ghost invariant = { λ p. IsSpan p.shape.offset p.shape.length p.psid p.front p.back };
+    ghost invariant = { λ p. IsPlaceRange p.shape.offset p.shape.length p.psid p.front p.back };
 }
 
 impl Ports {

@@ -5,7 +5,7 @@ use lib.ListN.{get_elem?}
 use Rattle.std.proofs.lemmas.List.{get_or_default}
 use Rattle.swap_core.specs.Plans.{table, limit}
 use Rattle.swap_core.specs.States.{CoreState, area, confirmed, drawn, gone}
-use Rattle.swap_core.specs.Steps.{Outcome, IsAnswer, yes, no, by_actor, look, enter, confirm, read, draw, leave}
+use Rattle.swap_core.specs.Transitions.{Outcome, IsAnswer, yes, no, by_actor, look, enter, confirm, read, draw, leave}
 use Rattle.swap_core.specs.declared.actors.Actor.{Actor}
 use Rattle.swap_core.specs.declared.actors.ActorState.{ActorState}
 use Rattle.swap_core.specs.declared.actors.ActorState.TheVariants.{Idle, Looked, Asks, Holds}

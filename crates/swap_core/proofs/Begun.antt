@@ -7,7 +7,7 @@ use Rattle.std.proofs.lemmas.List.Folds.{sum_by-replicate}
 use Rattle.std.proofs.lemmas.List.Elements.{All-nil}
 use Rattle.swap_core.specs.Plans.{Tables, IsPlan, table, width}
 use Rattle.swap_core.specs.States.{CoreState, area, newcomer, opening, row_of}
-use Rattle.swap_core.specs.Sound.{Sound, HoldsRightly, IsDrawRight, times, how_many}
+use Rattle.swap_core.specs.Sound.{Sound, HoldsRightly, IsDrawRight, times, draw_count}
 use Rattle.swap_core.specs.declared.actors.Actor.{Actor}
 use Rattle.swap_core.specs.declared.actors.DeskState.TheVariants.{Resting}
 use Rattle.aftr_base.proofs.PlaceLemmas.{at_replicate}
@@ -37,7 +37,7 @@ opening_sound plan actors h =
       reached = λ k l. absurd (omega arith);
       in_window = λ k l. absurd (omega arith);
       each_once = λ n. nothing (times n) refl ∙ sym (ap (λ (t : Bool). let k : ℕ = cond t 1 0 in k) (le-ltb n 0 (omega arith)));
-      all_drawn = nothing how_many refl;
+      all_drawn = nothing draw_count refl;
       under = λ who x at. (right who x at).1;
       within = omega arith;
     }

@@ -8,7 +8,7 @@ use Rattle.std.proofs.lemmas.List.Elements.{All-push, All-weaker}
 use Rattle.std.proofs.lemmas.List.Sums.{sum_by_push, sum_by-cons}
 use Rattle.swap_core.specs.Plans.{limit}
 use Rattle.swap_core.specs.States.{CoreState, IsActor, with_draw, drawn}
-use Rattle.swap_core.specs.Sound.{Sound, HoldsRightly, IsDrawRight, times, how_many, once_below, in_force}
+use Rattle.swap_core.specs.Sound.{Sound, HoldsRightly, IsDrawRight, times, draw_count, once_below, in_force}
 use Rattle.swap_core.specs.declared.actors.Actor.{Actor}
 use Rattle.aftr_base.proofs.PlaceLemmas.{at_set}
 use Rattle.aftr_base.proofs.TotalLemmas.{sum_changed, sum_kept}
@@ -69,9 +69,9 @@ draws_sound c who x h at room =
       in_window = h.in_window;
       each_once = once;
       all_drawn =
-          let e : sum_by how_many (set c.actors who y) + how_many x ≡ sum_by how_many c.actors + how_many y =
-          sum_changed how_many c.actors who x y at in
-          let more : how_many y ≡ how_many x + 1 = length_push x.draws (c.records, c.version) in
+          let e : sum_by draw_count (set c.actors who y) + draw_count x ≡ sum_by draw_count c.actors + draw_count y =
+          sum_changed draw_count c.actors who x y at in
+          let more : draw_count y ≡ draw_count x + 1 = length_push x.draws (c.records, c.version) in
           omega (arith, h.all_drawn);
       under = under;
       within = omega arith;

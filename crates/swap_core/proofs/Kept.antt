@@ -5,7 +5,7 @@ use Rattle.std.proofs.lemmas.Bool.{eqb-false}
 use lib.ListN.{get_elem?}
 use Rattle.swap_core.specs.Plans.{Tables, IsPlan, limit, window}
 use Rattle.swap_core.specs.States.{CoreState, IsActor, count_of, spare, next_table, opening}
-use Rattle.swap_core.specs.Steps.{Outcome, after, after_all, by_actor, look, enter, confirm, read, draw, leave, due, due_now, count, write, publish}
+use Rattle.swap_core.specs.Transitions.{Outcome, after, after_all, by_actor, look, enter, confirm, read, draw, leave, due, due_now, count, write, publish}
 use Rattle.swap_core.specs.Sound.{Sound, IsWriting}
 use Rattle.swap_core.specs.declared.actors.Actor.{Actor}
 use Rattle.swap_core.specs.declared.actors.ActorState.{ActorState}

@@ -5,7 +5,7 @@ use lib.ListN.{get_elem?}
 use Rattle.std.proofs.lemmas.Bool.{cases_eq}
 use Rattle.swap_core.specs.Plans.{table}
 use Rattle.swap_core.specs.States.{CoreState, IsActor, count_of, area, in_state, with_actor, looked, entered, confirmed, gone}
-use Rattle.swap_core.specs.Sound.{Sound, HoldsRightly, IsDrawRight, HasClaimed, claims, times, how_many, Begins}
+use Rattle.swap_core.specs.Sound.{Sound, HoldsRightly, IsDrawRight, HasClaimed, claims, times, draw_count, Begins}
 use Rattle.swap_core.specs.declared.actors.Actor.{Actor}
 use Rattle.swap_core.specs.declared.actors.ActorState.{ActorState}
 use Rattle.swap_core.specs.declared.actors.ActorState.TheVariants.{Idle, Looked, Asks, Holds}
@@ -46,7 +46,7 @@ moves c who x s counts h at two count right =
       reached = h.reached;
       in_window = h.in_window;
       each_once = λ n. sum_kept (times n) c.actors who x (in_state x s) at refl ∙ h.each_once n;
-      all_drawn = sum_kept how_many c.actors who x (in_state x s) at refl ∙ h.all_drawn;
+      all_drawn = sum_kept draw_count c.actors who x (in_state x s) at refl ∙ h.all_drawn;
       under = under;
       within = h.within;
     }

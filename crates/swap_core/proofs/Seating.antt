@@ -5,7 +5,7 @@ use lib.ListN.{get_elem?}
 use Rattle.std.proofs.lemmas.List.Elements.{All-append, All-nil}
 use Rattle.std.proofs.lemmas.List.Sums.{sum_by_push, sum_by-append}
 use Rattle.swap_core.specs.States.{CoreState, IsActor, newcomer, joined_by_newcomer, merged}
-use Rattle.swap_core.specs.Sound.{Sound, HoldsRightly, IsDrawRight, times, how_many}
+use Rattle.swap_core.specs.Sound.{Sound, HoldsRightly, IsDrawRight, times, draw_count}
 use Rattle.swap_core.specs.declared.actors.Actor.{Actor}
 use Rattle.swap_core.specs.declared.actors.ActorState.{ActorState}
 use Rattle.swap_core.specs.declared.actors.ActorState.TheVariants.{Idle}
@@ -17,7 +17,7 @@ use Rattle.swap_core.proofs.Moves.{claim, weight}
 pub actors_change : (c : CoreState) (actors : List Actor) → Sound c
     → ((a : ℕ) → sum_by (weight a) actors ≡ sum_by (weight a) c.actors)
     → ((n : ℕ) → sum_by (times n) actors ≡ sum_by (times n) c.actors)
-    → sum_by how_many actors ≡ sum_by how_many c.actors
+    → sum_by draw_count actors ≡ sum_by draw_count c.actors
     → ((who : ℕ) (x : Actor) → get_elem? actors who ≡ some x → HoldsRightly c x.state × All (IsDrawRight c) x.draws)
     → Sound (record c { actors = actors })
 actors_change c actors h claims_kept times_kept all_kept right =
@@ -46,7 +46,7 @@ actors_change c actors h claims_kept times_kept all_kept right =
 pub newcomer_sound : (c : CoreState) → Sound c → Sound (joined_by_newcomer c)
 newcomer_sound c h =
     actors_change c (c.actors ++ newcomer ∷ []) h
-    (λ a. more (weight a) refl) (λ n. more (times n) refl) (more how_many refl) right
+    (λ a. more (weight a) refl) (λ n. more (times n) refl) (more draw_count refl) right
   where
     more : (f : Actor → ℕ) → f newcomer ≡ 0 → sum_by f (c.actors ++ newcomer ∷ []) ≡ sum_by f c.actors
     more f e = omega (arith, sum_by_push f c.actors newcomer)
@@ -66,7 +66,7 @@ pub merged_sound : (c : CoreState) (into from : ℕ) (x y : Actor) → Sound c �
 merged_sound c into from x y h apart at_x idle_x at_y idle_y =
     actors_change c (set (set c.actors from newcomer) into both) h
     (λ a. moved (weight a) refl (no_claim a)) (λ n. moved (times n) refl (sum_by-append (λ (d : ℕ × ℕ). let k : ℕ = cond (eqb d.0 n) 1 0 in k) x.draws y.draws))
-    (moved how_many refl (length-append x.draws y.draws)) right
+    (moved draw_count refl (length-append x.draws y.draws)) right
   where
     both : Actor
     both = record { state = x.state; draws = x.draws ++ y.draws }

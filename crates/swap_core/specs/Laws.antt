@@ -2,7 +2,7 @@
 use Rattle.std.specs.Prelude.{◌≡◌, ℕ, ◌<◌, ◌≤◌, List, ◌≢◌, All, slice_index, length, sum_by}
 use Rattle.swap_core.specs.Plans.{Tables, IsPlan, table}
 use Rattle.swap_core.specs.States.{CoreState, IsActor, area, opening, joined_by_newcomer, merged}
-use Rattle.swap_core.specs.Steps.{after, after_all, yes}
+use Rattle.swap_core.specs.Transitions.{after, after_all, yes}
 use Rattle.swap_core.specs.Sound.{Sound, in_force, times}
 use Rattle.swap_core.specs.declared.actors.Actor.{Actor}
 use Rattle.swap_core.specs.declared.actors.ActorState.TheVariants.{Idle, Holds}

@@ -2,5 +2,5 @@ pub mod Laws
 pub mod Plans
 pub mod Sound
 pub mod States
-pub mod Steps
+pub mod Transitions
 pub mod Views

@@ -50,8 +50,8 @@ in_force points number = count_by (λ p. nat_le p number) points
 abbrev pub times : ℕ → Actor → ℕ
 times number x = count_by (λ (d : ℕ × ℕ). d.0 == number) x.draws
 
-abbrev pub how_many : Actor → ℕ
-how_many x = length x.draws
+abbrev pub draw_count : Actor → ℕ
+draw_count x = length x.draws
 
 abbrev pub once_below : ℕ → ℕ → ℕ
 once_below number records = cond (nat_lt number records) 1 0
@@ -89,7 +89,7 @@ pub record Sound (c : CoreState) : Type 0 where
       → ((window c.plan (k + 1)).earliest ≤ slice_index c.points k) × (slice_index c.points k ≤ (window c.plan (k + 1)).latest)
   -- The actors have drawn each number below the records drawn once, and no other, so as many as there are.
   pub each_once : (number : ℕ) → sum_by (times number) c.actors ≡ once_below number c.records
-  pub all_drawn : sum_by how_many c.actors ≡ c.records
+  pub all_drawn : sum_by draw_count c.actors ≡ c.records
   -- Each draw names the version in force at its number.
   pub under : (who : ℕ) (x : Actor) → IsActor c who x → All (IsDrawRight c) x.draws
   -- No more records were drawn than the version in force allows.

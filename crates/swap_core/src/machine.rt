@@ -2,7 +2,7 @@
 ghost use Rattle.std.specs.Prelude.{◌≡◌, ◌<◌, ℕ, IfOk, OnOk, OnErr, length, take};
 ghost use Rattle.swap_core.specs.Sound.{Sound};
 ghost use Rattle.swap_core.specs.States.{opening};
-ghost use Rattle.swap_core.specs.Steps.{TakesMemory, after, after_all, IsAnswer};
+ghost use Rattle.swap_core.specs.Transitions.{TakesMemory, after, after_all, IsAnswer};
 ghost use Rattle.swap_core.specs.declared.steps.Step.TheVariants as step;
 ghost use Rattle.swap_core.specs.declared.steps.Took.TheVariants as took;
 

@@ -4,21 +4,21 @@ use Rattle.std.proofs.Math.Pow.{pow_mono}
 use Rattle.std.proofs.lemmas.Bool.{cases_lt}
 use Rattle.binding_rules.specs.declared.binding.Binding.{Binding}
 use Rattle.binding_rules.specs.declared.binding.Want.{Want}
-use Rattle.table_words.specs.Spans.{first_at, IsSpan, IsSpot, HasNoSpot, IsReach, IsKey, IsLike, AreAlike, HasNoOwner}
+use Rattle.table_words.specs.Spans.{first_at, IsEntryRange, IsSpot, HasNoSpot, IsReach, IsKey, IsLike, AreAlike, HasNoOwner}
 use Rattle.table_words.proofs.Digits.{few_halvings}
 use Rattle.table_words.proofs.Ends.{rises_by, not_key}
 use Rattle.table_words.proofs.Halving.{joined_halvings}
 
 -- how far two entries are apart
-rises_between : (words : List ℕ) (from to d e : ℕ) → IsSpan words from to → d ≤ e → e < to → first_at words d + (e - d) ≤ first_at words e
+rises_between : (words : List ℕ) (from to d e : ℕ) → IsEntryRange words from to → d ≤ e → e < to → first_at words d + (e - d) ≤ first_at words e
 rises_between words from to d e s l m =
-    let rest : IsSpan words d to = record { ordered = omega (arith, l, m); few = s.few; within = s.within; ascending = s.ascending; rising = s.rising; shapes = s.shapes } in
+    let rest : IsEntryRange words d to = record { ordered = omega (arith, l, m); few = s.few; within = s.within; ascending = s.ascending; rising = s.rising; shapes = s.shapes } in
     let place : d + (e - d) ≡ e = omega (arith, l) in
     let up : first_at words d + (e - d) ≤ first_at words (d + (e - d)) = rises_by words d to (e - d) rest (omega (arith, place, m)) in
     let moved : first_at words (d + (e - d)) ≡ first_at words e = ap (first_at words) place in
     omega (arith, up, moved)
 
-pub span_part : (words : List ℕ) (from to low high : ℕ) → IsSpan words from to → low ≤ high → high ≤ to → IsSpan words low high
+pub span_part : (words : List ℕ) (from to low high : ℕ) → IsEntryRange words from to → low ≤ high → high ≤ to → IsEntryRange words low high
 span_part words from to low high s l m = record {
   ordered = l;
   few = omega (arith, s.few, m);
@@ -38,7 +38,7 @@ same_like n m x h e =
 spot_address : (n a : ℕ) → a * 4294967296 ≤ n → n ≤ a * 4294967296 + 4294967295 → n / 4294967296 ≡ a
 spot_address n a l m = omega (arith, l, m)
 
-module _ (words : List ℕ) (from to a low high at first : ℕ) (w : Want) (span : IsSpan words from to) (alike : AreAlike words from to a)
+module _ (words : List ℕ) (from to a low high at first : ℕ) (w : Want) (span : IsEntryRange words from to) (alike : AreAlike words from to a)
     (spot : IsSpot words from to (a * 4294967296) (a * 4294967296 + 4294967295) low high at first) where
   -- an entry of the address has the shape that was found
   like_first : (e : ℕ) (x : Binding) → from ≤ e → e < to → IsLike (first_at words e) x → x.v4.0 ≡ a → IsLike first x

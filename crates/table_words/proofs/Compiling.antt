@@ -17,10 +17,10 @@ use Rattle.port_set.specs.PortSets.{in_set}
 use Rattle.port_set.specs.Shapes.{IsShape}
 use Rattle.port_set.proofs.Laws.{in_set_at, counts_from, tail_split}
 use Rattle.binding_rules.specs.Bindings.{is_bound, bound}
-use Rattle.binding_rules.specs.Tables.{Rules, IsValid, IsLawful}
+use Rattle.binding_rules.specs.Tables.{BindingTable, IsValid, IsLawful}
 use Rattle.binding_rules.specs.declared.binding.Binding.{Binding}
 use Rattle.binding_rules.specs.declared.binding.Want.TheVariants as want
-use Rattle.table_words.specs.Layout.{IsCompiled, IsRanged, is_mixed, flag, row, row_at, rows_below}
+use Rattle.table_words.specs.Layout.{IsCompiled, IsRanged, has_two_shapes, flag, row, row_at, rows_below}
 use Rattle.table_words.specs.Parts.{IsAscending, settings_words, index_words, entry_words}
 use Rattle.table_words.proofs.Counts.{count_two, count_map, count_weaker}
 use Rattle.table_words.proofs.Groups.{fields}
@@ -122,7 +122,7 @@ has_port x k =
         one_more b n = omega arith
 
 -- at most one row of a valid table has a first word
-module _ (t : Rules) (h : IsLawful t) where
+module _ (t : BindingTable) (h : IsLawful t) where
   same_fields : (x y : Binding) → IsKnown x → IsKnown y → (row y).0 ≡ (row x).0 → (p : ℕ) → p < 65536
       → in_set x.offset x.length x.psid p ≡ true → is_bound x.v4 (want.Port p) y ≡ true
   same_fields x y k m e p l o =
@@ -160,9 +160,9 @@ module _ (t : Rules) (h : IsLawful t) where
           omega (arith, two, moved, one_row b.0 b.1))
     ]
 
-    pub compiled_is : IsValid t → IsRanged t.softwire → (mixed : Bool) → mixed ≡ is_mixed t.bindings → (words : List ℕ)
-        → words ≡ settings_words t.softwire (length rows) mixed ++ (index_words rows 65537 ++ entry_words rows) → IsCompiled t words
-    compiled_is valid ranged mixed told words e = record {
+    pub compiled_is : IsValid t → IsRanged t.softwire → (two_shapes : Bool) → two_shapes ≡ has_two_shapes t.bindings → (words : List ℕ)
+        → words ≡ settings_words t.softwire (length rows) two_shapes ++ (index_words rows 65537 ++ entry_words rows) → IsCompiled t words
+    compiled_is valid ranged two_shapes told words e = record {
       valid = valid;
       lawful = h;
       ranged = ranged;
@@ -175,7 +175,7 @@ module _ (t : Rules) (h : IsLawful t) where
       aftr_low = ap (λ (ws : List ℕ). slice_index ws 2) e;
       own = ap (λ (ws : List ℕ). slice_index ws 3) e;
       sizes = ap (λ (ws : List ℕ). slice_index ws 4) e;
-      mixed = ap (λ (ws : List ℕ). slice_index ws 5) e ∙ ap (λ (b : Bool). flag b 1) told;
+      two_shapes = ap (λ (ws : List ℕ). slice_index ws 5) e ∙ ap (λ (b : Bool). flag b 1) told;
       spare = λ j l m. ap (λ (ws : List ℕ). slice_index ws j) e ∙ spares j l m;
       index = λ g l. ap (λ (ws : List ℕ). slice_index ws (8 + g)) e ∙ indexed g l;
       first = λ d l. ap (λ (ws : List ℕ). slice_index ws (65545 + 3 * d)) e
@@ -186,25 +186,25 @@ module _ (t : Rules) (h : IsLawful t) where
           ∙ at_entry (65547 + 3 * d) (3 * d + 2) (omega arith) ∙ (has_entry rows d l).low;
     }
       where
-        total : length (settings_words t.softwire (length rows) mixed ++ (index_words rows 65537 ++ entry_words rows)) ≡ 65545 + 3 * length rows
+        total : length (settings_words t.softwire (length rows) two_shapes ++ (index_words rows 65537 ++ entry_words rows)) ≡ 65545 + 3 * length rows
         total = omega (arith, length-append (index_words rows 65537) (entry_words rows), index_length rows 65537, entry_length rows)
 
-        spares : (j : ℕ) → 6 ≤ j → j < 8 → slice_index (settings_words t.softwire (length rows) mixed ++ (index_words rows 65537 ++ entry_words rows)) j ≡ 0
+        spares : (j : ℕ) → 6 ≤ j → j < 8 → slice_index (settings_words t.softwire (length rows) two_shapes ++ (index_words rows 65537 ++ entry_words rows)) j ≡ 0
         spares j l m = elim (cases_eq j 6) [
           | inl six ↦ rw six refl
           | inr not_six ↦ (let seven : j ≡ 7 = omega arith in rw seven refl)
         ]
 
-        indexed : (g : ℕ) → g ≤ 65536 → slice_index (settings_words t.softwire (length rows) mixed ++ (index_words rows 65537 ++ entry_words rows)) (8 + g) ≡ rows_below rows g
+        indexed : (g : ℕ) → g ≤ 65536 → slice_index (settings_words t.softwire (length rows) two_shapes ++ (index_words rows 65537 ++ entry_words rows)) (8 + g) ≡ rows_below rows g
         indexed g l =
-            get_or-append-add (settings_words t.softwire (length rows) mixed) (index_words rows 65537 ++ entry_words rows) g 0
+            get_or-append-add (settings_words t.softwire (length rows) two_shapes) (index_words rows 65537 ++ entry_words rows) g 0
             ∙ get_or_append_left (index_words rows 65537) (entry_words rows) 0 g (omega (arith, index_length rows 65537))
             ∙ index_at rows 65537 g (omega arith)
 
-        at_entry : (j k : ℕ) → j ≡ 8 + (65537 + k) → slice_index (settings_words t.softwire (length rows) mixed ++ (index_words rows 65537 ++ entry_words rows)) j ≡ get_or (entry_words rows) k 0
+        at_entry : (j k : ℕ) → j ≡ 8 + (65537 + k) → slice_index (settings_words t.softwire (length rows) two_shapes ++ (index_words rows 65537 ++ entry_words rows)) j ≡ get_or (entry_words rows) k 0
         at_entry j k f =
-            ap (λ (i : ℕ). slice_index (settings_words t.softwire (length rows) mixed ++ (index_words rows 65537 ++ entry_words rows)) i) f
-            ∙ get_or-append-add (settings_words t.softwire (length rows) mixed) (index_words rows 65537 ++ entry_words rows) (65537 + k) 0
+            ap (λ (i : ℕ). slice_index (settings_words t.softwire (length rows) two_shapes ++ (index_words rows 65537 ++ entry_words rows)) i) f
+            ∙ get_or-append-add (settings_words t.softwire (length rows) two_shapes) (index_words rows 65537 ++ entry_words rows) (65537 + k) 0
             ∙ get_or-append_right (index_words rows 65537) (entry_words rows) 65537 (65537 + k) 0 (index_length rows 65537) (omega arith)
             ∙ ap (λ (i : ℕ). get_or (entry_words rows) i 0) (back k)
           where

@@ -5,16 +5,16 @@ use Rattle.binding_rules.specs.Bindings.{owns}
 use Rattle.binding_rules.specs.declared.binding.Binding.{Binding}
 use Rattle.binding_rules.specs.declared.binding.Want.{Want}
 use Rattle.table_words.specs.Layout.{row}
-use Rattle.table_words.specs.Spans.{first_at, IsSpan, IsBoundary, IsEnd, IsKey, IsLike, IsNotFound}
+use Rattle.table_words.specs.Spans.{first_at, IsEntryRange, IsBoundary, IsUpperEnd, IsKey, IsLike, IsNotFound}
 
-pub rises_by : (words : List ℕ) (from to k : ℕ) → IsSpan words from to → from + k < to → first_at words from + k ≤ first_at words (from + k)
+pub rises_by : (words : List ℕ) (from to k : ℕ) → IsEntryRange words from to → from + k < to → first_at words from + k ≤ first_at words (from + k)
 rises_by words from to zero s l = let e : from + 0 ≡ from = omega arith in rw e (omega arith)
 rises_by words from to (suc k) s l =
     let before : first_at words from + k ≤ first_at words (from + k) = rises_by words from to k s (omega arith) in
     let up : first_at words (from + k) < first_at words (from + suc k) = s.rising (from + k) (from + suc k) (omega arith) l in
     omega (arith, before, up)
 
-pub span_front : (words : List ℕ) (from to end : ℕ) → IsSpan words from to → from ≤ end → end ≤ to → IsSpan words from end
+pub span_front : (words : List ℕ) (from to end : ℕ) → IsEntryRange words from to → from ≤ end → end ≤ to → IsEntryRange words from end
 span_front words from to end s l m = record {
   ordered = l;
   few = omega (arith, s.few);
@@ -24,8 +24,8 @@ span_front words from to end s l m = record {
   shapes = λ e h. s.shapes e (omega arith);
 }
 
-pub boundary_whole : (words : List ℕ) (from to first key end at : ℕ) → IsSpan words from to → first ≡ first_at words from
-    → IsEnd from to first key end → IsBoundary words from end key at → IsBoundary words from to key at
+pub boundary_whole : (words : List ℕ) (from to first key end at : ℕ) → IsEntryRange words from to → first ≡ first_at words from
+    → IsUpperEnd from to first key end → IsBoundary words from end key at → IsBoundary words from to key at
 boundary_whole words from to first key end at s here h b = record {
   from_on = b.from_on;
   up_to = omega (arith, b.up_to, h.within);
@@ -45,7 +45,7 @@ boundary_whole words from to first key end at s here h b = record {
 pub not_key : (first key : ℕ) (w : Want) → IsKey first w (Some key) → (x : Binding) → IsLike first x → ((row x).0 ≡ key → ⊥) → owns w x ≡ false
 not_key first key w k x h n = false_from_ne_true (owns w x) (λ o. n ((k.1 x h).0 o))
 
-pub none_before : (words : List ℕ) (from to first key at : ℕ) (w : Want) → IsSpan words from to → IsBoundary words from to key at
+pub none_before : (words : List ℕ) (from to first key at : ℕ) (w : Want) → IsEntryRange words from to → IsBoundary words from to key at
     → IsKey first w (Some key) → (at < to → first_at words at ≢ key) → IsNotFound words from to first w
 none_before words from to first key at w s b k other e x l m same h = not_key first key w k x h (λ f.
     elim (cases_lt e at) [

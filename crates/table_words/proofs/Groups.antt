@@ -7,12 +7,12 @@ use Rattle.std.proofs.lemmas.List.{length-map, get_or_default}
 use Rattle.std.proofs.lemmas.List.Elements.{Contains-get_or}
 use Rattle.std.proofs.lemmas.List.Sorted.{IsPermutation-sym, Contains-permutation, length_permutation, sum_by-IsPermutation}
 use Rattle.std.proofs.lemmas.Nat.{pow_pos}
-use Rattle.binding_rules.specs.Tables.{Rules}
+use Rattle.binding_rules.specs.Tables.{BindingTable}
 use Rattle.binding_rules.specs.declared.binding.Binding.{Binding}
 use Rattle.table_words.specs.Bounds.{group_size, group_digits, greatest}
 use Rattle.table_words.specs.Layout.{IsCompiled, row, row_at, rows_below}
 use Rattle.table_words.specs.Parts.{IsAscending}
-use Rattle.table_words.specs.Spans.{IsSpan, IsGroup, IsEntry, IsLike}
+use Rattle.table_words.specs.Spans.{IsEntryRange, IsIndexGroup, IsEntry, IsLike}
 use Rattle.table_words.proofs.Counts.{count_at_most, count_at_least, count_map, count_weaker, count_split, le_greatest}
 use Rattle.table_words.proofs.Digits.{below_digits}
 use Rattle.table_words.proofs.Members.{contains_map, contains_from_map, IsKnown, known}
@@ -90,7 +90,7 @@ split_top n h = elim (cases_lt n h) [
     one_at_most true k = omega arith
     one_at_most false k = omega arith
 
-module _ (t : Rules) (words : List ℕ) (h : IsCompiled t words) where
+module _ (t : BindingTable) (words : List ℕ) (h : IsCompiled t words) where
   pub rows_ascend : IsAscending h.rows
   rows_ascend d e l m = elim (cases_lt d e) [
     | inl less ↦ (let s : (row_at h.rows d).0 < (row_at h.rows e).0 = h.ascending d e less m in omega arith)
@@ -160,7 +160,7 @@ module _ (t : Rules) (words : List ℕ) (h : IsCompiled t words) where
     from_to = rw (from_is, to_is) (count_weaker (λ (r : ℕ × ℕ). ltb (r.0 / 281474976710656) (a / 65536)) (λ (r : ℕ × ℕ). ltb (r.0 / 281474976710656) (a / 65536 + 1)) h.rows
         (λ r m y. lt-ltb _ _ (let s : r.0 / 281474976710656 < a / 65536 = ltb-true _ _ y in omega arith)))
 
-    pub span_is : IsSpan words from to
+    pub span_is : IsEntryRange words from to
     span_is = record {
       ordered = from_to;
       few = omega (arith, to_within, row_count);
@@ -174,7 +174,7 @@ module _ (t : Rules) (words : List ℕ) (h : IsCompiled t words) where
           rw (n.offset, n.length) k.shape;
     }
 
-    pub group_is : IsGroup t words a from to
+    pub group_is : IsIndexGroup t words a from to
     group_is = record {
       members = λ x m same.
           let c = entry_of x m in

@@ -4,7 +4,7 @@ use Rattle.std.proofs.lemmas.Bool.{cases_lt, cases_eq}
 use Rattle.std.proofs.Math.Pow.{pow_mono}
 use Rattle.std.proofs.lemmas.Nat.{mul-le}
 use Rattle.table_words.specs.Reads.{read_more}
-use Rattle.table_words.specs.Spans.{first_at, IsSpan}
+use Rattle.table_words.specs.Spans.{first_at, IsEntryRange}
 
 pub record IsHalved (s s0 w n : ℕ) : Type 0 where
   pub halved : 2 ^ (s - s0) * w ≤ n
@@ -59,7 +59,7 @@ reads_on r0 r1 r2 m k n e f g = g ∙ ap (λ (r : Option ℕ). read_more r k) f 
     joined None = refl
     joined (Some j) = ap Some (omega (arith, e))
 
-module _ (words : List ℕ) (from to key m : ℕ) (span : IsSpan words from to) (inside : m < to) where
+module _ (words : List ℕ) (from to key m : ℕ) (span : IsEntryRange words from to) (inside : m < to) where
   pub all_below : first_at words m < key → (e : ℕ) → e < m + 1 → first_at words e < key
   all_below h e l = let s : first_at words e ≤ first_at words m = span.ascending e m (omega arith) inside in omega (arith, s, h)
 

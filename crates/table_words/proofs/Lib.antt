@@ -9,5 +9,5 @@ pub mod Halving
 pub mod Keys
 pub mod Laws
 pub mod Members
-pub mod Mixing
+pub mod TwoShapes
 pub mod Trying

@@ -3,7 +3,7 @@ use Rattle.std.proofs.Common.{◌≡◌, zero, suc, ◌^◌, ◌<◌, ◌≤◌,
 use Rattle.std.specs.Prelude.{slice_get}
 use Rattle.std.proofs.Math.Pow.{pow_mono}
 use Rattle.std.proofs.lemmas.Option.{slice_get-get_or}
-use Rattle.binding_rules.specs.Tables.{Rules, IsLawful}
+use Rattle.binding_rules.specs.Tables.{BindingTable, IsLawful}
 use Rattle.port_set.specs.Shapes.{IsShape}
 use Rattle.binding_rules.specs.declared.binding.Binding.{Binding}
 use Rattle.aftr_base.proofs.MemberLemmas.{contains_after, contains_front}
@@ -26,7 +26,7 @@ pub record IsKnown (x : Binding) : Type 0 where
   pub psid_fits : x.psid < 2 ^ x.length
   pub psid : x.psid < 65536
 
-pub known : (t : Rules) → IsLawful t → (x : Binding) → Contains t.bindings x → IsKnown x
+pub known : (t : BindingTable) → IsLawful t → (x : Binding) → Contains t.bindings x → IsKnown x
 known t h x m =
     let there : slice_get t.bindings m.0 ≡ Some x = slice_get-get_or t.bindings m.0 x m.1 ∙ ap Some m.2 in
     let shape : IsShape x.offset x.length = h.shapes m.0 x there in

@@ -5,14 +5,14 @@ use Rattle.std.proofs.lemmas.Bool.{true≢false, false≢true, cases_lt, cases_e
 use Rattle.aftr_base.specs.declared.numbers.V4.{V4}
 use Rattle.aftr_base.specs.declared.numbers.V6.{V6}
 use Rattle.binding_rules.specs.Bindings.{owns, is_bound, bound}
-use Rattle.binding_rules.specs.Tables.{Rules}
+use Rattle.binding_rules.specs.Tables.{BindingTable}
 use Rattle.binding_rules.specs.declared.binding.Binding.{Binding}
 use Rattle.binding_rules.specs.declared.binding.Want.{Want}
 use Rattle.std.specs.Prelude.{Option, is_some, IfSome, IfNone}
 use Rattle.table_words.specs.Answers.{first_b4, has_v4}
 use Rattle.table_words.specs.Bounds.{count_below, has_shape, shape_end, shape_count, group_digits, most_shapes, greatest, look_bound, found_bound}
 use Rattle.table_words.specs.Layout.{IsCompiled, row}
-use Rattle.table_words.specs.Spans.{first_at, IsSpan, IsBoundary, IsEntry, IsGroup, IsLike, IsFound, IsNotFound, IsOwner, HasNoOwner}
+use Rattle.table_words.specs.Spans.{first_at, IsEntryRange, IsBoundary, IsEntry, IsIndexGroup, IsLike, IsFound, IsNotFound, IsTunnelOfOwner, HasNoOwner}
 use Rattle.table_words.specs.Tried.{tried_shapes, AreTried}
 use Rattle.table_words.proofs.Counts.{le_greatest}
 use Rattle.table_words.proofs.Digits.{count_below_mono, count_below_more, few_halvings}
@@ -25,12 +25,12 @@ unfolding shape_end
 shape_end_is = refl
 
 -- the fields of a binding that has an entry
-entry_fields : (t : Rules) (words : List ℕ) → IsCompiled t words → (x : Binding) → Contains t.bindings x → (e : ℕ) → IsEntry words x e
+entry_fields : (t : BindingTable) (words : List ℕ) → IsCompiled t words → (x : Binding) → Contains t.bindings x → (e : ℕ) → IsEntry words x e
     → AreFields (first_at words e) x
 entry_fields t words h x m e entry = fields x (known t h.lawful x m) (first_at words e) entry.first
 
 -- no binding of the address owns it
-nobody : (t : Rules) (v4 : V4) (w : Want) → ((x : Binding) → Contains t.bindings x → x.v4.0 ≡ v4.0 → owns w x ≡ false)
+nobody : (t : BindingTable) (v4 : V4) (w : Want) → ((x : Binding) → Contains t.bindings x → x.v4.0 ≡ v4.0 → owns w x ≡ false)
     → first_b4 (bound t.bindings v4 w) ≡ None
 nobody t v4 w h = ap first_b4 (filter_fails (is_bound v4 w) t.bindings (λ x m.
     elim (cases_eq x.v4.0 v4.0) [
@@ -39,7 +39,7 @@ nobody t v4 w h = ap first_b4 (filter_fails (is_bound v4 w) t.bindings (λ x m.
     ]))
 
 -- a binding of the address owns it
-somebody : (t : Rules) (words : List ℕ) → IsCompiled t words → (v4 : V4) (w : Want) (x : Binding) → Contains t.bindings x → x.v4.0 ≡ v4.0
+somebody : (t : BindingTable) (words : List ℕ) → IsCompiled t words → (v4 : V4) (w : Want) (x : Binding) → Contains t.bindings x → x.v4.0 ≡ v4.0
     → owns w x ≡ true → first_b4 (bound t.bindings v4 w) ≡ Some x.b4
 somebody t words h v4 w x m same o =
     let passes : is_bound v4 w x ≡ true = and_from (eqb x.v4.0 v4.0) (owns w x) (eq-eqb x.v4.0 v4.0 same) o in
@@ -55,11 +55,11 @@ add_one_mul n d = omega arith
 wider : (g b : ℕ) → 1 ≤ g → g * (2 * b + 2) + 2 ≤ g * (2 * b + 4)
 wider g b some = omega (arith, some)
 
-some_shape : (t : Rules) → 1 ≤ most_shapes t.bindings
+some_shape : (t : BindingTable) → 1 ≤ most_shapes t.bindings
 some_shape t = omega arith
 
 -- one search in each of two ways, where addresses have one shape each
-pub alike_cost : (t : Rules) → 2 * group_digits t.bindings + 8 ≤ found_bound t.bindings
+pub alike_cost : (t : BindingTable) → 2 * group_digits t.bindings + 8 ≤ found_bound t.bindings
 alike_cost t =
     let d : ℕ = 2 * group_digits t.bindings + 4 in
     let least : 1 * d ≤ most_shapes t.bindings * d = mul-le-mul_right d (some_shape t) in
@@ -86,7 +86,7 @@ like_word : (x : Binding) → IsKnown x → (m : ℕ) → (row x).0 / 65536 ≡ 
 like_word x k m alike = like_parts x k (row x).0 m refl alike
 
 -- the end of the tunnel of an entry with the address that owns it
-owner_is : (t : Rules) (words : List ℕ) → IsCompiled t words → (v4 : V4) (w : Want) (first to : ℕ) → IsGroup t words v4.0 first to
+owner_is : (t : BindingTable) (words : List ℕ) → IsCompiled t words → (v4 : V4) (w : Want) (first to : ℕ) → IsIndexGroup t words v4.0 first to
     → (word : ℕ) → word / 4294967296 ≡ v4.0 → (from : ℕ) → first ≤ from → (b4 : V6) → IsFound words from to word w b4.0
     → first_b4 (bound t.bindings v4 w) ≡ Some b4
 owner_is t words h v4 w first to group word same_address from within b4 found =
@@ -100,8 +100,8 @@ owner_is t words h v4 w first to group word same_address from within b4 found =
     somebody t words h v4 w x b.1 (is_like.v4 ∙ same_address) owned ∙ ap Some (same_end x.b4 b4 end_is)
 
 -- what a lookup among entries of one shape an address answers
-pub alike_answer : (t : Rules) (words : List ℕ) → IsCompiled t words → (v4 : V4) (w : Want) (from to : ℕ) → IsGroup t words v4.0 from to
-    → (o : Option V6) → IfSome o (λ b4. IsOwner words from to v4.0 w b4.0) → IfNone o (HasNoOwner words from to v4.0 w)
+pub alike_answer : (t : BindingTable) (words : List ℕ) → IsCompiled t words → (v4 : V4) (w : Want) (from to : ℕ) → IsIndexGroup t words v4.0 from to
+    → (o : Option V6) → IfSome o (λ b4. IsTunnelOfOwner words from to v4.0 w b4.0) → IfNone o (HasNoOwner words from to v4.0 w)
     → o ≡ first_b4 (bound t.bindings v4 w)
 alike_answer t words h v4 w from to group (Some b4) found none =
     sym (owner_is t words h v4 w from to group found.first found.address from (omega arith) b4 found.found)
@@ -111,7 +111,7 @@ alike_answer t words h v4 w from to group None found none = sym (nobody t v4 w (
     none c.0 x c.1 c.2 c.3.first (like x k (first_at words c.0) (fields x k (first_at words c.0) c.3.first)) same))
 
 module _ (words : List ℕ) (v4 : V4) (w : Want) (first to : ℕ) where
-  pub tried_none : (spent : ℕ) → spent ≡ 3 → ((t : Rules) → IsCompiled t words → IsGroup t words v4.0 first to)
+  pub tried_none : (spent : ℕ) → spent ≡ 3 → ((t : BindingTable) → IsCompiled t words → IsIndexGroup t words v4.0 first to)
       → AreTried words v4.0 w first to first (v4.0 * 4294967296) spent
   tried_none spent three group = record {
     within = omega arith;
@@ -129,7 +129,7 @@ module _ (words : List ℕ) (v4 : V4) (w : Want) (first to : ℕ) where
         };
   }
 
-  module _ (from least spent at : ℕ) (tried : AreTried words v4.0 w first to from least spent) (span : IsSpan words from to)
+  module _ (from least spent at : ℕ) (tried : AreTried words v4.0 w first to from least spent) (span : IsEntryRange words from to)
       (place : IsBoundary words from to least at) where
     -- an entry before the place is below the least first word
     before : (e : ℕ) → first ≤ e → e < at → first_at words e < least
@@ -139,7 +139,7 @@ module _ (words : List ℕ) (v4 : V4) (w : Want) (first to : ℕ) where
     ]
 
     -- where no other shape follows, nobody owns it
-    pub none_left : (t : Rules) → IsCompiled t words → ((e : ℕ) → at ≤ e → e < to → v4.0 < first_at words e / 4294967296)
+    pub none_left : (t : BindingTable) → IsCompiled t words → ((e : ℕ) → at ≤ e → e < to → v4.0 < first_at words e / 4294967296)
         → first_b4 (bound t.bindings v4 w) ≡ None
     none_left t h ends = nobody t v4 w (λ x m same.
         let c = (tried.group t h).members x m same in
@@ -152,19 +152,19 @@ module _ (words : List ℕ) (v4 : V4) (w : Want) (first to : ℕ) where
         ])
 
     -- the cost of the search among what is left
-    pub search_cost : (t : Rules) → IsCompiled t words → (c : ℕ) → 2 ^ c ≤ 2 * (to - from) + 1 → c ≤ group_digits t.bindings
+    pub search_cost : (t : BindingTable) → IsCompiled t words → (c : ℕ) → 2 ^ c ≤ 2 * (to - from) + 1 → c ≤ group_digits t.bindings
     search_cost t h c cost =
         let size : to - first < 2 ^ group_digits t.bindings = (tried.group t h).size in
         few_halvings c (to - from) (group_digits t.bindings) cost (omega (arith, size, tried.within))
 
-    pub rest_small : (t : Rules) → IsCompiled t words → to - at < 2 ^ group_digits t.bindings
+    pub rest_small : (t : BindingTable) → IsCompiled t words → to - at < 2 ^ group_digits t.bindings
     rest_small t h = omega (arith, (tried.group t h).size, tried.within, place.from_on)
 
     module _ (here : at < to) (word : ℕ) (word_is : word ≡ first_at words at) (same_address : word / 4294967296 ≡ v4.0) where
       least_word : least ≤ word
       least_word = omega (arith, word_is, place.above at (omega arith) here)
 
-      shape_here : (t : Rules) → IsCompiled t words → has_shape t.bindings v4.0 ((word - v4.0 * 4294967296) / 65536) ≡ true
+      shape_here : (t : BindingTable) → IsCompiled t words → has_shape t.bindings v4.0 ((word - v4.0 * 4294967296) / 65536) ≡ true
       shape_here t h =
           let b = (tried.group t h).entries at (omega (arith, tried.within, place.from_on)) here in
           let x = b.0 in
@@ -177,14 +177,14 @@ module _ (words : List ℕ) (v4 : V4) (w : Want) (first to : ℕ) where
           shape_code n a o l e f g = omega arith
 
       -- the shape of this place counts
-      one_more : (t : Rules) → IsCompiled t words → tried_shapes t v4.0 least + 1 ≤ tried_shapes t v4.0 (word - word % 65536 + 65536)
+      one_more : (t : BindingTable) → IsCompiled t words → tried_shapes t v4.0 least + 1 ≤ tried_shapes t v4.0 (word - word % 65536 + 65536)
       one_more t h =
           let c : ℕ = (word - v4.0 * 4294967296) / 65536 in
           let up : (word - word % 65536 + 65536 - v4.0 * 4294967296) / 65536 ≡ suc c = code_next word v4.0 same_address in
           let low : (least - v4.0 * 4294967296) / 65536 ≤ c = omega (arith, least_word) in
           rw up (count_below_more (has_shape t.bindings v4.0) ((least - v4.0 * 4294967296) / 65536) c (shape_here t h) low)
 
-      few_shapes : (t : Rules) → IsCompiled t words → tried_shapes t v4.0 (word - word % 65536 + 65536) ≤ most_shapes t.bindings
+      few_shapes : (t : BindingTable) → IsCompiled t words → tried_shapes t v4.0 (word - word % 65536 + 65536) ≤ most_shapes t.bindings
       few_shapes t h =
           let b = (tried.group t h).entries at (omega (arith, tried.within, place.from_on)) here in
           let x = b.0 in
@@ -196,7 +196,7 @@ module _ (words : List ℕ) (v4 : V4) (w : Want) (first to : ℕ) where
           le_greatest (λ y. shape_count t.bindings y.v4.0) t.bindings x b.1 in
           omega (arith, counted, moved, most)
 
-      pub tried_more : (now : ℕ) → ((t : Rules) → IsCompiled t words → now ≤ spent + (2 * group_digits t.bindings + 2))
+      pub tried_more : (now : ℕ) → ((t : BindingTable) → IsCompiled t words → now ≤ spent + (2 * group_digits t.bindings + 2))
           → IsNotFound words at to word w → AreTried words v4.0 w first to at (word - word % 65536 + 65536) now
       tried_more now cost not_found = record {
         within = omega (arith, tried.within, place.from_on);
@@ -229,11 +229,11 @@ module _ (words : List ℕ) (v4 : V4) (w : Want) (first to : ℕ) where
       }
 
       -- the owner is found
-      pub found_here : (t : Rules) → IsCompiled t words → (b4 : V6) → IsFound words at to word w b4.0 → first_b4 (bound t.bindings v4 w) ≡ Some b4
+      pub found_here : (t : BindingTable) → IsCompiled t words → (b4 : V6) → IsFound words at to word w b4.0 → first_b4 (bound t.bindings v4 w) ≡ Some b4
       found_here t h b4 found =
           owner_is t words h v4 w first to (tried.group t h) word same_address at (omega (arith, tried.within, place.from_on)) b4 found
 
-      pub found_cost : (t : Rules) → IsCompiled t words → (now : ℕ) → now ≤ spent + (2 * group_digits t.bindings + 4) → now ≤ found_bound t.bindings
+      pub found_cost : (t : BindingTable) → IsCompiled t words → (now : ℕ) → now ≤ spent + (2 * group_digits t.bindings + 4) → now ≤ found_bound t.bindings
       found_cost t h now cost =
           let d : ℕ = 2 * group_digits t.bindings + 2 in
           let enough : tried_shapes t v4.0 least + 1 ≤ most_shapes t.bindings = omega (arith, one_more t h, few_shapes t h) in
@@ -241,15 +241,15 @@ module _ (words : List ℕ) (v4 : V4) (w : Want) (first to : ℕ) where
           let split : (tried_shapes t v4.0 least + 1) * d ≡ tried_shapes t v4.0 least * d + d = add_one_mul (tried_shapes t v4.0 least) d in
           omega (arith, product, split, cost, (tried.tried t h).cost, wider (most_shapes t.bindings) (group_digits t.bindings) (some_shape t))
 
-    pub none_cost : (t : Rules) → IsCompiled t words → (now : ℕ) → now ≤ spent + (group_digits t.bindings + 1) → now ≤ look_bound t.bindings
+    pub none_cost : (t : BindingTable) → IsCompiled t words → (now : ℕ) → now ≤ spent + (group_digits t.bindings + 1) → now ≤ look_bound t.bindings
     none_cost t h now cost =
         let d : ℕ = 2 * group_digits t.bindings + 2 in
         let product : tried_shapes t v4.0 least * d ≤ most_shapes t.bindings * d = mul-le-mul_right d (tried.tried t h).few in
         omega (arith, product, cost, (tried.tried t h).cost, wider (most_shapes t.bindings) (group_digits t.bindings) (some_shape t))
 
 -- whether some binding has the address
-module _ (t : Rules) (words : List ℕ) (h : IsCompiled t words) (v4 : V4) (from to at : ℕ) (span : IsSpan words from to)
-    (group : IsGroup t words v4.0 from to) (place : IsBoundary words from to (v4.0 * 4294967296) at) where
+module _ (t : BindingTable) (words : List ℕ) (h : IsCompiled t words) (v4 : V4) (from to at : ℕ) (span : IsEntryRange words from to)
+    (group : IsIndexGroup t words v4.0 from to) (place : IsBoundary words from to (v4.0 * 4294967296) at) where
   -- an entry of the address is not before the place
   not_before : (x : Binding) → Contains t.bindings x → x.v4.0 ≡ v4.0 → (e : ℕ) × (at ≤ e) × (e < to) × IsEntry words x e
   not_before x m same =
@@ -294,7 +294,7 @@ pub if_some : (o : Option V6) (P : Type 0) → P → IfSome o (λ _. P)
 if_some None P h = tt
 if_some (Some b4) P h = h
 
-pub span_rest : (words : List ℕ) (from to at : ℕ) → IsSpan words from to → at ≤ to → IsSpan words at to
+pub span_rest : (words : List ℕ) (from to at : ℕ) → IsEntryRange words from to → at ≤ to → IsEntryRange words at to
 span_rest words from to at s l = record { ordered = l; few = s.few; within = s.within; ascending = s.ascending; rising = s.rising; shapes = s.shapes }
 
 -- the first word behind a shape fits
@@ -307,5 +307,5 @@ above_address n m a least up l s other = elim (cases_lt a (m / 4294967296)) [
   | inr more ↦ absurd (other (omega (arith, up, l, s, more)))
 ]
 
-pub found_below : (t : Rules) → found_bound t.bindings ≤ look_bound t.bindings
+pub found_below : (t : BindingTable) → found_bound t.bindings ≤ look_bound t.bindings
 found_below t = omega arith

@@ -2,7 +2,7 @@
 use Rattle.std.specs.Prelude.{◌≡◌, ℕ, ◌+◌, ◌*◌, ◌/◌, ◌%◌, ◌<◌, ◌≤◌, Bool, not, ◌&&◌, ◌==◌, nat_lt, if◌then◌else◌, List, map, length, slice_index, slice_index_or}
 use Rattle.std.specs.List.{count_by, list_any}
 use Rattle.std.specs.List.Sorted.{IsPermutation}
-use Rattle.binding_rules.specs.Tables.{Rules, IsValid, IsLawful}
+use Rattle.binding_rules.specs.Tables.{BindingTable, IsValid, IsLawful}
 use Rattle.binding_rules.specs.declared.binding.Binding.{Binding}
 use Rattle.binding_rules.specs.declared.settings.Softwire.{Softwire}
 
@@ -26,8 +26,8 @@ abbrev pub flags : Softwire → ℕ
 flags s = flag s.hairpin 1 + flag s.icmp_in 2 + flag s.errors_up 4 + flag s.errors_down 8
 
 -- some address has bindings of two shapes
-abbrev pub is_mixed : List Binding → Bool
-is_mixed bindings = list_any (λ x. list_any (λ y. (x.v4.0 == y.v4.0) && not ((x.offset == y.offset) && (x.length == y.length))) bindings) bindings
+abbrev pub has_two_shapes : List Binding → Bool
+has_two_shapes bindings = list_any (λ x. list_any (λ y. (x.v4.0 == y.v4.0) && not ((x.offset == y.offset) && (x.length == y.length))) bindings) bindings
 
 -- the settings fit into their fields
 pub record IsRanged (s : Softwire) : Type 0 where
@@ -36,7 +36,7 @@ pub record IsRanged (s : Softwire) : Type 0 where
   pub hop_limit : s.hop_limit < 256
 
 -- the words are those of the table: eight words of settings, the index, and for each binding an entry of three words
-pub record IsCompiled (t : Rules) (words : List ℕ) : Type 0 where
+pub record IsCompiled (t : BindingTable) (words : List ℕ) : Type 0 where
   pub valid : IsValid t
   pub lawful : IsLawful t
   pub ranged : IsRanged t.softwire
@@ -50,7 +50,7 @@ pub record IsCompiled (t : Rules) (words : List ℕ) : Type 0 where
   pub aftr_low : slice_index words 2 ≡ t.softwire.aftr.0 % 18446744073709551616
   pub own : slice_index words 3 ≡ t.softwire.own.0 * 4294967296 + flags t.softwire
   pub sizes : slice_index words 4 ≡ t.softwire.mtu6 * 4294967296 + t.softwire.mtu4 * 65536 + t.softwire.hop_limit
-  pub mixed : slice_index words 5 ≡ flag (is_mixed t.bindings) 1
+  pub two_shapes : slice_index words 5 ≡ flag (has_two_shapes t.bindings) 1
   pub spare : (j : ℕ) → 6 ≤ j → j < 8 → slice_index words j ≡ 0
   pub index : (h : ℕ) → h ≤ 65536 → slice_index words (8 + h) ≡ rows_below rows h
   pub first : (e : ℕ) → e < length rows → slice_index words (65545 + 3 * e) ≡ (row_at rows e).0
@@ -59,5 +59,5 @@ pub record IsCompiled (t : Rules) (words : List ℕ) : Type 0 where
 
 -- the words are those of a table
 pub record AreCompiled (words : List ℕ) : Type 0 where
-  pub table : Rules
+  pub table : BindingTable
   pub of_table : IsCompiled table words

@@ -8,7 +8,7 @@ abbrev pub IsAscending : List (ℕ × ℕ) → Type 0
 IsAscending rows = (d e : ℕ) → d ≤ e → e < length rows → (row_at rows d).0 ≤ (row_at rows e).0
 
 -- two rows have one address and two shapes
-pub record AreMixed (rows : List (ℕ × ℕ)) : Type 0 where
+pub record HaveTwoShapes (rows : List (ℕ × ℕ)) : Type 0 where
   pub d : ℕ
   pub e : ℕ
   pub d_within : d < length rows
@@ -17,8 +17,8 @@ pub record AreMixed (rows : List (ℕ × ℕ)) : Type 0 where
   pub shapes : (row_at rows d).0 / 65536 ≢ (row_at rows e).0 / 65536
 
 abbrev pub settings_words : Softwire → ℕ → Bool → List ℕ
-settings_words s n mixed = n ∷ s.aftr.0 / 18446744073709551616 ∷ s.aftr.0 % 18446744073709551616
-    ∷ (s.own.0 * 4294967296 + flags s) ∷ (s.mtu6 * 4294967296 + s.mtu4 * 65536 + s.hop_limit) ∷ flag mixed 1 ∷ 0 ∷ 0 ∷ []
+settings_words s n two_shapes = n ∷ s.aftr.0 / 18446744073709551616 ∷ s.aftr.0 % 18446744073709551616
+    ∷ (s.own.0 * 4294967296 + flags s) ∷ (s.mtu6 * 4294967296 + s.mtu4 * 65536 + s.hop_limit) ∷ flag two_shapes 1 ∷ 0 ∷ 0 ∷ []
 
 -- the first n words of the index; not an `abbrev`, so that no proof writes them out
 unfoldable pub index_words : List (ℕ × ℕ) → ℕ → List ℕ

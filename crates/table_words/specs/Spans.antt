@@ -3,7 +3,7 @@
 use Rattle.std.specs.Prelude.{◌≡◌, ℕ, ◌+◌, ◌-◌, ◌*◌, ◌/◌, ◌%◌, ◌^◌, ◌<◌, ◌≤◌, ◌↔◌, true, false, List, length, slice_index, Contains, Option, Some, None}
 use Rattle.port_set.specs.Shapes.{IsShape}
 use Rattle.binding_rules.specs.Bindings.{owns}
-use Rattle.binding_rules.specs.Tables.{Rules}
+use Rattle.binding_rules.specs.Tables.{BindingTable}
 use Rattle.binding_rules.specs.declared.binding.Binding.{Binding}
 use Rattle.binding_rules.specs.declared.binding.Want.{Want}
 use Rattle.table_words.specs.Bounds.{group_digits}
@@ -18,7 +18,7 @@ abbrev pub b4_at : List ℕ → ℕ → ℕ
 b4_at words e = slice_index words (65546 + 3 * e) * 18446744073709551616 + slice_index words (65547 + 3 * e)
 
 -- the entries from one place up to another
-pub record IsSpan (words : List ℕ) (from to : ℕ) : Type 0 where
+pub record IsEntryRange (words : List ℕ) (from to : ℕ) : Type 0 where
   pub ordered : from ≤ to
   pub few : to ≤ 65536
   pub within : 65545 + 3 * to ≤ length words
@@ -39,7 +39,7 @@ pub record IsEntry (words : List ℕ) (x : Binding) (e : ℕ) : Type 0 where
   pub b4 : b4_at words e ≡ x.b4.0
 
 -- the entries of the bindings that agree with the address in its top 16 bits
-pub record IsGroup (t : Rules) (words : List ℕ) (a from to : ℕ) : Type 0 where
+pub record IsIndexGroup (t : BindingTable) (words : List ℕ) (a from to : ℕ) : Type 0 where
   pub members : (x : Binding) → Contains t.bindings x → x.v4.0 ≡ a → (e : ℕ) × (from ≤ e) × (e < to) × IsEntry words x e
   pub entries : (e : ℕ) → from ≤ e → e < to → (x : Binding) × Contains t.bindings x × IsEntry words x e
   pub size : to - from < 2 ^ group_digits t.bindings
@@ -72,7 +72,7 @@ abbrev pub IsNotFound : List ℕ → ℕ → ℕ → ℕ → Want → Type 0
 IsNotFound words from to first w = (e : ℕ) (x : Binding) → from ≤ e → e < to → first_at words e ≡ (row x).0 → IsLike first x → owns w x ≡ false
 
 -- the entries up to this end are all that can have the key, and perhaps more
-pub record IsEnd (from to first key end : ℕ) : Type 0 where
+pub record IsUpperEnd (from to first key end : ℕ) : Type 0 where
   pub some : from < end
   pub within : end ≤ to
   pub enough : end < to → key < first + (end - from)
@@ -110,7 +110,7 @@ AreAlike words from to a = (d e : ℕ) → from ≤ d → d < to → from ≤ e 
     → first_at words e / 4294967296 ≡ a → first_at words d / 65536 ≡ first_at words e / 65536
 
 -- the end of the tunnel is that of an entry with the address that owns what is wanted
-pub record IsOwner (words : List ℕ) (from to a : ℕ) (w : Want) (b4 : ℕ) : Type 0 where
+pub record IsTunnelOfOwner (words : List ℕ) (from to a : ℕ) (w : Want) (b4 : ℕ) : Type 0 where
   pub first : ℕ
   pub address : first / 4294967296 ≡ a
   pub found : IsFound words from to first w b4

@@ -1,8 +1,8 @@
 // The words of a table.
 ghost use Rattle.std.specs.Prelude.{◌≡◌, ◌+◌, ◌*◌, ◌/◌, ◌%◌, ◌<◌, ◌≤◌, ◌++◌, IfOk, OnOk, List, ℕ, length, map, vec_len, IsPermutation, Bool, true, ◌↔◌};
-ghost use Rattle.binding_rules.specs.Tables.{Rules};
+ghost use Rattle.binding_rules.specs.Tables.{BindingTable};
 ghost use Rattle.table_words.specs.Layout.{IsCompiled, AreCompiled, row, flag, flags};
-ghost use Rattle.table_words.specs.Parts.{IsAscending, AreMixed, settings_words, index_words, entry_words};
+ghost use Rattle.table_words.specs.Parts.{IsAscending, HaveTwoShapes, settings_words, index_words, entry_words};
 
 use aftr_base::{OutOfMemory, WordList};
 use binding_rules::{Binding, Softwire, Table};
@@ -19,7 +19,12 @@ pub fn compile(alloc: Global, table: &Table) -> Result<WordList, OutOfMemory>
     let bindings = table.bindings();
     let rows = rows_of(alloc, bindings)?;
     let mut words = Vec::with_capacity(alloc, 65545 + 3 * rows.len())?;
-    put_settings(&mut words, rows.len(), table.softwire(), are_mixed(&rows))?;
+    put_settings(
+        &mut words,
+        rows.len(),
+        table.softwire(),
+        have_two_shapes(&rows),
+    )?;
     put_index(&mut words, &rows)?;
     put_entries(&mut words, &rows)?;
     Ok(WordList::of(words))
@@ -51,9 +56,9 @@ fn row_of(binding: Binding) -> (u64, u128)
 
 /// Whether two rows have one address and two shapes. Ascending rows with one address stand together, and so do those that
 /// have its first shape.
-fn are_mixed(rows: &[(u64, u128)]) -> bool
+fn have_two_shapes(rows: &[(u64, u128)]) -> bool
     requires { IsAscending rows.now }
-    ensures { (result ≡ true) ↔ AreMixed rows.now }
+    ensures { (result ≡ true) ↔ HaveTwoShapes rows.now }
 {
     let mut at = 1;
     'rows: while at < rows.len() {
@@ -73,9 +78,9 @@ fn put_settings(
     words: &mut Vec<u64>,
     count: usize,
     softwire: Softwire,
-    mixed: bool,
+    two_shapes: bool,
 ) -> Result<(), OutOfMemory>
-    ensures { OnOk result (words.new.items ≡ words.old.items ++ settings_words softwire count mixed) }
+    ensures { OnOk result (words.new.items ≡ words.old.items ++ settings_words softwire count two_shapes) }
 {
     words.extend_from_slice(&[
         count as u64,
@@ -85,7 +90,7 @@ fn put_settings(
         u64::from(softwire.mtu6) * 0x1_0000_0000
             + u64::from(softwire.mtu4) * 0x1_0000
             + u64::from(softwire.hop_limit),
-        flag_of(mixed, 1),
+        flag_of(two_shapes, 1),
         0,
         0,
     ])?;

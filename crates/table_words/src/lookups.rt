@@ -1,7 +1,7 @@
 // What the words of a table say of an address.
 ghost use Rattle.std.specs.Prelude.{◌≡◌, ◌+◌, ◌-◌, ◌≤◌, IfSome};
 ghost use Rattle.binding_rules.specs.Bindings.{bound};
-ghost use Rattle.binding_rules.specs.Tables.{Rules};
+ghost use Rattle.binding_rules.specs.Tables.{BindingTable};
 ghost use Rattle.binding_rules.specs.declared.settings.Edition.TheVariants as edition;
 ghost use Rattle.table_words.specs.Answers.{first_b4, has_v4};
 ghost use Rattle.table_words.specs.Bounds.{found_bound, look_bound, most_shapes, group_digits};
@@ -32,11 +32,11 @@ pub fn look<W: Words, L: Ledger>(
     steps: &mut Steps<L>,
 ) -> Option<V6>
     requires { AreCompiled (W.list words.old) }
-    ensures owner { (t : Rules) → IsCompiled t (W.list words.old) → result ≡ first_b4 (bound t.bindings v4 want) }
-    ensures bound { (t : Rules) → IsCompiled t (W.list words.old) → steps.new ≤ steps.old + look_bound t.bindings }
-    ensures found { IfSome result (λ _. (t : Rules) → IsCompiled t (W.list words.old) → steps.new ≤ steps.old + found_bound t.bindings) }
-    ensures one_shape { (t : Rules) → IsCompiled t (W.list words.old) → most_shapes t.bindings ≡ 1 → steps.new ≤ steps.old + found_bound t.bindings }
-    ensures edition_one { (t : Rules) → IsCompiled t (W.list words.old) → t.edition ≡ edition.One → steps.new ≤ steps.old + found_bound t.bindings }
+    ensures owner { (t : BindingTable) → IsCompiled t (W.list words.old) → result ≡ first_b4 (bound t.bindings v4 want) }
+    ensures bound { (t : BindingTable) → IsCompiled t (W.list words.old) → steps.new ≤ steps.old + look_bound t.bindings }
+    ensures found { IfSome result (λ _. (t : BindingTable) → IsCompiled t (W.list words.old) → steps.new ≤ steps.old + found_bound t.bindings) }
+    ensures one_shape { (t : BindingTable) → IsCompiled t (W.list words.old) → most_shapes t.bindings ≡ 1 → steps.new ≤ steps.old + found_bound t.bindings }
+    ensures edition_one { (t : BindingTable) → IsCompiled t (W.list words.old) → t.edition ≡ edition.One → steps.new ≤ steps.old + found_bound t.bindings }
     ensures list { W.list words.new ≡ W.list words.old }
     ensures reads { W.reads words.new ≡ read_more (W.reads words.old) (steps.new - steps.old) }
     ensures goes { W.goes words.old words.new }
@@ -69,8 +69,8 @@ pub fn look<W: Words, L: Ledger>(
 /// Whether some binding of the table has the address. The condition is that of `look`. It reads at most B + 3 words.
 pub fn has_address<W: Words, L: Ledger>(words: &mut W, v4: V4, steps: &mut Steps<L>) -> bool
     requires { AreCompiled (W.list words.old) }
-    ensures answer { (t : Rules) → IsCompiled t (W.list words.old) → result ≡ has_v4 t.bindings v4 }
-    ensures bound { (t : Rules) → IsCompiled t (W.list words.old) → steps.new ≤ steps.old + group_digits t.bindings + 3 }
+    ensures answer { (t : BindingTable) → IsCompiled t (W.list words.old) → result ≡ has_v4 t.bindings v4 }
+    ensures bound { (t : BindingTable) → IsCompiled t (W.list words.old) → steps.new ≤ steps.old + group_digits t.bindings + 3 }
     ensures list { W.list words.new ≡ W.list words.old }
     ensures reads { W.reads words.new ≡ read_more (W.reads words.old) (steps.new - steps.old) }
     ensures goes { W.goes words.old words.new }

@@ -1,7 +1,7 @@
 // The owner of what is wanted, among entries of one shape or among all.
 ghost use Rattle.std.specs.Prelude.{◌≡◌, ℕ, ◌+◌, ◌-◌, ◌*◌, ◌^◌, ◌<◌, ◌≤◌, IfSome, IfNone};
 ghost use Rattle.table_words.specs.Reads.{read_more};
-ghost use Rattle.table_words.specs.Spans.{IsSpan, IsFound, IsNotFound, AreAlike, IsOwner, HasNoOwner, first_at};
+ghost use Rattle.table_words.specs.Spans.{IsEntryRange, IsFound, IsNotFound, AreAlike, IsTunnelOfOwner, HasNoOwner, first_at};
 
 use crate::counter::Steps;
 use crate::entries::{first_word, key_of, tunnel_end};
@@ -22,9 +22,9 @@ pub(crate) fn owner_alike<W: Words, L: Ledger>(
     want: Want,
     steps: &mut Steps<L>,
 ) -> Option<V6>
-    requires span { IsSpan (W.list words.old) from to }
+    requires span { IsEntryRange (W.list words.old) from to }
     requires alike { AreAlike (W.list words.old) from to v4.0 }
-    ensures owner { IfSome result (λ b4. IsOwner (W.list words.old) from to v4.0 want b4.0) }
+    ensures owner { IfSome result (λ b4. IsTunnelOfOwner (W.list words.old) from to v4.0 want b4.0) }
     ensures none { IfNone result (HasNoOwner (W.list words.old) from to v4.0 want) }
     ensures bound { (d : ℕ) → to - from < 2 ^ d → steps.new ≤ steps.old + 2 * d + 5 }
     ensures list { W.list words.new ≡ W.list words.old }
@@ -57,7 +57,7 @@ pub(crate) fn owner_like<W: Words, L: Ledger>(
     want: Want,
     steps: &mut Steps<L>,
 ) -> Option<V6>
-    requires span { IsSpan (W.list words.old) from to }
+    requires span { IsEntryRange (W.list words.old) from to }
     requires here { first ≡ first_at (W.list words.old) from }
     requires some { from < to }
     ensures owner { IfSome result (λ b4. IsFound (W.list words.old) from to first want b4.0) }

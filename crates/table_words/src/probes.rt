@@ -1,7 +1,7 @@
 // The search that begins where an entry is guessed to be.
 ghost use Rattle.std.specs.Prelude.{◌≡◌, ◌+◌, ◌-◌, ◌*◌, ◌^◌, ◌<◌, ◌≤◌, IfSome, IfNone};
 ghost use Rattle.table_words.specs.Reads.{read_more};
-ghost use Rattle.table_words.specs.Spans.{IsSpan, IsSpot, HasNoSpot, IsReach};
+ghost use Rattle.table_words.specs.Spans.{IsEntryRange, IsSpot, HasNoSpot, IsReach};
 
 use crate::counter::Steps;
 use crate::entries::first_word;
@@ -35,7 +35,7 @@ pub(crate) fn spot_of<W: Words, L: Ledger>(
     most: u64,
     steps: &mut Steps<L>,
 ) -> Option<Spot>
-    requires span { IsSpan (W.list words.old) reach.low reach.high }
+    requires span { IsEntryRange (W.list words.old) reach.low reach.high }
     requires low_guess { reach.low < reach.high → reach.low ≤ reach.guess }
     requires high_guess { reach.low < reach.high → reach.guess < reach.high }
     ensures spot { IfSome result (λ s. IsSpot (W.list words.old) reach.low reach.high least most s.low s.high s.at s.first) }
@@ -78,7 +78,7 @@ pub(crate) fn guess_of<W: Words, L: Ledger>(
     v4: V4,
     steps: &mut Steps<L>,
 ) -> u32
-    requires span { IsSpan (W.list words.old) from to }
+    requires span { IsEntryRange (W.list words.old) from to }
     requires some { from < to }
     ensures from_on { from ≤ result }
     ensures up_to { result < to }

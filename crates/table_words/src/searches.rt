@@ -1,9 +1,9 @@
 // Where the entries of an address can be, and the search among them.
 ghost use Rattle.std.specs.Prelude.{◌≡◌, ◌+◌, ◌-◌, ◌*◌, ◌^◌, ◌<◌, ◌≤◌};
-ghost use Rattle.binding_rules.specs.Tables.{Rules};
+ghost use Rattle.binding_rules.specs.Tables.{BindingTable};
 ghost use Rattle.table_words.specs.Layout.{IsCompiled, AreCompiled};
 ghost use Rattle.table_words.specs.Reads.{read_more};
-ghost use Rattle.table_words.specs.Spans.{IsSpan, IsGroup, IsBoundary, IsEnd, first_at};
+ghost use Rattle.table_words.specs.Spans.{IsEntryRange, IsIndexGroup, IsBoundary, IsUpperEnd, first_at};
 
 use crate::counter::Steps;
 use crate::entries::first_word;
@@ -21,8 +21,8 @@ pub(crate) struct Span {
 /// The entries whose addresses agree with this one in the top 16 bits.
 pub(crate) fn group_of<W: Words, L: Ledger>(words: &mut W, v4: V4, steps: &mut Steps<L>) -> Span
     requires { AreCompiled (W.list words.old) }
-    ensures span { IsSpan (W.list words.old) result.from result.to }
-    ensures group { (t : Rules) → IsCompiled t (W.list words.old) → IsGroup t (W.list words.old) v4.0 result.from result.to }
+    ensures span { IsEntryRange (W.list words.old) result.from result.to }
+    ensures group { (t : BindingTable) → IsCompiled t (W.list words.old) → IsIndexGroup t (W.list words.old) v4.0 result.from result.to }
     ensures list { W.list words.new ≡ W.list words.old }
     ensures reads { W.reads words.new ≡ read_more (W.reads words.old) 2 }
     ensures goes { W.goes words.old words.new }
@@ -42,7 +42,7 @@ pub(crate) fn lower_bound<W: Words, L: Ledger>(
     key: u64,
     steps: &mut Steps<L>,
 ) -> u32
-    requires { IsSpan (W.list words.old) from to }
+    requires { IsEntryRange (W.list words.old) from to }
     ensures place { IsBoundary (W.list words.old) from to key result }
     ensures cost { 2 ^ (steps.new - steps.old) ≤ 2 * (to - from) + 1 }
     ensures list { W.list words.new ≡ W.list words.old }
@@ -74,7 +74,7 @@ pub(crate) fn place_of<W: Words, L: Ledger>(
     key: u64,
     steps: &mut Steps<L>,
 ) -> u32
-    requires span { IsSpan (W.list words.old) from to }
+    requires span { IsEntryRange (W.list words.old) from to }
     requires here { first ≡ first_at (W.list words.old) from }
     requires some { from < to }
     ensures place { IsBoundary (W.list words.old) from to key result }
@@ -91,7 +91,7 @@ pub(crate) fn place_of<W: Words, L: Ledger>(
 /// The end of the entries among which the key can be.
 fn end_of(from: u32, to: u32, first: u64, key: u64) -> u32
     requires { from < to }
-    ensures { IsEnd from to first key result }
+    ensures { IsUpperEnd from to first key result }
 {
     let ahead = key.saturating_sub(first);
     if ahead < u64::from(to - from) {

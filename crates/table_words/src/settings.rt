@@ -1,6 +1,6 @@
 // The settings in the words of a table.
 ghost use Rattle.std.specs.Prelude.{◌≡◌, ◌+◌};
-ghost use Rattle.binding_rules.specs.Tables.{Rules};
+ghost use Rattle.binding_rules.specs.Tables.{BindingTable};
 ghost use Rattle.table_words.specs.Layout.{IsCompiled, AreCompiled};
 ghost use Rattle.table_words.specs.Reads.{read_more};
 
@@ -13,7 +13,7 @@ use std::sync::ledger::Ledger;
 /// The settings of the table. The condition is that of `look`. It reads four words.
 pub fn softwire<W: Words, L: Ledger>(words: &mut W, steps: &mut Steps<L>) -> Softwire
     requires { AreCompiled (W.list words.old) }
-    ensures value { (t : Rules) → IsCompiled t (W.list words.old) → result ≡ t.softwire }
+    ensures value { (t : BindingTable) → IsCompiled t (W.list words.old) → result ≡ t.softwire }
     ensures list { W.list words.new ≡ W.list words.old }
     ensures reads { W.reads words.new ≡ read_more (W.reads words.old) 4 }
     ensures goes { W.goes words.old words.new }

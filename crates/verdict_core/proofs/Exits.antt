@@ -4,7 +4,7 @@ use Rattle.std.specs.List.{list_any}
 use Rattle.std.proofs.lemmas.Bool.{or_left, or_parts, not_from_true, not_from_false, eqb-false}
 use Rattle.aftr_base.specs.First.{first_true}
 use Rattle.binding_rules.specs.Bindings.{bound}
-use Rattle.binding_rules.specs.Tables.{Rules}
+use Rattle.binding_rules.specs.Tables.{BindingTable}
 use Rattle.binding_rules.specs.declared.binding.Want.{Want}
 use Rattle.binding_rules.specs.declared.settings.Softwire.{Softwire}
 use Rattle.ip_codec.specs.Packet4.{Packet4, ip4_of}
@@ -14,7 +14,7 @@ use Rattle.port_locate.specs.Keys.{upstream_key}
 use Rattle.port_locate.specs.declared.keys.Key.{Key}
 use Rattle.port_locate.specs.declared.keys.Key.TheVariants as key
 use Rattle.table_words.specs.Answers.{has_v4}
-use Rattle.verdict_core.specs.Verdicts.{is_icmp_bad, is_not_built, is_not_built_by_settings, is_softwire, names_no_port, owners, silent, up_lines}
+use Rattle.verdict_core.specs.Verdicts.{is_icmp_bad, is_not_judged, is_not_judged_by_settings, is_softwire, names_no_port, owners, silent, up_lines}
 use Rattle.verdict_core.specs.declared.verdicts.Verdict.{Verdict}
 use Rattle.verdict_core.specs.declared.verdicts.Verdict.TheVariants as verdict
 
@@ -26,26 +26,26 @@ taken : (test : Bool) (w v : Verdict) (y : Option Verdict) → test ≡ true →
 taken true w v y is same = ap Some (sym same)
 taken false w v y is same = absurd cc
 
-module _ (t : Rules) (s : Softwire) (p : Packet4) (same : s ≡ t.softwire) (by_settings : Bool)
-    (by_settings_is : by_settings ≡ is_not_built_by_settings s p) where
-  by_settings_of : by_settings ≡ is_not_built_by_settings t.softwire p
-  by_settings_of = by_settings_is ∙ ap (λ (x : Softwire). is_not_built_by_settings x p) same
+module _ (t : BindingTable) (s : Softwire) (p : Packet4) (same : s ≡ t.softwire) (by_settings : Bool)
+    (by_settings_is : by_settings ≡ is_not_judged_by_settings s p) where
+  by_settings_of : by_settings ≡ is_not_judged_by_settings t.softwire p
+  by_settings_of = by_settings_is ∙ ap (λ (x : Softwire). is_not_judged_by_settings x p) same
 
-  pub not_built_by_settings : by_settings ≡ true → by_settings ≡ is_not_built t p
-  not_built_by_settings is = is ∙ sym (or_left (is_not_built_by_settings t.softwire p) (has_v4 t.bindings (record { 0 = p.dst })) (sym by_settings_of ∙ is))
+  pub not_built_by_settings : by_settings ≡ true → by_settings ≡ is_not_judged t p
+  not_built_by_settings is = is ∙ sym (or_left (is_not_judged_by_settings t.softwire p) (has_v4 t.bindings (record { 0 = p.dst })) (sym by_settings_of ∙ is))
 
-  pub not_built_by_address : (has : Bool) → by_settings ≡ false → has ≡ has_v4 t.bindings (record { 0 = p.dst }) → has ≡ is_not_built t p
+  pub not_built_by_address : (has : Bool) → by_settings ≡ false → has ≡ has_v4 t.bindings (record { 0 = p.dst }) → has ≡ is_not_judged t p
   not_built_by_address has is has_is =
       has_is ∙ ap (λ (x : Bool). x || has_v4 t.bindings (record { 0 = p.dst })) (sym (sym by_settings_of ∙ is))
 
 -- a packet of a kind that is judged is no ICMP message
-pub not_icmp : (t : Rules) (p : Packet4) → is_not_built t p ≡ false → p.protocol ≡ 1 → ⊥
+pub not_icmp : (t : BindingTable) (p : Packet4) → is_not_judged t p ≡ false → p.protocol ≡ 1 → ⊥
 not_icmp t p is =
-    let by_settings = (or_parts (is_not_built_by_settings t.softwire p) _ is).0 in
+    let by_settings = (or_parts (is_not_judged_by_settings t.softwire p) _ is).0 in
     eqb-false p.protocol 1 (or_parts _ _ (or_parts _ _ (or_parts _ _ (or_parts _ _ by_settings).0).0).0).0
 
-module _ (t : Rules) (outer : Outer) (inner : List ℕ) (s : Softwire) (p : Packet4) (v : Verdict) (same : s ≡ t.softwire) (read : ip4_of inner ≡ Ok p)
-    (left : Bool) (left_is : left ≡ is_not_built t p) where
+module _ (t : BindingTable) (outer : Outer) (inner : List ℕ) (s : Softwire) (p : Packet4) (v : Verdict) (same : s ≡ t.softwire) (read : ip4_of inner ≡ Ok p)
+    (left : Bool) (left_is : left ≡ is_not_judged t p) where
   abbrev Gives : Verdict → Type 0
   Gives w = first_true (up_lines t outer (ip4_of inner)) ≡ Some w
 
@@ -56,7 +56,7 @@ module _ (t : Rules) (outer : Outer) (inner : List ℕ) (s : Softwire) (p : Pack
   at_not_built is gives = by_packet v (taken _ _ _ _ (sym left_is ∙ is) gives)
 
   module _ (built : left ≡ false) (foreign : Bool) (foreign_is : foreign ≡ not (outer.dst.0 == s.aftr.0)) where
-    judged : is_not_built t p ≡ false
+    judged : is_not_judged t p ≡ false
     judged = sym left_is ∙ built
 
     foreign_of : not (outer.dst.0 == t.softwire.aftr.0) ≡ foreign

@@ -5,7 +5,7 @@ use Rattle.std.proofs.lemmas.Bool.{not-true, not-false, eqb-true, eqb-false, eq-
 use Rattle.aftr_base.specs.First.{first_true}
 use Rattle.aftr_base.specs.Numbers.{big_endian, span}
 use Rattle.binding_rules.specs.Bindings.{bound}
-use Rattle.binding_rules.specs.Tables.{Rules, IsLawful}
+use Rattle.binding_rules.specs.Tables.{BindingTable, IsLawful}
 use Rattle.binding_rules.specs.declared.binding.Binding.{Binding}
 use Rattle.binding_rules.specs.declared.binding.Want.{Want}
 use Rattle.binding_rules.specs.declared.binding.Want.TheVariants as want
@@ -20,28 +20,28 @@ use Rattle.port_locate.specs.Keys.{has_ports, port_key, upstream_key}
 use Rattle.port_locate.specs.declared.keys.Key.{Key}
 use Rattle.port_locate.specs.declared.keys.Key.TheVariants as key
 use Rattle.verdict_core.specs.Access.{Forbids, Forbidden, Forwards, IsBuilt, IsForwarded, IsRefusal, Permits, Refused}
-use Rattle.verdict_core.specs.Fitting.{Carries, Fits, HasRoom, IsPlain}
-use Rattle.verdict_core.specs.Verdicts.{Judged, Line, is_checksum, is_icmp_bad, is_not_built, is_not_built_by_settings, is_softwire, lines, names_no_port, owners, silent, up_lines}
+use Rattle.verdict_core.specs.Fitting.{HasPacket, Fits, HasRoom, IsPlain}
+use Rattle.verdict_core.specs.Verdicts.{Judged, Line, is_checksum, is_icmp_bad, is_not_judged, is_not_judged_by_settings, is_softwire, lines, names_no_port, owners, silent, up_lines}
 use Rattle.verdict_core.specs.declared.verdicts.Verdict.{Verdict}
 use Rattle.verdict_core.specs.declared.verdicts.Verdict.TheVariants as verdict
 use Rattle.aftr_base.proofs.FirstLemmas.{Choice, first_or_later}
 use Rattle.verdict_core.proofs.Firsts.{first_line}
 
 -- the verdict where the sender may not send
-record IsRefused (t : Rules) (outer : Outer) (inner : List ℕ) (v : Verdict) : Type 0 where
+record IsRefused (t : BindingTable) (outer : Outer) (inner : List ℕ) (v : Verdict) : Type 0 where
   why : Rule
   among : IsRefusal why
   is : v ≡ silent why
   not_permitted : Permits t outer inner → ⊥
 
 -- the verdict where a named rule keeps the packet
-record IsKept (t : Rules) (outer : Outer) (inner : List ℕ) (v : Verdict) : Type 0 where
+record IsKept (t : BindingTable) (outer : Outer) (inner : List ℕ) (v : Verdict) : Type 0 where
   is : v ≡ silent rule.ToSelf
   permitted : Permits t outer inner
   forbidden : Forbids t inner
 
 -- the verdict where the packet goes out
-record IsOut (t : Rules) (outer : Outer) (inner : List ℕ) (v : Verdict) : Type 0 where
+record IsOut (t : BindingTable) (outer : Outer) (inner : List ℕ) (v : Verdict) : Type 0 where
   is : v ≡ verdict.Outward t.softwire.mtu4
   permitted : Permits t outer inner
   not_forbidden : Forbids t inner → ⊥
@@ -52,17 +52,17 @@ record IsOut (t : Rules) (outer : Outer) (inner : List ℕ) (v : Verdict) : Type
   fits : packet_len packet ≤ t.softwire.mtu4
 
 -- the verdict on a packet of a kind that is not judged yet
-record IsLeft (t : Rules) (inner : List ℕ) (v : Verdict) : Type 0 where
+record IsLeft (t : BindingTable) (inner : List ℕ) (v : Verdict) : Type 0 where
   packet : Packet4
   read : ip4_of inner ≡ Ok packet
-  not_built : is_not_built t packet ≡ true
+  not_built : is_not_judged t packet ≡ true
   is : v ≡ silent rule.NotBuilt
 
-abbrev Outcome : Rules → Outer → List ℕ → Verdict → Type 0
+abbrev Outcome : BindingTable → Outer → List ℕ → Verdict → Type 0
 Outcome t outer inner v = IsLeft t inner v ⊎ (IsRefused t outer inner v ⊎ (IsKept t outer inner v ⊎ IsOut t outer inner v))
 
 -- the outer destination is not the router's
-abbrev is_foreign : Rules → Outer → Bool
+abbrev is_foreign : BindingTable → Outer → Bool
 is_foreign t outer = not (outer.dst.0 == t.softwire.aftr.0)
 
 -- a packet has no key that tells of a faulty ICMP message
@@ -115,25 +115,25 @@ one_member test (b ∷ []) few some = record { binding = b; alone = refl; passes
 one_member test (b ∷ c ∷ bs) few some = absurd (omega arith)
 
 -- the lines from one on
-abbrev self_lines : Rules → Packet4 → List Line
+abbrev self_lines : BindingTable → Packet4 → List Line
 self_lines t p = (p.dst == t.softwire.own.0, silent rule.ToSelf) ∷ (true, verdict.Outward t.softwire.mtu4) ∷ []
 
-abbrev binding_lines : Rules → Outer → Packet4 → List Line
+abbrev binding_lines : BindingTable → Outer → Packet4 → List Line
 binding_lines t outer p = (not (is_softwire t outer p), silent rule.NoBinding) ∷ self_lines t p
 
-abbrev port_lines : Rules → Outer → Packet4 → List Line
+abbrev port_lines : BindingTable → Outer → Packet4 → List Line
 port_lines t outer p = (names_no_port (upstream_key p), silent rule.NoPort) ∷ binding_lines t outer p
 
-abbrev icmp_lines : Rules → Outer → Packet4 → List Line
+abbrev icmp_lines : BindingTable → Outer → Packet4 → List Line
 icmp_lines t outer p = (is_icmp_bad (upstream_key p), silent rule.IcmpBad) ∷ port_lines t outer p
 
-abbrev foreign_lines : Rules → Outer → Packet4 → List Line
+abbrev foreign_lines : BindingTable → Outer → Packet4 → List Line
 foreign_lines t outer p = (is_foreign t outer, silent rule.NotOurs) ∷ icmp_lines t outer p
 
 abbrev checksum_lines : Ip4Bad → List Line
 checksum_lines refusal = (is_checksum refusal, silent rule.InnerChecksum) ∷ (true, silent rule.InnerMalformed) ∷ []
 
-module _ (t : Rules) (outer : Outer) (inner : List ℕ) (v : Verdict) where
+module _ (t : BindingTable) (outer : Outer) (inner : List ℕ) (v : Verdict) where
   -- where the outer destination is another one, the sender may not send
   foreign : is_foreign t outer ≡ true → Permits t outer inner → ⊥
   foreign h permitted = both_ways _ (not-true _ h) (eq-eqb _ _ permitted.ours)
@@ -189,16 +189,16 @@ module _ (t : Rules) (outer : Outer) (inner : List ℕ) (v : Verdict) where
         let same = same_packet f.packet f.read in
         eqb-false _ _ h (ap (λ (q : Packet4). q.dst) (sym same) ∙ f.to_self)
 
-    by_settings_false : is_not_built t p ≡ false → is_not_built_by_settings t.softwire p ≡ false
-    by_settings_false h = (or_parts (is_not_built_by_settings t.softwire p) _ h).0
+    by_settings_false : is_not_judged t p ≡ false → is_not_judged_by_settings t.softwire p ≡ false
+    by_settings_false h = (or_parts (is_not_judged_by_settings t.softwire p) _ h).0
 
-    alive : is_not_built t p ≡ false → 2 ≤ p.ttl
+    alive : is_not_judged t p ≡ false → 2 ≤ p.ttl
     alive h = ltb-false _ _ (or_parts _ _ (or_parts _ _ (by_settings_false h)).0).1
 
-    fits : is_not_built t p ≡ false → packet_len p ≤ t.softwire.mtu4
+    fits : is_not_judged t p ≡ false → packet_len p ≤ t.softwire.mtu4
     fits h = ltb-false _ _ (or_parts _ _ (by_settings_false h)).1
 
-    last_line : is_not_built t p ≡ false → is_foreign t outer ≡ false → names_no_port (upstream_key p) ≡ false → not (is_softwire t outer p) ≡ false →
+    last_line : is_not_judged t p ≡ false → is_foreign t outer ≡ false → names_no_port (upstream_key p) ≡ false → not (is_softwire t outer p) ≡ false →
         Choice (p.dst == t.softwire.own.0) (silent rule.ToSelf) ((true, verdict.Outward t.softwire.mtu4) ∷ []) v → Outcome t outer inner v
     last_line built ours named softwire (inl (self, is)) =
         inr (inr (inl (record { is = is; permitted = permit ours named softwire; forbidden = forbids self })))
@@ -215,27 +215,27 @@ module _ (t : Rules) (outer : Outer) (inner : List ℕ) (v : Verdict) where
           fits = fits built;
         })))
 
-    by_binding : is_not_built t p ≡ false → is_foreign t outer ≡ false → names_no_port (upstream_key p) ≡ false →
+    by_binding : is_not_judged t p ≡ false → is_foreign t outer ≡ false → names_no_port (upstream_key p) ≡ false →
         Choice (not (is_softwire t outer p)) (silent rule.NoBinding) (self_lines t p) v → Outcome t outer inner v
     by_binding built ours named (inl (test, is)) =
         inr (inl (record { why = rule.NoBinding; among = tt; is = is; not_permitted = no_binding test }))
     by_binding built ours named (inr (test, is)) = last_line built ours named test (first_or_later _ _ ((true, verdict.Outward t.softwire.mtu4) ∷ []) v is)
 
-    by_port : is_not_built t p ≡ false → is_foreign t outer ≡ false →
+    by_port : is_not_judged t p ≡ false → is_foreign t outer ≡ false →
         Choice (names_no_port (upstream_key p)) (silent rule.NoPort) (binding_lines t outer p) v → Outcome t outer inner v
     by_port built ours (inl (test, is)) = inr (inl (record { why = rule.NoPort; among = tt; is = is; not_permitted = no_port test }))
     by_port built ours (inr (test, is)) = by_binding built ours test (first_or_later _ _ (self_lines t p) v is)
 
-    by_icmp : is_not_built t p ≡ false → is_foreign t outer ≡ false →
+    by_icmp : is_not_judged t p ≡ false → is_foreign t outer ≡ false →
         Choice (is_icmp_bad (upstream_key p)) (silent rule.IcmpBad) (port_lines t outer p) v → Outcome t outer inner v
     by_icmp built ours (inl (test, is)) = absurd (both_ways _ (not_icmp_bad p) test)
     by_icmp built ours (inr (test, is)) = by_port built ours (first_or_later _ _ (binding_lines t outer p) v is)
 
-    by_foreign : is_not_built t p ≡ false → Choice (is_foreign t outer) (silent rule.NotOurs) (icmp_lines t outer p) v → Outcome t outer inner v
+    by_foreign : is_not_judged t p ≡ false → Choice (is_foreign t outer) (silent rule.NotOurs) (icmp_lines t outer p) v → Outcome t outer inner v
     by_foreign built (inl (test, is)) = inr (inl (record { why = rule.NotOurs; among = tt; is = is; not_permitted = foreign test }))
     by_foreign built (inr (test, is)) = by_icmp built test (first_or_later _ _ (port_lines t outer p) v is)
 
-    by_kind : Choice (is_not_built t p) (silent rule.NotBuilt) (foreign_lines t outer p) v → Outcome t outer inner v
+    by_kind : Choice (is_not_judged t p) (silent rule.NotBuilt) (foreign_lines t outer p) v → Outcome t outer inner v
     by_kind (inl (test, is)) = inl (record { packet = p; read = read; not_built = test; is = is })
     by_kind (inr (test, is)) = by_foreign test (first_or_later _ _ (icmp_lines t outer p) v is)
 
@@ -253,7 +253,7 @@ module _ (t : Rules) (outer : Outer) (inner : List ℕ) (v : Verdict) where
     by_refusal (inl (test, is)) = record { why = rule.NotOurs; among = tt; is = is; not_permitted = unread }
     by_refusal (inr (test, is)) = by_checksum (first_or_later _ _ ((true, silent rule.InnerMalformed) ∷ []) v is)
 
-outcome : (t : Rules) (outer : Outer) (inner : List ℕ) (v : Verdict) → IsLawful t →
+outcome : (t : BindingTable) (outer : Outer) (inner : List ℕ) (v : Verdict) → IsLawful t →
     first_true (up_lines t outer (ip4_of inner)) ≡ Some v → Outcome t outer inner v
 outcome t outer inner v lawful first = by_reading (ip4_of inner) refl first
   where
@@ -266,12 +266,12 @@ not_forwarded : (v : Verdict) (why : Rule) → v ≡ silent why → IsForwarded 
 not_forwarded v why is goes = subst (λ (w : Verdict). IsForwarded w) is goes
 
 -- what is left is of no kind that is judged
-not_left : (t : Rules) (inner : List ℕ) (v : Verdict) → IsLeft t inner v → IsBuilt t (ip4_of inner) → ⊥
+not_left : (t : BindingTable) (inner : List ℕ) (v : Verdict) → IsLeft t inner v → IsBuilt t (ip4_of inner) → ⊥
 not_left t inner v left built =
-    let here : is_not_built t left.packet ≡ false = subst (λ (r : Result Packet4 Ip4Bad). IsBuilt t r) left.read built in
+    let here : is_not_judged t left.packet ≡ false = subst (λ (r : Result Packet4 Ip4Bad). IsBuilt t r) left.read built in
     both_ways _ here left.not_built
 
-module _ (t : Rules) (outer : Outer) (inner : List ℕ) (v : Verdict) (built : IsBuilt t (ip4_of inner)) where
+module _ (t : BindingTable) (outer : Outer) (inner : List ℕ) (v : Verdict) (built : IsBuilt t (ip4_of inner)) where
   forwards_by : Outcome t outer inner v → IsForwarded v ↔ (Permits t outer inner × (Forbids t inner → ⊥))
   forwards_by (inl left) = absurd (not_left t inner v left built)
   forwards_by (inr (inl refused)) =
@@ -293,7 +293,7 @@ module _ (t : Rules) (outer : Outer) (inner : List ℕ) (v : Verdict) (built : I
   refused_by (inr (inr (inl kept))) not_permitted = absurd (not_permitted kept.permitted)
   refused_by (inr (inr (inr out))) not_permitted = absurd (not_permitted out.permitted)
 
-pub forwards : (t : Rules) (i : Item) (v : Verdict) → IsLawful t → Judged t i v → Forwards t i v
+pub forwards : (t : BindingTable) (i : Item) (v : Verdict) → IsLawful t → Judged t i v → Forwards t i v
 forwards t (item.Up outer inner) v lawful j = λ built.
     forwards_by t outer inner v built (outcome t outer inner v lawful (first_line t (item.Up outer inner) v j))
 forwards t (item.Down packet) v lawful j = tt
@@ -301,7 +301,7 @@ forwards t (item.Six dst) v lawful j = tt
 forwards t item.Held v lawful j = tt
 forwards t (item.Bad why) v lawful j = tt
 
-pub forbidden : (t : Rules) (i : Item) (v : Verdict) → IsLawful t → Judged t i v → Forbidden t i v
+pub forbidden : (t : BindingTable) (i : Item) (v : Verdict) → IsLawful t → Judged t i v → Forbidden t i v
 forbidden t (item.Up outer inner) v lawful j = λ built.
     forbidden_by t outer inner v built (outcome t outer inner v lawful (first_line t (item.Up outer inner) v j))
 forbidden t (item.Down packet) v lawful j = tt
@@ -309,7 +309,7 @@ forbidden t (item.Six dst) v lawful j = tt
 forbidden t item.Held v lawful j = tt
 forbidden t (item.Bad why) v lawful j = tt
 
-pub refused : (t : Rules) (i : Item) (v : Verdict) → IsLawful t → Judged t i v → Refused t i v
+pub refused : (t : BindingTable) (i : Item) (v : Verdict) → IsLawful t → Judged t i v → Refused t i v
 refused t (item.Up outer inner) v lawful j = λ built.
     refused_by t outer inner v built (outcome t outer inner v lawful (first_line t (item.Up outer inner) v j))
 refused t (item.Down packet) v lawful j = tt
@@ -326,7 +326,7 @@ pub record IsGood (i : Item) (v : Verdict) : Type 0 where
 good_silent : (i : Item) (v : Verdict) (why : Rule) → v ≡ silent why → IsGood i v
 good_silent i v why is = subst (λ (w : Verdict). IsGood i w) (sym is) (record { fits = tt; plain = refl; room = tt })
 
-module _ (t : Rules) (outer : Outer) (inner : List ℕ) (v : Verdict) (lawful : IsLawful t) where
+module _ (t : BindingTable) (outer : Outer) (inner : List ℕ) (v : Verdict) (lawful : IsLawful t) where
   good_by : Outcome t outer inner v → IsGood (item.Up outer inner) v
   good_by (inl left) = good_silent (item.Up outer inner) v rule.NotBuilt left.is
   good_by (inr (inl refused)) = good_silent (item.Up outer inner) v refused.why refused.is
@@ -337,14 +337,14 @@ module _ (t : Rules) (outer : Outer) (inner : List ℕ) (v : Verdict) (lawful : 
     room = lawful.mtu4;
   })
     where
-      small : (p : Packet4) → Carries (item.Up outer inner) p → packet_len p ≤ t.softwire.mtu4
+      small : (p : Packet4) → HasPacket (item.Up outer inner) p → packet_len p ≤ t.softwire.mtu4
       small p carried =
           let bytes : inner ≡ carried.0 = cc in
           let both : ◌≡◌ {A = Result Packet4 Ip4Bad} (Ok out.packet) (Ok p) = sym out.read ∙ ap ip4_of bytes ∙ carried.2 in
           let same : out.packet ≡ p = cc in
           subst (λ (q : Packet4). packet_len q ≤ t.softwire.mtu4) same out.fits
 
-pub good : (t : Rules) (i : Item) (v : Verdict) → IsLawful t → Judged t i v → IsGood i v
+pub good : (t : BindingTable) (i : Item) (v : Verdict) → IsLawful t → Judged t i v → IsGood i v
 good t (item.Up outer inner) v lawful j =
     good_by t outer inner v lawful (outcome t outer inner v lawful (first_line t (item.Up outer inner) v j))
 good t (item.Down packet) v lawful j = good_first (first_line t (item.Down packet) v j)

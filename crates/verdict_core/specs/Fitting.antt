@@ -15,13 +15,13 @@ ipv4_bytes (item.Up outer inner) = Some inner
 ipv4_bytes _ = None
 
 -- the item has an IPv4 packet that is read as this one
-abbrev pub Carries : Item → Packet4 → Type 0
-Carries i p = (bytes : List ℕ) × (ipv4_bytes i ≡ Some bytes) × (ip4_of bytes ≡ Ok p)
+abbrev pub HasPacket : Item → Packet4 → Type 0
+HasPacket i p = (bytes : List ℕ) × (ipv4_bytes i ≡ Some bytes) × (ip4_of bytes ≡ Ok p)
 
 -- the item's packet can be sent on: it is whole, its time to live is not used up, and it has DF clear or fits
 pub record IsSendable (i : Item) (room : ℕ) : Type 0 where
   pub packet : Packet4
-  pub carried : Carries i packet
+  pub carried : HasPacket i packet
   pub whole : is_fragment packet ≡ false
   pub alive : 2 ≤ packet.ttl
   pub fits : packet.df ≡ true → packet_len packet ≤ room
@@ -36,8 +36,8 @@ IsDown _ = ⊥
 
 abbrev pub FitsReply : Item → Reply → Type 0
 FitsReply i reply.Silent = Unit {0}
-FitsReply i (reply.Policy from to hop) = IsUp i × ((p : Packet4) × Carries i p)
-FitsReply i _ = (p : Packet4) × Carries i p
+FitsReply i (reply.Policy from to hop) = IsUp i × ((p : Packet4) × HasPacket i p)
+FitsReply i _ = (p : Packet4) × HasPacket i p
 
 -- the verdict fits the item
 abbrev pub Fits : Item → Verdict → Type 0
@@ -50,8 +50,8 @@ Fits i (verdict.Inward from to hop mtu false) = IsDown i × IsSendable i (mtu - 
 -- a verdict whose packets need no cutting and that asks for no ICMP message
 abbrev pub IsPlain : Item → Verdict → Type 0
 IsPlain i (verdict.Drop why told) = told ≡ reply.Silent
-IsPlain i (verdict.Outward mtu) = (p : Packet4) → Carries i p → packet_len p ≤ mtu
-IsPlain i (verdict.Inward from to hop mtu back) = (p : Packet4) → Carries i p → packet_len p + 40 ≤ mtu
+IsPlain i (verdict.Outward mtu) = (p : Packet4) → HasPacket i p → packet_len p ≤ mtu
+IsPlain i (verdict.Inward from to hop mtu back) = (p : Packet4) → HasPacket i p → packet_len p + 40 ≤ mtu
 IsPlain i verdict.Held = Unit {0}
 
 -- the greatest size that the verdict names is at least what every IPv6 link (RFC 8200, section 5) or every IPv4 host

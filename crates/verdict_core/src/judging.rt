@@ -3,7 +3,7 @@ ghost use Rattle.std.specs.Prelude.{◌≡◌, ◌≢◌, ◌==◌, ◌+◌, ◌
 ghost use Rattle.std.specs.List.{list_any};
 ghost use Rattle.aftr_base.specs.First.{first_true};
 ghost use Rattle.binding_rules.specs.Bindings.{bound};
-ghost use Rattle.binding_rules.specs.Tables.{Rules};
+ghost use Rattle.binding_rules.specs.Tables.{BindingTable};
 ghost use Rattle.ip_codec.specs.Packet4.{ip4_of, packet4};
 ghost use Rattle.table_words.specs.Bounds.{look_bound, group_digits};
 ghost use Rattle.table_words.specs.Layout.{IsCompiled, AreCompiled};
@@ -11,7 +11,7 @@ ghost use Rattle.table_words.specs.Reads.{read_more};
 ghost use Rattle.verdict_core.specs.Access.{Forbidden, Forwards, Refused};
 ghost use Rattle.verdict_core.specs.Bounds.{judge_bound};
 ghost use Rattle.verdict_core.specs.Fitting.{AsksTable, Fits, HasRoom, IsPlain};
-ghost use Rattle.verdict_core.specs.Verdicts.{Judged, is_not_built, is_not_built_by_settings, lines, silent, up_lines, verdict_of};
+ghost use Rattle.verdict_core.specs.Verdicts.{Judged, is_not_judged, is_not_judged_by_settings, lines, silent, up_lines, verdict_of};
 
 use crate::verdicts::{Reply, Verdict};
 use aftr_base::V4;
@@ -34,9 +34,9 @@ pub fn judge<W: Words, L: Ledger>(words: &mut W, item: &Item, steps: &mut Steps<
     requires { AreCompiled (W.list words.old) }
 
     // Which verdict it is.
-    ensures verdict { (t : Rules) → IsCompiled t (W.list words.old) → Judged t item.now result }
-    ensures value { (t : Rules) → IsCompiled t (W.list words.old) → result ≡ verdict_of t item.now }
-    ensures only { (t : Rules) → IsCompiled t (W.list words.old) → (v : Verdict) → Judged t item.now v → v ≡ result }
+    ensures verdict { (t : BindingTable) → IsCompiled t (W.list words.old) → Judged t item.now result }
+    ensures value { (t : BindingTable) → IsCompiled t (W.list words.old) → result ≡ verdict_of t item.now }
+    ensures only { (t : BindingTable) → IsCompiled t (W.list words.old) → (v : Verdict) → Judged t item.now v → v ≡ result }
 
     // What it can be.
     ensures fits { Fits item.now result }
@@ -44,9 +44,9 @@ pub fn judge<W: Words, L: Ledger>(words: &mut W, item: &Item, steps: &mut Steps<
     ensures room { HasRoom result }
 
     // Who may send.
-    ensures forwards { (t : Rules) → IsCompiled t (W.list words.old) → Forwards t item.now result }
-    ensures forbidden { (t : Rules) → IsCompiled t (W.list words.old) → Forbidden t item.now result }
-    ensures refused { (t : Rules) → IsCompiled t (W.list words.old) → Refused t item.now result }
+    ensures forwards { (t : BindingTable) → IsCompiled t (W.list words.old) → Forwards t item.now result }
+    ensures forbidden { (t : BindingTable) → IsCompiled t (W.list words.old) → Forbidden t item.now result }
+    ensures refused { (t : BindingTable) → IsCompiled t (W.list words.old) → Refused t item.now result }
 
     // What it reads.
     ensures list { W.list words.new ≡ W.list words.old }
@@ -54,7 +54,7 @@ pub fn judge<W: Words, L: Ledger>(words: &mut W, item: &Item, steps: &mut Steps<
     ensures goes { W.goes words.old words.new }
     ensures later { steps.old ≤ steps.new }
     ensures rises { AsksTable item.now → steps.old + 1 ≤ steps.new }
-    ensures bound { (t : Rules) → IsCompiled t (W.list words.old) → steps.new ≤ steps.old + judge_bound t.bindings }
+    ensures bound { (t : BindingTable) → IsCompiled t (W.list words.old) → steps.new ≤ steps.old + judge_bound t.bindings }
 {
     let settings = softwire(words, steps);
     judge_under(words, &settings, item, steps)
@@ -68,13 +68,13 @@ fn judge_under<W: Words, L: Ledger>(
     steps: &mut Steps<L>,
 ) -> Verdict
     requires compiled { AreCompiled (W.list words.old) }
-    requires settings { (t : Rules) → IsCompiled t (W.list words.old) → settings.now ≡ t.softwire }
-    ensures verdict { (t : Rules) → IsCompiled t (W.list words.old) → first_true (lines t item.now) ≡ Some result }
+    requires settings { (t : BindingTable) → IsCompiled t (W.list words.old) → settings.now ≡ t.softwire }
+    ensures verdict { (t : BindingTable) → IsCompiled t (W.list words.old) → first_true (lines t item.now) ≡ Some result }
     ensures list { W.list words.new ≡ W.list words.old }
     ensures reads { W.reads words.new ≡ read_more (W.reads words.old) (steps.new - steps.old) }
     ensures goes { W.goes words.old words.new }
     ensures later { steps.old ≤ steps.new }
-    ensures bound { (t : Rules) → IsCompiled t (W.list words.old) → steps.new ≤ steps.old + look_bound t.bindings + group_digits t.bindings + 3 }
+    ensures bound { (t : BindingTable) → IsCompiled t (W.list words.old) → steps.new ≤ steps.old + look_bound t.bindings + group_digits t.bindings + 3 }
 {
     match item {
         Item::Held => Verdict::Held,
@@ -94,19 +94,19 @@ fn judge_up<W: Words, L: Ledger>(
     steps: &mut Steps<L>,
 ) -> Verdict
     requires compiled { AreCompiled (W.list words.old) }
-    requires settings { (t : Rules) → IsCompiled t (W.list words.old) → settings.now ≡ t.softwire }
-    ensures verdict { (t : Rules) → IsCompiled t (W.list words.old) → first_true (up_lines t outer.now (ip4_of inner.now)) ≡ Some result }
+    requires settings { (t : BindingTable) → IsCompiled t (W.list words.old) → settings.now ≡ t.softwire }
+    ensures verdict { (t : BindingTable) → IsCompiled t (W.list words.old) → first_true (up_lines t outer.now (ip4_of inner.now)) ≡ Some result }
     ensures list { W.list words.new ≡ W.list words.old }
     ensures reads { W.reads words.new ≡ read_more (W.reads words.old) (steps.new - steps.old) }
     ensures goes { W.goes words.old words.new }
     ensures later { steps.old ≤ steps.new }
-    ensures bound { (t : Rules) → IsCompiled t (W.list words.old) → steps.new ≤ steps.old + look_bound t.bindings + group_digits t.bindings + 3 }
+    ensures bound { (t : BindingTable) → IsCompiled t (W.list words.old) → steps.new ≤ steps.old + look_bound t.bindings + group_digits t.bindings + 3 }
 {
     let packet = match ip4(inner) {
         Ok(packet) => packet,
         Err(refusal) => return refused(settings, outer, refusal),
     };
-    if is_not_built(words, settings, &packet, steps) {
+    if is_not_judged(words, settings, &packet, steps) {
         return silent(Rule::NotBuilt);
     }
     if outer.dst != settings.aftr {
@@ -128,7 +128,7 @@ fn judge_up<W: Words, L: Ledger>(
 
 // The verdict where the inner bytes are no IPv4 packet.
 fn refused(settings: &Softwire, outer: &Outer, refusal: Ip4Bad) -> Verdict
-    ensures { (t : Rules) → settings.now ≡ t.softwire → first_true (up_lines t outer.now (Err refusal)) ≡ Some result }
+    ensures { (t : BindingTable) → settings.now ≡ t.softwire → first_true (up_lines t outer.now (Err refusal)) ≡ Some result }
 {
     if outer.dst != settings.aftr {
         return silent(Rule::NotOurs);
@@ -140,27 +140,27 @@ fn refused(settings: &Softwire, outer: &Outer, refusal: Ip4Bad) -> Verdict
 }
 
 // Whether the packet is of a kind that is not judged yet.
-fn is_not_built<W: Words, L: Ledger>(
+fn is_not_judged<W: Words, L: Ledger>(
     words: &mut W,
     settings: &Softwire,
     packet: &Ip4View<'_>,
     steps: &mut Steps<L>,
 ) -> bool
     requires compiled { AreCompiled (W.list words.old) }
-    requires settings { (t : Rules) → IsCompiled t (W.list words.old) → settings.now ≡ t.softwire }
-    ensures answer { (t : Rules) → IsCompiled t (W.list words.old) → result ≡ is_not_built t (packet4 packet.now) }
+    requires settings { (t : BindingTable) → IsCompiled t (W.list words.old) → settings.now ≡ t.softwire }
+    ensures answer { (t : BindingTable) → IsCompiled t (W.list words.old) → result ≡ is_not_judged t (packet4 packet.now) }
     ensures list { W.list words.new ≡ W.list words.old }
     ensures reads { W.reads words.new ≡ read_more (W.reads words.old) (steps.new - steps.old) }
     ensures goes { W.goes words.old words.new }
     ensures later { steps.old ≤ steps.new }
-    ensures bound { (t : Rules) → IsCompiled t (W.list words.old) → steps.new ≤ steps.old + group_digits t.bindings + 3 }
+    ensures bound { (t : BindingTable) → IsCompiled t (W.list words.old) → steps.new ≤ steps.old + group_digits t.bindings + 3 }
 {
-    is_not_built_by_settings(settings, packet) || has_address(words, packet.dst, steps)
+    is_not_judged_by_settings(settings, packet) || has_address(words, packet.dst, steps)
 }
 
 // The same by the settings alone, where the packet's destination is not looked at.
-fn is_not_built_by_settings(settings: &Softwire, packet: &Ip4View<'_>) -> bool
-    ensures { result ≡ is_not_built_by_settings settings.now (packet4 packet.now) }
+fn is_not_judged_by_settings(settings: &Softwire, packet: &Ip4View<'_>) -> bool
+    ensures { result ≡ is_not_judged_by_settings settings.now (packet4 packet.now) }
 {
     packet.protocol == ICMP
         || settings.errors_up
@@ -178,13 +178,13 @@ fn is_softwire<W: Words, L: Ledger>(
     steps: &mut Steps<L>,
 ) -> bool
     requires { AreCompiled (W.list words.old) }
-    ensures answer { (t : Rules) → IsCompiled t (W.list words.old) →
+    ensures answer { (t : BindingTable) → IsCompiled t (W.list words.old) →
         result ≡ list_any (λ b. b.b4.0 == outer.now.src.0) (bound t.bindings v4 want) }
     ensures list { W.list words.new ≡ W.list words.old }
     ensures reads { W.reads words.new ≡ read_more (W.reads words.old) (steps.new - steps.old) }
     ensures goes { W.goes words.old words.new }
     ensures later { steps.old ≤ steps.new }
-    ensures bound { (t : Rules) → IsCompiled t (W.list words.old) → steps.new ≤ steps.old + look_bound t.bindings }
+    ensures bound { (t : BindingTable) → IsCompiled t (W.list words.old) → steps.new ≤ steps.old + look_bound t.bindings }
 {
     let end = look(words, v4, want, steps);
     end == Some(outer.src)

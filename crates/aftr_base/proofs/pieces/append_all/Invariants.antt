@@ -1,5 +1,5 @@
 use Rattle.std.proofs.Common.{◌≤◌, ◌-◌, ◌++◌, false, length, take}
-use Rattle.aftr_base.specs.Held.{Moves, Writes, content}
+use Rattle.aftr_base.specs.Contents.{Moves, Writes, content}
 use Rattle.aftr_base.specs.Outside.{OnlyWrites}
 use Rattle.aftr_base.proofs.pieces.append_all.Given as goal
 

@@ -1,5 +1,5 @@
 use Rattle.std.proofs.Common.{◌≡◌, ◌≤◌, ◌-◌, length, take, drop}
-use Rattle.aftr_base.specs.Held.{Told, content}
+use Rattle.aftr_base.specs.Contents.{Told, content}
 use Rattle.aftr_base.proofs.pieces.fill.Given as goal
 
 abbrev pub invariant-pieces : goal.invariant-pieces

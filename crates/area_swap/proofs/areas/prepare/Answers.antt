@@ -1,7 +1,7 @@
 use Rattle.std.proofs.Common.{rules, arith, ◌≡◌, ◌∙◌, ◌<◌, sym, ap, subst}
 use Rattle.area_swap.specs.Rule.{Moment}
 use Rattle.area_swap.specs.Views.{first_view, worker_view, desk_view}
-use Rattle.area_swap.specs.Told.{Seated}
+use Rattle.area_swap.specs.SeatSteps.{Seated}
 use Rattle.area_swap.proofs.Opening.{opens, filled}
 use Rattle.area_swap.proofs.SeatMoves.{desk_apart, first_moments}
 use Rattle.area_swap.proofs.areas.prepare.Goals as goal

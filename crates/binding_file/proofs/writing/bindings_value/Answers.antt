@@ -2,7 +2,7 @@ use Rattle.std.proofs.Common.{◌+◌, sym, subst, take}
 use Rattle.std.proofs.lemmas.List.{take_all}
 use Rattle.toml.specs.View.{items_view}
 use Rattle.toml.proofs.Views.{view-Array}
-use Rattle.binding_file.specs.Steps.{AreSpelled}
+use Rattle.binding_file.specs.Parts.{AreSpelled}
 use Rattle.binding_file.proofs.Written.{spelled_more}
 use Rattle.binding_file.proofs.writing.bindings_value.Goals as goal
 

@@ -1,6 +1,6 @@
 use Rattle.std.proofs.Common.{take}
 use Rattle.toml.specs.View.{items_view}
-use Rattle.binding_file.specs.Steps.{AreSpelled}
+use Rattle.binding_file.specs.Parts.{AreSpelled}
 use Rattle.binding_file.proofs.writing.bindings_value.Given as goal
 
 abbrev pub invariant-bindings : goal.invariant-bindings

@@ -1,7 +1,7 @@
 use Rattle.std.proofs.Common.{◌≡◌, ap, pos, subst, ◌∙◌}
 use Rattle.toml.specs.Data.{integer}
 use Rattle.toml.specs.View.{view, table_view}
-use Rattle.binding_file.specs.Steps.{edition_number, IsSoftwireData, AreBindingsData}
+use Rattle.binding_file.specs.Parts.{edition_number, IsSoftwireData, AreBindingsData}
 use Rattle.binding_file.proofs.Members.{no_entries}
 use Rattle.binding_file.proofs.Written.{top_members, top_put, tree_written, flat_written}
 use Rattle.binding_file.proofs.writing.document_of.Goals as goal

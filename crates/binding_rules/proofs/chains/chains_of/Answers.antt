@@ -2,7 +2,7 @@ use Rattle.std.proofs.Common.{◌≡◌, ◌+◌, length, subst, ap, ◌∙◌, 
 use Rattle.std.specs.Ordering.{nat_cmp}
 use Rattle.std.specs.BTreeMap.{get}
 use Rattle.std.proofs.lemmas.Option.{slice_get-get_or, slice_get_within}
-use Rattle.binding_rules.specs.Steps.{IsNearest}
+use Rattle.binding_rules.specs.Scans.{IsNearest}
 use Rattle.binding_rules.proofs.Links.{linked_next, nearest_next}
 use Rattle.binding_rules.proofs.chains.chains_of.Goals as goal
 

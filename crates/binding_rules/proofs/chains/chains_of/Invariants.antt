@@ -3,7 +3,7 @@ use Rattle.std.specs.Prelude.{slice_get}
 use Rattle.std.specs.Ordering.{nat_cmp}
 use Rattle.std.specs.BTreeMap.{get}
 use Rattle.binding_rules.specs.declared.binding.Binding.{Binding}
-use Rattle.binding_rules.specs.Steps.{IsNearest, slot}
+use Rattle.binding_rules.specs.Scans.{IsNearest, slot}
 use Rattle.binding_rules.proofs.chains.chains_of.Given as goal
 
 abbrev pub invariant-places : goal.invariant-places

@@ -1,5 +1,5 @@
 use Rattle.std.proofs.Common.{◌<◌, length, ap, subst, sym, ◌∙◌, arith}
-use Rattle.binding_rules.specs.Steps.{ends_within}
+use Rattle.binding_rules.specs.Scans.{ends_within}
 use Rattle.binding_rules.proofs.Links.{IsWithin, within_next, ends_now, ends_next, reach_less}
 use Rattle.binding_rules.proofs.chains.has_at_most.Goals as goal
 

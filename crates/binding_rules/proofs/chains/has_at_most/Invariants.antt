@@ -1,5 +1,5 @@
 use Rattle.std.proofs.Common.{◌≡◌, Some}
-use Rattle.binding_rules.specs.Steps.{ends_within}
+use Rattle.binding_rules.specs.Scans.{ends_within}
 use Rattle.binding_rules.proofs.Links.{IsWithin, reach}
 use Rattle.binding_rules.proofs.chains.has_at_most.Given as goal
 

@@ -1,5 +1,5 @@
 use Rattle.std.proofs.Common.{ℕ, ◌<◌, length}
-use Rattle.binding_rules.specs.Steps.{HasAddress}
+use Rattle.binding_rules.specs.Scans.{HasAddress}
 use Rattle.binding_rules.proofs.chains.head_of.Given as goal
 
 abbrev pub invariant-chain : goal.invariant-chain

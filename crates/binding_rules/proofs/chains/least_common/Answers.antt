@@ -1,7 +1,7 @@
 use Rattle.std.proofs.Common.{◌<◌, length, subst, sym, ◌∙◌, refl, arith}
 use Rattle.std.proofs.lemmas.Bool.{true≢false}
 use Rattle.binding_rules.specs.Conflicts.{HaveCommonPort}
-use Rattle.binding_rules.specs.Steps.{IsLeast, IsLater}
+use Rattle.binding_rules.specs.Scans.{IsLeast, IsLater}
 use Rattle.binding_rules.proofs.Links.{IsOf, IsToCome, none_later, near_of, nearest_is_of, last_to_come, still_to_come, least_here, least_kept, of_within, read, read_is, has_address_of, same_binding}
 use Rattle.binding_rules.proofs.chains.least_common.Goals as goal
 use Rattle.binding_rules.proofs.chains.least_common.Goals.{then-have_common_port, else-have_common_port}

@@ -2,7 +2,7 @@ use Rattle.std.proofs.Common.{◌<◌, length, subst, sym, ◌∙◌, arith}
 use Rattle.std.proofs.lemmas.Option.{slice_get-get_or}
 use Rattle.std.proofs.lemmas.Bool.{true≢false}
 use Rattle.binding_rules.specs.Conflicts.{HaveOneShape}
-use Rattle.binding_rules.specs.Steps.{IsLeast, IsLater}
+use Rattle.binding_rules.specs.Scans.{IsLeast, IsLater}
 use Rattle.binding_rules.proofs.Links.{IsOf, none_later, near_of, nearest_is_of, unlike_found, unlike_kept, of_within}
 use Rattle.binding_rules.proofs.chains.least_unlike.Goals as goal
 use Rattle.binding_rules.proofs.chains.least_unlike.Goals.{then-not-have_one_shape, else-not-have_one_shape}

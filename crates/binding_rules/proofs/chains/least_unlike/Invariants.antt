@@ -1,5 +1,5 @@
 use Rattle.binding_rules.specs.Conflicts.{HaveOneShape}
-use Rattle.binding_rules.specs.Steps.{IsLeast, IsLater}
+use Rattle.binding_rules.specs.Scans.{IsLeast, IsLater}
 use Rattle.binding_rules.proofs.Links.{IsOf, reach}
 use Rattle.binding_rules.proofs.chains.least_unlike.Given as goal
 

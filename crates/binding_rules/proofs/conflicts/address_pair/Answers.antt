@@ -1,5 +1,5 @@
 use Rattle.std.proofs.Common.{subst, sym}
-use Rattle.binding_rules.specs.Steps.{IsLast, IsLeastUnlike, HasAddress}
+use Rattle.binding_rules.specs.Scans.{IsLast, IsLeastUnlike, HasAddress}
 use Rattle.binding_rules.proofs.Links.{of_within, has_address_of, read, read_is}
 use Rattle.binding_rules.proofs.Keys.{two_by_port, two_by_none, unlike_first, one_by_identifier}
 use Rattle.binding_rules.proofs.conflicts.address_pair.Goals as goal

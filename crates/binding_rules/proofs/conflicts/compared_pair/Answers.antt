@@ -1,5 +1,5 @@
 use Rattle.std.proofs.Common.{◌<◌, length, subst, sym, arith}
-use Rattle.binding_rules.specs.Steps.{IsLast}
+use Rattle.binding_rules.specs.Scans.{IsLast}
 use Rattle.binding_rules.proofs.Links.{IsOf, of_within, has_address_of, read, read_is, reach_less}
 use Rattle.binding_rules.proofs.Pairs.{IsCompared, compared_none, compared_next, compared_all}
 use Rattle.binding_rules.proofs.conflicts.compared_pair.Goals as goal

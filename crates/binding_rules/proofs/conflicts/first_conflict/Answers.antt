@@ -3,7 +3,7 @@ use Rattle.std.specs.Ordering.{nat_cmp}
 use Rattle.std.specs.BTreeMap.{get}
 use Rattle.std.proofs.lemmas.Option.{none-some}
 use Rattle.std.proofs.lemmas.List.{with_items_is}
-use Rattle.binding_rules.specs.Steps.{IsNearest}
+use Rattle.binding_rules.specs.Scans.{IsNearest}
 use Rattle.binding_rules.proofs.Gone.{AreGone, last_of, fresh_for, gone_names, gone_later, gone_best, same_best, none_gone, all_gone, option_is, option_is_not}
 use Rattle.binding_rules.proofs.Links.{read, read_is}
 use Rattle.binding_rules.proofs.conflicts.first_conflict.Goals as goal

@@ -1,6 +1,6 @@
 use Rattle.std.proofs.Common.{◌≡◌, length}
 use Rattle.binding_rules.specs.Conflicts.{Conflict}
-use Rattle.binding_rules.specs.Steps.{IsFirstPair}
+use Rattle.binding_rules.specs.Scans.{IsFirstPair}
 use Rattle.binding_rules.proofs.Gone.{IsGone, AreGone}
 use Rattle.binding_rules.proofs.conflicts.first_conflict.Given as goal
 

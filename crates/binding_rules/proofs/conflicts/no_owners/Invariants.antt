@@ -1,5 +1,5 @@
 use Rattle.std.proofs.Common.{◌≡◌, ℕ, ◌-◌, ◌≤◌, None, vec_len}
-use Rattle.binding_rules.specs.Steps.{slot}
+use Rattle.binding_rules.specs.Scans.{slot}
 use Rattle.binding_rules.proofs.conflicts.no_owners.Given as goal
 
 abbrev pub invariant-keys : goal.invariant-keys

@@ -1,5 +1,5 @@
 use Rattle.std.proofs.Common.{◌≡◌, ◌++◌}
-use Rattle.binding_rules.specs.Steps.{IsLeast}
+use Rattle.binding_rules.specs.Scans.{IsLeast}
 use Rattle.binding_rules.proofs.Slots.{IsNamed}
 use Rattle.binding_rules.proofs.owners.least_of_ports.Given as goal
 

@@ -1,4 +1,4 @@
-use Rattle.binding_rules.specs.Steps.{AreSound}
+use Rattle.binding_rules.specs.Scans.{AreSound}
 use Rattle.binding_rules.proofs.places.places_refusal.Given as goal
 
 abbrev pub invariant-places : goal.invariant-places

@@ -1,7 +1,7 @@
 use Rattle.std.proofs.Common.{subst, sym, ◌∙◌}
 use Rattle.std.proofs.lemmas.Option.{slice_get_within}
 use Rattle.binding_rules.specs.Conflicts.{Conflict}
-use Rattle.binding_rules.specs.Steps.{IsFirstPair}
+use Rattle.binding_rules.specs.Scans.{IsFirstPair}
 use Rattle.aftr_base.proofs.MemberLemmas.{when_none}
 use Rattle.binding_rules.proofs.Firsts.{some_map, first_place, first_pair, none_applies}
 use Rattle.binding_rules.proofs.table.first_refusal.Goals as goal

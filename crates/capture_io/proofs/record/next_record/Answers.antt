@@ -2,7 +2,7 @@ use Rattle.std.proofs.Common.{◌≡◌, ℕ, refl, ◌+◌, ◌<◌, Err, List,
 use Rattle.std.proofs.lemmas.Result.{err_from_is_err_and}
 use Rattle.std.proofs.lemmas.Bool.Decides.{nat_tests}
 use Rattle.aftr_base.proofs.OutsideLemmas.{read_well}
-use Rattle.aftr_base.specs.Held.{content}
+use Rattle.aftr_base.specs.Contents.{content}
 use Rattle.capture_io.proofs.AnswerLemmas.{continued_told, cut_told, failed_inside, in_bytes, in_header, refused_told, told_same, whole_told}
 use Rattle.capture_io.proofs.record.next_record.Goals as goal
 

@@ -1,5 +1,5 @@
 use Rattle.std.proofs.Common.{◌≡◌, ◌+◌, ◌-◌, ◌≤◌, length}
-use Rattle.binding_rules.specs.Tables.{Rules}
+use Rattle.binding_rules.specs.Tables.{BindingTable}
 use Rattle.table_words.specs.Layout.{IsCompiled}
 use Rattle.lwaftr_engine.specs.Outputs.{steady}
 use Rattle.lwaftr_engine.specs.Rendering.{IsWithin}
@@ -11,7 +11,7 @@ invariant-records g l = record {
   within : l.i ≤ length l.records;
   counts : IsWithin l.totals (l.start + l.i);
   words : l.reader.0.now ≡ l.words;
-  remains : (t : Rules) → IsCompiled t l.words → Remains (steady t) l.start l.i l.records l.entries l.initial.totals l.totals l.rendered;
+  remains : (t : BindingTable) → IsCompiled t l.words → Remains (steady t) l.start l.i l.records l.entries l.initial.totals l.totals l.rendered;
 }
 
 abbrev pub decreases-records : goal.decreases-records

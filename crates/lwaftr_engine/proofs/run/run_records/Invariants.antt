@@ -1,18 +1,18 @@
 use Rattle.std.proofs.Common.{◌≡◌, ◌-◌, ◌^◌}
-use Rattle.aftr_base.specs.Held.{Moves}
-use Rattle.binding_rules.specs.Tables.{Rules}
+use Rattle.aftr_base.specs.Contents.{Moves}
+use Rattle.binding_rules.specs.Tables.{BindingTable}
 use Rattle.lwaftr_engine.specs.Endings.{OthersKept}
 use Rattle.lwaftr_engine.specs.Jobs.{names_of}
 use Rattle.lwaftr_engine.specs.Outputs.{steady}
-use Rattle.lwaftr_engine.specs.Progress.{IsBounded, TakesOn}
+use Rattle.lwaftr_engine.specs.Progress.{IsInRange, TakesOn}
 use Rattle.table_words.specs.Layout.{IsCompiled}
 use Rattle.lwaftr_engine.proofs.run.run_records.Given as goal
 
 abbrev pub invariant-rounds : goal.invariant-rounds
 invariant-rounds g l = let f = g.F.Files in record {
-  went : Moves (f.outside l.initial.files).held (f.outside l.files).held (λ m n. (t : Rules) → IsCompiled t l.words →
+  went : Moves (f.outside l.initial.files).held (f.outside l.files).held (λ m n. (t : BindingTable) → IsCompiled t l.words →
       TakesOn (names_of l.job) l.form (steady t) m n l.initial.progress l.progress);
-  bounded : IsBounded l.progress;
+  bounded : IsInRange l.progress;
   others : Moves (f.outside l.initial.files).held (f.outside l.files).held (λ m n. OthersKept (names_of l.job) m n);
   faults : (f.outside l.files).faults ≡ (f.outside l.initial.files).faults;
   lost : (f.outside l.files).lost ≡ (f.outside l.initial.files).lost;

@@ -1,5 +1,5 @@
 use Rattle.std.proofs.Common.{◌≡◌, ◌≤◌, ◌-◌, length, take}
-use Rattle.aftr_base.specs.Held.{Told, content}
+use Rattle.aftr_base.specs.Contents.{Told, content}
 use Rattle.lwaftr_engine.proofs.table_file.file_front.Given as goal
 
 abbrev pub invariant-pieces : goal.invariant-pieces

@@ -1,6 +1,6 @@
 use Rattle.std.proofs.Common.{◌≡◌, ◌⊎◌}
-use Rattle.aftr_base.specs.Held.{Moves, Told}
-use Rattle.lwaftr_engine.specs.Clauses.{IsDue, IsFault, NothingFailed, counts}
+use Rattle.aftr_base.specs.Contents.{Moves, Told}
+use Rattle.lwaftr_engine.specs.Clauses.{IsAskedFor, IsFault, NothingFailed, counts}
 use Rattle.lwaftr_engine.specs.Endings.{OthersKept}
 use Rattle.lwaftr_engine.specs.Jobs.{names_of, texts}
 use Rattle.lwaftr_engine.specs.Queries.{IsLineOf, IsOwnerLine}
@@ -26,7 +26,7 @@ returns-in-Some-Run-clause-due g c =
     let o = g.O.Sink in
     let n = names_of c.in-Some-Run.job in
     let result = c.run_job.result in
-    for_run c.args.words.now n (λ n. Told (f.outside c.args.files.now).held (λ m. (s : Status) → IsDue n m s → (c.run_job.result ≡ s) ⊎ IsFault c.run_job.result))
+    for_run c.args.words.now n (λ n. Told (f.outside c.args.files.now).held (λ m. (s : Status) → IsAskedFor n m s → (c.run_job.result ≡ s) ⊎ IsFault c.run_job.result))
     (run_read c.args.words.now c.in-Some-Run.field-0 c.in-Some-Run.job c.in-Some-Run.field-0-is c.in-Some-Run.ensures.run)
     (due_told (record { table = c.one_table.ensures.answer; capture = c.one_reading.ensures }) n result (f.outside c.args.files.now).held (f.outside c.run_job.new.files).held (o.out c.args.out.now) (o.out c.run_job.new.out) (f.outside c.run_job.new.files).last
     c.run_job.ensures.files)
@@ -40,7 +40,7 @@ returns-in-Some-Run-clause-complete g c =
     let before = counts (f.outside c.args.files.now) (o.faults c.args.out.now) in
     let after = counts (f.outside c.run_job.new.files) (o.faults c.run_job.new.out) in
     for_run c.args.words.now n
-    (λ n. Told (f.outside c.args.files.now).held (λ m. IsDue n m status.Done → NothingFailed before after → (c.run_job.result ≡ status.Done) ⊎ (c.run_job.result ≡ status.OutOfMemory)))
+    (λ n. Told (f.outside c.args.files.now).held (λ m. IsAskedFor n m status.Done → NothingFailed before after → (c.run_job.result ≡ status.Done) ⊎ (c.run_job.result ≡ status.OutOfMemory)))
     (run_read c.args.words.now c.in-Some-Run.field-0 c.in-Some-Run.job c.in-Some-Run.field-0-is c.in-Some-Run.ensures.run)
     (complete_told (record { table = c.one_table.ensures.answer; capture = c.one_reading.ensures }) n result (f.outside c.args.files.now).held (f.outside c.run_job.new.files).held (o.out c.args.out.now) (o.out c.run_job.new.out) (f.outside c.run_job.new.files).last
     before after c.run_job.ensures.files c.run_job.ensures.cause)

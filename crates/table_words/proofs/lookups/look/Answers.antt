@@ -1,8 +1,8 @@
 use Rattle.std.proofs.Common.{◌≡◌, ◌≢◌, ◌+◌, ◌-◌, ◌/◌, ◌%◌, ◌≤◌, List, ℕ, length, subst, sym, ap, ◌∙◌, arith}
 use Rattle.std.specs.Prelude.{IfSome, IfNone, slice_index}
 use Rattle.table_words.specs.Bounds.{group_digits, found_bound}
-use Rattle.table_words.specs.Spans.{first_at, IsBoundary, IsSpan, IsFound, IsNotFound, AreAlike, IsOwner, HasNoOwner}
-use Rattle.table_words.proofs.Mixing.{are_alike, not_one_shape, not_edition_one}
+use Rattle.table_words.specs.Spans.{first_at, IsBoundary, IsEntryRange, IsFound, IsNotFound, AreAlike, IsTunnelOfOwner, HasNoOwner}
+use Rattle.table_words.proofs.TwoShapes.{are_alike, not_one_shape, not_edition_one}
 use Rattle.table_words.proofs.Halving.{reads_on}
 use Rattle.aftr_base.proofs.MemberLemmas.{when_none}
 use Rattle.table_words.proofs.Trying.{tried_none, none_left, none_cost, search_cost, rest_small, tried_more, found_here, found_cost, some_is, if_some, span_rest, next_fits, above_address, found_below, alike_answer, alike_cost}
@@ -26,7 +26,7 @@ returns-then-word-eq-ONE_SHAPE-clause-owner g c = λ t h.
     let to = c.group_of-group.result.to in
     let a = c.args.v4.0 in
     let o = c.owner_alike.result in
-    let owner = subst (λ (ws : List ℕ). IfSome o (λ b4. IsOwner ws from to a c.args.want b4.0)) list c.owner_alike.ensures.owner in
+    let owner = subst (λ (ws : List ℕ). IfSome o (λ b4. IsTunnelOfOwner ws from to a c.args.want b4.0)) list c.owner_alike.ensures.owner in
     let none = subst (λ (ws : List ℕ). IfNone o (HasNoOwner ws from to a c.args.want)) list c.owner_alike.ensures.none in
     alike_answer t (g.W.Words.list c.args.words.now) h c.args.v4 c.args.want from to (grouped.group t h) o owner none
 
@@ -72,7 +72,7 @@ shapes-init g c =
 
 pub lower_bound-from-requires : goal.lower_bound-from-requires
 lower_bound-from-requires g c =
-    subst (λ (ws : List ℕ). IsSpan ws c.shapes.from c.group_of-group.result.to) (sym c.shapes.invariant.list) c.shapes.invariant.span
+    subst (λ (ws : List ℕ). IsEntryRange ws c.shapes.from c.group_of-group.result.to) (sym c.shapes.invariant.list) c.shapes.invariant.span
 
 pub returns-then-from-group : goal.returns-then-from-group
 returns-then-from-group g c =
@@ -145,7 +145,7 @@ pub owner_like-owner-requires-clause-span : goal.owner_like-owner-requires-claus
 owner_like-owner-requires-clause-span g c =
     let i = c.shapes.invariant in
     let list = c.first_word-first.ensures.list ∙ c.lower_bound-from.ensures.list ∙ i.list in
-    subst (λ (ws : List ℕ). IsSpan ws c.lower_bound-from.result c.group_of-group.result.to) (sym list)
+    subst (λ (ws : List ℕ). IsEntryRange ws c.lower_bound-from.result c.group_of-group.result.to) (sym list)
     (span_rest _ c.shapes.from _ _ i.span (omega (arith, c.if-from-group.false)))
 
 pub returns-then-is_some : goal.returns-then-is_some

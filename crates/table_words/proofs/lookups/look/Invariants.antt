@@ -1,12 +1,12 @@
 use Rattle.std.proofs.Common.{◌≡◌, ◌-◌, ◌≤◌}
 use Rattle.table_words.specs.Reads.{read_more}
-use Rattle.table_words.specs.Spans.{IsSpan}
+use Rattle.table_words.specs.Spans.{IsEntryRange}
 use Rattle.table_words.specs.Tried.{AreTried}
 use Rattle.table_words.proofs.lookups.look.Given as goal
 
 abbrev pub invariant-shapes : goal.invariant-shapes
 invariant-shapes g l = record {
-  span : IsSpan (g.W.Words.list l.fn.words) l.from l.group.to;
+  span : IsEntryRange (g.W.Words.list l.fn.words) l.from l.group.to;
   tried : AreTried (g.W.Words.list l.fn.words) l.fn.v4.0 l.fn.want l.group.from l.group.to l.from l.least (l.steps - l.fn.steps);
   list : g.W.Words.list l.words ≡ g.W.Words.list l.fn.words;
   reads : g.W.Words.reads l.words ≡ read_more (g.W.Words.reads l.fn.words) (l.steps - l.fn.steps);

@@ -1,5 +1,5 @@
 use Rattle.std.proofs.Common.{◌+◌, ◌-◌, ◌*◌, ◌≤◌, List, ℕ, subst, sym, ◌∙◌, arith}
-use Rattle.table_words.specs.Spans.{IsSpan, IsSpot, HasNoSpot}
+use Rattle.table_words.specs.Spans.{IsEntryRange, IsSpot, HasNoSpot}
 use Rattle.table_words.proofs.Alike.{span_part, no_owner_by_shape, no_owner_by_key, one_search, two_searches}
 use Rattle.table_words.proofs.owners.owner_alike.Goals as goal
 
@@ -30,7 +30,7 @@ spot_of-requires-2-clause-span g c =
     let list = c.spot_of.ensures.list ∙ c.guess_of-guess.ensures.list in
     let reach = c.reach_of_key.ensures in
     let spot = c.in_ok-spot.ensures.spot in
-    subst (λ (ws : List ℕ). IsSpan ws c.reach_of_key.result.low c.reach_of_key.result.high) (sym list)
+    subst (λ (ws : List ℕ). IsEntryRange ws c.reach_of_key.result.low c.reach_of_key.result.high) (sym list)
     (span_part _ c.args.from c.args.to _ _ c.requires.span reach.ordered (omega (arith, reach.up_to, spot.up_to)))
 
 pub returns-in_err-owner-clause-none : goal.returns-in_err-owner-clause-none

@@ -12,88 +12,88 @@ pub returns-in-Err-clause-verdict : goal.returns-in-Err-clause-verdict
 returns-in-Err-clause-verdict g c = λ t h.
     ap (λ r. first_true (up_lines t c.args.outer.now r)) c.in-Err.ensures.reads ∙ c.refused.ensures t (c.requires.settings t h)
 
-pub returns-then-is_not_built-clause-verdict : goal.returns-then-is_not_built-clause-verdict
-returns-then-is_not_built-clause-verdict g c = λ t h.
-    at_not_built t c.args.outer.now c.args.inner.now c.args.settings.now (packet4 c.in-Ok.packet) _ (c.requires.settings t h) c.in-Ok.ensures.reads _ (c.is_not_built.ensures.answer t h)
-    c.if-is_not_built.true c.silent.ensures
+pub returns-then-is_not_judged-clause-verdict : goal.returns-then-is_not_judged-clause-verdict
+returns-then-is_not_judged-clause-verdict g c = λ t h.
+    at_not_built t c.args.outer.now c.args.inner.now c.args.settings.now (packet4 c.in-Ok.packet) _ (c.requires.settings t h) c.in-Ok.ensures.reads _ (c.is_not_judged.ensures.answer t h)
+    c.if-is_not_judged.true c.silent.ensures
 
 pub returns-then-ne-clause-verdict : goal.returns-then-ne-clause-verdict
 returns-then-ne-clause-verdict g c = λ t h.
-    at_foreign t c.args.outer.now c.args.inner.now c.args.settings.now (packet4 c.in-Ok.packet) _ (c.requires.settings t h) c.in-Ok.ensures.reads _ (c.is_not_built.ensures.answer t h)
-    c.if-is_not_built.false _ c.ne.ensures c.if-ne.true c.silent-then-ne.ensures
+    at_foreign t c.args.outer.now c.args.inner.now c.args.settings.now (packet4 c.in-Ok.packet) _ (c.requires.settings t h) c.in-Ok.ensures.reads _ (c.is_not_judged.ensures.answer t h)
+    c.if-is_not_judged.false _ c.ne.ensures c.if-ne.true c.silent-then-ne.ensures
 
 pub key_up-requires : goal.key_up-requires
 key_up-requires g c =
     let table = c.requires.compiled.table in
-    let left = c.is_not_built.ensures.answer table c.requires.compiled.of_table in
-    record { not_icmp = not_icmp table (packet4 c.in-Ok.packet) (sym left ∙ c.if-is_not_built.false) }
+    let left = c.is_not_judged.ensures.answer table c.requires.compiled.of_table in
+    record { not_icmp = not_icmp table (packet4 c.in-Ok.packet) (sym left ∙ c.if-is_not_judged.false) }
 
 pub returns-in-IcmpBad-clause-verdict : goal.returns-in-IcmpBad-clause-verdict
 returns-in-IcmpBad-clause-verdict g c = λ t h.
-    at_icmp_bad t c.args.outer.now c.args.inner.now c.args.settings.now (packet4 c.in-Ok.packet) _ (c.requires.settings t h) c.in-Ok.ensures.reads _ (c.is_not_built.ensures.answer t h)
-    c.if-is_not_built.false _ c.ne.ensures c.if-ne.false _ c.key_up.ensures c.in-IcmpBad.is c.silent-in-IcmpBad.ensures
+    at_icmp_bad t c.args.outer.now c.args.inner.now c.args.settings.now (packet4 c.in-Ok.packet) _ (c.requires.settings t h) c.in-Ok.ensures.reads _ (c.is_not_judged.ensures.answer t h)
+    c.if-is_not_judged.false _ c.ne.ensures c.if-ne.false _ c.key_up.ensures c.in-IcmpBad.is c.silent-in-IcmpBad.ensures
 
 pub returns-in-NoPort-clause-verdict : goal.returns-in-NoPort-clause-verdict
 returns-in-NoPort-clause-verdict g c = λ t h.
-    at_no_port t c.args.outer.now c.args.inner.now c.args.settings.now (packet4 c.in-Ok.packet) _ (c.requires.settings t h) c.in-Ok.ensures.reads _ (c.is_not_built.ensures.answer t h)
-    c.if-is_not_built.false _ c.ne.ensures c.if-ne.false _ c.key_up.ensures c.in-NoPort.is c.silent-in-NoPort.ensures
+    at_no_port t c.args.outer.now c.args.inner.now c.args.settings.now (packet4 c.in-Ok.packet) _ (c.requires.settings t h) c.in-Ok.ensures.reads _ (c.is_not_judged.ensures.answer t h)
+    c.if-is_not_judged.false _ c.ne.ensures c.if-ne.false _ c.key_up.ensures c.in-NoPort.is c.silent-in-NoPort.ensures
 
 pub returns-then-not-is_softwire-clause-verdict : goal.returns-then-not-is_softwire-clause-verdict
 returns-then-not-is_softwire-clause-verdict g c = λ t h.
-    let here = subst (λ (ws : List ℕ). IsCompiled t ws) (sym c.is_not_built.ensures.list) h in
-    at_no_binding t c.args.outer.now c.args.inner.now c.args.settings.now (packet4 c.in-Ok.packet) _ (c.requires.settings t h) c.in-Ok.ensures.reads _ (c.is_not_built.ensures.answer t h)
-    c.if-is_not_built.false _ c.ne.ensures c.if-ne.false _ c.key_up.ensures _ c.in-At.is _ (c.is_softwire.ensures.answer t here)
+    let here = subst (λ (ws : List ℕ). IsCompiled t ws) (sym c.is_not_judged.ensures.list) h in
+    at_no_binding t c.args.outer.now c.args.inner.now c.args.settings.now (packet4 c.in-Ok.packet) _ (c.requires.settings t h) c.in-Ok.ensures.reads _ (c.is_not_judged.ensures.answer t h)
+    c.if-is_not_judged.false _ c.ne.ensures c.if-ne.false _ c.key_up.ensures _ c.in-At.is _ (c.is_softwire.ensures.answer t here)
     c.if-not-is_softwire.true c.silent-then-not-is_softwire.ensures
 
 pub returns-then-not-is_softwire-clause-reads : goal.returns-then-not-is_softwire-clause-reads
 returns-then-not-is_softwire-clause-reads g c =
-    reads_on _ _ _ (c.is_not_built.new.steps - c.args.steps.now) (c.is_softwire.new.steps - c.is_not_built.new.steps) _
-    (omega (arith, c.is_not_built.ensures.later, c.is_softwire.ensures.later)) c.is_not_built.ensures.reads c.is_softwire.ensures.reads
+    reads_on _ _ _ (c.is_not_judged.new.steps - c.args.steps.now) (c.is_softwire.new.steps - c.is_not_judged.new.steps) _
+    (omega (arith, c.is_not_judged.ensures.later, c.is_softwire.ensures.later)) c.is_not_judged.ensures.reads c.is_softwire.ensures.reads
 
 pub returns-then-not-is_softwire-clause-goes : goal.returns-then-not-is_softwire-clause-goes
-returns-then-not-is_softwire-clause-goes g c = g.met.W.Words.goes_on _ _ _ c.is_not_built.ensures.goes c.is_softwire.ensures.goes
+returns-then-not-is_softwire-clause-goes g c = g.met.W.Words.goes_on _ _ _ c.is_not_judged.ensures.goes c.is_softwire.ensures.goes
 
 pub returns-then-not-is_softwire-clause-bound : goal.returns-then-not-is_softwire-clause-bound
 returns-then-not-is_softwire-clause-bound g c = λ t h.
-    let here = subst (λ (ws : List ℕ). IsCompiled t ws) (sym c.is_not_built.ensures.list) h in
-    omega (arith, c.is_not_built.ensures.bound t h, c.is_softwire.ensures.bound t here)
+    let here = subst (λ (ws : List ℕ). IsCompiled t ws) (sym c.is_not_judged.ensures.list) h in
+    omega (arith, c.is_not_judged.ensures.bound t h, c.is_softwire.ensures.bound t here)
 
 pub returns-then-eq-clause-verdict : goal.returns-then-eq-clause-verdict
 returns-then-eq-clause-verdict g c = λ t h.
-    let here = subst (λ (ws : List ℕ). IsCompiled t ws) (sym c.is_not_built.ensures.list) h in
-    at_self t c.args.outer.now c.args.inner.now c.args.settings.now (packet4 c.in-Ok.packet) _ (c.requires.settings t h) c.in-Ok.ensures.reads _ (c.is_not_built.ensures.answer t h)
-    c.if-is_not_built.false _ c.ne.ensures c.if-ne.false _ c.key_up.ensures _ c.in-At.is _ (c.is_softwire.ensures.answer t here)
+    let here = subst (λ (ws : List ℕ). IsCompiled t ws) (sym c.is_not_judged.ensures.list) h in
+    at_self t c.args.outer.now c.args.inner.now c.args.settings.now (packet4 c.in-Ok.packet) _ (c.requires.settings t h) c.in-Ok.ensures.reads _ (c.is_not_judged.ensures.answer t h)
+    c.if-is_not_judged.false _ c.ne.ensures c.if-ne.false _ c.key_up.ensures _ c.in-At.is _ (c.is_softwire.ensures.answer t here)
     c.if-not-is_softwire.false _ c.eq.ensures c.if-eq.true c.silent-then-eq.ensures
 
 pub returns-then-eq-clause-reads : goal.returns-then-eq-clause-reads
 returns-then-eq-clause-reads g c =
-    reads_on _ _ _ (c.is_not_built.new.steps - c.args.steps.now) (c.is_softwire.new.steps - c.is_not_built.new.steps) _
-    (omega (arith, c.is_not_built.ensures.later, c.is_softwire.ensures.later)) c.is_not_built.ensures.reads c.is_softwire.ensures.reads
+    reads_on _ _ _ (c.is_not_judged.new.steps - c.args.steps.now) (c.is_softwire.new.steps - c.is_not_judged.new.steps) _
+    (omega (arith, c.is_not_judged.ensures.later, c.is_softwire.ensures.later)) c.is_not_judged.ensures.reads c.is_softwire.ensures.reads
 
 pub returns-then-eq-clause-goes : goal.returns-then-eq-clause-goes
-returns-then-eq-clause-goes g c = g.met.W.Words.goes_on _ _ _ c.is_not_built.ensures.goes c.is_softwire.ensures.goes
+returns-then-eq-clause-goes g c = g.met.W.Words.goes_on _ _ _ c.is_not_judged.ensures.goes c.is_softwire.ensures.goes
 
 pub returns-then-eq-clause-bound : goal.returns-then-eq-clause-bound
 returns-then-eq-clause-bound g c = λ t h.
-    let here = subst (λ (ws : List ℕ). IsCompiled t ws) (sym c.is_not_built.ensures.list) h in
-    omega (arith, c.is_not_built.ensures.bound t h, c.is_softwire.ensures.bound t here)
+    let here = subst (λ (ws : List ℕ). IsCompiled t ws) (sym c.is_not_judged.ensures.list) h in
+    omega (arith, c.is_not_judged.ensures.bound t h, c.is_softwire.ensures.bound t here)
 
 pub returns-clause-verdict : goal.returns-clause-verdict
 returns-clause-verdict g c = λ t h.
-    let here = subst (λ (ws : List ℕ). IsCompiled t ws) (sym c.is_not_built.ensures.list) h in
-    at_end t c.args.outer.now c.args.inner.now c.args.settings.now (packet4 c.in-Ok.packet) (verdict.Outward c.args.settings.now.mtu4) (c.requires.settings t h) c.in-Ok.ensures.reads _ (c.is_not_built.ensures.answer t h)
-    c.if-is_not_built.false _ c.ne.ensures c.if-ne.false _ c.key_up.ensures _ c.in-At.is _ (c.is_softwire.ensures.answer t here)
+    let here = subst (λ (ws : List ℕ). IsCompiled t ws) (sym c.is_not_judged.ensures.list) h in
+    at_end t c.args.outer.now c.args.inner.now c.args.settings.now (packet4 c.in-Ok.packet) (verdict.Outward c.args.settings.now.mtu4) (c.requires.settings t h) c.in-Ok.ensures.reads _ (c.is_not_judged.ensures.answer t h)
+    c.if-is_not_judged.false _ c.ne.ensures c.if-ne.false _ c.key_up.ensures _ c.in-At.is _ (c.is_softwire.ensures.answer t here)
     c.if-not-is_softwire.false _ c.eq.ensures c.if-eq.false
 
 pub returns-clause-reads : goal.returns-clause-reads
 returns-clause-reads g c =
-    reads_on _ _ _ (c.is_not_built.new.steps - c.args.steps.now) (c.is_softwire.new.steps - c.is_not_built.new.steps) _
-    (omega (arith, c.is_not_built.ensures.later, c.is_softwire.ensures.later)) c.is_not_built.ensures.reads c.is_softwire.ensures.reads
+    reads_on _ _ _ (c.is_not_judged.new.steps - c.args.steps.now) (c.is_softwire.new.steps - c.is_not_judged.new.steps) _
+    (omega (arith, c.is_not_judged.ensures.later, c.is_softwire.ensures.later)) c.is_not_judged.ensures.reads c.is_softwire.ensures.reads
 
 pub returns-clause-goes : goal.returns-clause-goes
-returns-clause-goes g c = g.met.W.Words.goes_on _ _ _ c.is_not_built.ensures.goes c.is_softwire.ensures.goes
+returns-clause-goes g c = g.met.W.Words.goes_on _ _ _ c.is_not_judged.ensures.goes c.is_softwire.ensures.goes
 
 pub returns-clause-bound : goal.returns-clause-bound
 returns-clause-bound g c = λ t h.
-    let here = subst (λ (ws : List ℕ). IsCompiled t ws) (sym c.is_not_built.ensures.list) h in
-    omega (arith, c.is_not_built.ensures.bound t h, c.is_softwire.ensures.bound t here)
+    let here = subst (λ (ws : List ℕ). IsCompiled t ws) (sym c.is_not_judged.ensures.list) h in
+    omega (arith, c.is_not_judged.ensures.bound t h, c.is_softwire.ensures.bound t here)

@@ -1,4 +1,4 @@
-use Rattle.aftr_base.proofs.HeldLemmas.{insert_writes}
+use Rattle.aftr_base.proofs.ContentLemmas.{insert_writes}
 use Rattle.aftr_base.proofs.ShelfLemmas.{replaced, pushed}
 use Rattle.aftr_base.proofs.shelf.Shelf.set.Goals as goal
 

@@ -1,6 +1,6 @@
 use Rattle.std.proofs.Common.{rules, ◌∙◌, ap, sym}
 use Rattle.swap_core.specs.declared.actors.Actor.{Actor}
-use Rattle.area_swap.specs.Told.{Seated}
+use Rattle.area_swap.specs.SeatSteps.{Seated}
 use Rattle.area_swap.specs.Values.{SeatValue}
 use Rattle.area_swap.proofs.Belonging.{knows_plan}
 use Rattle.area_swap.proofs.Closing.{last_history, last_drawn, last_reads}

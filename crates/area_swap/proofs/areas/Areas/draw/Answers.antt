@@ -1,5 +1,5 @@
 use Rattle.std.proofs.Common.{rules, arith, ◌≡◌, ◌∙◌, subst, sym, refl}
-use Rattle.area_swap.specs.Answers.{HasLost, HasTaken}
+use Rattle.area_swap.specs.Answers.{HasLost, HasDrawn}
 use Rattle.area_swap.specs.Values.{AreasValue, SeatValue, HoldsOne}
 use Rattle.area_swap.specs.Views.{held_version}
 use Rattle.area_swap.proofs.Belonging.{knows_plan}
@@ -48,11 +48,11 @@ returns-clause-drawn c =
     let P : SeatValue → Type 0 = λ s. HoldsOne s.known in subst P (sym c.seat.view_is) c.requires.holding in
     let held : c.halves-seen.result.version ≡ held_version c.seat.inside.place.me.0 =
     c.if-in_force-seat.false ∙ sym (held_is _ _ c.seat.invariant.0 holds) in
-    let taken : HasTaken c.self.inside.plan c.args.end c.halves-seen.result.records (held_version c.seat.inside.place.me.0) c.seat.inside.place.me.0 c.compare_exchange-found.new.seat.me.0 =
+    let taken : HasDrawn c.self.inside.plan c.args.end c.halves-seen.result.records (held_version c.seat.inside.place.me.0) c.seat.inside.place.me.0 c.compare_exchange-found.new.seat.me.0 =
     taken_is c.load-saw.ensures.2 _ c.halves-seen.ensures c.compare_exchange-found.ensures.2 c.self.inside.plan c.args.end _ _ same refl
     c.if-found-saw.false held c.if-seen-end.false c.limit-limit.ensures c.if-seen-limit.false in
     let P : AreasValue → Type 0 =
-    λ a. HasTaken a.plan c.args.end c.halves-seen.result.records (held_version c.seat.inside.place.me.0) c.seat.inside.place.me.0 c.compare_exchange-found.new.seat.me.0 in
+    λ a. HasDrawn a.plan c.args.end c.halves-seen.result.records (held_version c.seat.inside.place.me.0) c.seat.inside.place.me.0 c.compare_exchange-found.new.seat.me.0 in
     let Q : SeatValue → Type 0 =
-    λ s. HasTaken c.args.self.now.plan c.args.end c.halves-seen.result.records (held_version s.known) s.known c.compare_exchange-found.new.seat.me.0 in
+    λ s. HasDrawn c.args.self.now.plan c.args.end c.halves-seen.result.records (held_version s.known) s.known c.compare_exchange-found.new.seat.me.0 in
     subst Q c.seat.view_is (subst P c.self.view_is taken)

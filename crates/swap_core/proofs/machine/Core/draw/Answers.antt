@@ -3,7 +3,7 @@ use Rattle.swap_core.specs.Plans.{limit}
 use Rattle.swap_core.specs.Sound.{Sound}
 use Rattle.swap_core.specs.States.{with_actor, drawn}
 use lib.ListN.{get_elem?}
-use Rattle.swap_core.specs.Steps.{IsAnswer, by_actor, draw}
+use Rattle.swap_core.specs.Transitions.{IsAnswer, by_actor, draw}
 use Rattle.swap_core.specs.Views.{state_of}
 use Rattle.swap_core.specs.declared.actors.Actor.{Actor}
 use Rattle.swap_core.specs.declared.actors.ActorState.TheVariants.{Holds}

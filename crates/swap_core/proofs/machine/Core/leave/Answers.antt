@@ -1,7 +1,7 @@
 use Rattle.std.proofs.Common.{◌≡◌, ◌<◌, length, refl, ap, subst, sym, arith}
 use Rattle.swap_core.specs.Sound.{HasClaimed}
 use Rattle.swap_core.specs.States.{gone}
-use Rattle.swap_core.specs.Steps.{leave}
+use Rattle.swap_core.specs.Transitions.{leave}
 use Rattle.swap_core.specs.Views.{state_of}
 use Rattle.swap_core.specs.declared.actors.Actor.{Actor}
 use Rattle.swap_core.proofs.Answering.{stranger, stays, acts, same_read, taken, leave_else, leave_claimed}

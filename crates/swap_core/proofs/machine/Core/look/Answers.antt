@@ -1,5 +1,5 @@
 use Rattle.std.proofs.Common.{◌≡◌, ◌<◌, length, refl, ap, ◌∙◌, arith}
-use Rattle.swap_core.specs.Steps.{look}
+use Rattle.swap_core.specs.Transitions.{look}
 use Rattle.swap_core.specs.Views.{state_of}
 use Rattle.swap_core.specs.declared.actors.Actor.{Actor}
 use Rattle.swap_core.specs.declared.actors.ActorState.TheVariants.{Idle}

@@ -1,7 +1,7 @@
 use Rattle.std.proofs.Common.{◌≡◌, ◌≤◌, ◌<◌, ℕ, List, [], length, get_or, slice_index, refl, ap, ◌∙◌, inr, arith}
 use Rattle.swap_core.specs.Plans.{table, width}
 use Rattle.swap_core.specs.States.{area}
-use Rattle.swap_core.specs.Steps.{read}
+use Rattle.swap_core.specs.Transitions.{read}
 use Rattle.swap_core.specs.Views.{state_of}
 use Rattle.swap_core.specs.declared.actors.ActorState.TheVariants.{Holds}
 use Rattle.swap_core.specs.declared.steps.Took.TheVariants.{Yes}

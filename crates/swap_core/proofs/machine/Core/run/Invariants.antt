@@ -1,5 +1,5 @@
 use Rattle.std.proofs.Common.{◌≡◌, take}
-use Rattle.swap_core.specs.Steps.{after_all}
+use Rattle.swap_core.specs.Transitions.{after_all}
 use Rattle.swap_core.proofs.machine.Core.run.Given as goal
 
 abbrev pub invariant-steps : goal.invariant-steps

@@ -9,13 +9,13 @@ use Rattle.std.proofs.lemmas.List.Elements.{Contains-get_or}
 use Rattle.std.proofs.lemmas.List.Sorted.{IsPermutation-sym, Contains-permutation}
 use Rattle.std.proofs.lemmas.Option.{slice_get-get_or}
 use Rattle.binding_rules.specs.Conflicts.{HaveOneShape}
-use Rattle.binding_rules.specs.Tables.{Rules, IsLawful}
+use Rattle.binding_rules.specs.Tables.{BindingTable, IsLawful}
 use Rattle.binding_rules.specs.declared.binding.Binding.{Binding}
 use Rattle.binding_rules.specs.declared.settings.Edition.TheVariants as edition
 use Rattle.table_words.specs.Bounds.{count_below, has_shape, shape_end, shape_count, most_shapes, greatest}
-use Rattle.table_words.specs.Layout.{IsCompiled, is_mixed, flag, row, row_at}
-use Rattle.table_words.specs.Parts.{IsAscending, AreMixed}
-use Rattle.table_words.specs.Spans.{first_at, IsGroup, AreAlike}
+use Rattle.table_words.specs.Layout.{IsCompiled, has_two_shapes, flag, row, row_at}
+use Rattle.table_words.specs.Parts.{IsAscending, HaveTwoShapes}
+use Rattle.table_words.specs.Spans.{first_at, IsIndexGroup, AreAlike}
 use Rattle.aftr_base.proofs.MemberLemmas.{contains_after, contains_front}
 use Rattle.table_words.proofs.Counts.{le_greatest}
 use Rattle.table_words.proofs.Digits.{count_below_mono, count_below_more}
@@ -39,16 +39,16 @@ module _ (rows : List (ℕ × ℕ)) (up : IsAscending rows)
       let last : (row_at rows e).0 / 4294967296 ≡ (row_at rows (suc e)).0 / 4294967296 = omega (arith, low, high, same) in
       alike_from k d e (omega (arith, s)) (omega arith) first ∙ alike e l last
 
-  pub none_mixed : AreMixed rows → ⊥
-  none_mixed m = elim (cases_lt m.d m.e) [
+  pub none_has_two_shapes : HaveTwoShapes rows → ⊥
+  none_has_two_shapes m = elim (cases_lt m.d m.e) [
     | inl less ↦ m.shapes (alike_from (m.e - m.d) m.d m.e (omega (arith, less)) m.e_within m.address)
     | inr more ↦ m.shapes (sym (alike_from (m.d - m.e) m.e m.d (omega (arith, more)) m.d_within (sym m.address)))
   ]
 
 -- two neighbours with one address and two shapes
-pub some_mixed : (rows : List (ℕ × ℕ)) (at : ℕ) → 1 ≤ at → at < length rows → (row_at rows (at - 1)).0 / 4294967296 ≡ (row_at rows at).0 / 4294967296
-    → (row_at rows (at - 1)).0 / 65536 ≢ (row_at rows at).0 / 65536 → AreMixed rows
-some_mixed rows at some l same other = record {
+pub some_has_two_shapes : (rows : List (ℕ × ℕ)) (at : ℕ) → 1 ≤ at → at < length rows → (row_at rows (at - 1)).0 / 4294967296 ≡ (row_at rows at).0 / 4294967296
+    → (row_at rows (at - 1)).0 / 65536 ≢ (row_at rows at).0 / 65536 → HaveTwoShapes rows
+some_has_two_shapes rows at some l same other = record {
   d = at - 1;
   e = at;
   d_within = omega (arith, l);
@@ -77,7 +77,7 @@ not_true : (b : Bool) → not b ≡ true → b ≡ false
 not_true true h = absurd (false≢true h)
 not_true false h = refl
 
-pub pair_of : (bindings : List Binding) → is_mixed bindings ≡ true → IsPair bindings
+pub pair_of : (bindings : List Binding) → has_two_shapes bindings ≡ true → IsPair bindings
 pair_of bindings h =
     let found_x = any_found _ bindings h in
     let found_y = any_found _ bindings found_x.2 in
@@ -96,8 +96,8 @@ pair_of bindings h =
 not_false : (b : Bool) → b ≡ false → not b ≡ true
 not_false b h = rw h refl
 
-pub pair_mixes : (bindings : List Binding) → IsPair bindings → is_mixed bindings ≡ true
-pair_mixes bindings p =
+pub pair_has_two_shapes : (bindings : List Binding) → IsPair bindings → has_two_shapes bindings ≡ true
+pair_has_two_shapes bindings p =
     let x : Binding = p.x in
     let y : Binding = p.y in
     let other : (eqb x.offset y.offset && eqb x.length y.length) ≡ false =
@@ -111,18 +111,18 @@ pair_mixes bindings p =
     any_passes _ bindings x p.x_in (any_passes _ bindings y p.y_in (and_from _ _ (eq-eqb _ _ p.address) (not_false _ other)))
 
 -- bindings of one address have one shape
-pub one_shape : (bindings : List Binding) → is_mixed bindings ≡ false → (x y : Binding) → Contains bindings x → Contains bindings y → x.v4.0 ≡ y.v4.0
+pub one_shape : (bindings : List Binding) → has_two_shapes bindings ≡ false → (x y : Binding) → Contains bindings x → Contains bindings y → x.v4.0 ≡ y.v4.0
     → HaveOneShape x y
 one_shape bindings none x y x_in y_in address = elim (cases_eq x.offset y.offset) [
   | inl same ↦ elim (cases_eq x.length y.length) [
     | inl alike ↦ (same, alike)
-    | inr unlike ↦ absurd (mixed (λ one. unlike one.1))
+    | inr unlike ↦ absurd (two_shapes (λ one. unlike one.1))
   ]
-  | inr unlike ↦ absurd (mixed (λ one. unlike one.0))
+  | inr unlike ↦ absurd (two_shapes (λ one. unlike one.0))
 ]
   where
-    mixed : (HaveOneShape x y → ⊥) → ⊥
-    mixed shapes = false≢true (sym none ∙ pair_mixes bindings (record { x = x; y = y; x_in = x_in; y_in = y_in; address = address; shapes = shapes }))
+    two_shapes : (HaveOneShape x y → ⊥) → ⊥
+    two_shapes shapes = false≢true (sym none ∙ pair_has_two_shapes bindings (record { x = x; y = y; x_in = x_in; y_in = y_in; address = address; shapes = shapes }))
 
 -- the words of rows that two bindings make
 word_parts : (n m : ℕ) → n / 65536 ≡ m / 65536 → (n / 16777216 % 256 ≡ m / 16777216 % 256) × (n / 65536 % 256 ≡ m / 65536 % 256)
@@ -132,7 +132,7 @@ word_joined : (n m a b o p l k : ℕ) → n / 4294967296 ≡ a → m / 429496729
     → n / 65536 % 256 ≡ l → m / 65536 % 256 ≡ k → a ≡ b → o ≡ p → l ≡ k → n / 65536 ≡ m / 65536
 word_joined n m a b o p l k e1 e2 e3 e4 e5 e6 e7 e8 e9 = omega (arith, e1, e2, e3, e4, e5, e6, e7, e8, e9)
 
-module _ (t : Rules) (h : IsLawful t) where
+module _ (t : BindingTable) (h : IsLawful t) where
   -- the words of two bindings of one address and shape
   pub words_alike : (x y : Binding) → Contains t.bindings x → Contains t.bindings y → (n m : ℕ) → n ≡ (row x).0 → m ≡ (row y).0
       → x.v4.0 ≡ y.v4.0 → HaveOneShape x y → n / 65536 ≡ m / 65536
@@ -160,8 +160,8 @@ module _ (t : Rules) (h : IsLawful t) where
         let c = Contains-permutation rows (map row t.bindings) (row_at rows e) (IsPermutation-sym _ _ same) (Contains-get_or rows e (0, 0) l) in
         contains_from_map row t.bindings (row_at rows e) c
 
-    rows_mixed : IsPair t.bindings → AreMixed rows
-    rows_mixed p =
+    rows_have_two_shapes : IsPair t.bindings → HaveTwoShapes rows
+    rows_have_two_shapes p =
         let a = row_of p.x p.x_in in
         let b = row_of p.y p.y_in in
         let e : (row_at rows a.0).0 ≡ (row p.x).0 = ap (λ (r : ℕ × ℕ). r.0) a.2 in
@@ -177,8 +177,8 @@ module _ (t : Rules) (h : IsLawful t) where
           shapes = λ alike. p.shapes (words_unlike p.x p.y p.x_in p.y_in _ _ e f alike);
         }
 
-    pair_mixed : AreMixed rows → IsPair t.bindings
-    pair_mixed m =
+    pair_of_two_shapes : HaveTwoShapes rows → IsPair t.bindings
+    pair_of_two_shapes m =
         let a = binding_at m.d m.d_within in
         let b = binding_at m.e m.e_within in
         let e : (row_at rows m.d).0 ≡ (row a.0).0 = ap (λ (r : ℕ × ℕ). r.0) (sym a.2) in
@@ -196,18 +196,18 @@ module _ (t : Rules) (h : IsLawful t) where
         }
 
     -- what the rows tell
-    pub mixed_is : (b : Bool) → (b ≡ true) ↔ AreMixed rows → b ≡ is_mixed t.bindings
-    mixed_is b i = elim (cases_Bool b) [
-      | inl on ↦ on ∙ sym (pair_mixes t.bindings (pair_mixed (i.0 on)))
-      | inr off ↦ elim (cases_Bool (is_mixed t.bindings)) [
-        | inl mixed ↦ i.1 (rows_mixed (pair_of t.bindings mixed)) ∙ sym mixed
-        | inr unmixed ↦ off ∙ sym unmixed
+    pub two_shapes_is : (b : Bool) → (b ≡ true) ↔ HaveTwoShapes rows → b ≡ has_two_shapes t.bindings
+    two_shapes_is b i = elim (cases_Bool b) [
+      | inl on ↦ on ∙ sym (pair_has_two_shapes t.bindings (pair_of_two_shapes (i.0 on)))
+      | inr off ↦ elim (cases_Bool (has_two_shapes t.bindings)) [
+        | inl two_shapes ↦ i.1 (rows_have_two_shapes (pair_of t.bindings two_shapes)) ∙ sym two_shapes
+        | inr one_shape_only ↦ off ∙ sym one_shape_only
       ]
     ]
 
   -- a table of edition One has no such address
-  pub one_unmixed : t.edition ≡ edition.One → is_mixed t.bindings ≡ true → ⊥
-  one_unmixed one mixed = pair_apart (pair_of t.bindings mixed)
+  pub one_has_one_shape : t.edition ≡ edition.One → has_two_shapes t.bindings ≡ true → ⊥
+  one_has_one_shape one two_shapes = pair_apart (pair_of t.bindings two_shapes)
     where
       at : (x : Binding) (m : Contains t.bindings x) → slice_get t.bindings m.0 ≡ Some x
       at x m = slice_get-get_or t.bindings m.0 x m.1 ∙ ap Some m.2
@@ -225,8 +225,8 @@ module _ (t : Rules) (h : IsLawful t) where
       ]
 
   -- such an address has two shapes
-  pub mixed_counts : is_mixed t.bindings ≡ true → 2 ≤ most_shapes t.bindings
-  mixed_counts mixed = two (pair_of t.bindings mixed)
+  pub two_shapes_count : has_two_shapes t.bindings ≡ true → 2 ≤ most_shapes t.bindings
+  two_shapes_count two_shapes = two (pair_of t.bindings two_shapes)
     where
       has : (a : ℕ) (x : Binding) → Contains t.bindings x → x.v4.0 ≡ a → has_shape t.bindings a (x.offset * 256 + x.length) ≡ true
       has a x m e = any_passes (λ (y : Binding). eqb y.v4.0 a && eqb (y.offset * 256 + y.length) (x.offset * 256 + x.length)) t.bindings x m
@@ -267,20 +267,20 @@ module _ (t : Rules) (h : IsLawful t) where
             ]
           ]
 
-pub unmixed_word : (t : Rules) (words : List ℕ) → IsCompiled t words → slice_index words 5 ≡ 0 → is_mixed t.bindings ≡ false
-unmixed_word t words h e = elim (cases_Bool (is_mixed t.bindings)) [
-  | inl mixed ↦ absurd (let one : flag (is_mixed t.bindings) 1 ≡ 1 = rw mixed refl in omega (arith, h.mixed, one, e))
-  | inr unmixed ↦ unmixed
+pub one_shape_word : (t : BindingTable) (words : List ℕ) → IsCompiled t words → slice_index words 5 ≡ 0 → has_two_shapes t.bindings ≡ false
+one_shape_word t words h e = elim (cases_Bool (has_two_shapes t.bindings)) [
+  | inl two_shapes ↦ absurd (let one : flag (has_two_shapes t.bindings) 1 ≡ 1 = rw two_shapes refl in omega (arith, h.two_shapes, one, e))
+  | inr one_shape_only ↦ one_shape_only
 ]
 
-pub mixed_word : (t : Rules) (words : List ℕ) → IsCompiled t words → slice_index words 5 ≢ 0 → is_mixed t.bindings ≡ true
-mixed_word t words h other = elim (cases_Bool (is_mixed t.bindings)) [
-  | inl mixed ↦ mixed
-  | inr unmixed ↦ absurd (other (h.mixed ∙ rw unmixed refl))
+pub two_shapes_word : (t : BindingTable) (words : List ℕ) → IsCompiled t words → slice_index words 5 ≢ 0 → has_two_shapes t.bindings ≡ true
+two_shapes_word t words h other = elim (cases_Bool (has_two_shapes t.bindings)) [
+  | inl two_shapes ↦ two_shapes
+  | inr one_shape_only ↦ absurd (other (h.two_shapes ∙ rw one_shape_only refl))
 ]
 
 -- where the words say so, each address has one shape
-pub are_alike : (t : Rules) (words : List ℕ) → IsCompiled t words → slice_index words 5 ≡ 0 → (a from to : ℕ) → IsGroup t words a from to
+pub are_alike : (t : BindingTable) (words : List ℕ) → IsCompiled t words → slice_index words 5 ≡ 0 → (a from to : ℕ) → IsIndexGroup t words a from to
     → AreAlike words from to a
 are_alike t words h none a from to group d e l m n k same_d same_e =
     let b = group.entries d l m in
@@ -289,15 +289,15 @@ are_alike t words h none a from to group d e l m n k same_d same_e =
     let g = fields c.0 (known t h.lawful c.0 c.1) (first_at words e) c.2.first in
     let address : b.0.v4.0 ≡ c.0.v4.0 = sym f.v4 ∙ same_d ∙ sym same_e ∙ g.v4 in
     words_alike t h.lawful b.0 c.0 b.1 c.1 _ _ b.2.first c.2.first address
-    (one_shape t.bindings (unmixed_word t words h none) b.0 c.0 b.1 c.1 address)
+    (one_shape t.bindings (one_shape_word t words h none) b.0 c.0 b.1 c.1 address)
 
 -- where the words tell of two shapes, the table is none of one shape an address, and none of edition One
-module _ (t : Rules) (words : List ℕ) (h : IsCompiled t words) (word : ℕ) (word_is : word ≡ slice_index words 5) (other : word ≢ 0) where
-  mixed : is_mixed t.bindings ≡ true
-  mixed = mixed_word t words h (λ e. other (word_is ∙ e))
+module _ (t : BindingTable) (words : List ℕ) (h : IsCompiled t words) (word : ℕ) (word_is : word ≡ slice_index words 5) (other : word ≢ 0) where
+  two_shapes : has_two_shapes t.bindings ≡ true
+  two_shapes = two_shapes_word t words h (λ e. other (word_is ∙ e))
 
   pub not_one_shape : most_shapes t.bindings ≡ 1 → (m n : ℕ) → m ≤ n
-  not_one_shape one m n = absurd (omega (arith, mixed_counts t h.lawful mixed, one))
+  not_one_shape one m n = absurd (omega (arith, two_shapes_count t h.lawful two_shapes, one))
 
   pub not_edition_one : t.edition ≡ edition.One → (m n : ℕ) → m ≤ n
-  not_edition_one one m n = absurd (one_unmixed t h.lawful one mixed)
+  not_edition_one one m n = absurd (one_has_one_shape t h.lawful one two_shapes)

@@ -77,7 +77,7 @@ pub record FoundDue (st : Stepped) (m : Seated) (n : ℕ) (m' : Seated) : Type 0
   pub now : Moment m'.0
 
 -- the desk's load of the claims on the spare area
-pub record Counted (st : Stepped) (m : Seated) (n : ℕ) (m' : Seated) : Type 0 where
+pub record ReadClaims (st : Stepped) (m : Seated) (n : ℕ) (m' : Seated) : Type 0 where
   pub free : n ≡ 0 → m' ≡ (record m.0 { counted = n; counts = m.0.counts + 1; desk = Writing 0 }, m.1)
   pub claimed : n ≢ 0 → m' ≡ (record m.0 { counted = n; counts = m.0.counts + 1 }, m.1)
   pub sees : SeesClaims m.0 n

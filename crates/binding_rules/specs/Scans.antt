@@ -107,16 +107,16 @@ has_address a None = false
 has_address a (Some x) = x.v4.0 == a
 
 -- what a slot says of the address: the place that it names, where the binding there has this address
-abbrev pub counted : List Binding → ℕ → Option ℕ → Option ℕ
-counted bindings a None = None
-counted bindings a (Some place) = if has_address a (slice_get bindings place) then Some place else None
+abbrev pub owner_named : List Binding → ℕ → Option ℕ → Option ℕ
+owner_named bindings a None = None
+owner_named bindings a (Some place) = if has_address a (slice_get bindings place) then Some place else None
 
 -- a slot of a key of the binding names the place
 pub record IsMet (by_port : Bool) (x : Binding) (bindings : List Binding) (a : ℕ) (owners : List (Option ℕ)) (place : ℕ) : Type 0 where
   pub key : ℕ
   pub in_range : key < 65536
   pub has : has_key by_port x key ≡ true
-  pub named : counted bindings a (slot owners key) ≡ Some place
+  pub named : owner_named bindings a (slot owners key) ≡ Some place
 
 -- the slots of the keys of the binding name the place, and the others are as before
 pub record IsTaken (by_port : Bool) (x : Binding) (place : ℕ) (before now : List (Option ℕ)) : Type 0 where
@@ -149,7 +149,7 @@ IsOwnersOf bindings a before now = (key n : ℕ) → key < 65536 → slot now ke
 
 -- no slot counts for the address
 abbrev pub AreFresh : List Binding → ℕ → List (Option ℕ) → Type 0
-AreFresh bindings a owners = (key : ℕ) → key < 65536 → counted bindings a (slot owners key) ≡ None
+AreFresh bindings a owners = (key : ℕ) → key < 65536 → owner_named bindings a (slot owners key) ≡ None
 
 -- the lesser of two places, where there are two
 abbrev pub lesser_of : Option ℕ → Option ℕ → Option ℕ
@@ -173,8 +173,8 @@ pub record IsWell (x : Binding) : Type 0 where
   pub psid : x.psid < 2 ^ x.length
 
 -- the greatest port of an identifier: only the bits of the identifier are not all set
-abbrev pub greatest : ℕ → ℕ → ℕ → ℕ
-greatest a k s = 65535 - (2 ^ k - 1 - s) * 2 ^ (16 - a - k)
+abbrev pub greatest_port : ℕ → ℕ → ℕ → ℕ
+greatest_port a k s = 65535 - (2 ^ k - 1 - s) * 2 ^ (16 - a - k)
 
 abbrev pub AreWell : List Binding → Type 0
 AreWell bindings = (place : ℕ) (x : Binding) → slice_get bindings place ≡ Some x → IsWell x

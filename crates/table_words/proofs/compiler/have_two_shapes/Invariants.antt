@@ -1,6 +1,6 @@
 use Rattle.std.proofs.Common.{◌≡◌, suc, ℕ, ◌-◌, ◌/◌, ◌<◌, ◌≤◌, length}
 use Rattle.table_words.specs.Layout.{row_at}
-use Rattle.table_words.proofs.compiler.are_mixed.Given as goal
+use Rattle.table_words.proofs.compiler.have_two_shapes.Given as goal
 
 abbrev pub decreases-rows : goal.decreases-rows
 decreases-rows l = length l.rows - l.at

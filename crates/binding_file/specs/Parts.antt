@@ -16,13 +16,13 @@ use Rattle.binding_file.specs.declared.refusals.FileError.{FileError}
 use Rattle.binding_file.specs.declared.refusals.FileError.TheVariants as file_error
 
 -- what a value stands for, or the refusal
-abbrev pub outcome : {A B : Type 0} → (A → B) → Result A FileRefused → Result B FileRefused
-outcome f (Ok a) = Ok (f a)
-outcome f (Err e) = Err e
+abbrev pub value_or_refusal : {A B : Type 0} → (A → B) → Result A FileRefused → Result B FileRefused
+value_or_refusal f (Ok a) = Ok (f a)
+value_or_refusal f (Err e) = Err e
 
-abbrev pub error_of : TableError → FileError
-error_of (table_error.Refused r) = file_error.Refused (refused.Rules r)
-error_of table_error.OutOfMemory = file_error.OutOfMemory
+abbrev pub file_error_of : TableError → FileError
+file_error_of (table_error.Refused r) = file_error.Refused (refused.Rules r)
+file_error_of table_error.OutOfMemory = file_error.OutOfMemory
 
 -- P of what the value stands for, or of the refusal; want of memory is free
 abbrev pub IsRead : {A B : Type 0} → (A → B) → (Result B FileRefused → Type 0) → Result A FileError → Type 0
