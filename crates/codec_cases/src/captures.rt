@@ -4,7 +4,7 @@ use capture_io::{
     CaptureBad, CaptureError, Form, Frame, Next, frame_of, next_record, put_header, put_record,
     read_header, time_of,
 };
-use case_data::{CAPTURE, UP_LOWERED};
+use case_data::{CAPTURE, UP, UP_LOWERED, UP_TUNNEL};
 use std::alloc::Global;
 use std::test::Fail;
 
@@ -41,6 +41,11 @@ fn files_with(alloc: Global, bytes: &[u8]) -> Result<QuietFiles, OutOfMemory> {
     Ok(files)
 }
 
+// The bytes are the first datagram in its tunnel.
+fn is_first(bytes: &[u8]) -> bool {
+    bytes.len() == 72 && bytes.starts_with(UP_TUNNEL) && bytes.ends_with(UP)
+}
+
 #[test]
 fn what_text2pcap_wrote_is_read(rt: HostRuntime) -> Result<(), Fail> {
     let alloc = rt.alloc();
@@ -57,7 +62,7 @@ fn what_text2pcap_wrote_is_read(rt: HostRuntime) -> Result<(), Fail> {
     let Next::Rec(record) = next_record(alloc, &mut files, "in", form, 24, 0)? else {
         return Err(Fail::from("no record"));
     };
-    assert_eq!(rt; record.bytes.as_slice(), &CAPTURE[40..]);
+    assert!(rt; is_first(record.bytes.as_slice()));
     assert_eq!(rt;
         time_of(form, record.seconds, record.fraction),
         1_795_739_461_000_001_000
@@ -194,7 +199,7 @@ fn slow_files_give_the_record_or_the_fault(rt: HostRuntime) -> Result<(), Fail> 
         match next_record(alloc, &mut slow, "in", CAPTURED, 24, 0) {
             Ok(Next::Rec(record)) => {
                 assert!(rt; call >= 88 && slow.failed == 0, "call {call}");
-                assert_eq!(rt; record.bytes.as_slice(), &CAPTURE[40..]);
+                assert!(rt; is_first(record.bytes.as_slice()));
             }
             Ok(Next::End) => assert!(rt; false, "call {call}"),
             Err(error) => {
