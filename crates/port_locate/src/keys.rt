@@ -1,23 +1,29 @@
 // What a packet asks of the binding table.
 ghost use Rattle.std.specs.Prelude.{◌≡◌, ◌≢◌, ◌+◌, ◌≤◌};
+ghost use Rattle.icmp_codec.specs.Message4.{icmp4_of};
+ghost use Rattle.icmp_codec.specs.Quoted.{embedded_packet};
 ghost use Rattle.ip_codec.specs.Packet4.{packet4};
-ghost use Rattle.port_locate.specs.Keys.{downstream_key, has_ports, key_at, upstream_key};
+ghost use Rattle.port_locate.specs.Keys.{destination_at, downstream_key, has_ports, icmp_key, identifier_want, key_at, key_of, plain_want, quoted_want, source_at, upstream_key};
 
 use aftr_base::be16;
 use binding_rules::Want;
+use icmp_codec::{Embedded, icmp4};
 use ip_codec::Ip4View;
 
 /// What a binding must own for a packet to be its subscriber's: the packet's IPv4 address and its port (RFC 7596, section
 /// 6.2). What stands for the port where a packet names none is this router's own choice.
 #[derive(Clone, Copy, Debug, PartialEq, Eq)]
 pub enum Key {
-    /// The port, or the whole address where the protocol has none.
+    /// The port, the identifier of an ICMP echo, or the whole address where the protocol has no ports.
     At(Want),
-    /// The packet names no port: it is a fragment, or, of a protocol with ports, has a payload under four bytes.
+    /// The packet names no port: it is a fragment, of a protocol with ports and with a payload under four bytes, or an
+    /// ICMP error that quotes such a packet, or an ICMP message other than an echo.
     NoPort,
     /// An ICMP message that is cut off, has a wrong checksum, or quotes no IPv4 header.
     IcmpBad,
 }
+
+const ICMP: u8 = 1;
 
 // The two ports, of 16 bits each.
 const PORTS_LEN: usize = 4;
@@ -26,39 +32,116 @@ const SOURCE_PORT: usize = 0;
 
 const DESTINATION_PORT: usize = 2;
 
-/// The key of a packet from a subscriber: its source port. Protocols without ports ask for the whole address. The
-/// protocol is not ICMP (1).
+// The first part of an ICMP message, with its type at 0 and the identifier of an echo at 4 (RFC 792).
+const ICMP_HEAD_LEN: usize = 8;
+
+const IDENTIFIER: usize = 4;
+
+/// The key of a packet from a subscriber: its source port, or the identifier of an ICMP echo. An ICMP error has the
+/// destination port of the packet that it quotes, which came to the subscriber. Protocols without ports ask for the
+/// whole address.
 pub fn key_up(p: &Ip4View<'_>) -> Key
-    requires not_icmp { p.now.protocol ≢ 1 }
     ensures { result ≡ upstream_key (packet4 p.now) }
 {
-    key_at(p, SOURCE_PORT)
+    key_at(p, SOURCE_PORT, DESTINATION_PORT)
 }
 
-/// The key of a packet to a subscriber: its destination port. Protocols without ports ask for the whole address. The
-/// protocol is not ICMP (1).
+/// The key of a packet to a subscriber: its destination port, or the identifier of an ICMP echo. An ICMP error has the
+/// source port of the packet that it quotes, which came from the subscriber (RFC 7596, section 8.1). Protocols without
+/// ports ask for the whole address.
 pub fn key_down(p: &Ip4View<'_>) -> Key
-    requires not_icmp { p.now.protocol ≢ 1 }
     ensures { result ≡ downstream_key (packet4 p.now) }
 {
-    key_at(p, DESTINATION_PORT)
+    key_at(p, DESTINATION_PORT, SOURCE_PORT)
 }
 
-// The key by the port at a place of the payload.
-fn key_at(p: &Ip4View<'_>, at: usize) -> Key
+/// What the sender of a quoted packet must own, or nothing where the quote names no port.
+pub fn quoted_source(quoted: &Embedded<'_>) -> Option<Want>
+    ensures { result ≡ quoted_want (embedded_packet quoted.now) source_at }
+{
+    quoted_want(quoted, SOURCE_PORT)
+}
+
+/// What the receiver of a quoted packet must own, or nothing where the quote names no port.
+pub fn quoted_destination(quoted: &Embedded<'_>) -> Option<Want>
+    ensures { result ≡ quoted_want (embedded_packet quoted.now) destination_at }
+{
+    quoted_want(quoted, DESTINATION_PORT)
+}
+
+// The key by the port at a place of the payload, and for an ICMP error at a place of the quoted payload.
+fn key_at(p: &Ip4View<'_>, at: usize, quoted_at: usize) -> Key
     requires within { at ≤ 2 }
-    ensures { result ≡ key_at at (packet4 p.now) }
+    requires quoted_within { quoted_at ≤ 2 }
+    ensures { result ≡ key_at at quoted_at (packet4 p.now) }
 {
     if p.is_fragment() {
         return Key::NoPort;
     }
-    if !has_ports(p.protocol) {
-        return Key::At(Want::Whole);
+    if p.protocol == ICMP {
+        return icmp_key(p.payload, quoted_at);
     }
-    if p.payload.len() < PORTS_LEN {
-        return Key::NoPort;
+    key_of(plain_want(p.protocol, p.payload, at))
+}
+
+fn key_of(want: Option<Want>) -> Key
+    ensures { result ≡ key_of want }
+{
+    match want {
+        Some(want) => Key::At(want),
+        None => Key::NoPort,
     }
-    Key::At(Want::Port(be16(p.payload, at)))
+}
+
+// The key of an ICMP message, by the port at a place of the quoted payload.
+fn icmp_key(message: &[u8], at: usize) -> Key
+    requires { at ≤ 2 }
+    ensures { result ≡ icmp_key (icmp4_of message.now) at }
+{
+    match icmp4(message) {
+        Err(_) => Key::IcmpBad,
+        Ok(view) => match view.embedded {
+            None => Key::At(Want::Port(view.id)),
+            Some(quoted) => key_of(quoted_want(&quoted, at)),
+        },
+    }
+}
+
+fn quoted_want(quoted: &Embedded<'_>, at: usize) -> Option<Want>
+    requires { at ≤ 2 }
+    ensures { result ≡ quoted_want (embedded_packet quoted.now) at }
+{
+    if quoted.offset != 0 {
+        return None;
+    }
+    if quoted.protocol == ICMP {
+        return identifier_want(quoted.payload);
+    }
+    plain_want(quoted.protocol, quoted.payload, at)
+}
+
+// The identifier of an echo or echo reply.
+fn identifier_want(message: &[u8]) -> Option<Want>
+    ensures { result ≡ identifier_want message.now }
+{
+    if message.len() < ICMP_HEAD_LEN || !matches!(message[0], 0 | 8) {
+        return None;
+    }
+    Some(Want::Port(be16(message, IDENTIFIER)))
+}
+
+// By the port at a place of the payload, or the whole address where the protocol has no ports.
+fn plain_want(protocol: u8, payload: &[u8], at: usize) -> Option<Want>
+    requires { at ≤ 2 }
+    ensures { result ≡ plain_want protocol payload.now at }
+{
+    if !has_ports(protocol) {
+        return Some(Want::Whole);
+    }
+    if payload.len() < PORTS_LEN {
+        return None;
+    }
+    Some(Want::Port(be16(payload, at)))
 }
 
 // Whether the payload of the protocol begins with a source port and a destination port.

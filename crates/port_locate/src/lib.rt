@@ -4,4 +4,4 @@
 
 mod keys;
 
-pub use keys::{Key, key_down, key_up};
+pub use keys::{Key, key_down, key_up, quoted_destination, quoted_source};

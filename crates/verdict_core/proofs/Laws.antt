@@ -1,5 +1,5 @@
 -- What the lines say of a packet from a subscriber: who may send, and which verdicts there are.
-use Rattle.std.proofs.Common.{◌≡◌, ℕ, ◌≤◌, ◌==◌, ◌||◌, ◌↔◌, nat_lt, if◌then◌else◌, Bool, not, true, false, List, [], ◌∷◌, length, Some, Result, Ok, Err, refl, ap, sym, ◌∙◌, subst, ◌⊎◌, inl, inr, arith}
+use Rattle.std.proofs.Common.{◌≡◌, ℕ, ◌≤◌, ◌==◌, ◌||◌, ◌↔◌, nat_lt, if◌then◌else◌, Bool, not, true, false, List, [], ◌∷◌, length, Option, Some, None, Result, Ok, Err, refl, ap, sym, ◌∙◌, subst, ◌⊎◌, inl, inr, arith}
 use Rattle.std.specs.List.{list_any}
 use Rattle.std.proofs.lemmas.Bool.{not-true, not-false, eqb-true, eqb-false, eq-eqb, ltb-false, or_parts, both_ways}
 use Rattle.aftr_base.specs.First.{first_true}
@@ -9,6 +9,7 @@ use Rattle.binding_rules.specs.Tables.{BindingTable, IsLawful}
 use Rattle.binding_rules.specs.declared.binding.Binding.{Binding}
 use Rattle.binding_rules.specs.declared.binding.Want.{Want}
 use Rattle.binding_rules.specs.declared.binding.Want.TheVariants as want
+use Rattle.icmp_codec.specs.Message4.{icmp4_of}
 use Rattle.ip_codec.specs.Packet4.{Packet4, ip4_of, is_fragment, packet_len}
 use Rattle.ip_codec.specs.declared.items.Item.{Item}
 use Rattle.ip_codec.specs.declared.items.Item.TheVariants as item
@@ -16,7 +17,7 @@ use Rattle.ip_codec.specs.declared.items.Outer.{Outer}
 use Rattle.ip_codec.specs.declared.packet4.Ip4Bad.{Ip4Bad}
 use Rattle.ip_codec.specs.declared.rules.Rule.{Rule}
 use Rattle.ip_codec.specs.declared.rules.Rule.TheVariants as rule
-use Rattle.port_locate.specs.Keys.{has_ports, port_key, upstream_key}
+use Rattle.port_locate.specs.Keys.{destination_at, icmp_key, key_of, plain_want, source_at, upstream_key}
 use Rattle.port_locate.specs.declared.keys.Key.{Key}
 use Rattle.port_locate.specs.declared.keys.Key.TheVariants as key
 use Rattle.verdict_core.specs.Access.{Forbids, Forbidden, Forwards, IsBuilt, IsForwarded, IsRefusal, Permits, Refused}
@@ -25,6 +26,7 @@ use Rattle.verdict_core.specs.Verdicts.{Judged, Line, is_checksum, is_icmp_bad, 
 use Rattle.verdict_core.specs.declared.verdicts.Verdict.{Verdict}
 use Rattle.verdict_core.specs.declared.verdicts.Verdict.TheVariants as verdict
 use Rattle.aftr_base.proofs.FirstLemmas.{Choice, first_or_later}
+use Rattle.verdict_core.proofs.Exits.{not_icmp}
 use Rattle.verdict_core.proofs.Firsts.{first_line}
 
 -- the verdict where the sender may not send
@@ -65,26 +67,30 @@ Outcome t outer inner v = IsLeft t inner v ⊎ (IsRefused t outer inner v ⊎ (I
 abbrev is_foreign : BindingTable → Outer → Bool
 is_foreign t outer = not (outer.dst.0 == t.softwire.aftr.0)
 
--- a packet has no key that tells of a faulty ICMP message
-not_icmp_bad : (p : Packet4) → is_icmp_bad (upstream_key p) ≡ false
-not_icmp_bad p = by_fragment (is_fragment p)
+-- a packet of a kind that is judged is no ICMP message, and no other has a key that tells of a faulty one
+not_icmp_bad : (t : BindingTable) (p : Packet4) → is_not_judged t p ≡ false → is_icmp_bad (upstream_key p) ≡ false
+not_icmp_bad t p built = by_fragment (is_fragment p)
   where
-    by_len : (short : Bool) (w : Want) → is_icmp_bad (if short then key.NoPort else key.At w) ≡ false
-    by_len true w = refl
-    by_len false w = refl
+    by_want : (o : Option Want) → is_icmp_bad (key_of o) ≡ false
+    by_want (Some w) = refl
+    by_want None = refl
 
-    by_ports : (ports : Bool) → is_icmp_bad (if ports then port_key p.payload 0 else key.At want.Whole) ≡ false
-    by_ports true = by_len (nat_lt (length p.payload) 4) (want.Port (big_endian (span p.payload 0 2)))
-    by_ports false = refl
+    plain : Key
+    plain = key_of (plain_want p.protocol p.payload source_at)
+
+    by_protocol : (icmp : Bool) (faulty : Key) → (p.protocol == 1) ≡ icmp → is_icmp_bad (if icmp then faulty else plain) ≡ false
+    by_protocol true faulty is = absurd (not_icmp t p built (eqb-true _ _ is))
+    by_protocol false faulty is = by_want (plain_want p.protocol p.payload source_at)
 
     by_fragment : (fragment : Bool) → is_icmp_bad (if fragment then key.NoPort
-        else (if has_ports p.protocol then port_key p.payload 0 else key.At want.Whole)) ≡ false
+        else (if p.protocol == 1 then icmp_key (icmp4_of p.payload) destination_at else plain)) ≡ false
     by_fragment true = refl
-    by_fragment false = by_ports (has_ports p.protocol)
+    by_fragment false = by_protocol (p.protocol == 1) (icmp_key (icmp4_of p.payload) destination_at) refl
 
 -- a fragment names no port
 whole_packet : (p : Packet4) → names_no_port (upstream_key p) ≡ false → is_fragment p ≡ false
-whole_packet p = by_fragment (is_fragment p) (if has_ports p.protocol then port_key p.payload 0 else key.At want.Whole)
+whole_packet p = by_fragment (is_fragment p) (if p.protocol == 1 then icmp_key (icmp4_of p.payload) destination_at
+    else key_of (plain_want p.protocol p.payload source_at))
   where
     by_fragment : (fragment : Bool) (k : Key) → names_no_port (if fragment then key.NoPort else k) ≡ false → fragment ≡ false
     by_fragment true k is = absurd cc
@@ -162,10 +168,10 @@ module _ (t : BindingTable) (outer : Outer) (inner : List ℕ) (v : Verdict) whe
         ∙ ap (λ (x : Bool). x || false) sends in
         both_ways _ (not-true _ h) some
 
-    permit : is_foreign t outer ≡ false → names_no_port (upstream_key p) ≡ false →
+    permit : is_not_judged t p ≡ false → is_foreign t outer ≡ false → names_no_port (upstream_key p) ≡ false →
         not (is_softwire t outer p) ≡ false → Permits t outer inner
-    permit ours named softwire =
-        let k = wanted (upstream_key p) (not_icmp_bad p) named in
+    permit built ours named softwire =
+        let k = wanted (upstream_key p) (not_icmp_bad t p built) named in
         let some : list_any (λ b. b.b4.0 == outer.src.0) (bound t.bindings (record { 0 = p.src }) k.want) ≡ true =
         ap (λ (x : Key). list_any (λ b. b.b4.0 == outer.src.0) (owners t p.src x)) (sym k.key) ∙ not-false _ softwire in
         let one = one_member (λ b. b.b4.0 == outer.src.0) (bound t.bindings (record { 0 = p.src }) k.want)
@@ -201,12 +207,12 @@ module _ (t : BindingTable) (outer : Outer) (inner : List ℕ) (v : Verdict) whe
     last_line : is_not_judged t p ≡ false → is_foreign t outer ≡ false → names_no_port (upstream_key p) ≡ false → not (is_softwire t outer p) ≡ false →
         Choice (p.dst == t.softwire.own.0) (silent rule.ToSelf) ((true, verdict.Outward t.softwire.mtu4) ∷ []) v → Outcome t outer inner v
     last_line built ours named softwire (inl (self, is)) =
-        inr (inr (inl (record { is = is; permitted = permit ours named softwire; forbidden = forbids self })))
+        inr (inr (inl (record { is = is; permitted = permit built ours named softwire; forbidden = forbids self })))
     last_line built ours named softwire (inr (other, is)) =
         let same : v ≡ verdict.Outward t.softwire.mtu4 = cc in
         inr (inr (inr (record {
           is = same;
-          permitted = permit ours named softwire;
+          permitted = permit built ours named softwire;
           not_forbidden = not_forbids other;
           packet = p;
           read = read;
@@ -228,7 +234,7 @@ module _ (t : BindingTable) (outer : Outer) (inner : List ℕ) (v : Verdict) whe
 
     by_icmp : is_not_judged t p ≡ false → is_foreign t outer ≡ false →
         Choice (is_icmp_bad (upstream_key p)) (silent rule.IcmpBad) (port_lines t outer p) v → Outcome t outer inner v
-    by_icmp built ours (inl (test, is)) = absurd (both_ways _ (not_icmp_bad p) test)
+    by_icmp built ours (inl (test, is)) = absurd (both_ways _ (not_icmp_bad t p built) test)
     by_icmp built ours (inr (test, is)) = by_port built ours (first_or_later _ _ (binding_lines t outer p) v is)
 
     by_foreign : is_not_judged t p ≡ false → Choice (is_foreign t outer) (silent rule.NotOurs) (icmp_lines t outer p) v → Outcome t outer inner v

@@ -1,5 +1,5 @@
 // The verdict on an item.
-ghost use Rattle.std.specs.Prelude.{◌≡◌, ◌≢◌, ◌==◌, ◌+◌, ◌-◌, ◌≤◌, Some, Err};
+ghost use Rattle.std.specs.Prelude.{◌≡◌, ◌==◌, ◌+◌, ◌-◌, ◌≤◌, Some, Err};
 ghost use Rattle.std.specs.List.{list_any};
 ghost use Rattle.aftr_base.specs.First.{first_true};
 ghost use Rattle.binding_rules.specs.Bindings.{bound};

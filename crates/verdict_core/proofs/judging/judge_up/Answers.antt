@@ -5,7 +5,7 @@ use Rattle.table_words.specs.Layout.{IsCompiled}
 use Rattle.table_words.proofs.Laws.{reads_on}
 use Rattle.verdict_core.specs.Verdicts.{up_lines}
 use Rattle.verdict_core.specs.declared.verdicts.Verdict.TheVariants as verdict
-use Rattle.verdict_core.proofs.Exits.{at_end, at_foreign, at_icmp_bad, at_no_binding, at_no_port, at_not_built, at_self, not_icmp}
+use Rattle.verdict_core.proofs.Exits.{at_end, at_foreign, at_icmp_bad, at_no_binding, at_no_port, at_not_built, at_self}
 use Rattle.verdict_core.proofs.judging.judge_up.Goals as goal
 
 pub returns-in-Err-clause-verdict : goal.returns-in-Err-clause-verdict
@@ -21,12 +21,6 @@ pub returns-then-ne-clause-verdict : goal.returns-then-ne-clause-verdict
 returns-then-ne-clause-verdict g c = λ t h.
     at_foreign t c.args.outer.now c.args.inner.now c.args.settings.now (packet4 c.in-Ok.packet) _ (c.requires.settings t h) c.in-Ok.ensures.reads _ (c.is_not_judged.ensures.answer t h)
     c.if-is_not_judged.false _ c.ne.ensures c.if-ne.true c.silent-then-ne.ensures
-
-pub key_up-requires : goal.key_up-requires
-key_up-requires g c =
-    let table = c.requires.compiled.table in
-    let left = c.is_not_judged.ensures.answer table c.requires.compiled.of_table in
-    record { not_icmp = not_icmp table (packet4 c.in-Ok.packet) (sym left ∙ c.if-is_not_judged.false) }
 
 pub returns-in-IcmpBad-clause-verdict : goal.returns-in-IcmpBad-clause-verdict
 returns-in-IcmpBad-clause-verdict g c = λ t h.
