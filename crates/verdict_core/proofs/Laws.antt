@@ -1,14 +1,12 @@
 -- What the lines say of a packet from a subscriber: who may send, and which verdicts there are.
-use Rattle.std.proofs.Common.{◌≡◌, ℕ, ◌≤◌, ◌==◌, ◌||◌, ◌↔◌, nat_lt, if◌then◌else◌, Bool, not, true, false, List, [], ◌∷◌, length, Option, Some, None, Result, Ok, Err, refl, ap, sym, ◌∙◌, subst, ◌⊎◌, inl, inr, arith}
+use Rattle.std.proofs.Common.{◌≡◌, ℕ, ◌≤◌, ◌==◌, ◌||◌, ◌↔◌, if◌then◌else◌, Bool, not, true, false, List, [], ◌∷◌, length, Option, Some, None, Result, Ok, Err, refl, ap, sym, ◌∙◌, subst, ◌⊎◌, inl, inr, arith}
 use Rattle.std.specs.List.{list_any}
 use Rattle.std.proofs.lemmas.Bool.{not-true, not-false, eqb-true, eqb-false, eq-eqb, ltb-false, or_parts, both_ways}
 use Rattle.aftr_base.specs.First.{first_true}
-use Rattle.aftr_base.specs.Numbers.{big_endian, span}
 use Rattle.binding_rules.specs.Bindings.{bound}
 use Rattle.binding_rules.specs.Tables.{BindingTable, IsLawful}
 use Rattle.binding_rules.specs.declared.binding.Binding.{Binding}
 use Rattle.binding_rules.specs.declared.binding.Want.{Want}
-use Rattle.binding_rules.specs.declared.binding.Want.TheVariants as want
 use Rattle.icmp_codec.specs.Message4.{icmp4_of}
 use Rattle.ip_codec.specs.Packet4.{Packet4, ip4_of, is_fragment, packet_len}
 use Rattle.ip_codec.specs.declared.items.Item.{Item}
