@@ -1,0 +1,67 @@
+-- Lemmas on packets that are appended in parts.
+use Rattle.std.proofs.Common.{◌≡◌, ℕ, zero, suc, ◌+◌, ◌-◌, List, [], ◌∷◌, ◌++◌, length, take, if◌then◌else◌, is_ok, IsOk, Result, Ok, Err, refl, sym, ◌∙◌, ap, arith, append_assoc}
+use Rattle.std.proofs.Math.Seq.{take-append-add}
+use Rattle.aftr_base.specs.declared.numbers.V4.{V4}
+use Rattle.aftr_base.specs.declared.numbers.V6.{V6}
+use Rattle.icmp_codec.specs.Message4.{icmp4_bytes}
+use Rattle.icmp_codec.specs.Message6.{icmp6_bytes}
+use Rattle.ip_codec.specs.Packet4.{header4}
+use Rattle.ip_codec.specs.Packet6.{bytes6}
+use Rattle.ip_codec.specs.declared.items.Outer.{Outer}
+use Rattle.ip_codec.specs.declared.packet6.Head6.{Head6}
+use Rattle.icmp_errors.specs.Errors4.{error4, error_head}
+use Rattle.icmp_errors.specs.Policy6.{header6_bytes, policy6, policy_head, quoted_head}
+
+-- a header was appended, and then the rest with success
+pub pushed : {A E : Type 0} (r : Result A E) (new list old header rest whole : List ℕ) → IsOk r →
+    new ≡ (if is_ok r then list ++ rest else list) → list ≡ old ++ header → header ++ rest ≡ whole →
+    new ≡ (if is_ok r then old ++ whole else old)
+pushed (Ok x) new list old header rest whole ok new_is list_is whole_is =
+    new_is ∙ ap (λ l. l ++ rest) list_is ∙ append_assoc old header rest ∙ ap (λ l. old ++ l) whole_is
+pushed (Err e) new list old header rest whole ok new_is list_is whole_is = absurd cc
+
+front_joined : (n : ℕ) (a b : List ℕ) → take n a ++ take (n - length (take n a)) b ≡ take n (a ++ b)
+front_joined zero a b = refl
+front_joined (suc n) [] b = let same : suc n - 0 ≡ suc n = omega arith in ap (λ k. take k b) same
+front_joined (suc n) (x ∷ a) b =
+    let same : suc n - suc (length (take n a)) ≡ n - length (take n a) = omega arith in
+    ap (λ k. x ∷ (take n a ++ take k b)) same ∙ ap (λ l. x ∷ l) (front_joined n a b)
+
+-- the first bytes of two lists are those of the first, and of the second as many as are left
+pub front_of_both : (n : ℕ) (a b first second : List ℕ) → first ≡ take n a → second ≡ take (n - length first) b →
+    first ++ second ≡ take n (a ++ b)
+front_of_both n a b first second first_is second_is =
+    ap (λ l. first ++ l) second_is ∙ ap (λ l. l ++ take (n - length l) b) first_is ∙ front_joined n a b
+
+-- a header for a message of this length, and the message
+pub error4-parts : (own to : V4) (kind code word n : ℕ) (quote packet : List ℕ) → n ≡ 8 + length quote → quote ≡ take 548 packet →
+    header4 (error_head own to) [] n ++ icmp4_bytes kind code word quote ≡ error4 own to kind code word packet
+error4-parts own to kind code word n quote packet n_is quote_is =
+    let len : n ≡ length (icmp4_bytes kind code word quote) = n_is ∙ omega arith in
+    ap (λ m. header4 (error_head own to) [] m ++ icmp4_bytes kind code word quote) len
+    ∙ ap (λ q. header4 (error_head own to) [] (length (icmp4_bytes kind code word q)) ++ icmp4_bytes kind code word q) quote_is
+
+header6-length : (head : Head6) (n : ℕ) → length (header6_bytes head n) ≡ 40
+header6-length head n = refl
+
+header6-bytes6 : (head : Head6) (body : List ℕ) → header6_bytes head (length body) ++ body ≡ bytes6 head body
+header6-bytes6 head body = refl
+
+-- a tunnel's header and the first bytes behind it
+pub tunnel_front : (head : Head6) (body more : List ℕ) → more ≡ take 1192 body →
+    header6_bytes head (length body) ++ more ≡ take 1232 (bytes6 head body)
+tunnel_front head body more more_is =
+    let header = header6_bytes head (length body) in
+    ap (λ l. header ++ l) more_is
+    ∙ sym (take-append-add header body 1192)
+    ∙ ap (λ n. take (n + 1192) (header ++ body)) (header6-length head (length body))
+    ∙ ap (λ l. take 1232 l) (header6-bytes6 head body)
+
+pub policy6-parts : (from to : V6) (hop n : ℕ) (outer : Outer) (inner quote : List ℕ) → n ≡ 8 + length quote →
+    quote ≡ take 1232 (bytes6 (quoted_head outer) inner) →
+    header6_bytes (policy_head from to hop) n ++ icmp6_bytes from.0 to.0 1 5 0 quote ≡ policy6 from to hop outer inner
+policy6-parts from to hop n outer inner quote n_is quote_is =
+    let len : n ≡ length (icmp6_bytes from.0 to.0 1 5 0 quote) = n_is ∙ omega arith in
+    ap (λ m. header6_bytes (policy_head from to hop) m ++ icmp6_bytes from.0 to.0 1 5 0 quote) len
+    ∙ header6-bytes6 (policy_head from to hop) (icmp6_bytes from.0 to.0 1 5 0 quote)
+    ∙ ap (λ q. bytes6 (policy_head from to hop) (icmp6_bytes from.0 to.0 1 5 0 q)) quote_is

@@ -1,0 +1,3 @@
+pub mod Answers
+pub mod Errors4
+pub mod Policy6

@@ -1,0 +1,50 @@
+-- The ICMPv6 error to a subscriber whose packets no binding covers (RFC 7596, section 6.2; RFC 4443, section 3.1).
+use Rattle.std.specs.Prelude.{ℕ, List, [], ◌∷◌, ◌++◌, take}
+use Rattle.std.specs.Int.{w32, w128, to_be_bytes}
+use Rattle.aftr_base.specs.Numbers.{word_bytes}
+use Rattle.aftr_base.specs.declared.numbers.V6.{V6}
+use Rattle.icmp_codec.specs.Message6.{icmp6_bytes}
+use Rattle.ip_codec.specs.Packet6.{bytes6}
+use Rattle.ip_codec.specs.declared.items.Outer.{Outer}
+use Rattle.ip_codec.specs.declared.packet6.Head6.{Head6}
+
+-- As much is quoted as leaves the error at most 1,280 bytes, the least that IPv6 links take: 1,232 behind a header of 40 and
+-- the message's first 8 (RFC 4443, section 2.4 (c)).
+abbrev pub most_quoted6 : ℕ
+most_quoted6 = 1232
+
+-- The header of the tunnel packet that came. What stood between it and the inner packet is not kept, so the quote has IPv4
+-- behind it and the length of the inner packet (ours).
+abbrev pub quoted_head : Outer → Head6
+quoted_head outer = record {
+  word = outer.word;
+  next = 4;
+  hop = outer.hop;
+  src = outer.src;
+  dst = outer.dst;
+}
+
+-- the header of the error: version 6, no traffic class and no flow label, and ICMPv6 behind it
+abbrev pub policy_head : V6 → V6 → ℕ → Head6
+policy_head from to hop = record {
+  word = 1610612736;
+  next = 58;
+  hop = hop;
+  src = from;
+  dst = to;
+}
+
+-- an IPv6 header with these fields before a payload of a length (RFC 8200, section 3)
+abbrev pub header6_bytes : Head6 → ℕ → List ℕ
+header6_bytes head payload_len =
+    to_be_bytes w32 head.word
+    ++ word_bytes payload_len
+    ++ head.next ∷ head.hop ∷ []
+    ++ to_be_bytes w128 head.src.0
+    ++ to_be_bytes w128 head.dst.0
+
+-- destination unreachable, code 5: the source address failed the policy; byte for byte
+abbrev pub policy6 : V6 → V6 → ℕ → Outer → List ℕ → List ℕ
+policy6 from to hop outer inner =
+    let quote = take most_quoted6 (bytes6 (quoted_head outer) inner) in
+    bytes6 (policy_head from to hop) (icmp6_bytes from.0 to.0 1 5 0 quote)

@@ -1,0 +1,160 @@
+// The ICMPv4 errors that the router sends.
+ghost use Rattle.std.specs.Prelude.{◌≡◌, ◌+◌, ◌≤◌, ◌++◌, min, length, take, if◌then◌else◌, is_ok, IfOk, IsOk, [], vec_len, vec_capacity};
+ghost use Rattle.ip_codec.specs.Packet4.{header4, packet4, packet_len};
+ghost use Rattle.icmp_errors.specs.Errors4.{error4, error_about, error_head, exceeded_bytes, most_quoted, too_big_bytes, unreachable_bytes};
+
+use crate::fronts::front;
+use aftr_base::{Bytes, OutOfMemory, V4, put_checksum};
+use icmp_codec::{IcmpHead, push_icmp4};
+use ip_codec::Ip4View;
+use std::alloc::Global;
+
+// How much of a packet is quoted at most, and what stands before it: the IPv4 header and the first part of the message.
+const MOST_QUOTED: usize = 548;
+
+const HEADER_LEN: usize = 20;
+
+const MESSAGE_HEAD_LEN: usize = 8;
+
+// Types and codes (RFC 792; RFC 1191, section 4).
+const UNREACHABLE: u8 = 3;
+
+const DF_SET: u8 = 4;
+
+const HOST_UNREACHABLE: IcmpHead = IcmpHead {
+    kind: UNREACHABLE,
+    code: 1,
+    word: 0,
+};
+
+const TIME_EXCEEDED: IcmpHead = IcmpHead {
+    kind: 11,
+    code: 0,
+    word: 0,
+};
+
+/// Destination unreachable, code 1, to the packet's source from the address `own` (RFC 792). It quotes the first 548 bytes
+/// of the packet, and has 576 at most.
+pub fn host_unreachable(alloc: Global, own: V4, p: &Ip4View<'_>) -> Result<Bytes, OutOfMemory>
+    ensures bytes { IfOk result (λ packet. packet ≡ unreachable_bytes own (packet4 p.now)) }
+    ensures size { IfOk result (λ packet. length packet ≡ 28 + min most_quoted (packet_len (packet4 p.now))) }
+    ensures most { IfOk result (λ packet. length packet ≤ 576) }
+{
+    let mut list = Vec::new(alloc);
+    push_host_unreachable(&mut list, own, p)?;
+    Ok(Bytes::of(list))
+}
+
+/// Destination unreachable, code 4, to the packet's source from the address `own`: the packet does not fit, has DF set,
+/// and `mtu` bytes would fit (RFC 1191, section 4). It quotes the first 548 bytes of the packet, and has 576 at most.
+pub fn too_big(alloc: Global, own: V4, mtu: u16, p: &Ip4View<'_>) -> Result<Bytes, OutOfMemory>
+    ensures bytes { IfOk result (λ packet. packet ≡ too_big_bytes own mtu (packet4 p.now)) }
+    ensures size { IfOk result (λ packet. length packet ≡ 28 + min most_quoted (packet_len (packet4 p.now))) }
+    ensures most { IfOk result (λ packet. length packet ≤ 576) }
+{
+    let mut list = Vec::new(alloc);
+    push_too_big(&mut list, own, mtu, p)?;
+    Ok(Bytes::of(list))
+}
+
+/// Time exceeded in transit to the packet's source from the address `own` (RFC 792). It quotes the first 548 bytes of the
+/// packet, and has 576 at most.
+pub fn time_exceeded(alloc: Global, own: V4, p: &Ip4View<'_>) -> Result<Bytes, OutOfMemory>
+    ensures bytes { IfOk result (λ packet. packet ≡ exceeded_bytes own (packet4 p.now)) }
+    ensures size { IfOk result (λ packet. length packet ≡ 28 + min most_quoted (packet_len (packet4 p.now))) }
+    ensures most { IfOk result (λ packet. length packet ≤ 576) }
+{
+    let mut list = Vec::new(alloc);
+    push_time_exceeded(&mut list, own, p)?;
+    Ok(Bytes::of(list))
+}
+
+/// Appends what `host_unreachable` writes. Where there is no memory, the list stays as it was.
+pub fn push_host_unreachable(
+    list: &mut Vec<u8>,
+    own: V4,
+    p: &Ip4View<'_>,
+) -> Result<(), OutOfMemory>
+    ensures bytes { list.new.items ≡ (if is_ok result then list.old.items ++ unreachable_bytes own (packet4 p.now) else list.old.items) }
+    ensures size { IfOk result (λ _. vec_len list.new ≡ vec_len list.old + (28 + min most_quoted (packet_len (packet4 p.now)))) }
+{
+    push_about(list, own, HOST_UNREACHABLE, p)
+}
+
+/// Appends what `too_big` writes. Where there is no memory, the list stays as it was.
+pub fn push_too_big(
+    list: &mut Vec<u8>,
+    own: V4,
+    mtu: u16,
+    p: &Ip4View<'_>,
+) -> Result<(), OutOfMemory>
+    ensures bytes { list.new.items ≡ (if is_ok result then list.old.items ++ too_big_bytes own mtu (packet4 p.now) else list.old.items) }
+    ensures size { IfOk result (λ _. vec_len list.new ≡ vec_len list.old + (28 + min most_quoted (packet_len (packet4 p.now)))) }
+{
+    let head = IcmpHead {
+        kind: UNREACHABLE,
+        code: DF_SET,
+        word: u32::from(mtu),
+    };
+    push_about(list, own, head, p)
+}
+
+/// Appends what `time_exceeded` writes. Where there is no memory, the list stays as it was.
+pub fn push_time_exceeded(list: &mut Vec<u8>, own: V4, p: &Ip4View<'_>) -> Result<(), OutOfMemory>
+    ensures bytes { list.new.items ≡ (if is_ok result then list.old.items ++ exceeded_bytes own (packet4 p.now) else list.old.items) }
+    ensures size { IfOk result (λ _. vec_len list.new ≡ vec_len list.old + (28 + min most_quoted (packet_len (packet4 p.now)))) }
+{
+    push_about(list, own, TIME_EXCEEDED, p)
+}
+
+// An error about a packet to its source.
+fn push_about(
+    list: &mut Vec<u8>,
+    own: V4,
+    head: IcmpHead,
+    p: &Ip4View<'_>,
+) -> Result<(), OutOfMemory>
+    ensures bytes { list.new.items ≡ (if is_ok result
+        then list.old.items ++ error_about own head.kind head.code head.word (packet4 p.now) else list.old.items) }
+    ensures size { IfOk result (λ _. vec_len list.new ≡ vec_len list.old + (28 + min most_quoted (packet_len (packet4 p.now)))) }
+{
+    push_error4(list, own, p.src, head, p.header, p.payload)
+}
+
+/// Appends an ICMPv4 error from the address `own`, with this type, code and word, to another address. It quotes the first
+/// 548 bytes of a packet, whose header and payload stand one behind the other. Where there is no memory, the list stays
+/// as it was.
+pub fn push_error4(
+    list: &mut Vec<u8>,
+    own: V4,
+    to: V4,
+    head: IcmpHead,
+    header: &[u8],
+    payload: &[u8],
+) -> Result<(), OutOfMemory>
+    ensures bytes { list.new.items ≡ (if is_ok result
+        then list.old.items ++ error4 own to head.kind head.code head.word (header.now ++ payload.now) else list.old.items) }
+    ensures size { IfOk result (λ _. vec_len list.new ≡ vec_len list.old + (28 + min most_quoted (length header.now + length payload.now))) }
+{
+    let quote = front(header, MOST_QUOTED);
+    let more = front(payload, MOST_QUOTED - quote.len());
+    let message_len = MESSAGE_HEAD_LEN + quote.len() + more.len();
+    list.reserve(HEADER_LEN + message_len)?;
+    list.extend_from_slice(&error_header(own, to, message_len as u16))?;
+    push_icmp4(list, head, quote, more)
+}
+
+// The header of an error, before a message of this length.
+fn error_header(own: V4, to: V4, message_len: u16) -> [u8; 20]
+    requires { message_len ≤ 556 }
+    ensures { result ≡ header4 (error_head own to) [] message_len }
+{
+    let [total_high, total_low] = (HEADER_LEN as u16 + message_len).to_be_bytes();
+    let [s0, s1, s2, s3] = own.0.to_be_bytes();
+    let [d0, d1, d2, d3] = to.0.to_be_bytes();
+    let mut header = [
+        0x45, 0, total_high, total_low, 0, 0, 0x40, 0, 64, 1, 0, 0, s0, s1, s2, s3, d0, d1, d2, d3,
+    ];
+    put_checksum(&mut header, 10);
+    header
+}

@@ -1,0 +1,14 @@
+//! The ICMP errors that the router sends, and which packets get none (RFC 792, RFC 1122, RFC 4443).
+#![tactic(auto)]
+
+mod answers;
+mod errors4;
+mod fronts;
+mod policy6;
+
+pub use answers::{may_complain, may_complain_about, may_complain6};
+pub use errors4::{
+    host_unreachable, push_error4, push_host_unreachable, push_time_exceeded, push_too_big,
+    time_exceeded, too_big,
+};
+pub use policy6::{push_source_policy6, source_policy6};

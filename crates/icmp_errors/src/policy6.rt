@@ -1,0 +1,108 @@
+// The ICMPv6 error to a subscriber whose packets no binding covers.
+ghost use Rattle.std.specs.Prelude.{◌≡◌, ◌+◌, ◌≤◌, ◌++◌, min, length, if◌then◌else◌, is_ok, IfOk, vec_len};
+ghost use Rattle.icmp_errors.specs.Policy6.{header6_bytes, most_quoted6, policy6, quoted_head};
+
+use crate::fronts::front;
+use aftr_base::{Bytes, OutOfMemory, V6};
+use icmp_codec::{IcmpHead, push_icmp6};
+use ip_codec::{Head6, Outer};
+use std::alloc::Global;
+
+// Version 6, with no traffic class and no flow label (RFC 8200, section 3).
+const FIRST_WORD: u32 = 0x6000_0000;
+
+// Next headers: IPv4 in a tunnel (RFC 2473) and ICMPv6 (RFC 4443).
+const IPV4: u8 = 4;
+
+const ICMP6: u8 = 58;
+
+const HEADER_LEN: usize = 40;
+
+const MESSAGE_HEAD_LEN: usize = 8;
+
+// How much of the inner packet is quoted at most behind the header of its tunnel.
+const MOST_INNER: usize = 1192;
+
+// Destination unreachable: the source address failed the ingress or egress policy (RFC 4443, section 3.1).
+const SOURCE_POLICY: IcmpHead = IcmpHead {
+    kind: 1,
+    code: 5,
+    word: 0,
+};
+
+/// Destination unreachable, code 5, from one address to another with this hop limit (RFC 7596, section 6.2; RFC 4443,
+/// section 3.1). It quotes the tunnel packet that came: its header's first word, hop limit and addresses, and the inner
+/// packet of at most 65,535 bytes. It quotes 1,232 bytes at most, and has 1,280 at most.
+pub fn source_policy6(
+    alloc: Global,
+    from: V6,
+    to: V6,
+    hop: u8,
+    outer: &Outer,
+    inner: &[u8],
+) -> Result<Bytes, OutOfMemory>
+    requires { length inner.now ≤ 65535 }
+    ensures bytes { IfOk result (λ packet. packet ≡ policy6 from to hop outer.now inner.now) }
+    ensures size { IfOk result (λ packet. length packet ≡ 48 + min most_quoted6 (40 + length inner.now)) }
+    ensures most { IfOk result (λ packet. length packet ≤ 1280) }
+{
+    let mut list = Vec::new(alloc);
+    push_source_policy6(&mut list, from, to, hop, outer, inner)?;
+    Ok(Bytes::of(list))
+}
+
+/// Appends what `source_policy6` writes. Where there is no memory, the list stays as it was.
+pub fn push_source_policy6(
+    list: &mut Vec<u8>,
+    from: V6,
+    to: V6,
+    hop: u8,
+    outer: &Outer,
+    inner: &[u8],
+) -> Result<(), OutOfMemory>
+    requires { length inner.now ≤ 65535 }
+    ensures bytes { list.new.items ≡ (if is_ok result then list.old.items ++ policy6 from to hop outer.now inner.now else list.old.items) }
+    ensures size { IfOk result (λ _. vec_len list.new ≡ vec_len list.old + (48 + min most_quoted6 (40 + length inner.now))) }
+{
+    let head = Head6 {
+        word: FIRST_WORD,
+        next: ICMP6,
+        hop,
+        src: from,
+        dst: to,
+    };
+    let tunnel = tunnel_header(outer, inner.len() as u16);
+    let more = front(inner, MOST_INNER);
+    let message_len = MESSAGE_HEAD_LEN + HEADER_LEN + more.len();
+    list.reserve(HEADER_LEN + message_len)?;
+    list.extend_from_slice(&header6(head, message_len as u16))?;
+    push_icmp6(list, from, to, SOURCE_POLICY, &tunnel, more)
+}
+
+// The header of the tunnel packet that came, with IPv4 behind it and this payload length.
+fn tunnel_header(outer: &Outer, payload_len: u16) -> [u8; 40]
+    ensures { result ≡ header6_bytes (quoted_head outer.now) payload_len }
+{
+    let head = Head6 {
+        word: outer.word,
+        next: IPV4,
+        hop: outer.hop,
+        src: outer.src,
+        dst: outer.dst,
+    };
+    header6(head, payload_len)
+}
+
+// An IPv6 header with these fields and this payload length.
+fn header6(head: Head6, payload_len: u16) -> [u8; 40]
+    ensures { result ≡ header6_bytes head payload_len }
+{
+    let mut bytes = [0; 40];
+    bytes[..4].copy_from_slice(&head.word.to_be_bytes());
+    bytes[4..6].copy_from_slice(&payload_len.to_be_bytes());
+    bytes[6] = head.next;
+    bytes[7] = head.hop;
+    bytes[8..24].copy_from_slice(&head.src.0.to_be_bytes());
+    bytes[24..].copy_from_slice(&head.dst.0.to_be_bytes());
+    bytes
+}
