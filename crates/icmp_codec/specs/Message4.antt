@@ -24,16 +24,16 @@ is_echo kind = (kind == 0) || (kind == 8)
 
 -- What is wrong with the bytes: each condition with its refusal. Every message but an echo and its reply is taken to
 -- quote a packet, and is looked at as RFC 5508, requirement 3, asks of errors.
-abbrev pub refusals4 : List ℕ → List (Bool × IcmpBad)
-refusals4 bytes =
+abbrev pub message_refusals4 : List ℕ → List (Bool × IcmpBad)
+message_refusals4 bytes =
     (nat_lt (length bytes) 8, bad.Short)
     ∷ (not (is_echo (slice_index bytes 0)) && not (checksum bytes == 0), bad.Checksum)
     ∷ (not (is_echo (slice_index bytes 0)) && lacks_header (drop 8 bytes), bad.Embedded)
     ∷ []
 
 -- the fields that the bytes spell, beside a quoted packet
-abbrev pub fields4 : List ℕ → Option EmbeddedPacket → Message4
-fields4 bytes embedded = record {
+abbrev pub message_fields4 : List ℕ → Option EmbeddedPacket → Message4
+message_fields4 bytes embedded = record {
   kind = slice_index bytes 0;
   code = slice_index bytes 1;
   id = big_endian (span bytes 4 2);
@@ -44,8 +44,8 @@ fields4 bytes embedded = record {
 
 -- the message that the bytes spell, or the first true refusal
 abbrev pub icmp4_of : List ℕ → Result Message4 IcmpBad
-icmp4_of bytes = refused_or (first_true (refusals4 bytes))
-    (fields4 bytes (if is_echo (slice_index bytes 0) then None else Some (embedded_fields (drop 8 bytes))))
+icmp4_of bytes = refused_or (first_true (message_refusals4 bytes))
+    (message_fields4 bytes (if is_echo (slice_index bytes 0) then None else Some (embedded_fields (drop 8 bytes))))
 
 abbrev pub message4 : Icmp4View → Message4
 message4 view = record {
@@ -58,21 +58,21 @@ message4 view = record {
 }
 
 -- an answer of reading, held against what the bytes spell
-abbrev pub Reads4 : Result Icmp4View IcmpBad → Result Message4 IcmpBad → Type 0
-Reads4 (Ok view) read = read ≡ Ok (message4 view)
-Reads4 (Err refusal) read = read ≡ Err refusal
+abbrev pub ReadsMessage4 : Result Icmp4View IcmpBad → Result Message4 IcmpBad → Type 0
+ReadsMessage4 (Ok view) read = read ≡ Ok (message4 view)
+ReadsMessage4 (Err refusal) read = read ≡ Err refusal
 
 -- the first 8 bytes of a message, with zero in the place of the checksum
-abbrev pub head_of : ℕ → ℕ → ℕ → List ℕ
-head_of kind code word = kind ∷ code ∷ 0 ∷ 0 ∷ [] ++ to_be_bytes w32 word
+abbrev pub message_head : ℕ → ℕ → ℕ → List ℕ
+message_head kind code word = kind ∷ code ∷ 0 ∷ 0 ∷ [] ++ to_be_bytes w32 word
 
 -- a message with its checksum, byte for byte
 abbrev pub icmp4_bytes : ℕ → ℕ → ℕ → List ℕ → List ℕ
-icmp4_bytes kind code word quote = let blank = head_of kind code word ++ quote in with_word blank 2 (checksum blank)
+icmp4_bytes kind code word quote = let blank = message_head kind code word ++ quote in with_word blank 2 (checksum blank)
 
 -- the message that has these fields and quotes these bytes
-abbrev pub made4 : ℕ → ℕ → ℕ → List ℕ → Message4
-made4 kind code word quote = record {
+abbrev pub made_message4 : ℕ → ℕ → ℕ → List ℕ → Message4
+made_message4 kind code word quote = record {
   kind = kind;
   code = code;
   id = word / 65536;

@@ -4,7 +4,7 @@ use Rattle.std.specs.Int.{w32, w128, to_be_bytes}
 use Rattle.aftr_base.specs.Numbers.{big_endian, span, with_word}
 use Rattle.aftr_base.specs.Sums.{checksum}
 use Rattle.aftr_base.specs.First.{first_true, refused_or}
-use Rattle.icmp_codec.specs.Message4.{head_of}
+use Rattle.icmp_codec.specs.Message4.{message_head}
 use Rattle.icmp_codec.specs.declared.message4.IcmpBad.{IcmpBad}
 use Rattle.icmp_codec.specs.declared.message4.IcmpBad.TheVariants as bad
 use Rattle.icmp_codec.specs.declared.message6.Icmp6View.{Icmp6View}
@@ -28,15 +28,15 @@ abbrev pub checksum6 : ℕ → ℕ → List ℕ → ℕ
 checksum6 src dst message = checksum (pseudo_header src dst (length message) ++ message)
 
 -- what is wrong with the bytes: each condition with its refusal
-abbrev pub refusals6 : ℕ → ℕ → List ℕ → List (Bool × IcmpBad)
-refusals6 src dst bytes =
+abbrev pub message_refusals6 : ℕ → ℕ → List ℕ → List (Bool × IcmpBad)
+message_refusals6 src dst bytes =
     (nat_lt (length bytes) 8, bad.Short)
     ∷ (not (checksum6 src dst bytes == 0), bad.Checksum)
     ∷ []
 
 -- the fields that the bytes spell
-abbrev pub fields6 : List ℕ → Message6
-fields6 bytes = record {
+abbrev pub message_fields6 : List ℕ → Message6
+message_fields6 bytes = record {
   kind = slice_index bytes 0;
   code = slice_index bytes 1;
   word = big_endian (span bytes 4 4);
@@ -45,7 +45,7 @@ fields6 bytes = record {
 
 -- the message that the bytes spell between two addresses, or the first true refusal
 abbrev pub icmp6_of : ℕ → ℕ → List ℕ → Result Message6 IcmpBad
-icmp6_of src dst bytes = refused_or (first_true (refusals6 src dst bytes)) (fields6 bytes)
+icmp6_of src dst bytes = refused_or (first_true (message_refusals6 src dst bytes)) (message_fields6 bytes)
 
 abbrev pub message6 : Icmp6View → Message6
 message6 view = record {
@@ -56,18 +56,18 @@ message6 view = record {
 }
 
 -- an answer of reading, held against what the bytes spell
-abbrev pub Reads6 : Result Icmp6View IcmpBad → Result Message6 IcmpBad → Type 0
-Reads6 (Ok view) read = read ≡ Ok (message6 view)
-Reads6 (Err refusal) read = read ≡ Err refusal
+abbrev pub ReadsMessage6 : Result Icmp6View IcmpBad → Result Message6 IcmpBad → Type 0
+ReadsMessage6 (Ok view) read = read ≡ Ok (message6 view)
+ReadsMessage6 (Err refusal) read = read ≡ Err refusal
 
 -- a message with its checksum, byte for byte
 abbrev pub icmp6_bytes : ℕ → ℕ → ℕ → ℕ → ℕ → List ℕ → List ℕ
 icmp6_bytes src dst kind code word quote =
-    let blank = head_of kind code word ++ quote in with_word blank 2 (checksum6 src dst blank)
+    let blank = message_head kind code word ++ quote in with_word blank 2 (checksum6 src dst blank)
 
 -- the message that has these fields and quotes these bytes
-abbrev pub made6 : ℕ → ℕ → ℕ → List ℕ → Message6
-made6 kind code word quote = record {
+abbrev pub made_message6 : ℕ → ℕ → ℕ → List ℕ → Message6
+made_message6 kind code word quote = record {
   kind = kind;
   code = code;
   word = word;

@@ -1,6 +1,6 @@
 // The first 8 bytes of ICMP messages of both versions.
 ghost use Rattle.std.specs.Prelude.{◌≡◌};
-ghost use Rattle.icmp_codec.specs.Message4.{head_of};
+ghost use Rattle.icmp_codec.specs.Message4.{message_head};
 
 /// What an ICMP message says before what it quotes (RFC 792; RFC 4443, section 2.1).
 #[derive(Clone, Copy, Debug, PartialEq, Eq)]
@@ -19,7 +19,7 @@ pub const CHECKSUM: usize = 2;
 
 // The first 8 bytes of a message, with zero in the place of the checksum.
 pub fn head_bytes(head: IcmpHead) -> [u8; 8]
-    ensures { result ≡ head_of head.kind head.code head.word }
+    ensures { result ≡ message_head head.kind head.code head.word }
 {
     let [a, b, c, d] = head.word.to_be_bytes();
     [head.kind, head.code, 0, 0, a, b, c, d]

@@ -1,6 +1,6 @@
 // ICMPv4 messages, read and written.
 ghost use Rattle.std.specs.Prelude.{◌≡◌, ◌+◌, ◌≤◌, ◌++◌, length, if◌then◌else◌, is_ok, IsOk, IfOk, vec_len, vec_capacity, IsTrue, Ok, Bool, not, ◌||◌};
-ghost use Rattle.icmp_codec.specs.Message4.{Reads4, fields4, icmp4_bytes, icmp4_of, is_echo, made4, message4};
+ghost use Rattle.icmp_codec.specs.Message4.{ReadsMessage4, message_fields4, icmp4_bytes, icmp4_of, is_echo, made_message4, message4};
 ghost use Rattle.icmp_codec.specs.Quoted.{lacks_header, quoted};
 
 use crate::head::{CHECKSUM, HEAD_LEN, IcmpHead, head_bytes};
@@ -38,7 +38,7 @@ pub enum IcmpBad {
 /// Reads an ICMPv4 message (RFC 792). Every message but echo and echo reply has to sum up and to quote an IPv4 header
 /// that does (RFC 5508, requirement 3).
 pub fn icmp4(bytes: &[u8]) -> Result<Icmp4View<'_>, IcmpBad>
-    ensures { Reads4 result (icmp4_of bytes.now) }
+    ensures { ReadsMessage4 result (icmp4_of bytes.now) }
 {
     if bytes.len() < HEAD_LEN {
         return Err(IcmpBad::Short);
@@ -57,7 +57,7 @@ pub fn icmp4(bytes: &[u8]) -> Result<Icmp4View<'_>, IcmpBad>
 
 fn view_of<'a>(bytes: &'a [u8], embedded: Option<Embedded<'a>>) -> Icmp4View<'a>
     requires { 8 ≤ length bytes.now }
-    ensures { message4 result ≡ fields4 bytes.now (quoted embedded.entry) }
+    ensures { message4 result ≡ message_fields4 bytes.now (quoted embedded.entry) }
 {
     Icmp4View {
         kind: bytes[0],
@@ -89,7 +89,7 @@ pub fn put_icmp4(
     ensures bytes { IfOk result (λ message. message ≡ icmp4_bytes kind code word quote.now) }
     ensures size { IfOk result (λ message. length message ≡ 8 + length quote.now) }
     ensures read { IfOk result (λ message. IsTrue (is_echo kind || not (lacks_header quote.now)) →
-        icmp4_of message ≡ Ok (made4 kind code word quote.now)) }
+        icmp4_of message ≡ Ok (made_message4 kind code word quote.now)) }
 {
     let mut list = Vec::new(alloc);
     push_icmp4(&mut list, IcmpHead { kind, code, word }, quote, &[])?;
@@ -108,6 +108,11 @@ pub fn push_icmp4(
     ensures bytes { list.new.items ≡ (if is_ok result
         then list.old.items ++ icmp4_bytes head.kind head.code head.word (quote.now ++ more.now) else list.old.items) }
     ensures size { IfOk result (λ _. vec_len list.new ≡ vec_len list.old + (8 + length quote.now + length more.now)) }
+
+    // What is appended is read back.
+    ensures read { IsTrue (is_echo head.kind || not (lacks_header (quote.now ++ more.now))) →
+        icmp4_of (icmp4_bytes head.kind head.code head.word (quote.now ++ more.now))
+        ≡ Ok (made_message4 head.kind head.code head.word (quote.now ++ more.now)) }
 
     // It takes memory only where the list has no room.
     ensures room { vec_len list.old + (8 + length quote.now + length more.now) ≤ vec_capacity list.old → IsOk result }

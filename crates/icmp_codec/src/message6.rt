@@ -1,6 +1,6 @@
 // ICMPv6 messages, read and written.
 ghost use Rattle.std.specs.Prelude.{◌≡◌, ◌+◌, ◌≤◌, ◌++◌, length, if◌then◌else◌, is_ok, IsOk, IfOk, vec_len, vec_capacity, Ok};
-ghost use Rattle.icmp_codec.specs.Message6.{Reads6, icmp6_bytes, icmp6_of, made6};
+ghost use Rattle.icmp_codec.specs.Message6.{ReadsMessage6, icmp6_bytes, icmp6_of, made_message6};
 
 use crate::head::{CHECKSUM, HEAD_LEN, IcmpHead, head_bytes};
 use crate::message4::IcmpBad;
@@ -23,7 +23,7 @@ pub struct Icmp6View<'a> {
 /// Reads an ICMPv6 message between two addresses, which its checksum covers (RFC 4443, section 2.3). It is refused as
 /// `Short` or `Checksum`, and never as `Embedded`.
 pub fn icmp6(src: V6, dst: V6, bytes: &[u8]) -> Result<Icmp6View<'_>, IcmpBad>
-    ensures { Reads6 result (icmp6_of src.0 dst.0 bytes.now) }
+    ensures { ReadsMessage6 result (icmp6_of src.0 dst.0 bytes.now) }
 {
     if bytes.len() < HEAD_LEN {
         return Err(IcmpBad::Short);
@@ -53,7 +53,7 @@ pub fn put_icmp6(
     requires { length quote.now ≤ 65000 }
     ensures bytes { IfOk result (λ message. message ≡ icmp6_bytes src.0 dst.0 kind code word quote.now) }
     ensures size { IfOk result (λ message. length message ≡ 8 + length quote.now) }
-    ensures read { IfOk result (λ message. icmp6_of src.0 dst.0 message ≡ Ok (made6 kind code word quote.now)) }
+    ensures read { IfOk result (λ message. icmp6_of src.0 dst.0 message ≡ Ok (made_message6 kind code word quote.now)) }
 {
     let mut list = Vec::new(alloc);
     push_icmp6(
@@ -81,6 +81,10 @@ pub fn push_icmp6(
     ensures bytes { list.new.items ≡ (if is_ok result
         then list.old.items ++ icmp6_bytes src.0 dst.0 head.kind head.code head.word (quote.now ++ more.now) else list.old.items) }
     ensures size { IfOk result (λ _. vec_len list.new ≡ vec_len list.old + (8 + length quote.now + length more.now)) }
+
+    // What is appended is read back.
+    ensures read { icmp6_of src.0 dst.0 (icmp6_bytes src.0 dst.0 head.kind head.code head.word (quote.now ++ more.now))
+        ≡ Ok (made_message6 head.kind head.code head.word (quote.now ++ more.now)) }
 
     // It takes memory only where the list has no room.
     ensures room { vec_len list.old + (8 + length quote.now + length more.now) ≤ vec_capacity list.old → IsOk result }

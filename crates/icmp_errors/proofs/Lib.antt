@@ -1,1 +1,3 @@
+pub mod PolicyLemmas
 pub mod PushLemmas
+pub mod QuoteLemmas

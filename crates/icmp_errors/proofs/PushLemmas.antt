@@ -1,5 +1,5 @@
 -- Lemmas on packets that are appended in parts.
-use Rattle.std.proofs.Common.{◌≡◌, ℕ, zero, suc, ◌+◌, ◌-◌, List, [], ◌∷◌, ◌++◌, length, take, if◌then◌else◌, is_ok, IsOk, Result, Ok, Err, refl, sym, ◌∙◌, ap, arith, append_assoc}
+use Rattle.std.proofs.Common.{◌≡◌, ℕ, zero, suc, ◌+◌, ◌-◌, List, [], ◌∷◌, ◌++◌, length, take, if◌then◌else◌, is_ok, IsOk, IfOk, Result, Ok, Err, refl, sym, ◌∙◌, ap, arith, append_assoc}
 use Rattle.std.proofs.Math.Seq.{take-append-add}
 use Rattle.aftr_base.specs.declared.numbers.V4.{V4}
 use Rattle.aftr_base.specs.declared.numbers.V6.{V6}
@@ -65,3 +65,12 @@ policy6-parts from to hop n outer inner quote n_is quote_is =
     ap (λ m. header6_bytes (policy_head from to hop) m ++ icmp6_bytes from.0 to.0 1 5 0 quote) len
     ∙ header6-bytes6 (policy_head from to hop) (icmp6_bytes from.0 to.0 1 5 0 quote)
     ∙ ap (λ q. bytes6 (policy_head from to hop) (icmp6_bytes from.0 to.0 1 5 0 q)) quote_is
+
+-- what holds anyway holds of a success, and what follows from it too
+pub on_success : {A E P : Type 0} (r : Result A E) → P → IfOk r (λ _. P)
+on_success (Ok x) holds = holds
+on_success (Err e) holds = tt
+
+pub then_on_success : {A E P Q : Type 0} (r : Result A E) → (P → Q) → IfOk r (λ _. P) → IfOk r (λ _. Q)
+then_on_success (Ok x) follows holds = follows holds
+then_on_success (Err e) follows holds = tt

@@ -1,8 +1,10 @@
 -- The ICMPv4 errors that the router sends (RFC 792; RFC 1812, section 4.3.2).
-use Rattle.std.specs.Prelude.{ℕ, true, false, List, [], ◌++◌, length, take}
+use Rattle.std.specs.Prelude.{◌≡◌, ℕ, ◌-◌, ◌/◌, true, false, List, [], ◌++◌, length, take, Some, Ok}
+use Rattle.icmp_codec.specs.Quoted.{EmbeddedPacket}
 use Rattle.aftr_base.specs.declared.numbers.V4.{V4}
-use Rattle.icmp_codec.specs.Message4.{icmp4_bytes}
-use Rattle.ip_codec.specs.Packet4.{Packet4, header4}
+use Rattle.icmp_codec.specs.Message4.{icmp4_bytes, icmp4_of}
+use Rattle.icmp_errors.specs.Answers.{about}
+use Rattle.ip_codec.specs.Packet4.{Packet4, header4, header_len_of, ip4_of, made4}
 use Rattle.ip_codec.specs.declared.packet4.Head4.{Head4}
 
 -- As much of a packet is quoted as leaves the error at most 576 bytes, the packet that every host takes: 548 behind a header
@@ -49,3 +51,23 @@ too_big_bytes own mtu p = error_about own 3 4 mtu p
 -- the time to live is used up: time exceeded in transit (RFC 792)
 abbrev pub exceeded_bytes : V4 → Packet4 → List ℕ
 exceeded_bytes own p = error_about own 11 0 0 p
+
+-- What its receiver finds in an error about a packet that begins with a header: an IPv4 packet to itself that sums up, and in
+-- it a message of this type, code and word that sums up and quotes that very packet, with as much of its payload as there is
+-- room for.
+pub record TellsOf (own to : V4) (kind code word : ℕ) (packet : List ℕ) (quoted : EmbeddedPacket) (bytes : List ℕ) : Type 0 where
+  pub message : List ℕ
+  pub outer : ip4_of bytes ≡ Ok (made4 (error_head own to) [] message)
+  pub inner : icmp4_of message ≡ Ok (record {
+    kind = kind;
+    code = code;
+    id = word / 65536;
+    word = word;
+    rest = take most_quoted packet;
+    embedded = Some (record quoted { payload = take (most_quoted - header_len_of packet) quoted.payload });
+  })
+
+-- what the source of a packet that `ip4` reads finds in an error about it
+abbrev pub TellsSource : V4 → ℕ → ℕ → ℕ → Packet4 → List ℕ → Type 0
+TellsSource own kind code word p bytes = ip4_of (p.header ++ p.payload) ≡ Ok p →
+    TellsOf own (record { 0 = p.src }) kind code word (p.header ++ p.payload) (about p) bytes

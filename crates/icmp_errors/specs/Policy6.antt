@@ -1,10 +1,10 @@
 -- The ICMPv6 error to a subscriber whose packets no binding covers (RFC 7596, section 6.2; RFC 4443, section 3.1).
-use Rattle.std.specs.Prelude.{ℕ, List, [], ◌∷◌, ◌++◌, take}
+use Rattle.std.specs.Prelude.{◌≡◌, ℕ, List, [], ◌∷◌, ◌++◌, take, Ok}
 use Rattle.std.specs.Int.{w32, w128, to_be_bytes}
 use Rattle.aftr_base.specs.Numbers.{word_bytes}
 use Rattle.aftr_base.specs.declared.numbers.V6.{V6}
-use Rattle.icmp_codec.specs.Message6.{icmp6_bytes}
-use Rattle.ip_codec.specs.Packet6.{bytes6}
+use Rattle.icmp_codec.specs.Message6.{icmp6_bytes, icmp6_of, made_message6}
+use Rattle.ip_codec.specs.Packet6.{bytes6, ip6_of, made6}
 use Rattle.ip_codec.specs.declared.items.Outer.{Outer}
 use Rattle.ip_codec.specs.declared.packet6.Head6.{Head6}
 
@@ -48,3 +48,10 @@ abbrev pub policy6 : V6 → V6 → ℕ → Outer → List ℕ → List ℕ
 policy6 from to hop outer inner =
     let quote = take most_quoted6 (bytes6 (quoted_head outer) inner) in
     bytes6 (policy_head from to hop) (icmp6_bytes from.0 to.0 1 5 0 quote)
+
+-- What the subscriber finds in it: an IPv6 packet to itself, and in it a message that sums up and quotes the front of the
+-- tunnel packet.
+pub record TellsPolicy (from to : V6) (hop : ℕ) (outer : Outer) (inner bytes : List ℕ) : Type 0 where
+  pub message : List ℕ
+  pub packet : ip6_of bytes ≡ Ok (made6 (policy_head from to hop) message)
+  pub told : icmp6_of from.0 to.0 message ≡ Ok (made_message6 1 5 0 (take most_quoted6 (bytes6 (quoted_head outer) inner)))

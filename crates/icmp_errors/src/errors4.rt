@@ -1,7 +1,9 @@
 // The ICMPv4 errors that the router sends.
-ghost use Rattle.std.specs.Prelude.{◌≡◌, ◌+◌, ◌≤◌, ◌++◌, min, length, take, if◌then◌else◌, is_ok, IfOk, IsOk, [], vec_len, vec_capacity};
-ghost use Rattle.ip_codec.specs.Packet4.{header4, packet4, packet_len};
-ghost use Rattle.icmp_errors.specs.Errors4.{error4, error_about, error_head, exceeded_bytes, most_quoted, too_big_bytes, unreachable_bytes};
+ghost use Rattle.std.specs.Prelude.{◌≡◌, ◌+◌, ◌^◌, ◌<◌, ◌≤◌, ◌++◌, false, min, length, take, if◌then◌else◌, is_ok, IfOk, Ok, Some, []};
+ghost use Rattle.icmp_codec.specs.Message4.{icmp4_bytes, is_echo};
+ghost use Rattle.icmp_codec.specs.Quoted.{EmbeddedPacket, embedded_of};
+ghost use Rattle.ip_codec.specs.Packet4.{header4, ip4_of, made4, packet4, packet_len};
+ghost use Rattle.icmp_errors.specs.Errors4.{TellsOf, TellsSource, error4, error_about, error_head, exceeded_bytes, most_quoted, too_big_bytes, unreachable_bytes};
 
 use crate::fronts::front;
 use aftr_base::{Bytes, OutOfMemory, V4, put_checksum};
@@ -39,6 +41,7 @@ pub fn host_unreachable(alloc: Global, own: V4, p: &Ip4View<'_>) -> Result<Bytes
     ensures bytes { IfOk result (λ packet. packet ≡ unreachable_bytes own (packet4 p.now)) }
     ensures size { IfOk result (λ packet. length packet ≡ 28 + min most_quoted (packet_len (packet4 p.now))) }
     ensures most { IfOk result (λ packet. length packet ≤ 576) }
+    ensures told { IfOk result (λ packet. TellsSource own 3 1 0 (packet4 p.now) packet) }
 {
     let mut list = Vec::new(alloc);
     push_host_unreachable(&mut list, own, p)?;
@@ -51,6 +54,7 @@ pub fn too_big(alloc: Global, own: V4, mtu: u16, p: &Ip4View<'_>) -> Result<Byte
     ensures bytes { IfOk result (λ packet. packet ≡ too_big_bytes own mtu (packet4 p.now)) }
     ensures size { IfOk result (λ packet. length packet ≡ 28 + min most_quoted (packet_len (packet4 p.now))) }
     ensures most { IfOk result (λ packet. length packet ≤ 576) }
+    ensures told { IfOk result (λ packet. TellsSource own 3 4 mtu (packet4 p.now) packet) }
 {
     let mut list = Vec::new(alloc);
     push_too_big(&mut list, own, mtu, p)?;
@@ -63,6 +67,7 @@ pub fn time_exceeded(alloc: Global, own: V4, p: &Ip4View<'_>) -> Result<Bytes, O
     ensures bytes { IfOk result (λ packet. packet ≡ exceeded_bytes own (packet4 p.now)) }
     ensures size { IfOk result (λ packet. length packet ≡ 28 + min most_quoted (packet_len (packet4 p.now))) }
     ensures most { IfOk result (λ packet. length packet ≤ 576) }
+    ensures told { IfOk result (λ packet. TellsSource own 11 0 0 (packet4 p.now) packet) }
 {
     let mut list = Vec::new(alloc);
     push_time_exceeded(&mut list, own, p)?;
@@ -76,7 +81,8 @@ pub fn push_host_unreachable(
     p: &Ip4View<'_>,
 ) -> Result<(), OutOfMemory>
     ensures bytes { list.new.items ≡ (if is_ok result then list.old.items ++ unreachable_bytes own (packet4 p.now) else list.old.items) }
-    ensures size { IfOk result (λ _. vec_len list.new ≡ vec_len list.old + (28 + min most_quoted (packet_len (packet4 p.now)))) }
+    ensures size { length (unreachable_bytes own (packet4 p.now)) ≡ 28 + min most_quoted (packet_len (packet4 p.now)) }
+    ensures told { IfOk result (λ _. TellsSource own 3 1 0 (packet4 p.now) (unreachable_bytes own (packet4 p.now))) }
 {
     push_about(list, own, HOST_UNREACHABLE, p)
 }
@@ -89,7 +95,8 @@ pub fn push_too_big(
     p: &Ip4View<'_>,
 ) -> Result<(), OutOfMemory>
     ensures bytes { list.new.items ≡ (if is_ok result then list.old.items ++ too_big_bytes own mtu (packet4 p.now) else list.old.items) }
-    ensures size { IfOk result (λ _. vec_len list.new ≡ vec_len list.old + (28 + min most_quoted (packet_len (packet4 p.now)))) }
+    ensures size { length (too_big_bytes own mtu (packet4 p.now)) ≡ 28 + min most_quoted (packet_len (packet4 p.now)) }
+    ensures told { IfOk result (λ _. TellsSource own 3 4 mtu (packet4 p.now) (too_big_bytes own mtu (packet4 p.now))) }
 {
     let head = IcmpHead {
         kind: UNREACHABLE,
@@ -102,7 +109,8 @@ pub fn push_too_big(
 /// Appends what `time_exceeded` writes. Where there is no memory, the list stays as it was.
 pub fn push_time_exceeded(list: &mut Vec<u8>, own: V4, p: &Ip4View<'_>) -> Result<(), OutOfMemory>
     ensures bytes { list.new.items ≡ (if is_ok result then list.old.items ++ exceeded_bytes own (packet4 p.now) else list.old.items) }
-    ensures size { IfOk result (λ _. vec_len list.new ≡ vec_len list.old + (28 + min most_quoted (packet_len (packet4 p.now)))) }
+    ensures size { length (exceeded_bytes own (packet4 p.now)) ≡ 28 + min most_quoted (packet_len (packet4 p.now)) }
+    ensures told { IfOk result (λ _. TellsSource own 11 0 0 (packet4 p.now) (exceeded_bytes own (packet4 p.now))) }
 {
     push_about(list, own, TIME_EXCEEDED, p)
 }
@@ -114,9 +122,12 @@ fn push_about(
     head: IcmpHead,
     p: &Ip4View<'_>,
 ) -> Result<(), OutOfMemory>
+    requires { is_echo head.kind ≡ false }
     ensures bytes { list.new.items ≡ (if is_ok result
         then list.old.items ++ error_about own head.kind head.code head.word (packet4 p.now) else list.old.items) }
-    ensures size { IfOk result (λ _. vec_len list.new ≡ vec_len list.old + (28 + min most_quoted (packet_len (packet4 p.now)))) }
+    ensures size { length (error_about own head.kind head.code head.word (packet4 p.now)) ≡ 28 + min most_quoted (packet_len (packet4 p.now)) }
+    ensures told { IfOk result (λ _.
+        TellsSource own head.kind head.code head.word (packet4 p.now) (error_about own head.kind head.code head.word (packet4 p.now))) }
 {
     push_error4(list, own, p.src, head, p.header, p.payload)
 }
@@ -134,7 +145,15 @@ pub fn push_error4(
 ) -> Result<(), OutOfMemory>
     ensures bytes { list.new.items ≡ (if is_ok result
         then list.old.items ++ error4 own to head.kind head.code head.word (header.now ++ payload.now) else list.old.items) }
-    ensures size { IfOk result (λ _. vec_len list.new ≡ vec_len list.old + (28 + min most_quoted (length header.now + length payload.now))) }
+    ensures size { length (error4 own to head.kind head.code head.word (header.now ++ payload.now)) ≡ 28 + min most_quoted (length header.now + length payload.now) }
+
+    // It is read as a packet from one address to the other, which holds the message.
+    ensures read { IfOk result (λ _. ip4_of (error4 own to head.kind head.code head.word (header.now ++ payload.now))
+        ≡ Ok (made4 (error_head own to) [] (icmp4_bytes head.kind head.code head.word (take most_quoted (header.now ++ payload.now))))) }
+
+    // Where it quotes a packet, that is the packet that it is about.
+    ensures told { IfOk result (λ _. is_echo head.kind ≡ false → (quoted : EmbeddedPacket) → embedded_of (header.now ++ payload.now) ≡ Some quoted →
+        TellsOf own to head.kind head.code head.word (header.now ++ payload.now) quoted (error4 own to head.kind head.code head.word (header.now ++ payload.now))) }
 {
     let quote = front(header, MOST_QUOTED);
     let more = front(payload, MOST_QUOTED - quote.len());
@@ -147,7 +166,8 @@ pub fn push_error4(
 // The header of an error, before a message of this length.
 fn error_header(own: V4, to: V4, message_len: u16) -> [u8; 20]
     requires { message_len ≤ 556 }
-    ensures { result ≡ header4 (error_head own to) [] message_len }
+    ensures bytes { result ≡ header4 (error_head own to) [] message_len }
+    ensures addresses_fit { (own.0 < 2 ^ 32) × (to.0 < 2 ^ 32) }
 {
     let [total_high, total_low] = (HEADER_LEN as u16 + message_len).to_be_bytes();
     let [s0, s1, s2, s3] = own.0.to_be_bytes();

@@ -1,6 +1,6 @@
 // The ICMPv6 error to a subscriber whose packets no binding covers.
-ghost use Rattle.std.specs.Prelude.{◌≡◌, ◌+◌, ◌≤◌, ◌++◌, min, length, if◌then◌else◌, is_ok, IfOk, vec_len};
-ghost use Rattle.icmp_errors.specs.Policy6.{header6_bytes, most_quoted6, policy6, quoted_head};
+ghost use Rattle.std.specs.Prelude.{◌≡◌, ◌+◌, ◌^◌, ◌<◌, ◌≤◌, ◌++◌, min, length, if◌then◌else◌, is_ok, IfOk};
+ghost use Rattle.icmp_errors.specs.Policy6.{TellsPolicy, header6_bytes, most_quoted6, policy6, quoted_head};
 
 use crate::fronts::front;
 use aftr_base::{Bytes, OutOfMemory, V6};
@@ -45,6 +45,7 @@ pub fn source_policy6(
     ensures bytes { IfOk result (λ packet. packet ≡ policy6 from to hop outer.now inner.now) }
     ensures size { IfOk result (λ packet. length packet ≡ 48 + min most_quoted6 (40 + length inner.now)) }
     ensures most { IfOk result (λ packet. length packet ≤ 1280) }
+    ensures told { IfOk result (λ packet. TellsPolicy from to hop outer.now inner.now packet) }
 {
     let mut list = Vec::new(alloc);
     push_source_policy6(&mut list, from, to, hop, outer, inner)?;
@@ -62,7 +63,8 @@ pub fn push_source_policy6(
 ) -> Result<(), OutOfMemory>
     requires { length inner.now ≤ 65535 }
     ensures bytes { list.new.items ≡ (if is_ok result then list.old.items ++ policy6 from to hop outer.now inner.now else list.old.items) }
-    ensures size { IfOk result (λ _. vec_len list.new ≡ vec_len list.old + (48 + min most_quoted6 (40 + length inner.now))) }
+    ensures size { length (policy6 from to hop outer.now inner.now) ≡ 48 + min most_quoted6 (40 + length inner.now) }
+    ensures told { IfOk result (λ _. TellsPolicy from to hop outer.now inner.now (policy6 from to hop outer.now inner.now)) }
 {
     let head = Head6 {
         word: FIRST_WORD,
@@ -95,7 +97,8 @@ fn tunnel_header(outer: &Outer, payload_len: u16) -> [u8; 40]
 
 // An IPv6 header with these fields and this payload length.
 fn header6(head: Head6, payload_len: u16) -> [u8; 40]
-    ensures { result ≡ header6_bytes head payload_len }
+    ensures bytes { result ≡ header6_bytes head payload_len }
+    ensures addresses_fit { (head.src.0 < 2 ^ 128) × (head.dst.0 < 2 ^ 128) }
 {
     let mut bytes = [0; 40];
     bytes[..4].copy_from_slice(&head.word.to_be_bytes());

@@ -1,6 +1,6 @@
 // The tunnel packets that ICMPv6 errors quote.
-ghost use Rattle.std.specs.Prelude.{◌≡◌, ◌/◌, ◌<◌, ◌≤◌, ◌==◌, Bool, not, ◌||◌, length};
-ghost use Rattle.icmp_codec.specs.Quoted.{embedded_packet};
+ghost use Rattle.std.specs.Prelude.{◌≡◌, ◌≤◌, length, IfOk, Some};
+ghost use Rattle.icmp_codec.specs.Quoted.{embedded_of, embedded_packet};
 ghost use Rattle.icmp_errors.specs.Answers.{gets_answer};
 ghost use Rattle.icmp_relay.specs.Quotes.{ReadsQuote, inner_packet, is_first_piece, quote_behind, quote_of};
 ghost use Rattle.port_locate.specs.Keys.{destination_at, quoted_want, source_at};
@@ -50,7 +50,8 @@ const FRAGMENT: u8 = 44;
 /// Reads the tunnel packet that an ICMPv6 error quotes behind its first 8 bytes (RFC 4443, section 3; RFC 2473, section
 /// 8). The payload length is not looked at, since quotes are cut.
 pub fn read_quote(rest: &[u8]) -> Result<Quote<'_>, QuoteBad>
-    ensures { ReadsQuote result (quote_of rest.now) }
+    ensures reads { ReadsQuote result (quote_of rest.now) }
+    ensures packet { IfOk result (λ q. embedded_of q.packet.now ≡ Some (inner_packet q)) }
 {
     if rest.len() < HEADER_LEN || rest[0] >> 4 != 6 {
         return Err(QuoteBad::Tunnel);
@@ -78,7 +79,8 @@ fn is_first_piece(rest: &[u8]) -> bool
 // The quote whose IPv4 packet is this one.
 fn quote_behind<'a>(tunnel: &'a [u8], packet: &'a [u8]) -> Result<Quote<'a>, QuoteBad>
     requires { 40 ≤ length tunnel.now }
-    ensures { ReadsQuote result (quote_behind tunnel.now packet.now) }
+    ensures reads { ReadsQuote result (quote_behind tunnel.now packet.now) }
+    ensures packet { IfOk result (λ q. embedded_of q.packet.now ≡ Some (inner_packet q)) }
 {
     let Some(inner) = read_embedded(packet) else {
         return Err(QuoteBad::Inner);

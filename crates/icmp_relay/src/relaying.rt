@@ -1,7 +1,7 @@
 // The ICMPv4 error by which an error about a tunnel packet is passed on.
-ghost use Rattle.std.specs.Prelude.{◌≡◌, ◌+◌, ◌≤◌, ◌++◌, ◌⊎◌, min, length, if◌then◌else◌, is_ok, IfOk, vec_len};
+ghost use Rattle.std.specs.Prelude.{◌≡◌, ◌+◌, ◌≤◌, ◌++◌, ◌⊎◌, min, length, if◌then◌else◌, is_ok, IfOk};
 ghost use Rattle.icmp_errors.specs.Errors4.{most_quoted};
-ghost use Rattle.icmp_relay.specs.Relayed.{relayed};
+ghost use Rattle.icmp_relay.specs.Relayed.{TellsInner, relayed};
 
 use crate::quotes::Quote;
 use aftr_base::{Bytes, OutOfMemory, V4};
@@ -26,6 +26,7 @@ pub fn relay(
     ensures bytes { IfOk result (λ packet. packet ≡ relayed own code mtu q.now) }
     ensures size { IfOk result (λ packet. length packet ≡ 28 + min most_quoted (length q.now.packet.now)) }
     ensures most { IfOk result (λ packet. length packet ≤ 576) }
+    ensures told { IfOk result (λ packet. TellsInner own code mtu q.now packet) }
 {
     let mut list = Vec::new(alloc);
     push_relay(&mut list, own, code, mtu, q)?;
@@ -42,7 +43,8 @@ pub fn push_relay(
 ) -> Result<(), OutOfMemory>
     requires { (code ≡ 1) ⊎ (code ≡ 4) }
     ensures bytes { list.new.items ≡ (if is_ok result then list.old.items ++ relayed own code mtu q.now else list.old.items) }
-    ensures size { IfOk result (λ _. vec_len list.new ≡ vec_len list.old + (28 + min most_quoted (length q.now.packet.now))) }
+    ensures size { length (relayed own code mtu q.now) ≡ 28 + min most_quoted (length q.now.packet.now) }
+    ensures told { IfOk result (λ _. TellsInner own code mtu q.now (relayed own code mtu q.now)) }
 {
     let head = IcmpHead {
         kind: UNREACHABLE,
