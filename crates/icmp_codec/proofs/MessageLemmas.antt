@@ -6,7 +6,7 @@ use Rattle.aftr_base.specs.First.{first_true, refused_or}
 use Rattle.aftr_base.specs.Numbers.{big_endian, span}
 use Rattle.aftr_base.specs.Sums.{checksum}
 use Rattle.aftr_base.proofs.SumLemmas.{checksum-sealed}
-use Rattle.ip_codec.proofs.FieldLemmas.{big_endian-bytes_high_first}
+use Rattle.ip_codec.proofs.Laws.{big_endian-bytes_high_first}
 use Rattle.icmp_codec.specs.Message4.{Message4, icmp4_bytes, icmp4_of, is_echo, made_message4, message_head}
 use Rattle.icmp_codec.specs.Quoted.{EmbeddedPacket, embedded_fields, embedded_of, lacks_header}
 use Rattle.icmp_codec.specs.declared.message4.IcmpBad.TheVariants as bad

@@ -5,7 +5,7 @@ use Rattle.aftr_base.specs.declared.numbers.V6.{V6}
 use Rattle.icmp_codec.specs.Message6.{icmp6_bytes, icmp6_of, made_message6}
 use Rattle.ip_codec.specs.Packet6.{bytes6}
 use Rattle.ip_codec.specs.declared.items.Outer.{Outer}
-use Rattle.ip_codec.proofs.Packet6Lemmas.{ip6_of-bytes6}
+use Rattle.ip_codec.proofs.Laws.{ip6_of-bytes6}
 use Rattle.icmp_errors.specs.Policy6.{TellsPolicy, policy6, policy_head, quoted_head}
 
 pub policy6-size : (from to : V6) (hop : ℕ) (outer : Outer) (inner : List ℕ) →

@@ -8,10 +8,10 @@ use Rattle.aftr_base.specs.Sums.{checksum}
 use Rattle.aftr_base.specs.declared.numbers.V4.{V4}
 use Rattle.icmp_codec.specs.Message4.{icmp4_bytes, is_echo}
 use Rattle.icmp_codec.specs.Quoted.{EmbeddedPacket, embedded_fields, embedded_of, lacks_header}
-use Rattle.icmp_codec.proofs.MessageLemmas.{icmp4_of-bytes}
+use Rattle.icmp_codec.proofs.Laws.{icmp4_of-bytes}
 use Rattle.ip_codec.specs.Packet4.{Packet4, fields4, header_len_of, ip4_of, made4}
-use Rattle.ip_codec.proofs.FieldLemmas.{span-append}
-use Rattle.ip_codec.proofs.Packet4Lemmas.{ip4_of-Ok, ip4_of-header4, ip4_of-shaped}
+use Rattle.ip_codec.proofs.Laws.{span-append}
+use Rattle.ip_codec.proofs.Laws.{ip4_of-Ok, ip4_of-header4, ip4_of-shaped}
 use Rattle.icmp_errors.specs.Answers.{about}
 use Rattle.icmp_errors.specs.Errors4.{TellsOf, error4, error_head}
 
