@@ -1,0 +1,10 @@
+pub mod Parts
+pub mod Contexts
+pub mod Lanes
+pub mod Turns
+pub mod Numbers
+pub mod Sound
+pub mod Joined
+pub mod Datagrams
+pub mod History
+pub mod LaneHistory

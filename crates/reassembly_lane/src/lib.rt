@@ -1,0 +1,13 @@
+//! Fragments put together again: the contexts of one lane, in which the fragments of a datagram wait for one another
+//! (RFC 791, section 3.2; RFC 8200, section 4.5). Fragments that overlap are refused with their whole datagram
+//! (RFC 5722), and a datagram is given up 60 seconds after its first fragment came.
+#![tactic(auto)]
+
+mod answer;
+mod context;
+mod parts;
+mod piece;
+mod whole;
+
+pub use answer::{Answer, Fed, FragBad};
+pub use piece::Piece;
