@@ -1,1 +1,6 @@
 pub mod Near
+pub mod Order
+pub mod Covers
+pub mod Joins
+pub mod Wholes
+pub mod Steps

@@ -98,18 +98,19 @@ impl Context {
         ensures turn { IfOk result (λ turn. outcome turn self.new ≡ with_part self.old (part_of fragment.entry)) }
         ensures err { OnErr result (self.new ≡ self.old) }
     {
-        let place = place_of(&self.parts, fragment.offset);
-        if has_repeat(&self.parts, place, fragment) {
+        let parts = self.parts.as_slice();
+        let place = place_of(parts, fragment.offset);
+        if has_repeat(parts, place, fragment) {
             return Ok(Turn::Stays(Answer::Held));
         }
-        if has_clash(&self.parts, place, fragment) {
+        if has_clash(parts, place, fragment) {
             return Ok(self.refuse(alloc, FragBad::Overlap));
         }
-        if self.parts.len() >= MOST_PARTS {
+        if parts.len() >= MOST_PARTS {
             return Ok(self.refuse(alloc, FragBad::Many));
         }
-        if let Some(end) = end_with(&self.parts, self.size, place, fragment) {
-            return Ok(Turn::Ends(whole(alloc, &self.parts, place, fragment, end)?));
+        if let Some(end) = end_with(parts, self.size, place, fragment) {
+            return Ok(Turn::Ends(whole(alloc, parts, place, fragment, end)?));
         }
         self.keep(alloc, place, fragment)
     }
