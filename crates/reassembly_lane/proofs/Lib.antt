@@ -4,3 +4,6 @@ pub mod Covers
 pub mod Joins
 pub mod Wholes
 pub mod Steps
+pub mod Entries
+pub mod GoesOn
+pub mod Begins

@@ -2,6 +2,7 @@ pub mod Parts
 pub mod Contexts
 pub mod Lanes
 pub mod Turns
+pub mod Since
 pub mod Numbers
 pub mod Sound
 pub mod Joined

@@ -5,9 +5,13 @@
 
 mod answer;
 mod context;
+mod contexts;
+mod lane;
+mod late;
 mod parts;
 mod piece;
 mod whole;
 
 pub use answer::{Answer, Fed, FragBad};
+pub use lane::Lane;
 pub use piece::Piece;

@@ -1,0 +1,83 @@
+-- Contexts as lists of keys and what is kept.
+use Rattle.std.proofs.Common.{◌≡◌, ℕ, ◌+◌, ◌-◌, ◌<◌, ◌≤◌, Bool, true, false, not, cond, List, [], ◌∷◌, ◌++◌, length, map, filter, refl, sym, ◌∙◌, ap, subst, ⊎_elim, arith, Option, Some, None}
+use Rattle.std.specs.Prelude.{is_some, IsSome, nat_le}
+use Rattle.std.specs.declared.cmp.Ordering.{Ordering}
+use Rattle.std.specs.Cmp.{IsTotalOrder}
+use Rattle.std.specs.Map.{lookup, set_value, remove_entry, keys_of}
+use Rattle.std.specs.BTreeMap.{is_at, insert_entry}
+use Rattle.std.specs.List.Sorted.{IsStrictlySortedBy}
+use Rattle.std.proofs.lemmas.Cmp.{eq_by_cmp_equiv}
+use Rattle.std.proofs.lemmas.Map.Keys.{IsDistinct-from_sorted}
+use Rattle.std.proofs.lemmas.Map.Entries.{option_filter, lookup-filter-values}
+use Rattle.std.proofs.lemmas.Map.Steps.{set_value_same}
+use Rattle.std.proofs.lemmas.List.{append_assoc, length-map}
+use Rattle.std.proofs.lemmas.List.Filters.{length-filter_both}
+use Rattle.std.proofs.lemmas.Bool.{false≢true, le-leb}
+use Rattle.reassembly_lane.specs.Contexts.{Partial}
+use Rattle.reassembly_lane.specs.Lanes.{waits, waiting_time, open_at, late_numbers, first_numbers, most_contexts}
+use Rattle.reassembly_lane.specs.Since.{Since}
+
+abbrev pub still : ℕ → Partial → Bool
+still time partial = waits time partial.begun
+
+-- ---- what a look-up finds among those that wait
+pub lookup_open : {K : Type 0} {R : K → K → Ordering} → IsTotalOrder R → (time : ℕ) (q : K) (es : List (K × Partial)) → IsStrictlySortedBy R (keys_of es) → lookup (is_at (R q)) (open_at time es) ≡ option_filter (still time) (lookup (is_at (R q)) es)
+lookup_open {R = R} o time q es s = lookup-filter-values (eq_by_cmp_equiv o) (still time) q es (IsDistinct-from_sorted R (keys_of es) s)
+
+is_some_filter : (p : Partial → Bool) (x : Partial) → is_some (option_filter p (Some x)) ≡ p x
+is_some_filter p x = elim (p x) as (λ (b : Bool). is_some (cond b (Some x) None) ≡ b) [ true ↦ refl | false ↦ refl ]
+
+pub open_found : {K : Type 0} {R : K → K → Ordering} → IsTotalOrder R → (time : ℕ) (q : K) (es : List (K × Partial)) (x : Partial) → IsStrictlySortedBy R (keys_of es) → Some x ≡ lookup (is_at (R q)) es → waits time x.begun ≡ is_some (lookup (is_at (R q)) (open_at time es))
+open_found o time q es x s e = sym (ap is_some (lookup_open o time q es s ∙ ap (option_filter (still time)) (sym e)) ∙ is_some_filter (still time) x)
+
+pub open_missing : {K : Type 0} {R : K → K → Ordering} → IsTotalOrder R → (time : ℕ) (q : K) (es : List (K × Partial)) → IsStrictlySortedBy R (keys_of es) → None ≡ lookup (is_at (R q)) es → false ≡ is_some (lookup (is_at (R q)) (open_at time es))
+open_missing o time q es s e = sym (ap is_some (lookup_open o time q es s ∙ ap (option_filter (still time)) (sym e)))
+
+-- what is found among them is found among all
+pub found_in_all : {K : Type 0} {R : K → K → Ordering} → IsTotalOrder R → (time : ℕ) (q : K) (es : List (K × Partial)) (x : Partial) → IsStrictlySortedBy R (keys_of es) → lookup (is_at (R q)) (open_at time es) ≡ Some x → lookup (is_at (R q)) es ≡ Some x
+found_in_all {R = R} o time q es x s e = by_all (lookup (is_at (R q)) es) refl (sym (lookup_open o time q es s) ∙ e)
+  where
+    by_still : (y : Partial) (b : Bool) → cond b (Some y) None ≡ Some x → Some y ≡ Some x
+    by_still y true h = h
+    by_still y false h = cc
+    by_all : (r : Option Partial) → lookup (is_at (R q)) es ≡ r → option_filter (still time) r ≡ Some x → lookup (is_at (R q)) es ≡ Some x
+    by_all None h k = h ∙ k
+    by_all (Some y) h k = h ∙ by_still y (still time y) k
+
+-- ---- how many wait
+pub late_and_open : {K : Type 0} (time : ℕ) (es : List (K × Partial)) → length (open_at time es) + length (late_numbers time es) ≡ length es
+late_and_open time es =
+    ap (λ (n : ℕ). length (open_at time es) + n) (length-map (filter (λ e. not (waits time e.1.begun)) es) (λ e. e.1.number))
+    ∙ length-filter_both (λ e. waits time e.1.begun) (λ e. not (waits time e.1.begun)) (λ e. refl) es
+
+-- ---- one step of a walk over all
+pub late_step : {K : Type 0} (time : ℕ) (e : K × Partial) (s t : List (K × Partial)) (done : List ℕ) → s ≡ e ∷ t → waits time e.1.begun ≡ true → done ++ late_numbers time t ≡ done ++ late_numbers time s
+late_step time e s t done h w =
+    ap (λ (l : List ℕ). done ++ l) (sym (ap (late_numbers time) h ∙ ap (λ (b : Bool). map (λ x. x.1.number) (cond (not b) (e ∷ filter (λ x. not (waits time x.1.begun)) t) (filter (λ x. not (waits time x.1.begun)) t))) w))
+
+pub late_push : {K : Type 0} (time : ℕ) (e : K × Partial) (s t : List (K × Partial)) (done longer : List ℕ) → s ≡ e ∷ t → waits time e.1.begun ≡ false → longer ≡ done ++ e.1.number ∷ [] → longer ++ late_numbers time t ≡ done ++ late_numbers time s
+late_push time e s t done longer h w n =
+    ap (λ (l : List ℕ). l ++ late_numbers time t) n
+    ∙ append_assoc done (e.1.number ∷ []) (late_numbers time t)
+    ∙ ap (λ (l : List ℕ). done ++ l) (sym (ap (late_numbers time) h ∙ ap (λ (b : Bool). map (λ x. x.1.number) (cond (not b) (e ∷ filter (λ x. not (waits time x.1.begun)) t) (filter (λ x. not (waits time x.1.begun)) t))) w))
+
+pub since_open_step : {K : Type 0} (time bound : ℕ) (e : K × Partial) (s t : List (K × Partial)) → s ≡ e ∷ t → waits time e.1.begun ≡ true → bound ≤ e.1.begun → Since bound (open_at time t) → Since bound (open_at time s)
+since_open_step time bound e s t h w le since =
+    subst (Since bound) (sym (ap (open_at time) h ∙ ap (λ (b : Bool). cond b (e ∷ open_at time t) (open_at time t)) w)) (le, since)
+
+pub since_late_step : {K : Type 0} (time bound : ℕ) (e : K × Partial) (s t : List (K × Partial)) → s ≡ e ∷ t → waits time e.1.begun ≡ false → Since bound (open_at time t) → Since bound (open_at time s)
+since_late_step time bound e s t h w since =
+    subst (Since bound) (sym (ap (open_at time) h ∙ ap (λ (b : Bool). cond b (e ∷ open_at time t) (open_at time t)) w)) since
+
+-- ---- edits at a key
+pub remove_after_set : {K : Type 0} (test : K → Bool) (es : List (K × Partial)) (w : Partial) → remove_entry test (set_value test es w) ≡ remove_entry test es
+remove_after_set {K = K} test [] w = refl
+remove_after_set {K = K} test (e ∷ es) w = by_test (test e.0) refl (remove_after_set test es w)
+  where
+    by_test : (b : Bool) → test e.0 ≡ b → remove_entry test (set_value test es w) ≡ remove_entry test es → remove_entry test (cond b ((e.0, w) ∷ es) (e ∷ set_value test es w)) ≡ cond b es (e ∷ remove_entry test es)
+    by_test true h ih = ap (λ (b : Bool). cond b es ((e.0, w) ∷ remove_entry test es)) h
+    by_test false h ih = ap (λ (b : Bool). cond b (set_value test es w) (e ∷ remove_entry test (set_value test es w))) h ∙ ap (λ (l : List (K × Partial)). e ∷ l) ih
+
+-- what was lent and is unchanged leaves all as it was
+pub unchanged : {K : Type 0} (test : K → Bool) (es new : List (K × Partial)) (x w : Partial) → Some x ≡ lookup test es → w ≡ x → new ≡ set_value test es w → new ≡ es
+unchanged test es new x w f e n = n ∙ ap (set_value test es) e ∙ set_value_same test es x (sym f)
