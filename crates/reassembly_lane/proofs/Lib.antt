@@ -7,3 +7,6 @@ pub mod Steps
 pub mod Entries
 pub mod GoesOn
 pub mod Begins
+pub mod Distincts
+pub mod Orders
+pub mod Fates
