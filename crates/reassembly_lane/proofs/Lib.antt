@@ -10,3 +10,5 @@ pub mod Begins
 pub mod Distincts
 pub mod Orders
 pub mod Fates
+pub mod Zips
+pub mod Datagrams

@@ -27,10 +27,10 @@ covered_same q ps m (suc end) =
     ∙ ap (λ (b : Bool). list_any (holds end) ps && b) (covered_same q ps m end)
 
 -- ---- the end
-abbrev ends_at : ℕ → Part → Bool
+abbrev pub ends_at : ℕ → Part → Bool
 ends_at end part = not part.more && (past part == end)
 
-end_any : (q : List Part) (end : ℕ) → end_of q ≡ Some end → list_any (ends_at end) q ≡ true
+pub end_any : (q : List Part) (end : ℕ) → end_of q ≡ Some end → list_any (ends_at end) q ≡ true
 end_any [] end e = cc
 end_any (p ∷ ps) end e = by_more p.more refl e (end_any ps end)
   where
@@ -57,10 +57,10 @@ none_from_more (p ∷ ps) e = by_more p.more e (none_from_more ps)
     by_more true h ih = ih h
     by_more false h ih = absurd (false≢true (sym h))
 
-last_at : (n end : ℕ) (part : Part) → ends_at end part ≡ true → part.more ≡ false
+pub last_at : (n end : ℕ) (part : Part) → ends_at end part ≡ true → part.more ≡ false
 last_at n end part h = grind (arith, nat_tests)
 
-past_at : (end : ℕ) (part : Part) → ends_at end part ≡ true → past part ≡ end
+pub past_at : (end : ℕ) (part : Part) → ends_at end part ≡ true → past part ≡ end
 past_at end part h = grind (arith, nat_tests)
 
 -- among sound parts only the last one can be the datagram's last
@@ -75,7 +75,7 @@ end_found ps s end i l h =
       ∙ ap Some (past_at end (part_at ps i) h))
     (cases_lt (i + 1) (length ps))
 
-any_index : (test : Part → Bool) (ps : List Part) → list_any test ps ≡ true → (i : ℕ) × (i < length ps) × (test (part_at ps i) ≡ true)
+pub any_index : (test : Part → Bool) (ps : List Part) → list_any test ps ≡ true → (i : ℕ) × (i < length ps) × (test (part_at ps i) ≡ true)
 any_index test ps h =
     let a = Any-from_list_any test ps h in
     let e : get_or ps a.0 no_part ≡ a.1 = get_or_default ps a.0 no_part a.1 a.2 ∙ a.3 in

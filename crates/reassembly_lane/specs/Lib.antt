@@ -9,3 +9,4 @@ pub mod Joined
 pub mod Datagrams
 pub mod History
 pub mod LaneHistory
+pub mod Laws

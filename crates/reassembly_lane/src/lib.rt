@@ -8,10 +8,12 @@ mod context;
 mod contexts;
 mod lane;
 mod late;
+mod laws;
 mod parts;
 mod piece;
 mod whole;
 
 pub use answer::{Answer, Fed, FragBad};
 pub use lane::Lane;
+pub use laws::{datagrams_hold_their_pieces, histories_join};
 pub use piece::Piece;
