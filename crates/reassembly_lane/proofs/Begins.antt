@@ -1,5 +1,5 @@
 -- When datagrams began, through a step of the lane.
-use Rattle.std.proofs.Common.{◌≡◌, ℕ, ◌+◌, ◌<◌, ◌≤◌, min, Bool, true, false, not, cond, List, [], ◌∷◌, length, insert, map, filter, refl, sym, ◌∙◌, ap, subst, arith, Option, Some, None}
+use Rattle.std.proofs.Common.{◌≡◌, ℕ, ◌+◌, ◌≤◌, min, Bool, true, false, not, cond, List, [], ◌∷◌, length, map, filter, refl, sym, ◌∙◌, ap, subst, arith, Option, Some, None}
 use Rattle.std.specs.Prelude.{nat_le, if◌then◌else◌}
 use Rattle.std.specs.List.{list_any}
 use Rattle.std.specs.declared.cmp.Ordering.{Ordering}
@@ -13,8 +13,8 @@ use Rattle.reassembly_lane.specs.declared.answer.Answer.TheVariants as answer
 use Rattle.reassembly_lane.specs.declared.answer.FragBad.{FragBad}
 use Rattle.reassembly_lane.specs.declared.answer.FragBad.TheVariants as bad
 use Rattle.reassembly_lane.specs.declared.parts.Part.{Part}
-use Rattle.reassembly_lane.specs.Contexts.{Partial, Outcome, staying, refusing, finished, unless_refused, with_new, with_part, placed, most_parts}
-use Rattle.reassembly_lane.specs.Lanes.{Arrival, waits, waiting_time, answering, open_at, late_numbers, most_contexts, is_odd, is_long, fresh, put_back, put_new, going_on, beginning, found, among, fed, LaneOutcome}
+use Rattle.reassembly_lane.specs.Contexts.{Partial, staying, refusing, finished, unless_refused, with_part, placed, most_parts}
+use Rattle.reassembly_lane.specs.Lanes.{Arrival, waits, waiting_time, answering, open_at, late_numbers, most_contexts, is_odd, is_long, fresh, put_back, put_new, beginning, found, among, fed, LaneOutcome}
 use Rattle.reassembly_lane.specs.Parts.{is_same, clash, whole_end}
 use Rattle.reassembly_lane.specs.Since.{EachBegun, Since}
 
@@ -166,8 +166,8 @@ module _ {K : Type 0} where
 pub since_in_time : {K : Type 0} (cmp : K → K → Ordering) (es : List (K × Partial)) (piece : Arrival K) (oldest : ℕ) → Since oldest es → Since (min oldest piece.time) (among cmp es piece).contexts
 since_in_time cmp es piece oldest h =
     each_among (λ begun. min oldest piece.time ≤ begun) cmp es piece
-      (each_weaker (λ begun. oldest ≤ begun) (λ begun. min oldest piece.time ≤ begun) (λ begun l. omega arith) es h)
-      (omega arith)
+    (each_weaker (λ begun. oldest ≤ begun) (λ begun. min oldest piece.time ≤ begun) (λ begun l. omega arith) es h)
+    (omega arith)
 
 pub open_in_time : {K : Type 0} (cmp : K → K → Ordering) (es : List (K × Partial)) (piece : Arrival K) → late_numbers piece.time es ≡ [] → open_at piece.time (among cmp es piece).contexts ≡ (among cmp es piece).contexts
 open_in_time cmp es piece h = all_open piece.time (among cmp es piece).contexts (each_among (λ begun. waits piece.time begun ≡ true) cmp es piece (each_waits piece.time es h) (waits_now piece.time))
@@ -175,9 +175,9 @@ open_in_time cmp es piece h = all_open piece.time (among cmp es piece).contexts 
 pub since_late : {K : Type 0} (cmp : K → K → Ordering) (es : List (K × Partial)) (piece : Arrival K) (oldest : ℕ) → Since oldest (open_at piece.time es) → Since (min oldest piece.time) (open_at piece.time (among cmp es piece).contexts)
 since_late cmp es piece oldest h =
     since_open piece.time (min oldest piece.time) (among cmp es piece).contexts
-      (each_among (λ begun. waits piece.time begun ≡ true → min oldest piece.time ≤ begun) cmp es piece
-        (each_weaker (λ begun. waits piece.time begun ≡ true → oldest ≤ begun) (λ begun. waits piece.time begun ≡ true → min oldest piece.time ≤ begun) (λ begun f w. le_of_min oldest piece.time begun (f w)) es (if_open_since piece.time oldest es h))
-        (λ w. omega arith))
+    (each_among (λ begun. waits piece.time begun ≡ true → min oldest piece.time ≤ begun) cmp es piece
+    (each_weaker (λ begun. waits piece.time begun ≡ true → oldest ≤ begun) (λ begun. waits piece.time begun ≡ true → min oldest piece.time ≤ begun) (λ begun f w. le_of_min oldest piece.time begun (f w)) es (if_open_since piece.time oldest es h))
+    (λ w. omega arith))
   where
     le_of_min : (a b c : ℕ) → a ≤ c → min a b ≤ c
     le_of_min a b c l = omega arith

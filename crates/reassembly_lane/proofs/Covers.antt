@@ -1,5 +1,5 @@
 -- Parts that do not overlap cover all where they have as many bytes as the last one's end says.
-use Rattle.std.proofs.Common.{◌≡◌, ℕ, zero, suc, ◌+◌, ◌-◌, ◌*◌, ◌<◌, ◌≤◌, ◌==◌, Bool, true, false, not, ◌&&◌, ◌||◌, cond, List, [], ◌∷◌, ◌++◌, length, get_or, take, drop, refl, sym, ◌∙◌, ap, subst, ⊎_elim, add-one, arith, Option, Some, None, sum_by}
+use Rattle.std.proofs.Common.{◌≡◌, ℕ, zero, suc, ◌+◌, ◌-◌, ◌<◌, ◌≤◌, ◌==◌, Bool, true, false, ◌&&◌, cond, List, [], ◌∷◌, length, take, refl, sym, ◌∙◌, ap, ⊎_elim, add-one, arith, Some, None}
 use Rattle.std.proofs.lemmas.Bool.Decides.{nat_tests}
 use Rattle.std.proofs.lemmas.Bool.{cases_lt, cases_eq, false≢true, ne_eqb}
 use Rattle.std.proofs.Common.{eq-eqb}
@@ -9,7 +9,7 @@ use Rattle.std.proofs.lemmas.List.Elements.{All-from_get_or}
 use Rattle.std.proofs.lemmas.List.Sums.{sum_by_more}
 use Rattle.std.specs.List.{list_any}
 use Rattle.reassembly_lane.specs.declared.parts.Part.{Part}
-use Rattle.reassembly_lane.specs.Parts.{start, past, holds, covered, end_of, end_if_covered, whole_end, no_part}
+use Rattle.reassembly_lane.specs.Parts.{start, past, holds, covered, end_of, no_part}
 use Rattle.reassembly_lane.specs.Sound.{part_at, IsSound, total_size}
 
 -- where the first k parts end
@@ -85,6 +85,7 @@ covered_at parts (suc end) place e h =
     both_left : (a b : Bool) → (a && b) ≡ true → a ≡ true
     both_left true b e = refl
     both_left false b e = e
+
     both_right : (a b : Bool) → (a && b) ≡ true → b ≡ true
     both_right true b e = e
     both_right false b e = absurd (false≢true e)
@@ -108,19 +109,19 @@ holder parts t zero place h l = absurd (omega arith)
 holder parts t (suc k) place h l =
     ⊎_elim
     (λ (m : place < reach parts k).
-      let g : IsHeld parts k place = holder parts t k place (omega arith) m in
-      let b : g.index < k = g.below in
-      record { index = g.index; below = omega arith; from = g.from; before = g.before })
+    let g : IsHeld parts k place = holder parts t k place (omega arith) m in
+    let b : g.index < k = g.below in
+    record { index = g.index; below = omega arith; from = g.from; before = g.before })
     (λ (m : reach parts k ≤ place).
-      let e : start (part_at parts k) ≡ reach parts k = tight_start parts t k (omega arith) in
-      record { index = k; below = omega arith; from = omega arith; before = l })
+    let e : start (part_at parts k) ≡ reach parts k = tight_start parts t k (omega arith) in
+    record { index = k; below = omega arith; from = omega arith; before = l })
     (cases_lt place (reach parts k))
 
 covered_from_tight : (parts : List Part) → IsTight parts → covered parts (reach parts (length parts)) ≡ true
 covered_from_tight parts t =
     covered_from parts (reach parts (length parts)) (λ place h.
-      let g : IsHeld parts (length parts) place = holder parts t (length parts) place (omega arith) h in
-      list_any_at (holds place) parts g.index no_part g.below (holds_is place (part_at parts g.index) g.from g.before))
+    let g : IsHeld parts (length parts) place = holder parts t (length parts) place (omega arith) h in
+    list_any_at (holds place) parts g.index no_part g.below (holds_is place (part_at parts g.index) g.from g.before))
 
 not_before : (place : ℕ) (part : Part) → place < start part → holds place part ≡ false
 not_before place part h = grind (arith, nat_tests)
@@ -132,10 +133,10 @@ not_behind place part h = grind (arith, nat_tests)
 gap : (parts : List Part) → IsSound parts → (k : ℕ) → k < length parts → reach parts k < start (part_at parts k) → list_any (holds (reach parts k)) parts ≡ false
 gap parts s k l h =
     list_any_none (holds (reach parts k)) parts (All-from_get_or (λ part. holds (reach parts k) part ≡ false) parts no_part (λ i m.
-      ⊎_elim
-      (λ (f : i < k). not_behind (reach parts k) (part_at parts i) (reach_above parts s k i f (omega arith)))
-      (λ (f : k ≤ i). not_before (reach parts k) (part_at parts i) (start_above parts s k i f m h))
-      (cases_lt i k)))
+    ⊎_elim
+    (λ (f : i < k). not_behind (reach parts k) (part_at parts i) (reach_above parts s k i f (omega arith)))
+    (λ (f : k ≤ i). not_before (reach parts k) (part_at parts i) (start_above parts s k i f m h))
+    (cases_lt i k)))
   where
     reach_above : (parts : List Part) → IsSound parts → (k i : ℕ) → i < k → k ≤ length parts → past (part_at parts i) ≤ reach parts k
     reach_above parts s zero i f l = absurd (omega arith)
@@ -143,16 +144,17 @@ gap parts s k l h =
         ⊎_elim
         (λ (e : i ≡ k). rw e (omega arith))
         (λ (ne : i ≡ k → ⊥).
-          let far : past (part_at parts i) ≤ start (part_at parts k) = s.apart i k (omega arith) (omega arith) in
-          omega arith)
+        let far : past (part_at parts i) ≤ start (part_at parts k) = s.apart i k (omega arith) (omega arith) in
+        omega arith)
         (cases_eq i k)
+
     start_above : (parts : List Part) → IsSound parts → (k i : ℕ) → k ≤ i → i < length parts → reach parts k < start (part_at parts k) → reach parts k < start (part_at parts i)
     start_above parts s k i f m h =
         ⊎_elim
         (λ (e : i ≡ k). rw e h)
         (λ (ne : i ≡ k → ⊥).
-          let far : past (part_at parts k) ≤ start (part_at parts i) = s.apart k i (omega arith) m in
-          omega arith)
+        let far : past (part_at parts k) ≤ start (part_at parts i) = s.apart k i (omega arith) m in
+        omega arith)
         (cases_eq i k)
 
 reach_rises : (parts : List Part) → IsSound parts → (k m : ℕ) → k ≤ m → m ≤ length parts → reach parts k ≤ reach parts m
@@ -164,9 +166,9 @@ reach_rises parts s k (suc m) h l =
     ⊎_elim
     (λ (e : k ≡ suc m). rw e (omega arith))
     (λ (ne : k ≡ suc m → ⊥).
-      let ih : reach parts k ≤ reach parts m = reach_rises parts s k m (omega arith) (omega arith) in
-      let st : reach parts m ≤ start (part_at parts m) = reach_start parts s m (omega arith) in
-      omega arith)
+    let ih : reach parts k ≤ reach parts m = reach_rises parts s k m (omega arith) (omega arith) in
+    let st : reach parts m ≤ start (part_at parts m) = reach_start parts s m (omega arith) in
+    omega arith)
     (cases_eq k (suc m))
 
 tight_if_covered : (parts : List Part) → IsSound parts → covered parts (reach parts (length parts)) ≡ true → (k : ℕ) → k ≤ length parts → total_size (take k parts) ≡ reach parts k
@@ -179,7 +181,7 @@ tight_if_covered parts s e (suc k) h =
     let up : reach parts (suc k) ≤ reach parts (length parts) = reach_rises parts s (suc k) (length parts) h (omega arith) in
     ⊎_elim
     (λ (g : reach parts k < start (part_at parts k)).
-      absurd (false≢true (sym (gap parts s k (omega arith) g) ∙ covered_at parts (reach parts (length parts)) (reach parts k) e (omega arith))))
+    absurd (false≢true (sym (gap parts s k (omega arith) g) ∙ covered_at parts (reach parts (length parts)) (reach parts k) e (omega arith))))
     (λ (g : start (part_at parts k) ≤ reach parts k). omega arith)
     (cases_lt (reach parts k) (start (part_at parts k)))
 
@@ -192,7 +194,7 @@ covered_by_sizes parts s =
     ⊎_elim
     (λ (e : total_size parts ≡ reach parts (length parts)). covered_from_tight parts (tight_from_size parts s e) ∙ sym (eq-eqb (total_size parts) (reach parts (length parts)) e))
     (λ (ne : total_size parts ≡ reach parts (length parts) → ⊥).
-      by_covered (covered parts (reach parts (length parts))) refl ne)
+    by_covered (covered parts (reach parts (length parts))) refl ne)
     (cases_eq (total_size parts) (reach parts (length parts)))
   where
     by_covered : (b : Bool) → covered parts (reach parts (length parts)) ≡ b → (total_size parts ≡ reach parts (length parts) → ⊥) → covered parts (reach parts (length parts)) ≡ (total_size parts == reach parts (length parts))

@@ -1,7 +1,7 @@
 -- Pieces that are whole and do not clash stand in their datagram, in whatever order they came.
-use Rattle.std.proofs.Common.{◌≡◌, ℕ, zero, suc, ◌+◌, ◌*◌, ◌-◌, ◌<◌, ◌≤◌, ◌==◌, Bool, true, false, not, ◌&&◌, ◌||◌, cond, min, List, [], ◌∷◌, ◌++◌, length, get_or, take, drop, map, refl, sym, ◌∙◌, ap, subst, arith, Option, Some, None}
-use Rattle.std.specs.Prelude.{if◌then◌else◌, nat_lt, find, unwrap_or, fold}
-use Rattle.std.specs.List.{list_any, range_with_len}
+use Rattle.std.proofs.Common.{◌≡◌, ℕ, zero, suc, ◌+◌, ◌-◌, ◌<◌, ◌≤◌, Bool, true, false, ◌||◌, cond, min, List, [], ◌∷◌, ◌++◌, length, get_or, take, drop, refl, sym, ◌∙◌, ap, arith, Some}
+use Rattle.std.specs.Prelude.{if◌then◌else◌, find, unwrap_or, fold}
+use Rattle.std.specs.List.{list_any}
 use Rattle.std.specs.declared.cmp.Ordering.{Ordering}
 use Rattle.std.proofs.lemmas.Bool.Decides.{nat_tests}
 use Rattle.std.proofs.lemmas.Bool.{false≢true}
@@ -13,7 +13,7 @@ use Rattle.std.proofs.lemmas.List.Sums.{fold-append}
 use Rattle.reassembly_lane.specs.declared.parts.Part.{Part}
 use Rattle.reassembly_lane.specs.Datagrams.{IsDatagram, StandsIn}
 use Rattle.reassembly_lane.specs.History.{clash_within}
-use Rattle.reassembly_lane.specs.LaneHistory.{Past, past_after, past_among, past_late_numbers, waiting}
+use Rattle.reassembly_lane.specs.LaneHistory.{Past, past_after, past_among, past_late_numbers}
 use Rattle.reassembly_lane.specs.Lanes.{Arrival}
 use Rattle.reassembly_lane.specs.Laws.{told, HistoriesJoin}
 use Rattle.reassembly_lane.specs.Parts.{start, past, clash, holds, end_of, whole_end, byte_in, byte_at, datagram, no_part}
@@ -63,11 +63,13 @@ within_end (x ∷ xs) end c e k l = by_more x.more refl e (within_end xs end (or
   where
     apart : list_any (clash x) xs ≡ false
     apart = or_left (list_any (clash x) xs) (clash_within xs) c
+
     by_last : x.more ≡ false → past x ≡ end → (k : ℕ) → k < length (x ∷ xs) → past (part_at (x ∷ xs) k) ≤ end
     by_last m same zero l = omega arith
     by_last m same (suc k) l =
         let b : past (part_at xs k) ≤ past x = not_behind x (part_at xs k) m (none_at (clash x) xs apart k (omega arith)) in
         omega arith
+
     by_rest : end_of xs ≡ Some end → ((k : ℕ) → k < length xs → past (part_at xs k) ≤ end) → (k : ℕ) → k < length (x ∷ xs) → past (part_at (x ∷ xs) k) ≤ end
     by_rest f ih zero l =
         let i = any_index (ends_at end) xs (end_any xs end f) in
@@ -75,6 +77,7 @@ within_end (x ∷ xs) end c e k l = by_more x.more refl e (within_end xs end (or
         let same : past (part_at xs i.0) ≡ end = past_at end (part_at xs i.0) i.2 in
         omega arith
     by_rest f ih (suc k) l = ih k (omega arith)
+
     by_more : (b : Bool) → x.more ≡ b → (if b then end_of xs else Some (past x)) ≡ Some end → (end_of xs ≡ Some end → (k : ℕ) → k < length xs → past (part_at xs k) ≤ end) → (k : ℕ) → k < length (x ∷ xs) → past (part_at (x ∷ xs) k) ≤ end
     by_more true m f ih k l = by_rest f (ih f) k l
     by_more false m f ih k l = let same : past x ≡ end = cc in by_last m same k l
@@ -86,24 +89,25 @@ held_at part i l = grind (arith, nat_tests)
 pub datagram_holds : (q : List Part) (end : ℕ) → clash_within q ≡ false → whole_end q ≡ Some end → IsDatagram q end (datagram q end)
 datagram_holds q end c w = record {
   long = length-map-range_with_len (byte_at q) 0 end;
-  each = All-from_get_or (StandsIn (datagram q end)) q no_part (λ k l. stands k l)
+  each = All-from_get_or (StandsIn (datagram q end)) q no_part (λ k l. stands k l);
 }
   where
     long : length (datagram q end) ≡ end
     long = length-map-range_with_len (byte_at q) 0 end
+
     stands : (k : ℕ) → k < length q → StandsIn (datagram q end) (part_at q k)
     stands k l =
         let b : past (part_at q k) ≤ end = within_end q end c (end_from_whole q end w) k l in
         let n : length (take (length (part_at q k).body) (drop (start (part_at q k)) (datagram q end))) ≡ min (length (part_at q k).body) (length (datagram q end) - start (part_at q k)) = length-take (length (part_at q k).body) (drop (start (part_at q k)) (datagram q end)) ∙ ap (min (length (part_at q k).body)) (length-drop (start (part_at q k)) (datagram q end)) in
         let m : length (take (length (part_at q k).body) (drop (start (part_at q k)) (datagram q end))) ≡ length (part_at q k).body = omega (arith, long) in
         ext_get_or 0 (take (length (part_at q k).body) (drop (start (part_at q k)) (datagram q end))) (part_at q k).body m (λ i h.
-          let j : i < length (part_at q k).body = omega arith in
-          let e : (start (part_at q k) + i) - start (part_at q k) ≡ i = omega arith in
-          get_or-take (length (part_at q k).body) (drop (start (part_at q k)) (datagram q end)) i 0 j
-          ∙ get_or-drop (start (part_at q k)) (datagram q end) i 0
-          ∙ get_or-map-range_with_len (byte_at q) 0 end (start (part_at q k) + i) (start (part_at q k) + i) 0 (omega arith) (omega arith)
-          ∙ byte_held q k (start (part_at q k) + i) c l (held_at (part_at q k) i j)
-          ∙ ap (λ (x : ℕ). get_or (part_at q k).body x 0) e)
+        let j : i < length (part_at q k).body = omega arith in
+        let e : (start (part_at q k) + i) - start (part_at q k) ≡ i = omega arith in
+        get_or-take (length (part_at q k).body) (drop (start (part_at q k)) (datagram q end)) i 0 j
+        ∙ get_or-drop (start (part_at q k)) (datagram q end) i 0
+        ∙ get_or-map-range_with_len (byte_at q) 0 end (start (part_at q k) + i) (start (part_at q k) + i) 0 (omega arith) (omega arith)
+        ∙ byte_held q k (start (part_at q k) + i) c l (held_at (part_at q k) i j)
+        ∙ ap (λ (x : ℕ). get_or (part_at q k).body x 0) e)
 
 -- ---- two lists of pieces
 told_append : {K : Type 0} (cmp : K → K → Ordering) (pasts : List (K × Past)) (front back : List (Arrival K)) → told cmp pasts (front ++ back) ≡ told cmp pasts front ++ told cmp (fold (past_after cmp) pasts front) back

@@ -1,9 +1,9 @@
 -- The distinct pieces of a datagram with one more, and why they are refused.
-use Rattle.std.proofs.Common.{◌≡◌, ℕ, zero, suc, ◌+◌, ◌*◌, ◌-◌, ◌<◌, ◌≤◌, ◌==◌, Bool, true, false, not, ◌&&◌, ◌||◌, cond, List, [], ◌∷◌, ◌++◌, length, get_or, take, drop, refl, sym, ◌∙◌, ap, subst, ⊎_elim, arith, Option, Some, None}
-use Rattle.std.specs.Prelude.{if◌then◌else◌, nat_le, nat_lt, IsPermutation}
+use Rattle.std.proofs.Common.{◌≡◌, ◌+◌, ◌<◌, ◌≤◌, Bool, true, false, ◌&&◌, ◌||◌, List, [], ◌∷◌, ◌++◌, length, take, refl, sym, ◌∙◌, ap, ⊎_elim, arith, Option, Some, None}
+use Rattle.std.specs.Prelude.{if◌then◌else◌, nat_le, nat_lt}
 use Rattle.std.specs.List.{list_any}
 use Rattle.std.proofs.lemmas.Bool.Decides.{nat_tests}
-use Rattle.std.proofs.lemmas.Bool.{cases_lt, false≢true, le-leb, lt-leb, leb-true, leb-false}
+use Rattle.std.proofs.lemmas.Bool.{cases_lt, le-leb, lt-leb, leb-false}
 use Rattle.std.proofs.lemmas.List.{take_all, take-append-le, length_push}
 use Rattle.std.proofs.lemmas.List.Folds.{list_any-append}
 use Rattle.std.proofs.lemmas.List.Sums.{fold_push}
@@ -90,14 +90,15 @@ refusal_stays q p why h =
     ⊎_elim
     (λ (l : length q < 257). by_clash (clash_within q) refl (leb_is l) h)
     (λ (l : 257 ≤ length q).
-      let n : length (q ++ p ∷ []) ≡ length q + 1 = length_push q p in
-      ap (λ (s : List Part). by_tests (clash_within s) (nat_le 257 (length (q ++ p ∷ [])))) (take-append-le 257 q (p ∷ []) l)
-      ∙ ap (by_tests (clash_within (take 257 q))) (le-leb 257 (length (q ++ p ∷ [])) (omega arith) ∙ sym (le-leb 257 (length q) l))
-      ∙ h)
+    let n : length (q ++ p ∷ []) ≡ length q + 1 = length_push q p in
+    ap (λ (s : List Part). by_tests (clash_within s) (nat_le 257 (length (q ++ p ∷ [])))) (take-append-le 257 q (p ∷ []) l)
+    ∙ ap (by_tests (clash_within (take 257 q))) (le-leb 257 (length (q ++ p ∷ [])) (omega arith) ∙ sym (le-leb 257 (length q) l))
+    ∙ h)
     (cases_lt (length q) 257)
   where
     leb_is : length q < 257 → nat_le 257 (length q) ≡ false
     leb_is l = lt-leb 257 (length q) l
+
     by_clash : (a : Bool) → clash_within q ≡ a → nat_le 257 (length q) ≡ false → refusal q ≡ Some why → refusal (q ++ p ∷ []) ≡ Some why
     by_clash true e f k =
         let few : length q < 257 = leb-false 257 (length q) f in

@@ -1,10 +1,10 @@
 -- Contexts as lists of keys and what is kept.
-use Rattle.std.proofs.Common.{◌≡◌, ℕ, ◌+◌, ◌-◌, ◌<◌, ◌≤◌, Bool, true, false, not, cond, List, [], ◌∷◌, ◌++◌, length, map, filter, refl, sym, ◌∙◌, ap, subst, ⊎_elim, arith, Option, Some, None}
-use Rattle.std.specs.Prelude.{is_some, IsSome, nat_le}
+use Rattle.std.proofs.Common.{◌≡◌, ℕ, ◌+◌, ◌≤◌, Bool, true, false, not, cond, List, [], ◌∷◌, ◌++◌, length, map, filter, refl, sym, ◌∙◌, ap, subst, Option, Some, None}
+use Rattle.std.specs.Prelude.{is_some}
 use Rattle.std.specs.declared.cmp.Ordering.{Ordering}
 use Rattle.std.specs.Cmp.{IsTotalOrder}
 use Rattle.std.specs.Map.{lookup, set_value, remove_entry, keys_of}
-use Rattle.std.specs.BTreeMap.{is_at, insert_entry}
+use Rattle.std.specs.BTreeMap.{is_at}
 use Rattle.std.specs.List.Sorted.{IsStrictlySortedBy}
 use Rattle.std.proofs.lemmas.Cmp.{eq_by_cmp_equiv}
 use Rattle.std.proofs.lemmas.Map.Keys.{IsDistinct-from_sorted}
@@ -12,9 +12,8 @@ use Rattle.std.proofs.lemmas.Map.Entries.{option_filter, lookup-filter-values}
 use Rattle.std.proofs.lemmas.Map.Steps.{set_value_same}
 use Rattle.std.proofs.lemmas.List.{append_assoc, length-map}
 use Rattle.std.proofs.lemmas.List.Filters.{length-filter_both}
-use Rattle.std.proofs.lemmas.Bool.{false≢true, le-leb}
 use Rattle.reassembly_lane.specs.Contexts.{Partial}
-use Rattle.reassembly_lane.specs.Lanes.{waits, waiting_time, open_at, late_numbers, first_numbers, most_contexts}
+use Rattle.reassembly_lane.specs.Lanes.{waits, open_at, late_numbers}
 use Rattle.reassembly_lane.specs.Since.{Since}
 
 abbrev pub still : ℕ → Partial → Bool
@@ -40,6 +39,7 @@ found_in_all {R = R} o time q es x s e = by_all (lookup (is_at (R q)) es) refl (
     by_still : (y : Partial) (b : Bool) → cond b (Some y) None ≡ Some x → Some y ≡ Some x
     by_still y true h = h
     by_still y false h = cc
+
     by_all : (r : Option Partial) → lookup (is_at (R q)) es ≡ r → option_filter (still time) r ≡ Some x → lookup (is_at (R q)) es ≡ Some x
     by_all None h k = h ∙ k
     by_all (Some y) h k = h ∙ by_still y (still time y) k

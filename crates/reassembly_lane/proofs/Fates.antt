@@ -1,13 +1,11 @@
 -- One datagram: what is kept of it stands for all its pieces, piece by piece.
-use Rattle.std.proofs.Common.{◌≡◌, ℕ, ◌+◌, ◌-◌, ◌<◌, ◌≤◌, Bool, true, false, not, ◌&&◌, ◌||◌, cond, List, [], ◌∷◌, ◌++◌, length, get_or, insert, refl, sym, ◌∙◌, ap, subst, ⊎_elim, arith, Option, Some, None}
+use Rattle.std.proofs.Common.{◌≡◌, ℕ, ◌+◌, ◌-◌, ◌≤◌, Bool, true, false, List, [], ◌∷◌, ◌++◌, length, refl, sym, ◌∙◌, ap, subst, arith, Option, Some, None}
 use Rattle.std.specs.Prelude.{if◌then◌else◌, nat_le, nat_lt, IsPermutation}
 use Rattle.std.specs.List.{list_any, prefix_len}
-use Rattle.std.proofs.lemmas.Bool.{lt-ltb, ltb-true, ltb-false, leb-false, false≢true}
-use Rattle.std.proofs.lemmas.List.Folds.{list_any-append}
+use Rattle.std.proofs.lemmas.Bool.{ltb-true, ltb-false}
 use Rattle.std.proofs.lemmas.List.Edits.{length-insert}
 use Rattle.std.proofs.lemmas.List.Sorted.{list_any-IsPermutation, length_permutation, IsPermutation-refl, IsPermutation-trans, IsPermutation-cons, IsPermutation-to_front, IsPermutation-insert}
 use Rattle.std.proofs.lemmas.List.Sums.{prefix_len-le-length, prefix_len_passes, prefix_len_stops}
-use Rattle.reassembly_lane.specs.declared.answer.Answer.{Answer}
 use Rattle.reassembly_lane.specs.declared.answer.Answer.TheVariants as answer
 use Rattle.reassembly_lane.specs.declared.answer.FragBad.{FragBad}
 use Rattle.reassembly_lane.specs.declared.answer.FragBad.TheVariants as bad
@@ -16,7 +14,7 @@ use Rattle.reassembly_lane.specs.Contexts.{Partial, Outcome, staying, refusing, 
 use Rattle.reassembly_lane.specs.History.{Fate, fate, by_end, by_refusal, unless_repeat, distinct, refusal}
 use Rattle.reassembly_lane.specs.LaneHistory.{Past, with_piece, StandsFor}
 use Rattle.reassembly_lane.specs.Lanes.{fresh}
-use Rattle.reassembly_lane.specs.Parts.{is_same, clash, whole_end, whole_answer, no_part}
+use Rattle.reassembly_lane.specs.Parts.{is_same, clash, whole_end, no_part}
 use Rattle.reassembly_lane.specs.Sound.{part_at, IsPlace, IsSound, IsSoundPart}
 use Rattle.reassembly_lane.proofs.Distincts.{distinct_push, repeat_push, new_push, IsWaiting, waiting_from_none, refusal_stays, refusal_push}
 use Rattle.reassembly_lane.proofs.Orders.{whole_same, answer_same}
@@ -39,14 +37,14 @@ pub placed_place : (parts : List Part) (part : Part) → IsPlace parts part.offs
 placed_place parts part = record {
   within = prefix_len-le-length (λ other. nat_lt other.offset part.offset) parts;
   before = λ h. ltb-true (part_at parts (prefix_len (λ other. nat_lt other.offset part.offset) parts - 1)).offset part.offset (prefix_len_passes (λ other. nat_lt other.offset part.offset) parts (prefix_len (λ other. nat_lt other.offset part.offset) parts - 1) no_part (omega arith));
-  behind = λ h. ltb-false (part_at parts (prefix_len (λ other. nat_lt other.offset part.offset) parts)).offset part.offset (prefix_len_stops (λ other. nat_lt other.offset part.offset) parts no_part h)
+  behind = λ h. ltb-false (part_at parts (prefix_len (λ other. nat_lt other.offset part.offset) parts)).offset part.offset (prefix_len_stops (λ other. nat_lt other.offset part.offset) parts no_part h);
 }
 
 moved : (q parts : List Part) (p : Part) → IsPermutation q parts → IsPermutation (q ++ p ∷ []) (placed p parts)
 moved q parts p m =
     IsPermutation-trans (q ++ p ∷ []) (p ∷ q) (placed p parts) (IsPermutation-to_front q p)
-      (IsPermutation-trans (p ∷ q) (p ∷ parts) (placed p parts) (IsPermutation-cons p q parts m)
-        (IsPermutation-insert parts (prefix_len (λ other. nat_lt other.offset p.offset) parts) p))
+    (IsPermutation-trans (p ∷ q) (p ∷ parts) (placed p parts) (IsPermutation-cons p q parts m)
+    (IsPermutation-insert parts (prefix_len (λ other. nat_lt other.offset p.offset) parts) p))
 
 sound_nothing : IsSound []
 sound_nothing = record { apart = λ i j h l. absurd (omega arith); filled = λ i l. absurd (omega arith); short = λ i l. absurd (omega arith); follows = λ i l. absurd (omega arith) }
@@ -67,13 +65,23 @@ module _ (past : Past) (partial : Partial) (p : Part) (s : StandsFor past partia
       same q' d r =
           let r' : refusal (distinct (with_piece past p).pieces) ≡ Some why = ap refusal d ∙ r in
           record {
-            left = (ap (λ (x : Option FragBad). (by_refusal (distinct (with_piece past p).pieces) x).ends) r', record {
-              begun = s.begun; number = s.number; refused = e ∙ sym r'; keeps = λ h. absurd (clashing why (sym e ∙ h)); unfinished = λ h. absurd (clashing why (sym e ∙ h)); sound = s.sound });
-            answer = sym (ap (λ (x : Option FragBad). (by_refusal (distinct (with_piece past p).pieces) x).answer) r')
+            left = (
+              ap (λ (x : Option FragBad). (by_refusal (distinct (with_piece past p).pieces) x).ends) r',
+              record {
+                begun = s.begun;
+                number = s.number;
+                refused = e ∙ sym r';
+                keeps = λ h. absurd (clashing why (sym e ∙ h));
+                unfinished = λ h. absurd (clashing why (sym e ∙ h));
+                sound = s.sound;
+              },
+            );
+            answer = sym (ap (λ (x : Option FragBad). (by_refusal (distinct (with_piece past p).pieces) x).answer) r');
           }
         where
           clashing : (why : FragBad) → Some why ≡ None → ⊥
           clashing why z = cc
+
       by_repeat : (b : Bool) → list_any (λ o. is_same o p) (distinct past.pieces) ≡ b → IsSameStep (with_piece past p) (staying partial (answer.Refused why)) (fate (with_piece past p).pieces)
       by_repeat true h = same (distinct past.pieces) (pushed ∙ repeat_push (distinct past.pieces) p h) (sym s.refused ∙ e)
       by_repeat false h = same (distinct past.pieces ++ p ∷ []) (pushed ∙ new_push (distinct past.pieces) p h) (refusal_stays (distinct past.pieces) p why (sym s.refused ∙ e))
@@ -94,13 +102,18 @@ module _ (past : Past) (partial : Partial) (p : Part) (s : StandsFor past partia
         let d : distinct (with_piece past p).pieces ≡ distinct past.pieces = pushed ∙ repeat_push (distinct past.pieces) p (list_any-IsPermutation (λ o. is_same o p) (distinct past.pieces) partial.parts perm ∙ h) in
         let f : fate (with_piece past p).pieces ≡ by_end (distinct past.pieces) None = ap fate_of d ∙ ap (by_refusal (distinct past.pieces)) not_refused ∙ ap (by_end (distinct past.pieces)) (s.unfinished n) in
         record {
-          left = (ap (λ (x : Fate). x.ends) f, record {
-            begun = s.begun; number = s.number;
-            refused = s.refused ∙ sym (ap refusal d);
-            keeps = λ z. subst (λ (l : List Part). IsPermutation l partial.parts) (sym d) perm;
-            unfinished = λ z. ap whole_end d ∙ s.unfinished n;
-            sound = s.sound });
-          answer = sym (ap (λ (x : Fate). x.answer) f)
+          left = (
+            ap (λ (x : Fate). x.ends) f,
+            record {
+              begun = s.begun;
+              number = s.number;
+              refused = s.refused ∙ sym (ap refusal d);
+              keeps = λ z. subst (λ (l : List Part). IsPermutation l partial.parts) (sym d) perm;
+              unfinished = λ z. ap whole_end d ∙ s.unfinished n;
+              sound = s.sound;
+            },
+          );
+          answer = sym (ap (λ (x : Fate). x.answer) f);
         }
 
     -- one that is refused with its datagram
@@ -108,9 +121,18 @@ module _ (past : Past) (partial : Partial) (p : Part) (s : StandsFor past partia
     refusing_step why d r =
         let r' : refusal (distinct (with_piece past p).pieces) ≡ Some why = ap refusal d ∙ r in
         record {
-          left = (ap (λ (x : Option FragBad). (by_refusal (distinct (with_piece past p).pieces) x).ends) r', record {
-            begun = s.begun; number = s.number; refused = sym r'; keeps = λ h. absurd (clashing h); unfinished = λ h. absurd (clashing h); sound = sound_nothing });
-          answer = sym (ap (λ (x : Option FragBad). (by_refusal (distinct (with_piece past p).pieces) x).answer) r')
+          left = (
+            ap (λ (x : Option FragBad). (by_refusal (distinct (with_piece past p).pieces) x).ends) r',
+            record {
+              begun = s.begun;
+              number = s.number;
+              refused = sym r';
+              keeps = λ h. absurd (clashing h);
+              unfinished = λ h. absurd (clashing h);
+              sound = sound_nothing;
+            },
+          );
+          answer = sym (ap (λ (x : Option FragBad). (by_refusal (distinct (with_piece past p).pieces) x).answer) r');
         }
       where
         clashing : Some why ≡ None → ⊥
@@ -122,24 +144,31 @@ module _ (past : Past) (partial : Partial) (p : Part) (s : StandsFor past partia
       where
         perm' : IsPermutation (distinct past.pieces ++ p ∷ []) (placed p partial.parts)
         perm' = moved (distinct past.pieces) partial.parts p perm
+
         sound' : IsSound (placed p partial.parts)
         sound' = with_one_sound partial.parts p (prefix_len (λ other. nat_lt other.offset p.offset) partial.parts) s.sound o (placed_place partial.parts p) c
+
         by_whole : (x : Option ℕ) → whole_end (placed p partial.parts) ≡ x → fate (with_piece past p).pieces ≡ by_end (distinct past.pieces ++ p ∷ []) x → IsSameStep (with_piece past p) (finished partial (placed p partial.parts) x) (fate (with_piece past p).pieces)
         by_whole None e f = record {
-            left = (ap (λ (x : Fate). x.ends) f, record {
-              begun = s.begun; number = s.number;
+          left = (
+            ap (λ (x : Fate). x.ends) f,
+            record {
+              begun = s.begun;
+              number = s.number;
               refused = n ∙ sym (ap refusal d ∙ r);
               keeps = λ z. subst (λ (l : List Part). IsPermutation l (placed p partial.parts)) (sym d) perm';
               unfinished = λ z. ap whole_end d ∙ whole_same (distinct past.pieces ++ p ∷ []) (placed p partial.parts) sound' perm' ∙ e;
-              sound = sound' });
-            answer = sym (ap (λ (x : Fate). x.answer) f)
-          }
+              sound = sound';
+            },
+          );
+          answer = sym (ap (λ (x : Fate). x.answer) f);
+        }
         by_whole (Some end) e f =
             let within : prefix_len (λ other. nat_lt other.offset p.offset) partial.parts ≤ length partial.parts = prefix_len-le-length (λ other. nat_lt other.offset p.offset) partial.parts in
             let more : length (placed p partial.parts) ≡ length partial.parts + 1 = length-insert partial.parts (prefix_len (λ other. nat_lt other.offset p.offset) partial.parts) p within in
             record {
               left = ap (λ (x : Fate). x.ends) f;
-              answer = sym (ap (λ (x : Fate). x.answer) f ∙ answer_same (distinct past.pieces ++ p ∷ []) (placed p partial.parts) sound' perm' end e (omega arith))
+              answer = sym (ap (λ (x : Fate). x.answer) f ∙ answer_same (distinct past.pieces ++ p ∷ []) (placed p partial.parts) sound' perm' end e (omega arith));
             }
 
     new_step : IsSameStep (with_piece past p) (with_new partial p) (fate (with_piece past p).pieces)
@@ -147,17 +176,20 @@ module _ (past : Past) (partial : Partial) (p : Part) (s : StandsFor past partia
       where
         w : IsWaiting (distinct past.pieces)
         w = waiting_from_none (distinct past.pieces) not_refused
+
         by_room : (b : Bool) → nat_le most_parts (length partial.parts) ≡ b → distinct (with_piece past p).pieces ≡ distinct past.pieces ++ p ∷ [] → list_any (clash p) partial.parts ≡ false → IsSameStep (with_piece past p) (if b then refusing partial bad.Many else finished partial (placed p partial.parts) (whole_end (placed p partial.parts))) (fate (with_piece past p).pieces)
         by_room true e d c = refusing_step bad.Many d (refusal_push (distinct past.pieces) p w
-          ∙ ap (λ (x : Bool). if x then Some bad.Overlap else if nat_le 256 (length (distinct past.pieces)) then Some bad.Many else None) (list_any-IsPermutation (clash p) (distinct past.pieces) partial.parts perm ∙ c)
-          ∙ ap (λ (x : Bool). if x then Some bad.Many else None) (ap (nat_le 256) (sym count) ∙ e))
+            ∙ ap (λ (x : Bool). if x then Some bad.Overlap else if nat_le 256 (length (distinct past.pieces)) then Some bad.Many else None) (list_any-IsPermutation (clash p) (distinct past.pieces) partial.parts perm ∙ c)
+            ∙ ap (λ (x : Bool). if x then Some bad.Many else None) (ap (nat_le 256) (sym count) ∙ e))
         by_room false e d c = kept_step d (refusal_push (distinct past.pieces) p w
-          ∙ ap (λ (x : Bool). if x then Some bad.Overlap else if nat_le 256 (length (distinct past.pieces)) then Some bad.Many else None) (list_any-IsPermutation (clash p) (distinct past.pieces) partial.parts perm ∙ c)
-          ∙ ap (λ (x : Bool). if x then Some bad.Many else None) (ap (nat_le 256) (sym count) ∙ e)) c (whole_end (placed p partial.parts)) refl
+            ∙ ap (λ (x : Bool). if x then Some bad.Overlap else if nat_le 256 (length (distinct past.pieces)) then Some bad.Many else None) (list_any-IsPermutation (clash p) (distinct past.pieces) partial.parts perm ∙ c)
+            ∙ ap (λ (x : Bool). if x then Some bad.Many else None) (ap (nat_le 256) (sym count) ∙ e)) c (whole_end (placed p partial.parts)) refl
+
         by_clash : (b : Bool) → list_any (clash p) partial.parts ≡ b → distinct (with_piece past p).pieces ≡ distinct past.pieces ++ p ∷ [] → IsSameStep (with_piece past p) (if b then refusing partial bad.Overlap else if nat_le most_parts (length partial.parts) then refusing partial bad.Many else finished partial (placed p partial.parts) (whole_end (placed p partial.parts))) (fate (with_piece past p).pieces)
         by_clash true e d = refusing_step bad.Overlap d (refusal_push (distinct past.pieces) p w
-          ∙ ap (λ (x : Bool). if x then Some bad.Overlap else if nat_le 256 (length (distinct past.pieces)) then Some bad.Many else None) (list_any-IsPermutation (clash p) (distinct past.pieces) partial.parts perm ∙ e))
+            ∙ ap (λ (x : Bool). if x then Some bad.Overlap else if nat_le 256 (length (distinct past.pieces)) then Some bad.Many else None) (list_any-IsPermutation (clash p) (distinct past.pieces) partial.parts perm ∙ e))
         by_clash false e d = by_room (nat_le most_parts (length partial.parts)) refl d e
+
         by_repeat : (b : Bool) → list_any (λ o. is_same o p) partial.parts ≡ b → IsSameStep (with_piece past p) (if b then staying partial answer.Held else if list_any (clash p) partial.parts then refusing partial bad.Overlap else if nat_le most_parts (length partial.parts) then refusing partial bad.Many else finished partial (placed p partial.parts) (whole_end (placed p partial.parts))) (fate (with_piece past p).pieces)
         by_repeat true e = repeat_step e
         by_repeat false e = by_clash (list_any (clash p) partial.parts) refl (pushed ∙ new_push (distinct past.pieces) p (list_any-IsPermutation (λ o. is_same o p) (distinct past.pieces) partial.parts perm ∙ e))

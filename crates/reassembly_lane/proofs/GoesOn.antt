@@ -1,10 +1,10 @@
 -- What a lane's contexts come to, once it is known what one of them comes to.
-use Rattle.std.proofs.Common.{◌≡◌, ℕ, ◌+◌, ◌*◌, ◌-◌, ◌<◌, ◌≤◌, ◌==◌, ◌%◌, Bool, true, false, not, ◌&&◌, ◌||◌, List, length, refl, sym, ◌∙◌, ap, subst, arith, Option, Some, None, Result, Ok, Err}
-use Rattle.std.specs.Prelude.{is_some, IsSome, nat_le, nat_lt, IfOk, OnErr, if◌then◌else◌}
+use Rattle.std.proofs.Common.{◌≡◌, ℕ, ◌+◌, ◌-◌, ◌<◌, ◌≤◌, Bool, true, false, List, length, refl, sym, ◌∙◌, ap, arith, Option, Some, None, Result, Ok, Err}
+use Rattle.std.specs.Prelude.{is_some, IsSome, IfOk, OnErr, if◌then◌else◌}
 use Rattle.std.specs.declared.cmp.Ordering.{Ordering}
 use Rattle.std.specs.Cmp.{IsTotalOrder}
 use Rattle.std.specs.Map.{lookup, set_value, remove_entry, keys_of}
-use Rattle.std.specs.BTreeMap.{is_at, insert_entry}
+use Rattle.std.specs.BTreeMap.{is_at}
 use Rattle.std.specs.List.Sorted.{IsStrictlySortedBy}
 use Rattle.std.proofs.lemmas.Bool.Decides.{nat_tests}
 use Rattle.std.proofs.lemmas.Bool.{le-leb, lt-leb}
@@ -14,9 +14,8 @@ use Rattle.reassembly_lane.specs.declared.answer.FragBad.TheVariants as bad
 use Rattle.reassembly_lane.specs.declared.context.Turn.{Turn}
 use Rattle.reassembly_lane.specs.declared.context.Turn.TheVariants as turn
 use Rattle.reassembly_lane.specs.declared.parts.Part.{Part}
-use Rattle.reassembly_lane.specs.Contexts.{Partial, Outcome, with_part}
+use Rattle.reassembly_lane.specs.Contexts.{Partial, with_part}
 use Rattle.reassembly_lane.specs.Lanes.{Arrival, LaneOutcome, answering, open_at, late_numbers, most_contexts, is_odd, is_long, fresh, going_on, beginning, found, among}
-use Rattle.reassembly_lane.specs.Parts.{past, longest}
 use Rattle.reassembly_lane.specs.Sound.{IsSoundPart}
 use Rattle.reassembly_lane.specs.Turns.{outcome}
 use Rattle.reassembly_lane.proofs.Entries.{remove_after_set, found_in_all, late_and_open}

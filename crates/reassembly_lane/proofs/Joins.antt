@@ -1,7 +1,7 @@
 -- The bytes of parts without a gap, one behind the other, are their datagram.
-use Rattle.std.proofs.Common.{◌≡◌, ℕ, zero, suc, ◌+◌, ◌-◌, ◌*◌, ◌<◌, ◌≤◌, Bool, true, false, not, ◌&&◌, ◌||◌, cond, List, [], ◌∷◌, ◌++◌, length, get_or, take, drop, refl, sym, ◌∙◌, ap, subst, ⊎_elim, add-one, arith, Option, Some, None, sum_by}
-use Rattle.std.specs.Prelude.{map, find, unwrap_or, flat_map, All}
-use Rattle.std.specs.List.{list_any, range_with_len}
+use Rattle.std.proofs.Common.{◌≡◌, ℕ, ◌+◌, ◌-◌, ◌<◌, ◌≤◌, Bool, true, false, ◌||◌, cond, List, [], ◌∷◌, ◌++◌, length, get_or, take, drop, refl, sym, ◌∙◌, ap, arith, Some}
+use Rattle.std.specs.Prelude.{find, unwrap_or, All}
+use Rattle.std.specs.List.{list_any}
 use Rattle.std.proofs.lemmas.Bool.Decides.{nat_tests}
 use Rattle.std.proofs.lemmas.Bool.{false≢true}
 use Rattle.std.proofs.lemmas.List.{take_at, drop_at, drop_more, take_all, take-append-drop, get_or-take, get_or-drop}
@@ -12,7 +12,7 @@ use Rattle.reassembly_lane.specs.declared.parts.Part.{Part}
 use Rattle.reassembly_lane.specs.Parts.{start, past, holds, covered, byte_in, byte_at, datagram, no_part}
 use Rattle.reassembly_lane.specs.Datagrams.{StandsIn}
 use Rattle.reassembly_lane.specs.Joined.{joined}
-use Rattle.reassembly_lane.specs.Sound.{part_at, IsSound, total_size}
+use Rattle.reassembly_lane.specs.Sound.{part_at}
 use Rattle.reassembly_lane.proofs.Covers.{reach, IsTight, tight_start, covered_at}
 
 -- ---- bytes in which each part stands are the datagram where the parts cover them
@@ -58,11 +58,11 @@ module _ (parts : List Part) (t : IsTight parts) where
 
   pub joined_stands : All (StandsIn (joined parts)) parts
   joined_stands = All-from_get_or (StandsIn (joined parts)) parts no_part (λ k h.
-    let e : joined parts ≡ joined (take k parts) ++ ((part_at parts k).body ++ joined (drop (k + 1) parts)) = joined_split k h in
-    let n : length (joined (take k parts)) ≡ start (part_at parts k) = joined_front k (omega arith) ∙ sym (tight_start parts t k h) in
-    ap (λ (l : List ℕ). take (length (part_at parts k).body) (drop (start (part_at parts k)) l)) e
-    ∙ ap (take (length (part_at parts k).body)) (drop_at (joined (take k parts)) ((part_at parts k).body ++ joined (drop (k + 1) parts)) (start (part_at parts k)) n)
-    ∙ take_at (part_at parts k).body (joined (drop (k + 1) parts)) (length (part_at parts k).body) refl)
+      let e : joined parts ≡ joined (take k parts) ++ ((part_at parts k).body ++ joined (drop (k + 1) parts)) = joined_split k h in
+      let n : length (joined (take k parts)) ≡ start (part_at parts k) = joined_front k (omega arith) ∙ sym (tight_start parts t k h) in
+      ap (λ (l : List ℕ). take (length (part_at parts k).body) (drop (start (part_at parts k)) l)) e
+      ∙ ap (take (length (part_at parts k).body)) (drop_at (joined (take k parts)) ((part_at parts k).body ++ joined (drop (k + 1) parts)) (start (part_at parts k)) n)
+      ∙ take_at (part_at parts k).body (joined (drop (k + 1) parts)) (length (part_at parts k).body) refl)
 
   pub joined_long : length (joined parts) ≡ reach parts (length parts)
   joined_long = ap (λ (l : List Part). length (joined l)) (sym (take_all (length parts) parts (omega arith))) ∙ joined_front (length parts) (omega arith)

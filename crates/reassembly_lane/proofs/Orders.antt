@@ -1,14 +1,13 @@
 -- The same parts in another order are whole alike.
-use Rattle.std.proofs.Common.{◌≡◌, ℕ, zero, suc, ◌+◌, ◌*◌, ◌-◌, ◌<◌, ◌≤◌, ◌==◌, Bool, true, false, not, ◌&&◌, ◌||◌, cond, List, [], ◌∷◌, ◌++◌, length, get_or, refl, sym, ◌∙◌, ap, subst, ⊎_elim, arith, Option, Some, None}
+use Rattle.std.proofs.Common.{◌≡◌, ℕ, zero, suc, ◌+◌, ◌<◌, ◌≤◌, ◌==◌, Bool, true, false, not, ◌&&◌, ◌||◌, cond, List, [], ◌∷◌, length, get_or, refl, sym, ◌∙◌, ap, subst, ⊎_elim, arith, Option, Some, None}
 use Rattle.std.proofs.Common.{eq-eqb}
-use Rattle.std.specs.Prelude.{nat_lt, if◌then◌else◌, find, unwrap_or, All, Contains, IsPermutation}
+use Rattle.std.specs.Prelude.{nat_lt, if◌then◌else◌, find, unwrap_or, Contains, IsPermutation}
 use Rattle.std.specs.List.{list_any}
 use Rattle.std.proofs.lemmas.Bool.Decides.{nat_tests}
 use Rattle.std.proofs.lemmas.Bool.{cases_lt, cases_eq, false≢true}
 use Rattle.std.proofs.lemmas.List.{get_or_default}
 use Rattle.std.proofs.lemmas.List.Folds.{list_any_at, Any-from_list_any}
 use Rattle.std.proofs.lemmas.List.Sorted.{list_any-IsPermutation, All-permutation, Contains-permutation, IsPermutation-sym}
-use Rattle.reassembly_lane.specs.declared.answer.Answer.{Answer}
 use Rattle.reassembly_lane.specs.declared.answer.Answer.TheVariants as answer
 use Rattle.reassembly_lane.specs.declared.answer.FragBad.TheVariants as bad
 use Rattle.reassembly_lane.specs.declared.parts.Part.{Part}
@@ -16,7 +15,7 @@ use Rattle.reassembly_lane.specs.Parts.{start, past, holds, covered, end_of, end
 use Rattle.reassembly_lane.specs.Datagrams.{StandsIn}
 use Rattle.reassembly_lane.specs.Joined.{joined}
 use Rattle.reassembly_lane.specs.Sound.{part_at, IsSound}
-use Rattle.reassembly_lane.proofs.Covers.{reach, IsTight, tight_start, end_of_last}
+use Rattle.reassembly_lane.proofs.Covers.{reach, IsTight, end_of_last}
 use Rattle.reassembly_lane.proofs.Joins.{datagram_is, joined_stands, joined_long}
 use Rattle.reassembly_lane.proofs.Wholes.{reach_is_end, end_from_whole, covered_from_whole, tight_from_whole, first_is, joined_is, starts_at_0}
 
@@ -70,9 +69,9 @@ end_found ps s end i l h =
     ⊎_elim
     (λ (k : i + 1 < length ps). absurd (false≢true (sym m ∙ s.follows i k)))
     (λ (k : length ps ≤ i + 1).
-      end_of_last ps i (omega arith) s.follows
-      ∙ ap (λ (b : Bool). cond b None (Some (past (part_at ps i)))) m
-      ∙ ap Some (past_at end (part_at ps i) h))
+    end_of_last ps i (omega arith) s.follows
+    ∙ ap (λ (b : Bool). cond b None (Some (past (part_at ps i)))) m
+    ∙ ap Some (past_at end (part_at ps i) h))
     (cases_lt (i + 1) (length ps))
 
 pub any_index : (test : Part → Bool) (ps : List Part) → list_any test ps ≡ true → (i : ℕ) × (i < length ps) × (test (part_at ps i) ≡ true)
@@ -103,8 +102,8 @@ datagram_same q ps s m end w =
     let t : IsTight ps = tight_from_whole ps s end w in
     let r : end ≡ reach ps (length ps) = reach_is_end ps s end (end_from_whole ps end w) in
     datagram_is (joined ps) q end (joined_long ps t ∙ sym r)
-      (All-permutation (StandsIn (joined ps)) ps q (IsPermutation-sym q ps m) (joined_stands ps t))
-      (covered_same q ps m end ∙ covered_from_whole ps end w)
+    (All-permutation (StandsIn (joined ps)) ps q (IsPermutation-sym q ps m) (joined_stands ps t))
+    (covered_same q ps m end ∙ covered_from_whole ps end w)
     ∙ sym (joined_is ps s end w)
 
 record IsFound (test : Part → Bool) (q : List Part) : Type 0 where
@@ -136,10 +135,10 @@ only_first ps s part c h =
     ⊎_elim
     (λ (e : c.0 ≡ 0). sym at ∙ ap (part_at ps) e)
     (λ (ne : c.0 ≡ 0 → ⊥).
-      let far : past (part_at ps 0) ≤ start (part_at ps c.0) = s.apart 0 c.0 (omega arith) l in
-      let full : 0 < length (part_at ps 0).body = s.filled 0 (omega arith) in
-      let low' : start (part_at ps c.0) ≤ 0 = subst (λ (x : Part). start x ≤ 0) (sym at) low in
-      absurd (omega arith))
+    let far : past (part_at ps 0) ≤ start (part_at ps c.0) = s.apart 0 c.0 (omega arith) l in
+    let full : 0 < length (part_at ps 0).body = s.filled 0 (omega arith) in
+    let low' : start (part_at ps c.0) ≤ 0 = subst (λ (x : Part). start x ≤ 0) (sym at) low in
+    absurd (omega arith))
     (cases_eq c.0 0)
 
 holds_first : (part : Part) → start part ≡ 0 → 0 < length part.body → holds 0 part ≡ true

@@ -1,5 +1,5 @@
 -- What a context comes to with one more part, once it is known that the part is kept.
-use Rattle.std.proofs.Common.{◌≡◌, ℕ, ◌<◌, ◌≤◌, Bool, true, false, List, length, insert, refl, sym, ◌∙◌, ap, subst, Option, Some, None, Result, Ok, Err}
+use Rattle.std.proofs.Common.{◌≡◌, ℕ, ◌<◌, Bool, false, List, length, insert, sym, ◌∙◌, ap, subst, Option, Some, None, Result, Ok, Err}
 use Rattle.std.specs.Prelude.{if◌then◌else◌, nat_le, IfOk}
 use Rattle.std.specs.List.{list_any}
 use Rattle.std.proofs.lemmas.Bool.{lt-leb}
@@ -10,7 +10,7 @@ use Rattle.reassembly_lane.specs.declared.answer.FragBad.TheVariants as bad
 use Rattle.reassembly_lane.specs.declared.context.Turn.{Turn}
 use Rattle.reassembly_lane.specs.declared.context.Turn.TheVariants as turn
 use Rattle.reassembly_lane.specs.declared.parts.Part.{Part}
-use Rattle.reassembly_lane.specs.Contexts.{Partial, Outcome, staying, refusing, finished, unless_refused, with_new, with_part, placed, most_parts}
+use Rattle.reassembly_lane.specs.Contexts.{Partial, Outcome, staying, refusing, finished, unless_refused, with_part, placed, most_parts}
 use Rattle.reassembly_lane.specs.Parts.{is_same, clash, whole_answer, whole_end}
 use Rattle.reassembly_lane.specs.Sound.{IsPlace, IsSound}
 use Rattle.reassembly_lane.specs.Turns.{outcome}

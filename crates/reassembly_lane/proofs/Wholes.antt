@@ -1,13 +1,12 @@
 -- When sound parts are whole, and what their datagram is, as the code finds it.
-use Rattle.std.proofs.Common.{◌≡◌, ℕ, zero, suc, ◌+◌, ◌-◌, ◌*◌, ◌<◌, ◌≤◌, ◌==◌, Bool, true, false, not, ◌&&◌, ◌||◌, cond, List, [], ◌∷◌, ◌++◌, length, get_or, take, drop, insert, refl, sym, ◌∙◌, ap, subst, ⊎_elim, arith, Option, Some, None, eq-eqb}
-use Rattle.std.specs.Prelude.{find, nat_lt, if◌then◌else◌}
+use Rattle.std.proofs.Common.{◌≡◌, ℕ, suc, ◌+◌, ◌-◌, ◌<◌, ◌≤◌, ◌==◌, Bool, true, false, cond, List, [], ◌∷◌, ◌++◌, length, get_or, take, drop, insert, refl, sym, ◌∙◌, ap, subst, arith, Option, Some, None, eq-eqb}
+use Rattle.std.specs.Prelude.{nat_lt, if◌then◌else◌}
 use Rattle.std.proofs.lemmas.Bool.Decides.{nat_tests}
 use Rattle.std.proofs.lemmas.Bool.{lt-ltb, le-ltb, ne_eqb}
 use Rattle.std.proofs.lemmas.List.{append_assoc, get_or_read}
 use Rattle.std.proofs.lemmas.List.Sums.{sum_by-insert}
 use Rattle.std.specs.List.{list_any}
 use Rattle.std.proofs.lemmas.List.Concat.{flat_map-append}
-use Rattle.reassembly_lane.specs.declared.answer.Answer.{Answer}
 use Rattle.reassembly_lane.specs.declared.answer.Answer.TheVariants as answer
 use Rattle.reassembly_lane.specs.declared.answer.FragBad.TheVariants as bad
 use Rattle.reassembly_lane.specs.declared.parts.Part.{Part}
@@ -46,6 +45,7 @@ end_from_whole parts end e = by_end (end_of parts) refl e
     by_covered : (n : ℕ) (b : Bool) → (if b then Some n else None) ≡ Some end → n ≡ end
     by_covered n true e = cc
     by_covered n false e = cc
+
     by_end : (o : Option ℕ) → end_of parts ≡ o → end_if_covered parts o ≡ Some end → end_of parts ≡ Some end
     by_end None h e = cc
     by_end (Some n) h e = h ∙ ap Some (by_covered n (covered parts n) e)

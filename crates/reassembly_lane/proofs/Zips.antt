@@ -1,6 +1,6 @@
 -- A lane stands for its history, piece by piece.
-use Rattle.std.proofs.Common.{◌≡◌, ℕ, zero, suc, ◌+◌, ◌<◌, ◌≤◌, Bool, true, false, not, cond, List, [], ◌∷◌, ◌++◌, length, map, filter, refl, sym, ◌∙◌, ap, subst, arith, Option, Some, None, Result, Ok, Err}
-use Rattle.std.specs.Prelude.{if◌then◌else◌, nat_le, fold, IfOk}
+use Rattle.std.proofs.Common.{◌≡◌, ℕ, suc, Bool, true, false, not, cond, List, [], ◌∷◌, length, map, filter, refl, sym, ◌∙◌, ap, subst, Option, Some, None, Result, Ok, Err}
+use Rattle.std.specs.Prelude.{if◌then◌else◌, nat_le, IfOk}
 use Rattle.reassembly_lane.specs.declared.answer.Fed.{Fed}
 use Rattle.std.specs.List.{AllZip}
 use Rattle.std.specs.declared.cmp.Ordering.{Ordering}
@@ -12,7 +12,6 @@ use Rattle.std.proofs.lemmas.List.Sums.{fold_push}
 use Rattle.reassembly_lane.specs.declared.answer.Answer.{Answer}
 use Rattle.reassembly_lane.specs.declared.answer.Answer.TheVariants as answer
 use Rattle.reassembly_lane.specs.declared.answer.FragBad.TheVariants as bad
-use Rattle.reassembly_lane.specs.declared.parts.Part.{Part}
 use Rattle.reassembly_lane.specs.Contexts.{Partial, Outcome, with_part}
 use Rattle.reassembly_lane.specs.History.{Fate, fate}
 use Rattle.reassembly_lane.specs.LaneHistory.{Past, PastOutcome, with_piece, begun_by, pasts_open_at, past_late_numbers, past_first_numbers, past_going_on, past_beginning, past_found, past_among, past_after, waiting, StandsFor, SameContext, Remembers, Follows}
@@ -153,10 +152,11 @@ module _ {K : Type 0} (cmp : K → K → Ordering) where
   same_found xs ys piece None (Some partial) s o f = absurd f
   same_found xs ys piece None None s o f =
       by_room (nat_le most_contexts (length (pasts_open_at piece.time xs))) (nat_le most_contexts (length (open_at piece.time ys)))
-        (ap (nat_le most_contexts) (same_length (pasts_open_at piece.time xs) (open_at piece.time ys) (same_open piece.time xs ys s)))
+      (ap (nat_le most_contexts) (same_length (pasts_open_at piece.time xs) (open_at piece.time ys) (same_open piece.time xs ys s)))
     where
       first : IsSameStep (begun_by piece) (with_part (fresh piece.time piece.number) piece.part) (fate (begun_by piece).pieces)
       first = same_step (record { begun = piece.time; number = piece.number; pieces = [] }) (fresh piece.time piece.number) piece.part (stands_fresh piece.time piece.number) o
+
       by_room : (v w : Bool) → v ≡ w → IsSameOutcome (if v then record { pasts = xs; answer = answer.Refused bad.Full } else past_beginning cmp xs piece.key (begun_by piece) (fate (begun_by piece).pieces)) (if w then answering (answer.Refused bad.Full) ys else beginning cmp ys piece.key (with_part (fresh piece.time piece.number) piece.part))
       by_room true true e = record { contexts = s; answer = refl }
       by_room true false e = cc
@@ -180,11 +180,11 @@ module _ {K : Type 0} (cmp : K → K → Ordering) where
       let now : new ≡ open_at piece.time (among cmp old piece).contexts = ap (λ (x : LaneOutcome K). x.contexts) f in
       record {
         remembers =
-          subst (λ (l : List (K × Past)). Same l new) (sym (fold_push (past_after cmp) [] history piece))
+            subst (λ (l : List (K × Past)). Same l new) (sym (fold_push (past_after cmp) [] history piece))
             (subst (λ (l : List (K × Partial)). Same (past_after cmp (waiting cmp history) piece) l) (sym now)
-              (same_open piece.time (past_among cmp (waiting cmp history) piece).pasts (among cmp old piece).contexts o.contexts));
+            (same_open piece.time (past_among cmp (waiting cmp history) piece).pasts (among cmp old piece).contexts o.contexts));
         answers = ap (λ (x : LaneOutcome K). x.answer) f ∙ sym o.answer;
-        ends = subst (λ (l : List ℕ). IsAscending l ended) (sym (same_late piece.time (waiting cmp history) old s)) a
+        ends = subst (λ (l : List ℕ). IsAscending l ended) (sym (same_late piece.time (waiting cmp history) old s)) a;
       }
 
   pub follows_ok : {E : Type 0} (piece : Arrival K) (old new : List (K × Partial)) (r : Result Fed E) → IfOk r (λ said. answering said.answer new ≡ fed cmp old piece) → IfOk r (λ said. IsAscending (late_numbers piece.time old) said.ended) → IfOk r (λ said. (history : List (Arrival K)) → Remembers cmp history old → Follows cmp history piece said.answer said.ended new)

@@ -1,5 +1,5 @@
 -- What comes of a datagram with one more part.
-use Rattle.std.specs.Prelude.{ℕ, ◌<◌, Bool, true, false, if◌then◌else◌, nat_lt, nat_le, List, [], ◌∷◌, length, Option, Some, None, insert}
+use Rattle.std.specs.Prelude.{ℕ, if◌then◌else◌, nat_lt, nat_le, List, [], length, Option, Some, None, insert}
 use Rattle.std.specs.List.{list_any, prefix_len}
 use Rattle.reassembly_lane.specs.declared.answer.Answer.{Answer}
 use Rattle.reassembly_lane.specs.declared.answer.Answer.TheVariants as answer

@@ -1,5 +1,5 @@
 -- What a lane comes to, told by all pieces that it was given.
-use Rattle.std.specs.Prelude.{◌≡◌, ℕ, ◌+◌, Bool, not, if◌then◌else◌, nat_le, List, [], ◌∷◌, ◌++◌, map, filter, fold, length, Option, Some, None}
+use Rattle.std.specs.Prelude.{◌≡◌, ℕ, not, if◌then◌else◌, nat_le, List, [], ◌∷◌, ◌++◌, map, filter, fold, length, Option, Some, None}
 use Rattle.std.specs.declared.cmp.Ordering.{Ordering}
 use Rattle.std.specs.Map.{lookup, set_value, remove_entry}
 use Rattle.std.specs.BTreeMap.{is_at, insert_entry}
@@ -49,12 +49,14 @@ module _ {K : Type 0} (cmp : K → K → Ordering) where
   abbrev pub past_going_on : List (K × Past) → K → Past → Fate → PastOutcome K
   past_going_on pasts key past comes = record {
     pasts = if comes.ends then remove_entry (is_at (cmp key)) pasts else set_value (is_at (cmp key)) pasts past;
-    answer = comes.answer }
+    answer = comes.answer;
+  }
 
   abbrev pub past_beginning : List (K × Past) → K → Past → Fate → PastOutcome K
   past_beginning pasts key past comes = record {
     pasts = if comes.ends then pasts else insert_entry cmp pasts key past;
-    answer = comes.answer }
+    answer = comes.answer;
+  }
 
   abbrev pub past_found : List (K × Past) → Arrival K → Option Past → PastOutcome K
   past_found pasts piece (Some past) = past_going_on pasts piece.key (with_piece past piece.part) (fate (with_piece past piece.part).pieces)

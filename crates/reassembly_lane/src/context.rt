@@ -81,7 +81,11 @@ impl Context {
     }
 
     /// One more piece.
-    pub(crate) fn take(&mut self, alloc: Global, fragment: Fragment<'_>) -> Result<Turn, OutOfMemory>
+    pub(crate) fn take(
+        &mut self,
+        alloc: Global,
+        fragment: Fragment<'_>,
+    ) -> Result<Turn, OutOfMemory>
         requires { IsSoundPart (part_of fragment) }
         ensures turn { IfOk result (λ turn. outcome turn self.new ≡ with_part self.old (part_of fragment.entry)) }
         ensures err { OnErr result (self.new ≡ self.old) }

@@ -10,10 +10,10 @@ go_on-requires-clause-there g c = there g.met.K.Ord.total c.args.piece.time c.ar
 pub returns-then-has_open-clause-fed : goal.returns-then-has_open-clause-fed
 returns-then-has_open-clause-fed g c =
     going_among g.met.K.Ord.total c.args.contexts.now.entries c.go_on.new.contexts.entries (arrival c.args.piece) (part_of c.fragment-fragment.result) c.go_on.result
-      c.len-count.ensures.ordered (ap part_of c.fragment-fragment.ensures)
-      (sym (c.if-is_odd.ensures ∙ ap (λ f. is_odd (part_of f)) c.fragment-fragment.ensures))
-      (sym (c.if-is_long.ensures ∙ ap (λ f. is_long (part_of f)) c.fragment-fragment.ensures))
-      (sym c.if-has_open.ensures) c.go_on.ensures.goes_on
+    c.len-count.ensures.ordered (ap part_of c.fragment-fragment.ensures)
+    (sym (c.if-is_odd.ensures ∙ ap (λ f. is_odd (part_of f)) c.fragment-fragment.ensures))
+    (sym (c.if-is_long.ensures ∙ ap (λ f. is_long (part_of f)) c.fragment-fragment.ensures))
+    (sym c.if-has_open.ensures) c.go_on.ensures.goes_on
 
 pub overflow_sub-count : goal.overflow_sub-count
 overflow_sub-count g c =
@@ -24,16 +24,16 @@ pub returns-then-count-late-ge-MOST_CONTEXTS-clause-fed :
     goal.returns-then-count-late-ge-MOST_CONTEXTS-clause-fed
 returns-then-count-late-ge-MOST_CONTEXTS-clause-fed g c =
     full_among g.K.Ord.cmp c.args.contexts.now.entries c.args.contexts.now.entries (arrival c.args.piece) c.args.late refl
-      (sym (c.if-is_odd.ensures ∙ ap (λ f. is_odd (part_of f)) c.fragment-fragment.ensures))
-      (sym (c.if-is_long.ensures ∙ ap (λ f. is_long (part_of f)) c.fragment-fragment.ensures))
-      (sym c.if-has_open.ensures) c.requires
-      (subst (λ n. 256 ≤ n - c.args.late) c.len-count.ensures.len c.if-count-late-ge-MOST_CONTEXTS.true)
+    (sym (c.if-is_odd.ensures ∙ ap (λ f. is_odd (part_of f)) c.fragment-fragment.ensures))
+    (sym (c.if-is_long.ensures ∙ ap (λ f. is_long (part_of f)) c.fragment-fragment.ensures))
+    (sym c.if-has_open.ensures) c.requires
+    (subst (λ n. 256 ≤ n - c.args.late) c.len-count.ensures.len c.if-count-late-ge-MOST_CONTEXTS.true)
 
 pub returns-clause-fed : goal.returns-clause-fed
 returns-clause-fed g c =
     beginning_among g.K.Ord.cmp c.args.contexts.now.entries c.begin.new.contexts.entries (arrival c.args.piece) c.args.late c.begin.result
-      (sym (c.if-is_odd.ensures ∙ ap (λ f. is_odd (part_of f)) c.fragment-fragment.ensures))
-      (sym (c.if-is_long.ensures ∙ ap (λ f. is_long (part_of f)) c.fragment-fragment.ensures))
-      (sym c.if-has_open.ensures) c.requires
-      (subst (λ n. n - c.args.late < 256) c.len-count.ensures.len c.if-count-late-ge-MOST_CONTEXTS.false)
-      c.begin.ensures.begins
+    (sym (c.if-is_odd.ensures ∙ ap (λ f. is_odd (part_of f)) c.fragment-fragment.ensures))
+    (sym (c.if-is_long.ensures ∙ ap (λ f. is_long (part_of f)) c.fragment-fragment.ensures))
+    (sym c.if-has_open.ensures) c.requires
+    (subst (λ n. n - c.args.late < 256) c.len-count.ensures.len c.if-count-late-ge-MOST_CONTEXTS.false)
+    c.begin.ensures.begins

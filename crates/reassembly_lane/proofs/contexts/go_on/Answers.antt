@@ -1,7 +1,5 @@
-use Rattle.std.proofs.Common.{◌≡◌, ap, sym, ◌∙◌, Some}
 use Rattle.std.specs.BTreeMap.{is_at}
-use Rattle.reassembly_lane.specs.Contexts.{with_part}
-use Rattle.reassembly_lane.specs.Lanes.{going_on, part_of}
+use Rattle.reassembly_lane.specs.Lanes.{part_of}
 use Rattle.reassembly_lane.proofs.Entries.{unchanged}
 use Rattle.reassembly_lane.proofs.GoesOn.{ends_at, on_err_always}
 use Rattle.reassembly_lane.proofs.contexts.go_on.Goals as goal

@@ -1,4 +1,4 @@
-use Rattle.std.proofs.Common.{◌≡◌, ap, ◌∙◌}
+use Rattle.std.proofs.Common.{ap, ◌∙◌}
 use Rattle.reassembly_lane.specs.Lanes.{waits}
 use Rattle.reassembly_lane.proofs.Entries.{open_found, open_missing}
 use Rattle.reassembly_lane.proofs.contexts.has_open.Goals as goal

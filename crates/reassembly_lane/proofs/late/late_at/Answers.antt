@@ -1,5 +1,4 @@
-use Rattle.std.proofs.Common.{◌≡◌, ◌≤◌, ◌++◌, ◌∷◌, [], List, true, false, ap, sym, ◌∙◌, refl, subst, arith}
-use Rattle.reassembly_lane.specs.Contexts.{Partial}
+use Rattle.std.proofs.Common.{◌≡◌, ◌++◌, ◌∷◌, [], true, false, ap, sym, ◌∙◌, subst, arith}
 use Rattle.reassembly_lane.specs.Lanes.{open_at, waits}
 use Rattle.reassembly_lane.specs.Since.{Since}
 use Rattle.reassembly_lane.proofs.Entries.{late_push, late_step, since_late_step, since_open_step}
@@ -11,9 +10,9 @@ loop-context-preserved-then-waits g c =
     record {
       told = late_step c.args.time (c.in-Some.field-0-0.now, c.in-Some.context.now) c.loop-context.context-iterator c.next.new.self c.loop-context.numbers.items c.in-Some.ensures.steps w ∙ c.loop-context.invariant.told;
       since = λ bound h s.
-        let b : c.begun-then-waits.result ≡ c.in-Some.context.now.begun = c.begun-then-waits.ensures in
-        let m = c.min-oldest.ensures in
-        c.loop-context.invariant.since bound (omega arith) (since_open_step c.args.time bound (c.in-Some.field-0-0.now, c.in-Some.context.now) c.loop-context.context-iterator c.next.new.self c.in-Some.ensures.steps w (omega arith) s)
+          let b : c.begun-then-waits.result ≡ c.in-Some.context.now.begun = c.begun-then-waits.ensures in
+          let m = c.min-oldest.ensures in
+          c.loop-context.invariant.since bound (omega arith) (since_open_step c.args.time bound (c.in-Some.field-0-0.now, c.in-Some.context.now) c.loop-context.context-iterator c.next.new.self c.in-Some.ensures.steps w (omega arith) s);
     }
 
 pub loop-context-preserved : goal.loop-context-preserved
@@ -21,7 +20,7 @@ loop-context-preserved g c =
     let w : waits c.args.time c.in-Some.context.now.begun ≡ false = sym (c.if-waits.ensures ∙ ap (waits c.args.time) c.begun.ensures) in
     record {
       told = late_push c.args.time (c.in-Some.field-0-0.now, c.in-Some.context.now) c.loop-context.context-iterator c.next.new.self c.loop-context.numbers.items c.push.new.self.items c.in-Some.ensures.steps w (c.in_ok-push.ensures.items ∙ ap (λ n. c.loop-context.numbers.items ++ n ∷ []) c.number.ensures) ∙ c.loop-context.invariant.told;
-      since = λ bound h s. c.loop-context.invariant.since bound h (since_late_step c.args.time bound (c.in-Some.field-0-0.now, c.in-Some.context.now) c.loop-context.context-iterator c.next.new.self c.in-Some.ensures.steps w s)
+      since = λ bound h s. c.loop-context.invariant.since bound h (since_late_step c.args.time bound (c.in-Some.field-0-0.now, c.in-Some.context.now) c.loop-context.context-iterator c.next.new.self c.in-Some.ensures.steps w s);
     }
 
 pub returns-clause-oldest : goal.returns-clause-oldest

@@ -7,7 +7,7 @@ invariant-loop-low l = record {
   ordered : l.low ≤ l.high;
   within : l.high ≤ length l.parts;
   before : 0 < l.low → (part_at l.parts (l.low - 1)).offset < l.offset;
-  behind : l.high < length l.parts → l.offset ≤ (part_at l.parts l.high).offset
+  behind : l.high < length l.parts → l.offset ≤ (part_at l.parts l.high).offset;
 }
 
 abbrev pub decreases-loop-low : goal.decreases-loop-low

@@ -1,4 +1,4 @@
-use Rattle.std.proofs.Common.{◌≡◌, ℕ, ◌+◌, ◌*◌, ◌^◌, ◌≤◌, ◌<◌, false, List, length, insert, ap, sym, ◌∙◌, subst, arith}
+use Rattle.std.proofs.Common.{◌≡◌, ℕ, ◌+◌, ◌^◌, ◌≤◌, ◌<◌, false, List, length, insert, ap, sym, ◌∙◌, subst, arith}
 use Rattle.std.proofs.lemmas.List.Sums.{sum_by-insert}
 use Rattle.std.specs.List.{list_any}
 use Rattle.reassembly_lane.specs.declared.parts.Part.{Part}
@@ -19,9 +19,10 @@ kept : (items old grown : List Part) (part new : Part) (place size : ℕ) → it
 kept items old grown part new place size same is g s n q p e =
     let p' : IsPlace items part.offset place = subst (λ (l : List Part). IsPlace l part.offset place) (sym same) p in
     let e' : list_any (clash part) items ≡ false = ap (list_any (clash part)) same ∙ e in
-    let g' : grown ≡ insert items place part = g ∙ ap (insert items place) is in
-    (subst IsSound (sym g') (with_one_sound items part place s q p' e'),
-     ap (λ (x : ℕ). x + length part.body) n ∙ sym (ap total_size g' ∙ sum_by-insert (λ p. length p.body) items place part))
+    let g' : grown ≡ insert items place part = g ∙ ap (insert items place) is in (
+      subst IsSound (sym g') (with_one_sound items part place s q p' e'),
+      ap (λ (x : ℕ). x + length part.body) n ∙ sym (ap total_size g' ∙ sum_by-insert (λ p. length p.body) items place part),
+    )
 
 pub overflow_add-size : goal.overflow_add-size
 overflow_add-size c =
