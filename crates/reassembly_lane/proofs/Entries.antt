@@ -51,23 +51,30 @@ late_and_open time es =
     ∙ length-filter_both (λ e. waits time e.1.begun) (λ e. not (waits time e.1.begun)) (λ e. refl) es
 
 -- ---- one step of a walk over all
-pub late_step : {K : Type 0} (time : ℕ) (e : K × Partial) (s t : List (K × Partial)) (done : List ℕ) → s ≡ e ∷ t → waits time e.1.begun ≡ true → done ++ late_numbers time t ≡ done ++ late_numbers time s
-late_step time e s t done h w =
-    ap (λ (l : List ℕ). done ++ l) (sym (ap (late_numbers time) h ∙ ap (λ (b : Bool). map (λ x. x.1.number) (cond (not b) (e ∷ filter (λ x. not (waits time x.1.begun)) t) (filter (λ x. not (waits time x.1.begun)) t))) w))
+late_head : {K : Type 0} (time : ℕ) (e : K × Partial) (s t : List (K × Partial)) (b : Bool) → s ≡ e ∷ t → waits time e.1.begun ≡ b → late_numbers time s ≡ map (λ x. x.1.number) (cond (not b) (e ∷ filter (λ x. not (waits time x.1.begun)) t) (filter (λ x. not (waits time x.1.begun)) t))
+late_head time e s t b h w = ap (late_numbers time) h ∙ ap (λ (v : Bool). map (λ x. x.1.number) (cond (not v) (e ∷ filter (λ x. not (waits time x.1.begun)) t) (filter (λ x. not (waits time x.1.begun)) t))) w
 
-pub late_push : {K : Type 0} (time : ℕ) (e : K × Partial) (s t : List (K × Partial)) (done longer : List ℕ) → s ≡ e ∷ t → waits time e.1.begun ≡ false → longer ≡ done ++ e.1.number ∷ [] → longer ++ late_numbers time t ≡ done ++ late_numbers time s
-late_push time e s t done longer h w n =
-    ap (λ (l : List ℕ). l ++ late_numbers time t) n
+pub late_step : {K : Type 0} (time : ℕ) (e : K × Partial) (s t : List (K × Partial)) (done all : List ℕ) → s ≡ e ∷ t → true ≡ waits time e.1.begun → done ++ late_numbers time s ≡ all → done ++ late_numbers time t ≡ all
+late_step time e s t done all h w so_far = ap (λ (l : List ℕ). done ++ l) (sym (late_head time e s t true h (sym w))) ∙ so_far
+
+pub late_push : {K : Type 0} (time number : ℕ) (e : K × Partial) (s t : List (K × Partial)) (done longer all : List ℕ) → s ≡ e ∷ t → false ≡ waits time e.1.begun → longer ≡ done ++ number ∷ [] → number ≡ e.1.number → done ++ late_numbers time s ≡ all → longer ++ late_numbers time t ≡ all
+late_push time number e s t done longer all h w n is so_far =
+    ap (λ (l : List ℕ). l ++ late_numbers time t) (n ∙ ap (λ (k : ℕ). done ++ k ∷ []) is)
     ∙ append_assoc done (e.1.number ∷ []) (late_numbers time t)
-    ∙ ap (λ (l : List ℕ). done ++ l) (sym (ap (late_numbers time) h ∙ ap (λ (b : Bool). map (λ x. x.1.number) (cond (not b) (e ∷ filter (λ x. not (waits time x.1.begun)) t) (filter (λ x. not (waits time x.1.begun)) t))) w))
+    ∙ ap (λ (l : List ℕ). done ++ l) (sym (late_head time e s t false h (sym w)))
+    ∙ so_far
 
-pub since_open_step : {K : Type 0} (time bound : ℕ) (e : K × Partial) (s t : List (K × Partial)) → s ≡ e ∷ t → waits time e.1.begun ≡ true → bound ≤ e.1.begun → Since bound (open_at time t) → Since bound (open_at time s)
+-- whether a context that was read waits
+pub reads_waits : (time begun : ℕ) (partial : Partial) (b : Bool) → b ≡ waits time begun → begun ≡ partial.begun → b ≡ waits time partial.begun
+reads_waits time begun partial b w e = w ∙ ap (waits time) e
+
+pub since_open_step : {K : Type 0} (time bound : ℕ) (e : K × Partial) (s t : List (K × Partial)) → s ≡ e ∷ t → true ≡ waits time e.1.begun → bound ≤ e.1.begun → Since bound (open_at time t) → Since bound (open_at time s)
 since_open_step time bound e s t h w le since =
-    subst (Since bound) (sym (ap (open_at time) h ∙ ap (λ (b : Bool). cond b (e ∷ open_at time t) (open_at time t)) w)) (le, since)
+    subst (Since bound) (sym (ap (open_at time) h ∙ ap (λ (b : Bool). cond b (e ∷ open_at time t) (open_at time t)) (sym w))) (le, since)
 
-pub since_late_step : {K : Type 0} (time bound : ℕ) (e : K × Partial) (s t : List (K × Partial)) → s ≡ e ∷ t → waits time e.1.begun ≡ false → Since bound (open_at time t) → Since bound (open_at time s)
+pub since_late_step : {K : Type 0} (time bound : ℕ) (e : K × Partial) (s t : List (K × Partial)) → s ≡ e ∷ t → false ≡ waits time e.1.begun → Since bound (open_at time t) → Since bound (open_at time s)
 since_late_step time bound e s t h w since =
-    subst (Since bound) (sym (ap (open_at time) h ∙ ap (λ (b : Bool). cond b (e ∷ open_at time t) (open_at time t)) w)) since
+    subst (Since bound) (sym (ap (open_at time) h ∙ ap (λ (b : Bool). cond b (e ∷ open_at time t) (open_at time t)) (sym w))) since
 
 -- ---- edits at a key
 pub remove_after_set : {K : Type 0} (test : K → Bool) (es : List (K × Partial)) (w : Partial) → remove_entry test (set_value test es w) ≡ remove_entry test es

@@ -1,14 +1,14 @@
-use Rattle.std.proofs.Common.{◌≡◌, ◌++◌, ◌∷◌, [], true, false, ap, sym, ◌∙◌, subst, arith}
-use Rattle.reassembly_lane.specs.Lanes.{open_at, waits}
+use Rattle.std.proofs.Common.{◌≡◌, true, false, sym, subst, arith}
+use Rattle.reassembly_lane.specs.Lanes.{late_numbers, open_at, waits}
 use Rattle.reassembly_lane.specs.Since.{Since}
-use Rattle.reassembly_lane.proofs.Entries.{late_push, late_step, since_late_step, since_open_step}
+use Rattle.reassembly_lane.proofs.Entries.{late_push, late_step, reads_waits, since_late_step, since_open_step}
 use Rattle.reassembly_lane.proofs.late.late_at.Goals as goal
 
 pub loop-context-preserved-then-waits : goal.loop-context-preserved-then-waits
 loop-context-preserved-then-waits g c =
-    let w : waits c.args.time c.in-Some.context.now.begun ≡ true = sym (c.if-waits.ensures ∙ ap (waits c.args.time) c.begun.ensures) in
+    let w : true ≡ waits c.args.time c.in-Some.context.now.begun = reads_waits c.args.time c.begun.result c.in-Some.context.now true c.if-waits.ensures c.begun.ensures in
     record {
-      told = late_step c.args.time (c.in-Some.field-0-0.now, c.in-Some.context.now) c.loop-context.context-iterator c.next.new.self c.loop-context.numbers.items c.in-Some.ensures.steps w ∙ c.loop-context.invariant.told;
+      told = late_step c.args.time (c.in-Some.field-0-0.now, c.in-Some.context.now) c.loop-context.context-iterator c.next.new.self c.loop-context.numbers.items (late_numbers c.args.time c.args.contexts.now.entries) c.in-Some.ensures.steps w c.loop-context.invariant.told;
       since = λ bound h s.
           let b : c.begun-then-waits.result ≡ c.in-Some.context.now.begun = c.begun-then-waits.ensures in
           let m = c.min-oldest.ensures in
@@ -17,9 +17,9 @@ loop-context-preserved-then-waits g c =
 
 pub loop-context-preserved : goal.loop-context-preserved
 loop-context-preserved g c =
-    let w : waits c.args.time c.in-Some.context.now.begun ≡ false = sym (c.if-waits.ensures ∙ ap (waits c.args.time) c.begun.ensures) in
+    let w : false ≡ waits c.args.time c.in-Some.context.now.begun = reads_waits c.args.time c.begun.result c.in-Some.context.now false c.if-waits.ensures c.begun.ensures in
     record {
-      told = late_push c.args.time (c.in-Some.field-0-0.now, c.in-Some.context.now) c.loop-context.context-iterator c.next.new.self c.loop-context.numbers.items c.push.new.self.items c.in-Some.ensures.steps w (c.in_ok-push.ensures.items ∙ ap (λ n. c.loop-context.numbers.items ++ n ∷ []) c.number.ensures) ∙ c.loop-context.invariant.told;
+      told = late_push c.args.time c.number.result (c.in-Some.field-0-0.now, c.in-Some.context.now) c.loop-context.context-iterator c.next.new.self c.loop-context.numbers.items c.push.new.self.items (late_numbers c.args.time c.args.contexts.now.entries) c.in-Some.ensures.steps w c.in_ok-push.ensures.items c.number.ensures c.loop-context.invariant.told;
       since = λ bound h s. c.loop-context.invariant.since bound h (since_late_step c.args.time bound (c.in-Some.field-0-0.now, c.in-Some.context.now) c.loop-context.context-iterator c.next.new.self c.in-Some.ensures.steps w s);
     }
 
