@@ -55,6 +55,7 @@ fn a_late_datagram_ends_whatever_the_answer(rt: HostRuntime) -> Result<(), Fail>
         "1 0 more 16 1 0 0 held\n1 1 more 8 1 0 60000000001 held 0",
         "1 0 more 8 1 0 0 held\n1 1 last 8 1 0 60000000001 held 0",
         "2 0 more 8 1 0 0 held\n1 0 more 8 1 0 1 held\n1 1 last 8 1 0 60000000001 whole 0",
+        "1 0 more 8 1 0 0 held\n1 1 more 8 1 0 30000000000 held\n1 2 last 8 1 0 60000000001 held 0",
         "1 0 more 8 1 0 60000000000 held\n1 0 more 8 1 0 0 held\n1 1 last 8 1 0 60000000001 whole",
     ] {
         assert_eq!(rt; other(alloc, lines)?, None, "{lines}");

@@ -49,7 +49,8 @@ pub(crate) fn feed_among<K: Ord + Copy + Drop>(
     if has_open(contexts, piece.key, piece.time) {
         return go_on(alloc, contexts, piece.key, fragment);
     }
-    if count - late >= MOST_CONTEXTS {
+    let waiting = count - late;
+    if waiting >= MOST_CONTEXTS {
         return Ok(Answer::Refused(FragBad::Full));
     }
     begin(alloc, contexts, piece)

@@ -15,19 +15,19 @@ returns-then-has_open-clause-fed g c =
     (sym (c.if-is_long.ensures ∙ ap (λ f. is_long (part_of f)) c.fragment-fragment.ensures))
     (sym c.if-has_open.ensures) c.go_on.ensures.goes_on
 
-pub overflow_sub-count : goal.overflow_sub-count
-overflow_sub-count g c =
+pub overflow_sub-waiting : goal.overflow_sub-waiting
+overflow_sub-waiting g c =
     let n : length (open_at c.args.piece.time c.args.contexts.now.entries) + length (late_numbers c.args.piece.time c.args.contexts.now.entries) ≡ length c.args.contexts.now.entries = late_and_open c.args.piece.time c.args.contexts.now.entries in
     omega arith
 
-pub returns-then-count-late-ge-MOST_CONTEXTS-clause-fed :
-    goal.returns-then-count-late-ge-MOST_CONTEXTS-clause-fed
-returns-then-count-late-ge-MOST_CONTEXTS-clause-fed g c =
+pub returns-then-waiting-ge-MOST_CONTEXTS-clause-fed :
+    goal.returns-then-waiting-ge-MOST_CONTEXTS-clause-fed
+returns-then-waiting-ge-MOST_CONTEXTS-clause-fed g c =
     full_among g.K.Ord.cmp c.args.contexts.now.entries c.args.contexts.now.entries (arrival c.args.piece) c.args.late refl
     (sym (c.if-is_odd.ensures ∙ ap (λ f. is_odd (part_of f)) c.fragment-fragment.ensures))
     (sym (c.if-is_long.ensures ∙ ap (λ f. is_long (part_of f)) c.fragment-fragment.ensures))
     (sym c.if-has_open.ensures) c.requires
-    (subst (λ n. 256 ≤ n - c.args.late) c.len-count.ensures.len c.if-count-late-ge-MOST_CONTEXTS.true)
+    (subst (λ n. 256 ≤ n - c.args.late) c.len-count.ensures.len c.if-waiting-ge-MOST_CONTEXTS.true)
 
 pub returns-clause-fed : goal.returns-clause-fed
 returns-clause-fed g c =
@@ -35,5 +35,5 @@ returns-clause-fed g c =
     (sym (c.if-is_odd.ensures ∙ ap (λ f. is_odd (part_of f)) c.fragment-fragment.ensures))
     (sym (c.if-is_long.ensures ∙ ap (λ f. is_long (part_of f)) c.fragment-fragment.ensures))
     (sym c.if-has_open.ensures) c.requires
-    (subst (λ n. n - c.args.late < 256) c.len-count.ensures.len c.if-count-late-ge-MOST_CONTEXTS.false)
+    (subst (λ n. n - c.args.late < 256) c.len-count.ensures.len c.if-waiting-ge-MOST_CONTEXTS.false)
     c.begin.ensures.begins
