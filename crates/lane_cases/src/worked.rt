@@ -32,6 +32,11 @@ fn feed(
     })
 }
 
+/// A value that may go to another thread.
+fn sendable<T: Send>(value: T) -> T {
+    value
+}
+
 /// Whether a lane gave these bytes, with the next header of the first piece.
 fn is_whole(fed: &Fed, bytes: &[u8]) -> bool {
     match &fed.answer {
@@ -45,7 +50,7 @@ fn is_whole(fed: &Fed, bytes: &[u8]) -> bool {
 #[test]
 fn three_fragments_out_of_order_with_a_repeat(rt: HostRuntime) -> Result<(), Fail> {
     let alloc = rt.alloc();
-    let mut lane = Lane::new(alloc);
+    let mut lane = sendable(Lane::new(alloc));
     let packet = &DATAGRAM;
     let first = feed(alloc, &mut lane, 0, 2, false, &packet[16..])?;
     let again = feed(alloc, &mut lane, 1, 2, false, &packet[16..])?;

@@ -1,0 +1,25 @@
+#!/usr/bin/env bash
+# Times the pieces of floods by one lane, and shows the memory of a full one: builds the program in a temporary repository,
+# which proves it first, and runs it. The crates are those of this repository, or of the one that is named.
+#     bench/lane_floods/run.sh [REPOSITORY]
+set -e
+here="$(cd "$(dirname "$0")" && pwd)"
+top="$(cd "${1:-$here/../..}" && pwd)"
+work="/tmp/lane_floods_bench$(echo "$top" | tr / _)"
+repository="$work/repository"
+mkdir -p "$repository/crates"
+cp "$top/HANDLES" "$repository/"
+for crate in aftr_base reassembly_lane; do
+    rm -rf "$repository/crates/$crate"
+    cp -r "$top/crates/$crate" "$repository/crates/"
+done
+mkdir -p "$repository/crates/floods_bench/src"
+cp "$here/program/main.rt.txt" "$repository/crates/floods_bench/src/main.rt"
+printf 'aftr_base:\nreassembly_lane: aftr_base\nfloods_bench: aftr_base reassembly_lane\n' > "$repository/crates.txt"
+(cd "$repository/crates/floods_bench" && rt run > "$work/build.txt" 2>&1) || true
+program="$repository/crates/floods_bench/out/floods_bench"
+[ -x "$program" ] || { tail "$work/build.txt"; exit 1; }
+"$program"
+if [ -x /usr/bin/time ]; then
+    /usr/bin/time -f '%M KiB at most' "$program" > /dev/null
+fi
