@@ -27,7 +27,7 @@ by_tests partial part a b c =
 -- what the code knows of a part that it keeps
 pub record IsKept (partial : Partial) (part : Part) (place : ℕ) (parts : List Part) : Type 0 where
   pub read : parts ≡ partial.parts
-  pub open' : partial.refused ≡ None
+  pub not_refused : partial.refused ≡ None
   pub new : false ≡ list_any (λ other. is_same other part) parts
   pub apart : false ≡ list_any (clash part) parts
   pub room : length parts < 256
@@ -36,7 +36,7 @@ pub record IsKept (partial : Partial) (part : Part) (place : ℕ) (parts : List 
 
 kept_comes : (partial : Partial) (part : Part) (place : ℕ) → IsKept partial part place partial.parts → with_part partial part ≡ finished partial (insert partial.parts place part) (whole_end (insert partial.parts place part))
 kept_comes partial part place k =
-    ap (λ (r : Option FragBad). unless_refused r partial part) k.open'
+    ap (λ (r : Option FragBad). unless_refused r partial part) k.not_refused
     ∙ ap (λ (b : Bool). by_tests partial part b (list_any (clash part) partial.parts) (nat_le most_parts (length partial.parts))) (sym k.new)
     ∙ ap (λ (b : Bool). by_tests partial part false b (nat_le most_parts (length partial.parts))) (sym k.apart)
     ∙ ap (λ (b : Bool). by_tests partial part false false b) (lt-leb most_parts (length partial.parts) k.room)

@@ -16,7 +16,7 @@ use std::marker::Model;
 
 /// Datagrams that wait for more of their fragments, at most 256 of at most 256 pieces each. Contracts see the list of
 /// their keys, ascending, each with what is kept of the datagram.
-#[derive(Drop)]
+#[derive(Debug, Drop)]
 pub struct Lane<K: Ord> {
     contexts: BTreeMap<K, Context>,
     /// No context began before it.
