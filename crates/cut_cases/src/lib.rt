@@ -1,0 +1,6 @@
+//! Cases for extension headers and for cutting: chains of headers (ipv6_chain), and packets that are too long for a link
+//! (fragmenter). Nothing stands on this crate.
+#![tactic(auto)]
+
+#[cfg(test)]
+mod chains;
