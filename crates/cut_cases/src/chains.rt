@@ -32,7 +32,9 @@ fn headers_are_passed(rt: HostRuntime) -> Result<(), Fail> {
 
 #[test]
 fn headers_are_refused(rt: HostRuntime) -> Result<(), Fail> {
-    let routing = [4, 2, 0, 1, 0, 0, 0, 0, 0, 0, 0, 0, 0, 0, 0, 0, 0, 0, 0, 0, 0, 0, 0, 0];
+    let routing = [
+        4, 2, 0, 1, 0, 0, 0, 0, 0, 0, 0, 0, 0, 0, 0, 0, 0, 0, 0, 0, 0, 0, 0, 0,
+    ];
     let twice = [0, 0, 1, 4, 0, 0, 0, 0, 4, 0, 1, 4, 0, 0, 0, 0];
     expect(&rt, 43, &routing, Start::Packet, Err(ChainBad::Routing));
     expect(&rt, 43, &routing[..23], Start::Packet, Err(ChainBad::Short));
@@ -58,6 +60,12 @@ fn a_fragment_header_ends_the_chain(rt: HostRuntime) -> Result<(), Fail> {
     let alone = [44, 0, 1, 4, 0, 0, 0, 0, 4, 0, 0x05, 0xa9, 1, 2, 3, 4, 0x45];
     expect(&rt, 60, &alone, Start::Packet, Ok(behind));
     expect(&rt, 44, &alone[8..15], Start::Packet, Err(ChainBad::Short));
-    expect(&rt, 44, &alone[8..], Start::AfterFragment, Err(ChainBad::Order));
+    expect(
+        &rt,
+        44,
+        &alone[8..],
+        Start::AfterFragment,
+        Err(ChainBad::Order),
+    );
     Ok(())
 }

@@ -4,3 +4,5 @@
 
 #[cfg(test)]
 mod chains;
+#[cfg(test)]
+mod cuts;

@@ -1,0 +1,24 @@
+#!/usr/bin/env bash
+# Cuts packets of sizes round every border, and has tshark put the pieces together again: it fails where anything but the
+# packet comes out, a piece is too long or a checksum is wrong. Needs python3 and tshark.
+#     bench/cut_packets/run.sh [REPOSITORY]
+set -e
+here="$(cd "$(dirname "$0")" && pwd)"
+top="$(cd "${1:-$here/../..}" && pwd)"
+work="/tmp/cut_packets_bench$(echo "$top" | tr / _)"
+repository="$work/repository"
+mkdir -p "$repository/crates"
+cp "$top/HANDLES" "$repository/"
+crates="aftr_base ip_codec fragmenter"
+for crate in $crates; do
+    rm -rf "$repository/crates/$crate"
+    cp -r "$top/crates/$crate" "$repository/crates/"
+done
+mkdir -p "$repository/crates/cut_packets/src"
+cp "$here/program/main.rt.txt" "$repository/crates/cut_packets/src/main.rt"
+for crate in $crates; do
+    grep "^$crate:" "$top/crates.txt"
+done > "$repository/crates.txt"
+echo "cut_packets: aftr_base ip_codec fragmenter" >> "$repository/crates.txt"
+(cd "$repository/crates/cut_packets" && rt try > "$work/packets.txt" 2> "$work/build.txt")
+python3 "$here/compare.py" "$work/packets.txt" "$work"

@@ -1,0 +1,124 @@
+// Tunnel packets cut into fragments.
+ghost use Rattle.std.specs.Prelude.{◌≡◌, ◌≢◌, ℕ, ◌+◌, ◌-◌, ◌*◌, ◌/◌, ◌%◌, ◌<◌, ◌≤◌, ◌++◌, [], length, drop, IfOk, IsOk, IsErr, MatchOption, Ok};
+ghost use Rattle.ip_codec.specs.Packet6.{packet6, ip6_of, Packet6};
+ghost use Rattle.fragmenter.specs.Pieces6.{Pieces6, pieces6, fragments6, room6};
+
+use crate::headers::push_piece6;
+use crate::single::only;
+use aftr_base::{Bytes, OutOfMemory, Packets};
+use ip_codec::{Ip6View, ip6};
+use std::alloc::Global;
+
+/// The most fragments that `cut6` and `Cuts6` give: a body of 65,535 bytes on a link that takes 1,280.
+pub const MOST_PIECES6: usize = 54;
+
+// How many bytes the headers of a fragment have: the IPv6 header, and the Fragment header behind it (RFC 8200, sections 3 and
+// 4.5).
+const HEADERS: usize = 48;
+
+/// The fragments of a tunnel packet that are not written yet (RFC 8200, section 4.5), one after the other.
+#[derive(Drop)]
+pub struct Cuts6<'a> {
+    packet: Ip6View<'a>,
+    mtu: u16,
+    id: u32,
+    // How many bytes of the body the fragments that were written carry.
+    before: usize,
+    ghost least_mtu: { 1280 ≤ mtu },
+    ghost most: { length packet.body.now ≤ 65535 },
+    ghost place: { before ≤ length packet.body.now },
+}
+
+impl<'a> Cuts6<'a> {
+    ghost use Rattle.fragmenter.specs.Cutting.{HasFirst, IsWritten, part_len};
+    ghost use Rattle.fragmenter.specs.Left6.{left6};
+
+    /// The fragments of a packet that does not fit a link, for links that take 1,280 bytes or more. `packet` is one that `ip6`
+    /// reads, without extension headers, and `id` their identification.
+    pub fn of(packet: &Ip6View<'a>, mtu: u16, id: u32) -> Self
+        requires least_mtu { 1280 ≤ mtu }
+        requires most { length packet.now.body.now ≤ 65535 }
+        ensures { left6 result ≡ fragments6 (packet6 packet.now) mtu id 0 }
+    {
+        Cuts6 {
+            packet: *packet,
+            mtu,
+            id,
+            before: 0,
+        }
+    }
+
+    /// How many bytes the next fragment has; none where all are written.
+    pub fn next_len(&self) -> Option<usize>
+        ensures { MatchOption result (left6 self.now ≡ []) (λ len. HasFirst (left6 self.now) len) }
+    {
+        if self.before == self.packet.body.len() {
+            None
+        } else {
+            Some(HEADERS + self.part_len())
+        }
+    }
+
+    /// Appends the next fragment. After an `Err`, some of it may stand behind `out`, and it is the next one still.
+    pub fn push_next(&mut self, out: &mut Vec<u8>) -> Result<(), OutOfMemory>
+        requires { left6 self.old ≢ [] }
+        ensures written { IfOk result (λ _. IsWritten (left6 self.old) (left6 self.new) out.old.items out.new.items) }
+        ensures kept { IsErr result → left6 self.new ≡ left6 self.old }
+    {
+        let end = self.before + self.part_len();
+        let more = end < self.packet.body.len();
+        let part = &self.packet.body[self.before..end];
+        push_piece6(out, &self.packet, self.id, self.before, more, part)?;
+        self.before = end;
+        Ok(())
+    }
+
+    // How many bytes of the body the next fragment carries.
+    fn part_len(&self) -> usize
+        ensures part { result ≡ part_len (room6 self.now.mtu self.now.before) (drop self.now.before self.now.packet.body.now) }
+        ensures within { self.now.before + result ≤ length self.now.packet.body.now }
+        ensures small { result ≤ 65527 }
+    {
+        let room = (usize::from(self.mtu) - HEADERS) / 8 * 8;
+        let left = self.packet.body.len() - self.before;
+        if room < left { room } else { left }
+    }
+}
+
+/// The packets that a tunnel packet becomes on a link, in order: itself where it has at most `mtu` bytes, and else fragments
+/// with the identification `id` (RFC 8200, section 4.5). `packet` is one whole packet without extension headers, as the header
+/// of a tunnel makes it, and a link takes 1,280 bytes or more.
+pub fn cut6(alloc: Global, packet: &[u8], mtu: u16, id: u32) -> Result<Packets, OutOfMemory>
+    requires read { IsOk (ip6_of packet.now) }
+    requires whole { (p : Packet6) → ip6_of packet.now ≡ Ok p → length packet.now ≡ 40 + length p.body }
+    requires least_mtu { 1280 ≤ mtu }
+    ensures pieces { IfOk result (λ list. (p : Packet6) → ip6_of packet.now ≡ Ok p → Pieces6 packet.now p mtu id list) }
+    ensures only { IfOk result (λ list. (p : Packet6) → ip6_of packet.now ≡ Ok p → list ≡ pieces6 packet.now p mtu id) }
+    ensures few { IfOk result (λ list. length list ≤ MOST_PIECES6) }
+{
+    if packet.len() <= usize::from(mtu) {
+        return only(alloc, packet);
+    }
+    // The condition says that the packet is read, so there is no other case.
+    let Ok(view) = ip6(packet) else {
+        return Err(OutOfMemory);
+    };
+    let list = cut_view(alloc, &view, mtu, id)?;
+    Ok(list)
+}
+
+// All fragments of a packet that does not fit.
+fn cut_view(alloc: Global, packet: &Ip6View<'_>, mtu: u16, id: u32) -> Result<Packets, OutOfMemory>
+    requires least_mtu { 1280 ≤ mtu }
+    requires most { length packet.now.body.now ≤ 65535 }
+    ensures { IfOk result (λ list. list ≡ fragments6 (packet6 packet.now) mtu id 0) }
+{
+    let mut list = Vec::new(alloc);
+    let mut cuts = Cuts6::of(packet, mtu, id);
+    'pieces: while let Some(len) = cuts.next_len() {
+        let mut piece = Vec::with_capacity(alloc, len)?;
+        cuts.push_next(&mut piece)?;
+        list.push(Bytes::of(piece))?;
+    }
+    Ok(Packets::of(list))
+}
