@@ -1,0 +1,3 @@
+mod Captures
+mod Fronts
+mod Owners
