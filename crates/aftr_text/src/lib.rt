@@ -1,9 +1,17 @@
-//! The texts of a run: the lines of its verdicts, the lines of the tables in force, and the summary.
+//! The texts of a run: the lines of its verdicts, the lines of the tables in force, and the summary. Each comes as a text of
+//! its own and as a call that puts it at the end of a longer one.
 #![tactic(auto)]
 
 mod lines;
 mod numbers;
 mod summaries;
+mod tables;
 
-pub use lines::{ended_line, initial_line, verdict_line};
-pub use summaries::{Totals, summary};
+pub use lines::{
+    ended_line, limited_line, push_ended_line, push_limited_line, push_verdict_line, verdict_line,
+};
+pub use summaries::{Totals, migrated_line, push_migrated_line, push_summary, summary};
+pub use tables::{
+    initial_line, point_line, push_initial_line, push_point_line, push_refused_line,
+    push_unreached_line, refused_line, unreached_line,
+};

@@ -1,20 +1,19 @@
-// The lines of the verdicts and of the tables in force.
-ghost use Rattle.std.specs.Prelude.{◌≡◌, ◌++◌, IfOk, string_bytes};
-ghost use Rattle.aftr_text.specs.Lines.{ended_text, initial_text, outcome, verdict_text};
+// The lines of records and of datagrams.
+ghost use Rattle.std.specs.Prelude.{◌≡◌, ◌++◌, IfOk, codes, decimal, string_bytes};
+ghost use Rattle.aftr_text.specs.Lines.{ended_text, limited_text, outcome, verdict_text};
 
 use crate::numbers::{push_count, push_number};
 use aftr_base::{OutOfMemory, Text};
+use ip_codec::Rule;
 use std::alloc::Global;
 use verdict_core::Verdict;
 
-/// More bytes than the longest line of a verdict has: three numbers of ten digits and the longest rule's name.
-const VERDICT_ROOM: usize = 64;
+/// More bytes than the longest line of a verdict has: three numbers of ten digits and the longest rule's name. So has the
+/// line of a limited record.
+const VERDICT_ROOM: usize = 72;
 
 /// More bytes than the longest line of an unfinished datagram has.
 const ENDED_ROOM: usize = 24;
-
-/// The bytes of a line for the first table, beside its name.
-const INITIAL_ROOM: usize = 11;
 
 /// The line of a record: its number, the version of the table that judged it, what became of it (`held`, `up`, `down`,
 /// `hairpin`, or `drop` and the rule's name), and how many packets were written for it.
@@ -28,27 +27,80 @@ pub fn verdict_line(
     ensures { IfOk result (λ line. line ≡ verdict_text number version verdict packets) }
 {
     let mut line = String::with_capacity(alloc, VERDICT_ROOM)?;
-    push_number(&mut line, u64::from(number))?;
-    push_count(&mut line, " ", u64::from(version))?;
-    line.push_str(" ")?;
-    push_outcome(&mut line, verdict)?;
-    push_count(&mut line, " ", u64::from(packets))?;
-    line.push_str("\n")?;
+    push_verdict_line(&mut line, number, version, verdict, packets)?;
     Ok(Text::of(line))
 }
 
-fn push_outcome(line: &mut String, verdict: Verdict) -> Result<(), OutOfMemory>
-    ensures { IfOk result (λ _. string_bytes line.new ≡ string_bytes line.old ++ outcome verdict) }
+/// Puts the line of `verdict_line` at the end of a text. After an error a part of the line may stand there.
+pub fn push_verdict_line(
+    text: &mut String,
+    number: u32,
+    version: u32,
+    verdict: Verdict,
+    packets: u32,
+) -> Result<(), OutOfMemory>
+    ensures { IfOk result (λ _. string_bytes text.new ≡ string_bytes text.old ++ verdict_text number version verdict packets) }
+{
+    push_judged(text, number, version)?;
+    text.push_str(" ")?;
+    push_outcome(text, verdict)?;
+    push_count(text, " ", u64::from(packets))?;
+    text.push_str("\n")?;
+    Ok(())
+}
+
+// Which record was judged, and by which version of the table.
+fn push_judged(text: &mut String, number: u32, version: u32) -> Result<(), OutOfMemory>
+    ensures { IfOk result (λ _. string_bytes text.new ≡ string_bytes text.old ++ decimal number ++ codes " " ++ decimal version) }
+{
+    push_number(text, u64::from(number))?;
+    push_count(text, " ", u64::from(version))
+}
+
+fn push_outcome(text: &mut String, verdict: Verdict) -> Result<(), OutOfMemory>
+    ensures { IfOk result (λ _. string_bytes text.new ≡ string_bytes text.old ++ outcome verdict) }
 {
     match verdict {
-        Verdict::Held => line.push_str("held")?,
-        Verdict::Outward { .. } => line.push_str("up")?,
-        Verdict::Inward { back, .. } => line.push_str(if back { "hairpin" } else { "down" })?,
+        Verdict::Held => text.push_str("held")?,
+        Verdict::Outward { .. } => text.push_str("up")?,
+        Verdict::Inward { back, .. } => text.push_str(if back { "hairpin" } else { "down" })?,
         Verdict::Drop { why, .. } => {
-            line.push_str("drop ")?;
-            line.push_str(why.name())?;
+            text.push_str("drop ")?;
+            text.push_str(why.name())?;
         }
     }
+    Ok(())
+}
+
+/// The line of a record whose error was not sent, because the limit on errors was reached: its number, the version, and
+/// `drop`, the rule's name, `limited 0`.
+pub fn limited_line(
+    alloc: Global,
+    number: u32,
+    version: u32,
+    why: Rule,
+) -> Result<Text, OutOfMemory>
+    ensures { IfOk result (λ line. line ≡ limited_text number version why) }
+{
+    let mut line = String::with_capacity(alloc, VERDICT_ROOM)?;
+    push_limited_line(&mut line, number, version, why)?;
+    Ok(Text::of(line))
+}
+
+/// Puts the line of `limited_line` at the end of a text. After an error a part of the line may stand there.
+pub fn push_limited_line(
+    text: &mut String,
+    number: u32,
+    version: u32,
+    why: Rule,
+) -> Result<(), OutOfMemory>
+    ensures { IfOk result (λ _. string_bytes text.new ≡ string_bytes text.old ++ limited_text number version why) }
+{
+    push_judged(text, number, version)?;
+    text.push_str(" drop ")?;
+    let rule = why.name();
+    text.push_str(rule)?;
+    text.push_str(" limited 0\n")?;
     Ok(())
 }
 
@@ -58,19 +110,16 @@ pub fn ended_line(alloc: Global, expired: bool, number: u32) -> Result<Text, Out
     ensures { IfOk result (λ line. line ≡ ended_text expired number) }
 {
     let mut line = String::with_capacity(alloc, ENDED_ROOM)?;
-    let ending = if expired { "expired " } else { "unfinished " };
-    push_count(&mut line, ending, u64::from(number))?;
-    line.push_str("\n")?;
+    push_ended_line(&mut line, expired, number)?;
     Ok(Text::of(line))
 }
 
-/// The line of the table that is in force from the first record on, by the name of its file, which is any text.
-pub fn initial_line(alloc: Global, name: &str) -> Result<Text, OutOfMemory>
-    ensures { IfOk result (λ line. line ≡ initial_text name.now) }
+/// Puts the line of `ended_line` at the end of a text. After an error a part of the line may stand there.
+pub fn push_ended_line(text: &mut String, expired: bool, number: u32) -> Result<(), OutOfMemory>
+    ensures { IfOk result (λ _. string_bytes text.new ≡ string_bytes text.old ++ ended_text expired number) }
 {
-    let mut line = String::with_capacity(alloc, name.len().saturating_add(INITIAL_ROOM))?;
-    line.push_str("0 ")?;
-    line.push_str(name)?;
-    line.push_str(" initial\n")?;
-    Ok(Text::of(line))
+    let ending = if expired { "expired " } else { "unfinished " };
+    push_count(text, ending, u64::from(number))?;
+    text.push_str("\n")?;
+    Ok(())
 }

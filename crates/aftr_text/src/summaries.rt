@@ -1,6 +1,6 @@
 // What a run says of itself at its end.
 ghost use Rattle.std.specs.Prelude.{◌≡◌, ◌++◌, IfOk, string_bytes};
-ghost use Rattle.aftr_text.specs.Lines.{summary_text};
+ghost use Rattle.aftr_text.specs.Lines.{migrated_text, summary_text};
 
 use crate::numbers::push_count;
 use aftr_base::{OutOfMemory, Text};
@@ -8,6 +8,9 @@ use std::alloc::Global;
 
 /// More bytes than the longest summary has: six words, five numbers of ten digits and one of twenty.
 const SUMMARY_ROOM: usize = 128;
+
+/// More bytes than the longest line of a table in its newer edition has.
+const MIGRATED_ROOM: usize = 32;
 
 /// What a run counted.
 #[derive(Clone, Copy, Debug, PartialEq, Eq)]
@@ -31,12 +34,38 @@ pub fn summary(alloc: Global, totals: Totals) -> Result<Text, OutOfMemory>
     ensures { IfOk result (λ line. line ≡ summary_text totals) }
 {
     let mut line = String::with_capacity(alloc, SUMMARY_ROOM)?;
-    push_count(&mut line, "records ", u64::from(totals.records))?;
-    push_count(&mut line, " held ", u64::from(totals.held))?;
-    push_count(&mut line, " forwarded ", u64::from(totals.forwarded))?;
-    push_count(&mut line, " dropped ", u64::from(totals.dropped))?;
-    push_count(&mut line, " packets ", totals.packets)?;
-    push_count(&mut line, " version ", u64::from(totals.version))?;
-    line.push_str("\n")?;
+    push_summary(&mut line, totals)?;
     Ok(Text::of(line))
+}
+
+/// Puts the line of `summary` at the end of a text. After an error a part of the line may stand there.
+pub fn push_summary(text: &mut String, totals: Totals) -> Result<(), OutOfMemory>
+    ensures { IfOk result (λ _. string_bytes text.new ≡ string_bytes text.old ++ summary_text totals) }
+{
+    push_count(text, "records ", u64::from(totals.records))?;
+    push_count(text, " held ", u64::from(totals.held))?;
+    push_count(text, " forwarded ", u64::from(totals.forwarded))?;
+    push_count(text, " dropped ", u64::from(totals.dropped))?;
+    push_count(text, " packets ", totals.packets)?;
+    push_count(text, " version ", u64::from(totals.version))?;
+    text.push_str("\n")?;
+    Ok(())
+}
+
+/// The line that tells how many bindings of a table were written in its newer edition.
+pub fn migrated_line(alloc: Global, count: u32) -> Result<Text, OutOfMemory>
+    ensures { IfOk result (λ line. line ≡ migrated_text count) }
+{
+    let mut line = String::with_capacity(alloc, MIGRATED_ROOM)?;
+    push_migrated_line(&mut line, count)?;
+    Ok(Text::of(line))
+}
+
+/// Puts the line of `migrated_line` at the end of a text. After an error a part of the line may stand there.
+pub fn push_migrated_line(text: &mut String, count: u32) -> Result<(), OutOfMemory>
+    ensures { IfOk result (λ _. string_bytes text.new ≡ string_bytes text.old ++ migrated_text count) }
+{
+    push_count(text, "migrated ", u64::from(count))?;
+    text.push_str(" bindings\n")?;
+    Ok(())
 }

@@ -61,6 +61,11 @@ refused_text (refused.Range place) = codes "range " ++ place_text place
 refused_text (refused.Rules rule) = codes "rules " ++ rule_text rule
 refused_text refused.Version = codes "version"
 
+-- the same in the line of a load: a rule of tables stands without the word `rules` before it
+abbrev pub load_text : FileRefused → List ℕ
+load_text (refused.Rules rule) = rule_text rule
+load_text cause = refused_text cause
+
 -- the refusals in the order of their declaration, from 1
 abbrev pub file_refusal_number : FileRefused → ℕ
 file_refusal_number refused.TooBig = 1

@@ -12,5 +12,5 @@ mod writing;
 pub use laws::one_table;
 pub use names::{Name, Place};
 pub use reading::read_table;
-pub use refusals::{FileError, FileRefused, RuleText};
+pub use refusals::{FileError, FileRefused, LoadText, RuleText};
 pub use writing::write_table;

@@ -98,6 +98,28 @@ impl fmt::Display for RuleText {
     }
 }
 
+/// A refusal as the line of a load tells it: `missing softwire aftr`, `twice 0 64`. It differs from the refusal's own text
+/// by the word `rules` alone.
+#[derive(Clone, Copy, Debug, PartialEq, Eq)]
+pub struct LoadText(pub FileRefused);
+
+impl fmt::Display for LoadText {
+    ghost use Rattle.std.specs.Prelude.{Some};
+    ghost use Rattle.binding_file.specs.Names.{load_text};
+
+    ghost output = { λ load. Some (load_text load.0) };
+
+    fn fmt<W: fmt::Write>(&self, f: &mut fmt::Formatter<W>) -> fmt::Result {
+        match self.0 {
+            FileRefused::Rules(refused) => {
+                let rule = RuleText(refused);
+                write!(f, "{rule}")
+            }
+            cause => write!(f, "{cause}"),
+        }
+    }
+}
+
 /// Why a file was not read.
 #[derive(Clone, Copy, Debug, PartialEq, Eq, Error)]
 pub enum FileError {

@@ -1,0 +1,15 @@
+-- A text that grows behind what stood there before.
+use Rattle.std.proofs.Common.{◌≡◌, ℕ, List, ◌++◌, decimal, refl, sym, ◌∙◌, ap, append_assoc}
+
+pub longer : (old part more text after : List ℕ) → text ≡ old ++ part → after ≡ text ++ more → after ≡ old ++ (part ++ more)
+longer old part more text after before added = added ∙ ap (λ (l : List ℕ). l ++ more) before ∙ append_assoc old part more
+
+-- a word and a number more
+pub counted : (old part word text after : List ℕ) (n m : ℕ) → text ≡ old ++ part → after ≡ text ++ word ++ decimal n → n ≡ m
+    → after ≡ old ++ (part ++ word ++ decimal m)
+counted old part word text after n m before added same =
+    longer old (part ++ word) (decimal m) (text ++ word) after (longer old part word text (text ++ word) before refl)
+    (added ∙ ap (λ (k : ℕ). text ++ word ++ decimal k) same)
+
+pub three : (old a b c : List ℕ) → old ++ a ++ b ++ c ≡ old ++ (a ++ b ++ c)
+three old a b c = append_assoc (old ++ a) b c ∙ append_assoc old a (b ++ c) ∙ ap (λ (l : List ℕ). old ++ l) (sym (append_assoc a b c))

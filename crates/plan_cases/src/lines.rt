@@ -1,0 +1,95 @@
+// The lines that only some runs write: a limited record, loads, a table in its newer edition; and lines behind others.
+use aftr_text::{
+    Totals, limited_line, migrated_line, point_line, push_ended_line, push_initial_line,
+    push_limited_line, push_migrated_line, push_point_line, push_refused_line, push_summary,
+    push_unreached_line, push_verdict_line, refused_line, unreached_line,
+};
+use binding_file::{FileRefused, Name, Place};
+use binding_rules::Refused;
+use ip_codec::Rule;
+use std::alloc::Global;
+use std::test::Fail;
+use verdict_core::Verdict;
+
+#[test]
+fn a_limited_record(rt: HostRuntime) -> Result<(), Fail> {
+    let line = limited_line(rt.alloc(), 1, 0, Rule::Ttl)?;
+    assert_eq!(rt; line.as_str(), "1 0 drop ttl limited 0\n");
+    Ok(())
+}
+
+#[test]
+fn loads(rt: HostRuntime) -> Result<(), Fail> {
+    let alloc = rt.alloc();
+    assert_eq!(rt;
+        point_line(alloc, 1, "t1.toml", 4)?.as_str(),
+        "1 t1.toml at 4\n"
+    );
+    assert_eq!(rt;
+        unreached_line(alloc, "t1.toml")?.as_str(),
+        "- t1.toml not-reached\n"
+    );
+    let twice = FileRefused::Rules(Refused::Twice {
+        first: 0,
+        second: 64,
+    });
+    assert_eq!(rt;
+        refused_line(alloc, "t2.toml", twice)?.as_str(),
+        "- t2.toml refused twice 0 64\n"
+    );
+    let missing = FileRefused::Missing(Place::Softwire(Name::Aftr));
+    assert_eq!(rt;
+        refused_line(alloc, "a b", missing)?.as_str(),
+        "- a b refused missing softwire aftr\n"
+    );
+    Ok(())
+}
+
+#[test]
+fn a_newer_edition(rt: HostRuntime) -> Result<(), Fail> {
+    assert_eq!(rt;
+        migrated_line(rt.alloc(), 1)?.as_str(),
+        "migrated 1 bindings\n"
+    );
+    Ok(())
+}
+
+fn all_lines(alloc: Global) -> Result<String, Fail> {
+    let mut text = String::from_str(alloc, "#\n")?;
+    push_verdict_line(&mut text, 7, 1, Verdict::Held, 0)?;
+    push_limited_line(&mut text, 8, 1, Rule::TooBig)?;
+    push_ended_line(&mut text, true, 7)?;
+    push_initial_line(&mut text, "t0")?;
+    push_point_line(&mut text, 255, "t1", 2_147_483_648)?;
+    push_refused_line(alloc, &mut text, "t2", FileRefused::TooBig)?;
+    push_unreached_line(&mut text, "t3")?;
+    push_migrated_line(&mut text, 65_536)?;
+    let totals = Totals {
+        records: 9,
+        held: 1,
+        forwarded: 2,
+        dropped: 3,
+        packets: 4,
+        version: 5,
+    };
+    push_summary(&mut text, totals)?;
+    Ok(text)
+}
+
+#[test]
+fn lines_behind_others(rt: HostRuntime) -> Result<(), Fail> {
+    let text = all_lines(rt.alloc())?;
+    let expected = "#
+7 1 held 0
+8 1 drop too-big limited 0
+expired 7
+0 t0 initial
+255 t1 at 2147483648
+- t2 refused too-big
+- t3 not-reached
+migrated 65536 bindings
+records 9 held 1 forwarded 2 dropped 3 packets 4 version 5
+";
+    assert_eq!(rt; text.as_str(), expected);
+    Ok(())
+}
