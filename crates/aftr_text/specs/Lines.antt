@@ -42,8 +42,8 @@ abbrev pub point_text : ℕ → List ℕ → ℕ → List ℕ
 point_text version name point = decimal version ++ codes " " ++ name ++ codes " at " ++ decimal point ++ codes "\n"
 
 -- the line of a load whose file is no table
-abbrev pub refused_text : List ℕ → FileRefused → List ℕ
-refused_text name cause = codes "- " ++ name ++ codes " refused " ++ load_text cause ++ codes "\n"
+abbrev pub refused_load_text : List ℕ → FileRefused → List ℕ
+refused_load_text name cause = codes "- " ++ name ++ codes " refused " ++ load_text cause ++ codes "\n"
 
 -- the line of a load whose window opens behind the last record
 abbrev pub unreached_text : List ℕ → List ℕ

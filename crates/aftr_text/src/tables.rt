@@ -1,6 +1,6 @@
 // The lines of the tables in force: one for the first table, and one for each load, in the order of the command words.
 ghost use Rattle.std.specs.Prelude.{◌≡◌, ◌++◌, IfOk, string_bytes};
-ghost use Rattle.aftr_text.specs.Lines.{initial_text, point_text, refused_text, unreached_text};
+ghost use Rattle.aftr_text.specs.Lines.{initial_text, point_text, refused_load_text, unreached_text};
 
 use crate::numbers::{push_count, push_number};
 use aftr_base::{OutOfMemory, Text};
@@ -58,7 +58,7 @@ pub fn push_point_line(
 /// The line of a load whose file is no table, and why. A rule of tables stands without the word `rules`, which the status
 /// line has.
 pub fn refused_line(alloc: Global, name: &str, cause: FileRefused) -> Result<Text, OutOfMemory>
-    ensures { IfOk result (λ line. line ≡ refused_text name.now cause) }
+    ensures { IfOk result (λ line. line ≡ refused_load_text name.now cause) }
 {
     let mut line = String::with_capacity(alloc, name.len().saturating_add(ROOM))?;
     push_refused_line(alloc, &mut line, name, cause)?;
@@ -72,7 +72,7 @@ pub fn push_refused_line(
     name: &str,
     cause: FileRefused,
 ) -> Result<(), OutOfMemory>
-    ensures { IfOk result (λ _. string_bytes text.new ≡ string_bytes text.old ++ refused_text name.now cause) }
+    ensures { IfOk result (λ _. string_bytes text.new ≡ string_bytes text.old ++ refused_load_text name.now cause) }
 {
     let cause = LoadText(cause);
     let told = format!(in alloc; "{cause}")?;
