@@ -1,5 +1,3 @@
-//! Tests of what a run is told and limited by, without packets. Nothing stands on this crate.
-//! Tests of what a run is limited by, and of generated traffic. Nothing stands on this crate.
 //! Tests of what a run is told, limited by and writes beside packets, and of generated traffic. Nothing stands on this crate.
 #![tactic(auto)]
 
