@@ -12,7 +12,8 @@ use Rattle.reassembly_lane.specs.declared.piece.Fragment.{Fragment}
 use Rattle.reassembly_lane.specs.Parts.{past, longest}
 use Rattle.reassembly_lane.specs.Contexts.{Partial, Outcome, with_part}
 
--- What came: a part of the datagram that the key names, when, and in which record.
+-- What came: a part of the datagram that the key names, when, and in which record. A source gives no two datagrams on their
+-- way the same key (RFC 791, section 3.2; RFC 6864, section 4.3; RFC 8200, section 4.5).
 pub record Arrival (K : Type 0) : Type 0 where
   pub key : K
   pub time : ℕ

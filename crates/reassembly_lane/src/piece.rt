@@ -6,7 +6,8 @@ ghost use Rattle.reassembly_lane.specs.Parts.{past, start};
 /// One fragment of a datagram.
 #[derive(Clone, Copy, Debug)]
 pub struct Piece<'a, K> {
-    /// What the fragments of one datagram have in common: addresses, protocol and identification.
+    /// What the fragments of one datagram have in common: addresses, protocol and identification (RFC 791, section 3.2, with
+    /// RFC 6864, section 4.3; in IPv6 addresses and identification, RFC 8200, section 4.5).
     pub key: K,
     /// Where its bytes stand in the datagram, in units of 8 bytes.
     pub offset: u16,
