@@ -1,5 +1,5 @@
 // IPv4 packets cut into pieces.
-ghost use Rattle.std.specs.Prelude.{◌≡◌, ◌≢◌, ℕ, ◌+◌, ◌-◌, ◌*◌, ◌/◌, ◌%◌, ◌<◌, ◌≤◌, ◌++◌, ◌∷◌, ◌==◌, if◌then◌else◌, [], false, length, drop, IfOk, IsOk, IsErr, MatchOption, Ok};
+ghost use Rattle.std.specs.Prelude.{◌≡◌, ◌≢◌, ℕ, ◌+◌, ◌-◌, ◌*◌, ◌/◌, ◌%◌, ◌<◌, ◌≤◌, ◌++◌, ◌∷◌, ◌==◌, if◌then◌else◌, [], false, length, drop, IfOk, IsOk, IsErr, IfSome, MatchOption, Ok};
 ghost use Rattle.ip_codec.specs.Packet4.{packet4, ip4_of, packet_len, is_fragment, Packet4, IsBounded4};
 ghost use Rattle.fragmenter.specs.Kept.{copied_of};
 ghost use Rattle.fragmenter.specs.Pieces4.{Pieces4, pieces4, fragments4, options_at, piece_head, room4};
@@ -50,7 +50,8 @@ impl<'a> Cuts4<'a> {
     pub fn of(alloc: Global, packet: &Ip4View<'a>, mtu: u16) -> Result<Self, OutOfMemory>
         requires bounded { IsBounded4 (packet4 packet.now) }
         requires least_mtu { 576 ≤ mtu }
-        ensures { IfOk result (λ cuts. left4 cuts ≡ fragments4 (packet4 packet.now) mtu 0) }
+        ensures left { IfOk result (λ cuts. left4 cuts ≡ fragments4 (packet4 packet.now) mtu 0) }
+        ensures few { IfOk result (λ cuts. length (left4 cuts) ≤ MOST_PIECES4) }
     {
         Ok(Cuts4 {
             packet: *packet,
@@ -63,7 +64,8 @@ impl<'a> Cuts4<'a> {
 
     /// How many bytes the next piece has; none where all are written.
     pub fn next_len(&self) -> Option<usize>
-        ensures { MatchOption result (left4 self.now ≡ []) (λ len. HasFirst (left4 self.now) len) }
+        ensures first { MatchOption result (left4 self.now ≡ []) (λ len. HasFirst (left4 self.now) len) }
+        ensures small { IfSome result (λ len. len ≤ 65535) }
     {
         if self.before == self.packet.payload.len() {
             None

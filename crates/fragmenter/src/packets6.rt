@@ -1,5 +1,5 @@
 // Tunnel packets cut into fragments.
-ghost use Rattle.std.specs.Prelude.{◌≡◌, ◌≢◌, ℕ, ◌+◌, ◌-◌, ◌*◌, ◌/◌, ◌%◌, ◌<◌, ◌≤◌, ◌++◌, [], length, drop, IfOk, IsOk, IsErr, MatchOption, Ok};
+ghost use Rattle.std.specs.Prelude.{◌≡◌, ◌≢◌, ℕ, ◌+◌, ◌-◌, ◌*◌, ◌/◌, ◌%◌, ◌<◌, ◌≤◌, ◌++◌, [], length, drop, IfOk, IsOk, IsErr, IfSome, MatchOption, Ok};
 ghost use Rattle.ip_codec.specs.Packet6.{packet6, ip6_of, Packet6};
 ghost use Rattle.fragmenter.specs.Pieces6.{Pieces6, pieces6, fragments6, room6};
 
@@ -38,7 +38,8 @@ impl<'a> Cuts6<'a> {
     pub fn of(packet: &Ip6View<'a>, mtu: u16, id: u32) -> Self
         requires least_mtu { 1280 ≤ mtu }
         requires most { length packet.now.body.now ≤ 65535 }
-        ensures { left6 result ≡ fragments6 (packet6 packet.now) mtu id 0 }
+        ensures left { left6 result ≡ fragments6 (packet6 packet.now) mtu id 0 }
+        ensures few { length (left6 result) ≤ MOST_PIECES6 }
     {
         Cuts6 {
             packet: *packet,
@@ -50,7 +51,8 @@ impl<'a> Cuts6<'a> {
 
     /// How many bytes the next fragment has; none where all are written.
     pub fn next_len(&self) -> Option<usize>
-        ensures { MatchOption result (left6 self.now ≡ []) (λ len. HasFirst (left6 self.now) len) }
+        ensures first { MatchOption result (left6 self.now ≡ []) (λ len. HasFirst (left6 self.now) len) }
+        ensures small { IfSome result (λ len. len ≤ 65535) }
     {
         if self.before == self.packet.body.len() {
             None
@@ -77,7 +79,7 @@ impl<'a> Cuts6<'a> {
     fn part_len(&self) -> usize
         ensures part { result ≡ part_len (room6 self.now.mtu self.now.before) (drop self.now.before self.now.packet.body.now) }
         ensures within { self.now.before + result ≤ length self.now.packet.body.now }
-        ensures small { result ≤ 65527 }
+        ensures small { result ≤ 65487 }
     {
         let room = (usize::from(self.mtu) - HEADERS) / 8 * 8;
         let left = self.packet.body.len() - self.before;

@@ -7,8 +7,8 @@ use Rattle.fragmenter.proofs.CutLemmas.{first-piece}
 use Rattle.fragmenter.proofs.PieceLemmas.{rooms4, options-are, length-piece4}
 use Rattle.fragmenter.proofs.packets4.Cuts4.next_len.Goals as goal
 
-pub returns-else-self : goal.returns-else-self
-returns-else-self c =
+pub returns-else-self-clause-first : goal.returns-else-self-clause-first
+returns-else-self-clause-first c =
     let cuts = c.args.self.now in
     let packet = packet4 cuts.packet in
     let before = cuts.before in

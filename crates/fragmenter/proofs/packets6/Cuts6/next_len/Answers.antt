@@ -7,8 +7,8 @@ use Rattle.fragmenter.proofs.CutLemmas.{first-piece}
 use Rattle.fragmenter.proofs.PieceLemmas.{rooms6}
 use Rattle.fragmenter.proofs.packets6.Cuts6.next_len.Goals as goal
 
-pub returns-else-self : goal.returns-else-self
-returns-else-self c =
+pub returns-else-self-clause-first : goal.returns-else-self-clause-first
+returns-else-self-clause-first c =
     let cuts = c.args.self.now in
     let packet = packet6 cuts.packet in
     let before = cuts.before in
