@@ -19,10 +19,7 @@ fn tunnelled(alloc: Global, len: usize, mtu: u16, id: u32) -> Result<Packets, Fa
     if len > 65535 {
         return Err("too long".into());
     }
-    let mut body = Vec::with_capacity(alloc, len)?;
-    while body.len() < len {
-        body.push(7)?;
-    }
+    let body = vec![in alloc; 7_u8; len]?;
     let packet = put6(alloc, &head, &body)?;
     cut_tunnel(alloc, packet.as_slice(), mtu, id)
 }
@@ -54,10 +51,7 @@ fn passed_on(alloc: Global, options: &[u8], len: usize, mtu: u16) -> Result<Pack
     if len > 65000 || options.len() > 40 || options.len() % 4 != 0 {
         return Err("no case".into());
     }
-    let mut payload = Vec::with_capacity(alloc, len)?;
-    while payload.len() < len {
-        payload.push(7)?;
-    }
+    let payload = vec![in alloc; 7_u8; len]?;
     let packet = put4(alloc, &head, options, &payload)?;
     cut_packet(alloc, packet.as_slice(), mtu)
 }
