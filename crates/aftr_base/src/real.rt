@@ -1,5 +1,5 @@
 // The files of the system. Nothing is told of what they hold, so no clause can say that an error of the system is handed
-// on: that each one is answered as `Failed` and counted is code, and `real_tests.rt` tries it. What the system is trusted
+// on: that each one is answered as `Failed` and counted is code, and `codec_cases/src/real_files.rt` tries it. What the system is trusted
 // for, call by call:
 // - `fs::open`: the handle reads the file of this name from its start on. A name that is not there is an error.
 // - `fs::create`: the file is there and empty, and the handle writes behind what it wrote before.
@@ -23,6 +23,9 @@ use std::rt::Files as FileSystem;
 
 // How many bytes are read ahead at once.
 const WINDOW: usize = 1 << 20;
+
+// A read of so many bytes or more that finds none read ahead goes past the window, straight to where they are wanted.
+const DIRECT: usize = 1 << 18;
 
 // The file that was read last, with the bytes that were read ahead.
 #[derive(Drop)]
@@ -69,16 +72,19 @@ impl<F: Read + Seek + Drop> Reader<F> {
         copy_from(&self.window[..ahead], at - self.start, into)
     }
 
+    // Puts the handle's place at a place of the file. Where it will be after the next read is not known.
+    fn go_to(&mut self, at: u64) -> Result<(), Fault> {
+        let place = self.place.take();
+        if place != Some(at) && self.file.seek(SeekFrom::Start(at)).is_err() {
+            return Err(Fault::Failed);
+        }
+        Ok(())
+    }
+
     // Reads the window again, from a place on.
     fn refill(&mut self, at: u64) -> Result<(), Fault> {
         self.ahead = 0;
-        if self.place != Some(at) {
-            self.place = None;
-            if self.file.seek(SeekFrom::Start(at)).is_err() {
-                return Err(Fault::Failed);
-            }
-        }
-        self.place = None;
+        self.go_to(at)?;
         let Ok(count) = self.file.read(self.window.as_mut_slice()) else {
             return Err(Fault::Failed);
         };
@@ -88,12 +94,27 @@ impl<F: Read + Seek + Drop> Reader<F> {
         Ok(())
     }
 
+    // Reads past the window.
+    fn read_direct(&mut self, at: u64, into: &mut [u8]) -> Result<usize, Fault>
+        ensures { IfOk result (λ n. n ≤ length into.old) }
+    {
+        self.go_to(at)?;
+        let Ok(count) = self.file.read(into) else {
+            return Err(Fault::Failed);
+        };
+        self.place = at.checked_add(count as u64);
+        Ok(count)
+    }
+
     fn read(&mut self, at: u64, into: &mut [u8]) -> Result<usize, Fault>
         ensures { IfOk result (λ n. n ≤ length into.old) }
     {
         let count = self.copy_ahead(at, into);
         if count > 0 || into.is_empty() {
             return Ok(count);
+        }
+        if into.len() >= DIRECT {
+            return self.read_direct(at, into);
         }
         self.refill(at)?;
         Ok(self.copy_ahead(at, into))
