@@ -4,6 +4,7 @@ ghost use Rattle.binding_rules.specs.Refusals.{IsCause, IsFirstRefusal, AtBoth};
 ghost use Rattle.binding_rules.specs.Conflicts.{Conflict};
 ghost use Rattle.binding_rules.specs.Scans.{IsConflictRefusal};
 ghost use Rattle.binding_rules.specs.Tables.{IsValid, IsLawful, binding_table};
+ghost use Rattle.binding_rules.specs.declared.settings.Edition.TheVariants as edition;
 ghost use Rattle.binding_rules.specs.declared.settings.Softwire.{Softwire};
 
 use crate::binding::Binding;
@@ -61,6 +62,19 @@ impl Table {
         ensures lawful { IsLawful self.now }
     {
         &self.bindings
+    }
+
+    /// The same settings and bindings in edition Two, whose rules allow all that those of edition One do (ours). So it
+    /// takes no memory and is never refused.
+    pub fn into_edition_two(self) -> Table
+        ensures table { result ≡ binding_table edition.Two self.softwire self.bindings }
+        ensures valid { IsValid result }
+    {
+        Table {
+            edition: Edition::Two,
+            softwire: self.softwire,
+            bindings: self.bindings,
+        }
     }
 }
 

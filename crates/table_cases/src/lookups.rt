@@ -9,7 +9,9 @@ use std::alloc::Global;
 use std::marker::Brand;
 use std::sync::ledger::{Blank, Ledger};
 use std::test::Fail;
-use table_words::{SliceWords, Steps, Words, compile, has_address, look, softwire};
+use table_words::{
+    Destination, SliceWords, Steps, Words, compile, destination_of, has_address, look, softwire,
+};
 
 // The words of a slice, and how many were read.
 #[derive(Drop)]
@@ -56,6 +58,30 @@ fn owner(words: &WordList, v4: V4, want: Want) -> (Option<V6>, u64)
     requires { AreCompiled words.now }
 {
     counted_look::<Brand>(words.as_slice(), v4, want, Blank::new(1))
+}
+
+fn counted_destination<L: Ledger>(
+    words: &[u64],
+    v4: V4,
+    want: Want,
+    blank: Blank,
+) -> (Destination, u64)
+    requires compiled { AreCompiled words.now }
+    requires name { blank.name ≡ L.name }
+    requires parts { blank.parts ≡ L.parts }
+    requires some { 0 < blank.parts }
+{
+    let mut counted = CountedWords { words, count: 0 };
+    let mut steps = Steps::<L>::start(blank);
+    let found = destination_of(&mut counted, v4, want, &mut steps);
+    (found, counted.count)
+}
+
+// What the table has of a destination, and how many words were read for it.
+fn destination(words: &WordList, v4: V4, want: Want) -> (Destination, u64)
+    requires { AreCompiled words.now }
+{
+    counted_destination::<Brand>(words.as_slice(), v4, want, Blank::new(1))
 }
 
 fn facts_in<L: Ledger>(words: &[u64], v4: V4, blank: Blank) -> (bool, Softwire)
@@ -182,6 +208,131 @@ fn tells_where_an_address_has_two_shapes(rt: HostRuntime) -> Result<(), Fail> {
     Ok(())
 }
 
+#[test]
+fn tells_a_bound_address_without_an_owner(rt: HostRuntime) -> Result<(), Fail> {
+    let alloc = rt.alloc();
+    let shared = SHARED.0;
+    let one_shape = [(shared, 6, 8, 52), (shared, 6, 8, 53)];
+    let two_shapes = [(shared, 6, 8, 52), (shared, 0, 16, 80)];
+    let neighbour = V4(shared + 1);
+    // Identifier 52 owns the ports 1232 to 1235 and more (RFC 7597, appendix A).
+    let cases = [
+        (
+            Edition::One,
+            &one_shape,
+            SHARED,
+            Want::Port(1232),
+            Destination::Owned(subscriber(1)),
+        ),
+        (
+            Edition::One,
+            &one_shape,
+            SHARED,
+            Want::Port(1236),
+            Destination::Owned(subscriber(2)),
+        ),
+        (
+            Edition::One,
+            &one_shape,
+            SHARED,
+            Want::Port(1240),
+            Destination::Unowned,
+        ),
+        (
+            Edition::One,
+            &one_shape,
+            SHARED,
+            Want::Port(208),
+            Destination::Unowned,
+        ),
+        (
+            Edition::One,
+            &one_shape,
+            SHARED,
+            Want::Whole,
+            Destination::Unowned,
+        ),
+        (
+            Edition::One,
+            &one_shape,
+            neighbour,
+            Want::Port(1232),
+            Destination::Unbound,
+        ),
+        (
+            Edition::One,
+            &one_shape,
+            V4(1),
+            Want::Port(1232),
+            Destination::Unbound,
+        ),
+        (
+            Edition::Two,
+            &two_shapes,
+            SHARED,
+            Want::Port(80),
+            Destination::Owned(subscriber(2)),
+        ),
+        (
+            Edition::Two,
+            &two_shapes,
+            SHARED,
+            Want::Port(1232),
+            Destination::Owned(subscriber(1)),
+        ),
+        (
+            Edition::Two,
+            &two_shapes,
+            SHARED,
+            Want::Port(81),
+            Destination::Unowned,
+        ),
+        (
+            Edition::Two,
+            &two_shapes,
+            SHARED,
+            Want::Whole,
+            Destination::Unowned,
+        ),
+        (
+            Edition::Two,
+            &two_shapes,
+            neighbour,
+            Want::Port(80),
+            Destination::Unbound,
+        ),
+        (
+            Edition::Two,
+            &two_shapes,
+            V4(1),
+            Want::Port(80),
+            Destination::Unbound,
+        ),
+    ];
+    for (edition, rows, v4, want, expected) in cases {
+        let words = compile(alloc, &table(alloc, edition, rows)?)?;
+        let (found, count) = destination(&words, v4, want);
+        assert_eq!(rt; found, expected);
+        assert!(rt; count >= 1);
+    }
+    let words = compile(alloc, &table(alloc, Edition::One, &[])?)?;
+    let (found, count) = destination(&words, SHARED, Want::Whole);
+    assert_eq!(rt; found, Destination::Unbound);
+    assert!(rt; count >= 1);
+    Ok(())
+}
+
+// What the table has of a destination, by a reading of its list.
+fn destination_in_list(table: &Table, v4: V4, want: Want) -> Destination {
+    if !table.bindings().iter().any(|binding| binding.v4 == v4) {
+        return Destination::Unbound;
+    }
+    match owner_in_list(table, v4, want) {
+        Some(end) => Destination::Owned(end),
+        None => Destination::Unowned,
+    }
+}
+
 // The owner by a reading of the list.
 fn owner_in_list(table: &Table, v4: V4, want: Want) -> Option<V6> {
     let place = find(table, v4, want)?;
@@ -251,6 +402,8 @@ fn agrees_with_the_list(rt: HostRuntime) -> Result<(), Fail> {
             assert_eq!(rt; facts(&words, v4).0, has, "{address}");
             let whole = owner_in_list(&table, v4, Want::Whole);
             assert_eq!(rt; owner(&words, v4, Want::Whole).0, whole, "{address}");
+            let all = destination_in_list(&table, v4, Want::Whole);
+            assert_eq!(rt; destination(&words, v4, Want::Whole).0, all, "{address}");
             for port in [
                 0, 80, 81, 1023, 1024, 1029, 1232, 1236, 1240, 16_454, 32_777, 64_000, 64_016,
                 65_534, 65_535,
@@ -258,6 +411,8 @@ fn agrees_with_the_list(rt: HostRuntime) -> Result<(), Fail> {
                 let want = Want::Port(port);
                 let expected = owner_in_list(&table, v4, want);
                 assert_eq!(rt; owner(&words, v4, want).0, expected, "{address} {port}");
+                let all = destination_in_list(&table, v4, want);
+                assert_eq!(rt; destination(&words, v4, want).0, all, "{address} {port}");
             }
         }
     }

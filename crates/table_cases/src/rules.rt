@@ -188,6 +188,19 @@ fn finds_the_owner(rt: HostRuntime) -> Result<(), Fail> {
     Ok(())
 }
 
+#[test]
+fn moves_a_table_into_edition_two(rt: HostRuntime) -> Result<(), Fail> {
+    let alloc = rt.alloc();
+    for edition in [Edition::One, Edition::Two] {
+        let table = shared(alloc, edition, &[(6, 8, 52), (6, 8, 53)])?.into_edition_two();
+        assert_eq!(rt; table.edition(), Edition::Two);
+        assert_eq!(rt; table.softwire(), SETTINGS);
+        let rows = [row(SHARED, 6, 8, 52), row(SHARED, 6, 8, 53)];
+        assert!(rt; table.bindings() == rows.as_slice());
+    }
+    Ok(())
+}
+
 // Rows of this shape with the identifiers from 0 to the last one, and perhaps with identifier 0 once more.
 fn counted(
     alloc: Global,

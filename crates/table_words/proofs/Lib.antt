@@ -1,3 +1,4 @@
+pub mod Addresses
 pub mod Alike
 pub mod Compiling
 pub mod Counts

@@ -1,19 +1,20 @@
 -- The shapes of an address, tried one after the other.
 use Rattle.std.proofs.Common.{◌≡◌, ℕ, suc, ◌+◌, ◌-◌, ◌*◌, ◌/◌, ◌%◌, ◌^◌, ◌<◌, ◌≤◌, true, false, eqb, ◌&&◌, List, Some, None, Contains, refl, sym, ap, ◌∙◌, inl, inr, arith}
 use Rattle.std.proofs.Math.Nat.{mul-le-mul_right}
-use Rattle.std.proofs.lemmas.Bool.{true≢false, false≢true, cases_lt, cases_eq, eq-eqb, ne_eqb, and_from, and_left, and_right}
+use Rattle.std.proofs.lemmas.Bool.{cases_lt, cases_eq, eq-eqb, ne_eqb, and_from, and_left, and_right}
+use Rattle.std.proofs.lemmas.Option.{none-some}
 use Rattle.aftr_base.specs.declared.numbers.V4.{V4}
 use Rattle.aftr_base.specs.declared.numbers.V6.{V6}
 use Rattle.binding_rules.specs.Bindings.{owns, is_bound, bound}
 use Rattle.binding_rules.specs.Tables.{BindingTable}
 use Rattle.binding_rules.specs.declared.binding.Binding.{Binding}
 use Rattle.binding_rules.specs.declared.binding.Want.{Want}
-use Rattle.std.specs.Prelude.{Option, is_some, IfSome, IfNone}
+use Rattle.std.specs.Prelude.{Bool, Option, IfSome, IfNone}
 use Rattle.table_words.specs.Answers.{first_b4, has_v4}
 use Rattle.table_words.specs.Bounds.{count_below, has_shape, shape_end, shape_count, group_digits, most_shapes, greatest, look_bound, found_bound}
 use Rattle.table_words.specs.Layout.{IsCompiled, row}
-use Rattle.table_words.specs.Spans.{first_at, IsEntryRange, IsBoundary, IsEntry, IsIndexGroup, IsLike, IsFound, IsNotFound, IsTunnelOfOwner, HasNoOwner}
-use Rattle.table_words.specs.Tried.{tried_shapes, AreTried}
+use Rattle.table_words.specs.Spans.{first_at, IsEntryRange, IsBoundary, IsEntry, IsIndexGroup, IsLike, IsFound, IsNotFound, IsTunnelOfOwner, HasNoOwner, TellsAddress}
+use Rattle.table_words.specs.Tried.{tried_shapes, AreTried, HasCome}
 use Rattle.table_words.proofs.Counts.{le_greatest}
 use Rattle.table_words.proofs.Digits.{count_below_mono, count_below_more, few_halvings}
 use Rattle.table_words.proofs.Filters.{any_passes, any_fails, filter_fails, filter_contains, only_one}
@@ -151,6 +152,15 @@ module _ (words : List ℕ) (v4 : V4) (w : Want) (first to : ℕ) where
               omega (arith, ends e more c.2, f.v4, same))
         ])
 
+    -- where no other shape follows, an entry has the address exactly where one has come
+    pub address_left : (b : Bool) → HasCome words first to v4.0 least b → ((e : ℕ) → at ≤ e → e < to → v4.0 < first_at words e / 4294967296)
+        → TellsAddress words first to v4.0 b
+    address_left true come ends = come
+    address_left false none ends = λ e l m same. elim (cases_lt e at) [
+      | inl less ↦ (let b = before e l less in omega (arith, b, none, same))
+      | inr more ↦ (let above = ends e more m in omega (arith, above, same))
+    ]
+
     -- the cost of the search among what is left
     pub search_cost : (t : BindingTable) → IsCompiled t words → (c : ℕ) → 2 ^ c ≤ 2 * (to - from) + 1 → c ≤ group_digits t.bindings
     search_cost t h c cost =
@@ -286,13 +296,13 @@ module _ (t : BindingTable) (words : List ℕ) (h : IsCompiled t words) (v4 : V4
   address_cost c cost = few_halvings c (to - from) (group_digits t.bindings) cost group.size
 
 -- an optional end of a tunnel
-pub some_is : (o r : Option V6) (P : V6 → Type 0) → is_some o ≡ true → IfSome o P → ((b4 : V6) → P b4 → r ≡ Some b4) → o ≡ r
-some_is None r P e h f = absurd (false≢true e)
-some_is (Some b4) r P e h f = sym (f b4 h)
-
 pub if_some : (o : Option V6) (P : Type 0) → P → IfSome o (λ _. P)
 if_some None P h = tt
 if_some (Some b4) P h = h
+
+pub if_none : (o : Option V6) (P : V6 → Type 0) → o ≡ None → IfSome o P
+if_none None P e = tt
+if_none (Some b4) P e = absurd (none-some b4 (sym e))
 
 pub span_rest : (words : List ℕ) (from to at : ℕ) → IsEntryRange words from to → at ≤ to → IsEntryRange words at to
 span_rest words from to at s l = record { ordered = l; few = s.few; within = s.within; ascending = s.ascending; rising = s.rising; shapes = s.shapes }

@@ -1,6 +1,6 @@
 -- What the steps of a lookup know of the words. No public contract cites these. Below, d and e are places of entries, and
 -- a is an address as a number.
-use Rattle.std.specs.Prelude.{◌≡◌, ℕ, ◌+◌, ◌-◌, ◌*◌, ◌/◌, ◌%◌, ◌^◌, ◌<◌, ◌≤◌, ◌↔◌, true, false, List, length, slice_index, Contains, Option, Some, None}
+use Rattle.std.specs.Prelude.{◌≡◌, ◌≢◌, ℕ, ◌+◌, ◌-◌, ◌*◌, ◌/◌, ◌%◌, ◌^◌, ◌<◌, ◌≤◌, ◌↔◌, Bool, true, false, List, length, slice_index, Contains, Option, Some, None}
 use Rattle.port_set.specs.Shapes.{IsShape}
 use Rattle.binding_rules.specs.Bindings.{owns}
 use Rattle.binding_rules.specs.Tables.{BindingTable}
@@ -119,3 +119,8 @@ pub record IsTunnelOfOwner (words : List ℕ) (from to a : ℕ) (w : Want) (b4 :
 abbrev pub HasNoOwner : List ℕ → ℕ → ℕ → ℕ → Want → Type 0
 HasNoOwner words from to a w = (e : ℕ) (x : Binding) → from ≤ e → e < to → first_at words e ≡ (row x).0
     → IsLike (first_at words e) x → x.v4.0 ≡ a → owns w x ≡ false
+
+-- whether some of these entries has the address
+abbrev pub TellsAddress : List ℕ → ℕ → ℕ → ℕ → Bool → Type 0
+TellsAddress words from to a true = (e : ℕ) × (from ≤ e) × (e < to) × (first_at words e / 4294967296 ≡ a)
+TellsAddress words from to a false = (e : ℕ) → from ≤ e → e < to → first_at words e / 4294967296 ≢ a

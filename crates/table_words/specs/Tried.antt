@@ -1,12 +1,12 @@
 -- How far the trying of shapes has come. No public contract cites these.
-use Rattle.std.specs.Prelude.{◌≡◌, ℕ, ◌+◌, ◌-◌, ◌*◌, ◌/◌, ◌<◌, ◌≤◌, false, List, Contains}
+use Rattle.std.specs.Prelude.{◌≡◌, ℕ, ◌+◌, ◌-◌, ◌*◌, ◌/◌, ◌<◌, ◌≤◌, Bool, true, false, List, Contains}
 use Rattle.binding_rules.specs.Bindings.{owns}
 use Rattle.binding_rules.specs.Tables.{BindingTable}
 use Rattle.binding_rules.specs.declared.binding.Binding.{Binding}
 use Rattle.binding_rules.specs.declared.binding.Want.{Want}
 use Rattle.table_words.specs.Bounds.{count_below, has_shape, group_digits, most_shapes}
 use Rattle.table_words.specs.Layout.{IsCompiled, row}
-use Rattle.table_words.specs.Spans.{first_at, IsIndexGroup}
+use Rattle.table_words.specs.Spans.{first_at, IsIndexGroup, TellsAddress}
 
 -- how many shapes of the address are tried, below this first word
 abbrev pub tried_shapes : BindingTable → ℕ → ℕ → ℕ
@@ -25,3 +25,8 @@ pub record AreTried (words : List ℕ) (a : ℕ) (w : Want) (first to from least
   pub below : (e : ℕ) → first ≤ e → e < from → first_at words e < least
   pub group : (t : BindingTable) → IsCompiled t words → IsIndexGroup t words a first to
   pub tried : (t : BindingTable) → IsCompiled t words → IsTried t a w least spent
+
+-- whether an entry of the address has come: where none has, nothing was tried yet
+abbrev pub HasCome : List ℕ → ℕ → ℕ → ℕ → ℕ → Bool → Type 0
+HasCome words first to a least true = TellsAddress words first to a true
+HasCome words first to a least false = least ≡ a * 4294967296

@@ -5,6 +5,7 @@
 
 mod compiler;
 mod counter;
+mod destination;
 mod entries;
 mod lookups;
 mod owners;
@@ -15,6 +16,7 @@ mod settings;
 
 pub use compiler::compile;
 pub use counter::Steps;
-pub use lookups::{has_address, look};
+pub use destination::Destination;
+pub use lookups::{destination_of, has_address, look};
 pub use reader::{SliceWords, Words};
 pub use settings::softwire;

@@ -3,14 +3,15 @@ ghost use Rattle.std.specs.Prelude.{◌≡◌, ◌+◌, ◌-◌, ◌≤◌, IfSo
 ghost use Rattle.binding_rules.specs.Bindings.{bound};
 ghost use Rattle.binding_rules.specs.Tables.{BindingTable};
 ghost use Rattle.binding_rules.specs.declared.settings.Edition.TheVariants as edition;
-ghost use Rattle.table_words.specs.Answers.{first_b4, has_v4};
+ghost use Rattle.table_words.specs.Answers.{first_b4, has_v4, has_binding, tunnel_of};
 ghost use Rattle.table_words.specs.Bounds.{found_bound, look_bound, most_shapes, group_digits};
 ghost use Rattle.table_words.specs.Layout.{IsCompiled, AreCompiled};
 ghost use Rattle.table_words.specs.Reads.{read_more};
 
 use crate::counter::Steps;
+use crate::destination::Destination;
 use crate::entries::first_word;
-use crate::owners::{owner_alike, owner_like};
+use crate::owners::{destination_alike, owner_like};
 use crate::reader::Words;
 use crate::searches::{group_of, lower_bound};
 use aftr_base::{V4, V6};
@@ -20,11 +21,58 @@ use std::sync::ledger::Ledger;
 // What word 5 is where no address has bindings of two shapes.
 const ONE_SHAPE: u64 = 0;
 
+/// Whether some binding of the table has the address, and the tunnel's end of the one that owns the port, or, for
+/// `Whole`, whose offset and length are both 0: `has_address` and `look` in one search. The condition is that the words
+/// are compiled from a table. With B binary digits in the greatest number of bindings that agree in the top 16 bits of
+/// their addresses, and at most G different shapes at one address, it reads at most `G * (2 * B + 4) + B + 4` words, and B
+/// fewer where it finds an owner, and where G is 1 as it is in every table of edition One. It reads at least one word,
+/// whatever the table has.
+pub fn destination_of<W: Words, L: Ledger>(
+    words: &mut W,
+    v4: V4,
+    want: Want,
+    steps: &mut Steps<L>,
+) -> Destination
+    requires { AreCompiled (W.list words.old) }
+    ensures address { (t : BindingTable) → IsCompiled t (W.list words.old) → has_binding result ≡ has_v4 t.bindings v4 }
+    ensures owner { (t : BindingTable) → IsCompiled t (W.list words.old) → tunnel_of result ≡ first_b4 (bound t.bindings v4 want) }
+    ensures bound { (t : BindingTable) → IsCompiled t (W.list words.old) → steps.new ≤ steps.old + look_bound t.bindings }
+    ensures found { IfSome (tunnel_of result) (λ _. (t : BindingTable) → IsCompiled t (W.list words.old) → steps.new ≤ steps.old + found_bound t.bindings) }
+    ensures one_shape { (t : BindingTable) → IsCompiled t (W.list words.old) → most_shapes t.bindings ≡ 1 → steps.new ≤ steps.old + found_bound t.bindings }
+    ensures edition_one { (t : BindingTable) → IsCompiled t (W.list words.old) → t.edition ≡ edition.One → steps.new ≤ steps.old + found_bound t.bindings }
+    ensures list { W.list words.new ≡ W.list words.old }
+    ensures reads { W.reads words.new ≡ read_more (W.reads words.old) (steps.new - steps.old) }
+    ensures goes { W.goes words.old words.new }
+    ensures rises { steps.old + 1 ≤ steps.new }
+{
+    let group = group_of(words, v4, steps);
+    if words.word(5, steps) == ONE_SHAPE {
+        return destination_alike(words, group.from, group.to, v4, want, steps);
+    }
+    let address = u64::from(v4.0);
+    let mut from = group.from;
+    let mut least = address * 0x1_0000_0000;
+    let mut answer = Destination::Unbound;
+    'shapes: loop {
+        from = lower_bound(words, from, group.to, least, steps);
+        if from >= group.to {
+            return answer;
+        }
+        let first = first_word(words, from, steps);
+        if first / 0x1_0000_0000 != address {
+            return answer;
+        }
+        if let Some(end) = owner_like(words, from, group.to, first, want, steps) {
+            return Destination::Owned(end);
+        }
+        answer = Destination::Unowned;
+        least = first - first % 0x1_0000 + 0x1_0000;
+    }
+}
+
 /// The tunnel's end of the one binding of the table with this address that owns the port, or, for `Whole`, whose offset
-/// and length are both 0; None exactly where the table has none. The condition is that the words are compiled from a
-/// table. With B binary digits in the greatest number of bindings that agree in the top 16 bits of their addresses, and
-/// at most G different shapes at one address, it reads at most `G * (2 * B + 4) + B + 4` words, and B fewer where it
-/// finds an owner, and where G is 1 as it is in every table of edition One.
+/// and length are both 0; None exactly where the table has none. The condition and the words read are those of
+/// `destination_of`.
 pub fn look<W: Words, L: Ledger>(
     words: &mut W,
     v4: V4,
@@ -41,32 +89,13 @@ pub fn look<W: Words, L: Ledger>(
     ensures reads { W.reads words.new ≡ read_more (W.reads words.old) (steps.new - steps.old) }
     ensures goes { W.goes words.old words.new }
     ensures later { steps.old ≤ steps.new }
+    ensures rises { steps.old + 1 ≤ steps.new }
 {
-    let group = group_of(words, v4, steps);
-    if words.word(5, steps) == ONE_SHAPE {
-        return owner_alike(words, group.from, group.to, v4, want, steps);
-    }
-    let address = u64::from(v4.0);
-    let mut from = group.from;
-    let mut least = address * 0x1_0000_0000;
-    'shapes: loop {
-        from = lower_bound(words, from, group.to, least, steps);
-        if from >= group.to {
-            return None;
-        }
-        let first = first_word(words, from, steps);
-        if first / 0x1_0000_0000 != address {
-            return None;
-        }
-        let owner = owner_like(words, from, group.to, first, want, steps);
-        if owner.is_some() {
-            return owner;
-        }
-        least = first - first % 0x1_0000 + 0x1_0000;
-    }
+    destination_of(words, v4, want, steps).tunnel()
 }
 
-/// Whether some binding of the table has the address. The condition is that of `look`. It reads at most B + 3 words.
+/// Whether some binding of the table has the address. The condition is that of `look`. It reads at least one word, and
+/// at most B + 3.
 pub fn has_address<W: Words, L: Ledger>(words: &mut W, v4: V4, steps: &mut Steps<L>) -> bool
     requires { AreCompiled (W.list words.old) }
     ensures answer { (t : BindingTable) → IsCompiled t (W.list words.old) → result ≡ has_v4 t.bindings v4 }
@@ -75,6 +104,7 @@ pub fn has_address<W: Words, L: Ledger>(words: &mut W, v4: V4, steps: &mut Steps
     ensures reads { W.reads words.new ≡ read_more (W.reads words.old) (steps.new - steps.old) }
     ensures goes { W.goes words.old words.new }
     ensures later { steps.old ≤ steps.new }
+    ensures rises { steps.old + 1 ≤ steps.new }
 {
     let group = group_of(words, v4, steps);
     let address = u64::from(v4.0);

@@ -28,6 +28,7 @@ returns-then-at-group g c =
           (reads_on _ _ _ 2 _ _ (omega (arith, bounded.later, grouped.steps)) grouped.reads bounded.reads) read.reads;
       goes = g.met.W.Words.goes_on _ _ _ (g.met.W.Words.goes_on _ _ _ grouped.goes bounded.goes) read.goes;
       later = omega (arith, grouped.steps, bounded.later, read.steps);
+      rises = omega (arith, grouped.steps, bounded.later, read.steps);
     }
 
 pub returns-else-at-group : goal.returns-else-at-group
@@ -50,4 +51,5 @@ returns-else-at-group g c =
       reads = reads_on _ _ _ 2 _ _ (omega (arith, bounded.later, grouped.steps)) grouped.reads bounded.reads;
       goes = g.met.W.Words.goes_on _ _ _ grouped.goes bounded.goes;
       later = omega (arith, grouped.steps, bounded.later);
+      rises = omega (arith, grouped.steps, bounded.later);
     }
