@@ -3,7 +3,7 @@
 use Rattle.std.proofs.Common.{◌≡◌, ℕ, ◌+◌, ◌-◌, ◌*◌, ◌/◌, ◌%◌, ◌^◌, ◌<◌, ◌≤◌, inl, inr, true, ap, ap₂, sym, ◌∙◌, arith, add-mul, mod-eq_of_lt}
 use Rattle.std.specs.Int.Bits.{bit_and, and_self}
 use Rattle.std.proofs.Math.Nat.{mul-le-mul_right, div-mul-le_self, pow-le-pow_right}
-use Rattle.std.proofs.lemmas.Nat.{pow_pos, pow-add, and_mask, and_block, and_shr, and_mod, and_le_l, and_le_r, and_assoc, and_comm, one_shl, mod_below, div-mul-add, mod-mul-add, div-add-mod', shl_below, shr_below, le-div}
+use Rattle.std.proofs.lemmas.Nat.{pow_pos, and_mask, and_block, and_shr, and_mod, and_le_l, and_le_r, and_assoc, and_comm, one_shl, mod_below, div-mul-add, mod-mul-add, div-add-mod', shl_below, shr_below, le-div}
 use Rattle.port_set.specs.Shapes.{IsShape}
 use Rattle.port_set.specs.PortSets.{InSet, in_set}
 use Rattle.port_set.proofs.Laws.{all_bits, in_set_true, in_set_from}

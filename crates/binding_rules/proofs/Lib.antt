@@ -6,5 +6,5 @@ pub mod Laws
 pub mod Leasts
 pub mod Links
 pub mod Pairs
-pub mod Prefixes
+pub mod Rising
 pub mod Slots

@@ -42,6 +42,14 @@ module _ (bp : Bool) (bs : List Binding) (a p : ℕ) (x : Binding) (there : slic
       let shared = subst (λ (z : Binding). AreShared bp z h.0) same h.2 in
       record { above = omega (arith, both.ordered, e); there = (h.0, h.1, (sym shared.address ∙ address, shared.common)) }
 
+  pub owners_next : (owners before now : List (Option ℕ)) → IsTaken bp x p owners now → IsOwnersOf bs a before owners → IsOwnersOf bs a before now
+  owners_next owners before now taken old key n l e =
+      elim (cases_Bool (has_key bp x key)) [
+        | inl t ↦ (let same : p ≡ n = same_Some p n (sym (taken.taken key l t) ∙ e) in
+            inr (subst (HasAddress bs a) same (x, there, address)))
+        | inr t ↦ old key n l (sym (taken.kept key l t) ∙ e)
+      ]
+
   pub pair_here : (met : Option ℕ) → IsLeast (IsLater bs a (Some p) (HaveCommonKey bp x)) met
       → IsLeastPair (λ f s. (f ≡ p) × AtBoth bs f s (AreShared bp)) (paired p met)
   pair_here None least = λ f s q. least s (to_later f s q.0 q.1)
@@ -119,14 +127,6 @@ module _ (bp : Bool) (bs : List Binding) (a p : ℕ) (x : Binding) (owners : Lis
             (slots key l))
       ]
 
-  pub owners_next : (before now : List (Option ℕ)) → IsTaken bp x p owners now → IsOwnersOf bs a before owners → IsOwnersOf bs a before now
-  owners_next before now taken old key n l e =
-      elim (cases_Bool (has_key bp x key)) [
-        | inl t ↦ (let same : p ≡ n = same_Some p n (sym (taken.taken key l t) ∙ e) in
-            inr (subst (HasAddress bs a) same (x, there, address)))
-        | inr t ↦ old key n l (sym (taken.kept key l t) ∙ e)
-      ]
-
   pub walked_next : (previous before now : List (Option ℕ)) (best : Option Pair) (met : Option ℕ) → IsLinked bs previous
       → IsFirstPair bs (AreShared bp) (IsBehind bs a (Some p)) best → IsOwnersOf bs a before owners
       → IsLeast (IsMet bp x bs a owners) met → IsTaken bp x p owners now
@@ -137,7 +137,7 @@ module _ (bp : Bool) (bs : List Binding) (a p : ℕ) (x : Binding) (owners : Lis
         here = nearest_is_of bs a p (slot previous p) nearest;
         slots = slots_next (slot previous p) now nearest taken;
         first = best_next bp bs a p x there address (slot previous p) best met nearest first (shared_least met least);
-        names = owners_next before now taken old;
+        names = owners_next bp bs a p x there address owners before now taken old;
       }
 
 -- before the walk, and after it

@@ -6,8 +6,8 @@ ghost use Rattle.binding_rules.specs.Conflicts.{HaveCommonPort, HaveOneShape};
 ghost use Rattle.binding_rules.specs.Scans.{IsLinked, IsNearest, IsLast, IsLeast, IsLeastUnlike, IsLater, HasAddress, AreWell, ends_within};
 
 use crate::binding::Binding;
-use crate::ports::{have_common_port, port_count};
-use aftr_base::{OutOfMemory, V4};
+use crate::ports::have_common_port;
+use aftr_base::OutOfMemory;
 use std::alloc::Global;
 use std::collections::BTreeMap;
 
@@ -122,34 +122,4 @@ pub(crate) fn has_at_most(
         at = previous[place as usize];
     }
     true
-}
-
-/// The least place of the address up to which its bindings own more than 65,536 ports, so that two of them share one, or
-/// `last` where all of them own no more.
-pub(crate) fn crowded_place(
-    bindings: &[Binding],
-    previous: &[Option<u32>],
-    v4: V4,
-    last: u32,
-) -> u32
-    requires linked { IsLinked bindings.now previous.now }
-    requires last { IsLast bindings.now v4.0 last }
-    requires well { AreWell bindings.now }
-    ensures { HasAddress bindings.now v4.0 result }
-{
-    let mut owned = 0u64;
-    let mut at = Some(last);
-    'sum: while let Some(place) = at {
-        owned = owned.saturating_add(u64::from(port_count(bindings[place as usize])));
-        at = previous[place as usize];
-    }
-    let mut at = Some(last);
-    'chain: while let Some(place) = at {
-        owned = owned.saturating_sub(u64::from(port_count(bindings[place as usize])));
-        if owned <= 65_536 {
-            return place;
-        }
-        at = previous[place as usize];
-    }
-    last
 }

@@ -1,10 +1,10 @@
 // The first conflict, found address by address.
-ghost use Rattle.std.specs.Prelude.{◌≡◌, ℕ, ◌<◌, ◌≤◌, true, None, length, IfOk};
+ghost use Rattle.std.specs.Prelude.{◌≡◌, ℕ, ◌<◌, ◌≤◌, true, false, None, Some, length, IfOk};
 ghost use Rattle.binding_rules.specs.Conflicts.{Conflict};
-ghost use Rattle.binding_rules.specs.Scans.{IsLinked, IsLast, IsFirstPair, HasAddress, AreShared, IsOwnersOf, AreWell, AreFresh, earlier_of, paired, slot};
+ghost use Rattle.binding_rules.specs.Scans.{IsLinked, IsLast, IsFirstPair, HasAddress, AreShared, IsOwnersOf, AreWell, AreFresh, earlier_of, ends_within, paired, slot};
 
 use crate::binding::Binding;
-use crate::chains::{chains_of, crowded_place, has_at_most, head_of, least_common, least_unlike};
+use crate::chains::{chains_of, has_at_most, head_of, least_common, least_unlike};
 use crate::owners::meet;
 use crate::settings::Edition;
 use aftr_base::{OutOfMemory, V4};
@@ -46,11 +46,10 @@ fn pair_of(first: u32, second: Option<u32>) -> Option<Pair>
     })
 }
 
-/// The first pair of the address that has a key in common.
+/// The first pair of the address that has an identifier in common.
 fn shared_pair(
     bindings: &[Binding],
     previous: &[Option<u32>],
-    by_port: bool,
     v4: V4,
     last: u32,
     owners: &mut [Option<u32>],
@@ -61,29 +60,24 @@ fn shared_pair(
     requires well { AreWell bindings.now }
     requires size { length owners.old ≡ 65536 }
     requires fresh { AreFresh bindings.now v4.0 owners.old }
-    ensures first { IsFirstPair bindings.now (AreShared by_port) (HasAddress bindings.now v4.0) result }
+    ensures first { IsFirstPair bindings.now (AreShared false) (HasAddress bindings.now v4.0) result }
     ensures owners { IsOwnersOf bindings.now v4.0 owners.old owners.new }
 {
     let mut best = None;
     let mut at = Some(last);
     'chain: while let Some(place) = at {
-        let met = meet(
-            bindings,
-            v4,
-            by_port,
-            place,
-            bindings[place as usize],
-            owners,
-        );
+        let met = meet(bindings, v4, false, place, bindings[place as usize], owners);
         best = earlier(best, pair_of(place, met));
         at = previous[place as usize];
     }
     best
 }
 
-/// The same for ports, by a comparison of each two bindings of the address. It takes no slots.
+/// The same for ports, by a comparison of each two bindings of the address. It takes no slots. At most 256 bindings are
+/// compared so, since the comparisons grow with the square of their number.
 fn compared_pair(bindings: &[Binding], previous: &[Option<u32>], v4: V4, last: u32) -> Option<Pair>
     requires linked { IsLinked bindings.now previous.now }
+    requires few { ends_within previous.now (Some last) 256 ≡ true }
     requires last { IsLast bindings.now v4.0 last }
     requires well { AreWell bindings.now }
     ensures { IsFirstPair bindings.now (AreShared true) (HasAddress bindings.now v4.0) result }
@@ -98,31 +92,26 @@ fn compared_pair(bindings: &[Binding], previous: &[Option<u32>], v4: V4, last: u
     best
 }
 
-/// The same by the slots of the ports, read up to `crowded_place`. Where that is not the last place, two bindings up to it
-/// share a port, and none behind it comes before them. That they do is not proved: if they did not, all would be compared.
-fn crowded_pair(
-    bindings: &[Binding],
-    previous: &[Option<u32>],
-    v4: V4,
-    last: u32,
-    owners: &mut [Option<u32>],
-) -> Option<Pair>
+/// The same by the slots of the ports, from the first place up. It ends at the first place that owns a port of an earlier
+/// one: before it no port was taken twice, so no more than twice 65,536 ports are looked at.
+fn risen_pair(bindings: &[Binding], v4: V4, owners: &mut [Option<u32>]) -> Option<Pair>
     requires few { length bindings.now ≤ 65536 }
-    requires linked { IsLinked bindings.now previous.now }
-    requires last { IsLast bindings.now v4.0 last }
     requires well { AreWell bindings.now }
     requires size { length owners.old ≡ 65536 }
     requires fresh { AreFresh bindings.now v4.0 owners.old }
     ensures first { IsFirstPair bindings.now (AreShared true) (HasAddress bindings.now v4.0) result }
     ensures owners { IsOwnersOf bindings.now v4.0 owners.old owners.new }
 {
-    let end = crowded_place(bindings, previous, v4, last);
-    let size = end as usize + 1;
-    let shared = shared_pair(&bindings[..size], &previous[..size], true, v4, end, owners);
-    if shared.is_some() || end == last {
-        return shared;
+    'places: for place in 0..bindings.len() {
+        let binding = bindings[place];
+        if binding.v4 == v4 {
+            let second = place as u32;
+            if let Some(first) = meet(bindings, v4, true, second, binding, owners) {
+                return Some(Pair { first, second });
+            }
+        }
     }
-    compared_pair(bindings, previous, v4, last)
+    None
 }
 
 /// The first conflict of the address. Where all its bindings have one shape, a common port is an equal identifier.
@@ -145,7 +134,7 @@ fn address_pair(
 {
     match edition {
         Edition::One => {
-            let shared = shared_pair(bindings, previous, false, v4, last, owners);
+            let shared = shared_pair(bindings, previous, v4, last, owners);
             let head = head_of(bindings, previous, last);
             let unlike = least_unlike(bindings, previous, last, bindings[head as usize]);
             earlier(pair_of(head, unlike), shared)
@@ -153,11 +142,11 @@ fn address_pair(
         Edition::Two => {
             let unlike = least_unlike(bindings, previous, last, bindings[last as usize]);
             if unlike.is_none() {
-                shared_pair(bindings, previous, false, v4, last, owners)
+                shared_pair(bindings, previous, v4, last, owners)
             } else if has_at_most(bindings, previous, last, MOST_COMPARED) {
                 compared_pair(bindings, previous, v4, last)
             } else {
-                crowded_pair(bindings, previous, v4, last, owners)
+                risen_pair(bindings, v4, owners)
             }
         }
     }

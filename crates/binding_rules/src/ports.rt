@@ -1,12 +1,12 @@
 // The ports of one binding, and of two.
-ghost use Rattle.std.specs.Prelude.{◌≡◌, ◌↔◌, IsTrue, length};
-ghost use Rattle.port_set.specs.PortSets.{in_set, owned_ports};
+ghost use Rattle.std.specs.Prelude.{◌≡◌, ◌↔◌, IsTrue};
+ghost use Rattle.port_set.specs.PortSets.{in_set};
 ghost use Rattle.port_set.specs.Shapes.{IsShape};
 ghost use Rattle.binding_rules.specs.Conflicts.{HaveCommonPort};
 ghost use Rattle.binding_rules.specs.Scans.{IsWell, greatest_port};
 
 use crate::binding::Binding;
-use port_set::{count, owns, shape_of};
+use port_set::{owns, shape_of};
 
 pub(crate) fn owns_port(binding: Binding, port: u16) -> bool
     requires { IsShape binding.offset binding.length }
@@ -15,17 +15,6 @@ pub(crate) fn owns_port(binding: Binding, port: u16) -> bool
     match shape_of(binding.offset, binding.length) {
         Ok(shape) => owns(shape, binding.psid, port),
         Err(_) => false,
-    }
-}
-
-/// How many ports the binding owns.
-pub(crate) fn port_count(binding: Binding) -> u32
-    requires { IsWell binding }
-    ensures { result ≡ length (owned_ports binding.offset binding.length binding.psid) }
-{
-    match shape_of(binding.offset, binding.length) {
-        Ok(shape) => count(shape),
-        Err(_) => 0,
     }
 }
 

@@ -24,10 +24,14 @@ pub struct Softwire {
     pub hop_limit: u8,
     /// Whether a packet from one subscriber to another is turned round in the router.
     pub hairpin: bool,
-    /// Whether ICMP messages pass towards the subscribers.
+    /// Whether ICMP messages from the IPv4 network pass towards the subscribers. It is not asked of those from one
+    /// subscriber to another.
     pub icmp_in: bool,
-    /// Whether ICMP errors go out to the subscribers.
+    /// Whether a subscriber's packet that no binding allows is answered with an ICMPv6 error into its tunnel (RFC 7596
+    /// section 6.2). Errors for a time to live that is used up and for a packet that is too big do not ask it.
     pub errors_up: bool,
-    /// Whether ICMP errors go out to the IPv4 network.
+    /// Whether a packet to an address and port that no binding has is answered with an ICMP error: to the IPv4 network, and
+    /// into the tunnel of the subscriber where one sent it. Errors for a time to live that is used up and for a packet that
+    /// is too big do not ask it.
     pub errors_down: bool,
 }

@@ -113,6 +113,31 @@ fn names_the_first_conflict_of_few_and_of_many(rt: HostRuntime) {
     }
 }
 
+// So many rows of two shapes in turn: every port, and the upper half of the ports.
+fn in_turn(alloc: Global, count: u16) -> Result<usize, TableError> {
+    let mut rows = Vec::new(alloc);
+    for number in 0..count {
+        let offset = if number % 2 == 0 { 0 } else { 1 };
+        if rows.push((offset, 0, 0)).is_err() {
+            return Err(TableError::OutOfMemory);
+        }
+    }
+    outcome(alloc, Edition::Two, &rows)
+}
+
+// A comparison of each two of these bindings, or a look at every port of each, would not end within the test's steps.
+#[test]
+fn tests_many_bindings_of_two_shapes_without_comparing_each_two(rt: HostRuntime) {
+    let alloc = rt.alloc();
+    let upper = [(1, 0, 0)];
+    assert_eq!(rt; behind(alloc, 8_000, &upper), Ok(8_001));
+    let twice = Refused::Twice {
+        first: 0,
+        second: 1,
+    };
+    assert_eq!(rt; in_turn(alloc, 8_000), Err(TableError::Refused(twice)));
+}
+
 // A sound row, this one, and one of which all is wrong.
 fn three(alloc: Global, softwire: Softwire, second: Binding) -> Result<usize, TableError> {
     let mut bindings = Vec::new(alloc);

@@ -1,4 +1,4 @@
-use Rattle.std.proofs.Common.{subst, sym}
+use Rattle.std.proofs.Common.{subst, sym, ◌∙◌}
 use Rattle.binding_rules.specs.Scans.{IsLast, IsLeastUnlike, HasAddress}
 use Rattle.binding_rules.proofs.Links.{of_within, has_address_of, read, read_is}
 use Rattle.binding_rules.proofs.Keys.{two_by_port, two_by_none, unlike_first, one_by_identifier}
@@ -44,10 +44,13 @@ returns-then-is_none-clause-first c =
     (two_by_none bs c.args.v4.0 like c.least_unlike-unlike-in-Two.result c.shared_pair.result c.requires.well
     c.if-is_none.ensures least c.shared_pair.ensures.first)
 
+pub compared_pair-requires-clause-few : goal.compared_pair-requires-clause-few
+compared_pair-requires-clause-few c = sym c.has_at_most.ensures ∙ c.if-has_at_most.true
+
 pub returns-then-has_at_most-clause-first : goal.returns-then-has_at_most-clause-first
 returns-then-has_at_most-clause-first c =
     rw c.in-Two.is (two_by_port c.args.bindings.now (HasAddress c.args.bindings.now c.args.v4.0) c.compared_pair.result c.compared_pair.ensures)
 
 pub returns-else-has_at_most-clause-first : goal.returns-else-has_at_most-clause-first
 returns-else-has_at_most-clause-first c =
-    rw c.in-Two.is (two_by_port c.args.bindings.now (HasAddress c.args.bindings.now c.args.v4.0) c.crowded_pair.result c.crowded_pair.ensures.first)
+    rw c.in-Two.is (two_by_port c.args.bindings.now (HasAddress c.args.bindings.now c.args.v4.0) c.risen_pair.result c.risen_pair.ensures.first)

@@ -1,4 +1,4 @@
-use Rattle.std.proofs.Common.{◌<◌, length, subst, arith}
+use Rattle.std.proofs.Common.{false, ◌<◌, length, subst, arith}
 use Rattle.std.proofs.lemmas.Option.{slice_get-get_or}
 use Rattle.binding_rules.proofs.Links.{IsOf, of_within, has_address_of}
 use Rattle.binding_rules.proofs.Pairs.{IsWalked, walked_none, walked_next, walked_all}
@@ -29,10 +29,10 @@ pub chain-preserved : goal.chain-preserved
 chain-preserved c =
     let bs = c.args.bindings.now in
     let a = c.args.v4.0 in
-    let walked = subst (λ o. IsWalked c.args.by_port bs a o c.args.owners.now c.chain.owners c.chain.best) c.in-Some.is c.chain.invariant in
+    let walked = subst (λ o. IsWalked false bs a o c.args.owners.now c.chain.owners c.chain.best) c.in-Some.is c.chain.invariant in
     let there = slice_get-get_or bs c.in-Some.place _ (of_within bs a _ walked.here) in
     rw (c.earlier-best.ensures, c.pair_of.ensures)
-    (walked_next c.args.by_port bs a c.in-Some.place _ c.chain.owners there (has_address_of bs a _ _ there walked.here) walked.slots
+    (walked_next false bs a c.in-Some.place _ c.chain.owners there (has_address_of bs a _ _ there walked.here) walked.slots
     c.args.previous.now c.args.owners.now c.meet-met.new.owners c.chain.best c.meet-met.result c.requires.linked walked.first walked.names
     c.meet-met.ensures.least c.meet-met.ensures.taken)
 
