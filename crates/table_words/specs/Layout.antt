@@ -1,5 +1,5 @@
 -- The words of a compiled table.
-use Rattle.std.specs.Prelude.{◌≡◌, ℕ, ◌+◌, ◌*◌, ◌/◌, ◌%◌, ◌<◌, ◌≤◌, Bool, not, ◌&&◌, ◌==◌, nat_lt, if◌then◌else◌, List, map, length, slice_index, slice_index_or}
+use Rattle.std.specs.Prelude.{◌≡◌, ℕ, ◌+◌, ◌*◌, ◌/◌, ◌%◌, ◌^◌, ◌<◌, ◌≤◌, Bool, not, ◌&&◌, ◌==◌, nat_lt, if◌then◌else◌, List, map, length, slice_index, slice_index_or}
 use Rattle.std.specs.List.{count_by, list_any}
 use Rattle.std.specs.List.Sorted.{IsPermutation}
 use Rattle.binding_rules.specs.Tables.{BindingTable, IsValid, IsLawful}
@@ -9,7 +9,11 @@ use Rattle.binding_rules.specs.declared.settings.Softwire.{Softwire}
 -- a binding as the first word of its entry and the address of its tunnel's end: from the top, the first word has 32 bits
 -- of the address, 8 of the offset, 8 of the length and 16 of the identifier
 abbrev pub row : Binding → ℕ × ℕ
-row b = (b.v4.0 * 4294967296 + b.offset * 16777216 + b.length * 65536 + b.psid, b.b4.0)
+row b = (b.v4.0 * 2 ^ 32 + b.offset * 2 ^ 24 + b.length * 2 ^ 16 + b.psid, b.b4.0)
+
+-- where the first entry stands: behind the eight words of settings and the 65,537 of the index
+abbrev pub first_entry : ℕ
+first_entry = 65545
 
 -- a row of a list of rows
 abbrev pub row_at : List (ℕ × ℕ) → ℕ → ℕ × ℕ
@@ -17,7 +21,7 @@ row_at rows e = slice_index_or rows e (0, 0)
 
 -- how many rows have an address whose top 16 bits are below h
 abbrev pub rows_below : List (ℕ × ℕ) → ℕ → ℕ
-rows_below rows h = count_by (λ r. nat_lt (r.0 / 281474976710656) h) rows
+rows_below rows h = count_by (λ r. nat_lt (r.0 / 2 ^ 48) h) rows
 
 abbrev pub flag : Bool → ℕ → ℕ
 flag on worth = if on then worth else 0
@@ -44,18 +48,18 @@ pub record IsCompiled (t : BindingTable) (words : List ℕ) : Type 0 where
   pub rows : List (ℕ × ℕ)
   pub same : IsPermutation (map row t.bindings) rows
   pub ascending : (d e : ℕ) → d < e → e < length rows → (row_at rows d).0 < (row_at rows e).0
-  pub size : length words ≡ 65545 + 3 * length rows
+  pub size : length words ≡ first_entry + 3 * length rows
   pub count : slice_index words 0 ≡ length rows
-  pub aftr_high : slice_index words 1 ≡ t.softwire.aftr.0 / 18446744073709551616
-  pub aftr_low : slice_index words 2 ≡ t.softwire.aftr.0 % 18446744073709551616
-  pub own : slice_index words 3 ≡ t.softwire.own.0 * 4294967296 + flags t.softwire
-  pub sizes : slice_index words 4 ≡ t.softwire.mtu6 * 4294967296 + t.softwire.mtu4 * 65536 + t.softwire.hop_limit
+  pub aftr_high : slice_index words 1 ≡ t.softwire.aftr.0 / 2 ^ 64
+  pub aftr_low : slice_index words 2 ≡ t.softwire.aftr.0 % 2 ^ 64
+  pub own : slice_index words 3 ≡ t.softwire.own.0 * 2 ^ 32 + flags t.softwire
+  pub sizes : slice_index words 4 ≡ t.softwire.mtu6 * 2 ^ 32 + t.softwire.mtu4 * 2 ^ 16 + t.softwire.hop_limit
   pub two_shapes : slice_index words 5 ≡ flag (has_two_shapes t.bindings) 1
   pub spare : (j : ℕ) → 6 ≤ j → j < 8 → slice_index words j ≡ 0
   pub index : (h : ℕ) → h ≤ 65536 → slice_index words (8 + h) ≡ rows_below rows h
-  pub first : (e : ℕ) → e < length rows → slice_index words (65545 + 3 * e) ≡ (row_at rows e).0
-  pub b4_high : (e : ℕ) → e < length rows → slice_index words (65546 + 3 * e) ≡ (row_at rows e).1 / 18446744073709551616
-  pub b4_low : (e : ℕ) → e < length rows → slice_index words (65547 + 3 * e) ≡ (row_at rows e).1 % 18446744073709551616
+  pub first : (e : ℕ) → e < length rows → slice_index words (first_entry + 3 * e) ≡ (row_at rows e).0
+  pub b4_high : (e : ℕ) → e < length rows → slice_index words (first_entry + 1 + 3 * e) ≡ (row_at rows e).1 / 2 ^ 64
+  pub b4_low : (e : ℕ) → e < length rows → slice_index words (first_entry + 2 + 3 * e) ≡ (row_at rows e).1 % 2 ^ 64
 
 -- the words are those of a table
 pub record AreCompiled (words : List ℕ) : Type 0 where

@@ -7,24 +7,24 @@ use Rattle.binding_rules.specs.Tables.{BindingTable}
 use Rattle.binding_rules.specs.declared.binding.Binding.{Binding}
 use Rattle.binding_rules.specs.declared.binding.Want.{Want}
 use Rattle.table_words.specs.Bounds.{group_digits}
-use Rattle.table_words.specs.Layout.{row}
+use Rattle.table_words.specs.Layout.{first_entry, row}
 
 -- the first word of an entry
 abbrev pub first_at : List ℕ → ℕ → ℕ
-first_at words e = slice_index words (65545 + 3 * e)
+first_at words e = slice_index words (first_entry + 3 * e)
 
 -- the address of the tunnel's end of an entry
 abbrev pub b4_at : List ℕ → ℕ → ℕ
-b4_at words e = slice_index words (65546 + 3 * e) * 18446744073709551616 + slice_index words (65547 + 3 * e)
+b4_at words e = slice_index words (first_entry + 1 + 3 * e) * 2 ^ 64 + slice_index words (first_entry + 2 + 3 * e)
 
 -- the entries from one place up to another
 pub record IsEntryRange (words : List ℕ) (from to : ℕ) : Type 0 where
   pub ordered : from ≤ to
   pub few : to ≤ 65536
-  pub within : 65545 + 3 * to ≤ length words
+  pub within : first_entry + 3 * to ≤ length words
   pub ascending : (d e : ℕ) → d ≤ e → e < to → first_at words d ≤ first_at words e
   pub rising : (d e : ℕ) → d < e → e < to → first_at words d < first_at words e
-  pub shapes : (e : ℕ) → e < to → IsShape (first_at words e / 16777216 % 256) (first_at words e / 65536 % 256)
+  pub shapes : (e : ℕ) → e < to → IsShape (first_at words e / 2 ^ 24 % 256) (first_at words e / 65536 % 256)
 
 -- the place where entries below the key end
 pub record IsBoundary (words : List ℕ) (from to key at : ℕ) : Type 0 where
@@ -46,8 +46,8 @@ pub record IsIndexGroup (t : BindingTable) (words : List ℕ) (a from to : ℕ) 
 
 -- a binding of the address and shape of the first word of an entry
 pub record IsLike (first : ℕ) (x : Binding) : Type 0 where
-  pub v4 : x.v4.0 ≡ first / 4294967296
-  pub offset : x.offset ≡ first / 16777216 % 256
+  pub v4 : x.v4.0 ≡ first / 2 ^ 32
+  pub offset : x.offset ≡ first / 2 ^ 24 % 256
   pub length : x.length ≡ first / 65536 % 256
   pub psid : x.psid < 65536
   pub psid_fits : x.psid < 2 ^ x.length
@@ -106,13 +106,13 @@ pub record IsReach (from to at first key low high guess : ℕ) : Type 0 where
 
 -- all entries of the address have one shape
 abbrev pub AreAlike : List ℕ → ℕ → ℕ → ℕ → Type 0
-AreAlike words from to a = (d e : ℕ) → from ≤ d → d < to → from ≤ e → e < to → first_at words d / 4294967296 ≡ a
-    → first_at words e / 4294967296 ≡ a → first_at words d / 65536 ≡ first_at words e / 65536
+AreAlike words from to a = (d e : ℕ) → from ≤ d → d < to → from ≤ e → e < to → first_at words d / 2 ^ 32 ≡ a
+    → first_at words e / 2 ^ 32 ≡ a → first_at words d / 65536 ≡ first_at words e / 65536
 
 -- the end of the tunnel is that of an entry with the address that owns what is wanted
 pub record IsTunnelOfOwner (words : List ℕ) (from to a : ℕ) (w : Want) (b4 : ℕ) : Type 0 where
   pub first : ℕ
-  pub address : first / 4294967296 ≡ a
+  pub address : first / 2 ^ 32 ≡ a
   pub found : IsFound words from to first w b4
 
 -- no entry with the address owns what is wanted
@@ -122,5 +122,5 @@ HasNoOwner words from to a w = (e : ℕ) (x : Binding) → from ≤ e → e < to
 
 -- whether some of these entries has the address
 abbrev pub TellsAddress : List ℕ → ℕ → ℕ → ℕ → Bool → Type 0
-TellsAddress words from to a true = (e : ℕ) × (from ≤ e) × (e < to) × (first_at words e / 4294967296 ≡ a)
-TellsAddress words from to a false = (e : ℕ) → from ≤ e → e < to → first_at words e / 4294967296 ≢ a
+TellsAddress words from to a true = (e : ℕ) × (from ≤ e) × (e < to) × (first_at words e / 2 ^ 32 ≡ a)
+TellsAddress words from to a false = (e : ℕ) → from ≤ e → e < to → first_at words e / 2 ^ 32 ≢ a

@@ -1,9 +1,10 @@
 // The words of a table.
-ghost use Rattle.std.specs.Prelude.{◌≡◌, ◌+◌, ◌*◌, ◌/◌, ◌%◌, ◌<◌, ◌≤◌, ◌++◌, IfOk, OnOk, List, ℕ, length, map, vec_len, IsPermutation, Bool, true, ◌↔◌};
+ghost use Rattle.std.specs.Prelude.{◌≡◌, ◌+◌, ◌*◌, ◌/◌, ◌%◌, ◌^◌, ◌<◌, ◌≤◌, ◌++◌, IfOk, OnOk, List, ℕ, length, map, vec_len, IsPermutation, Bool, true, ◌↔◌};
 ghost use Rattle.binding_rules.specs.Tables.{BindingTable};
 ghost use Rattle.table_words.specs.Layout.{IsCompiled, AreCompiled, row, flag, flags};
 ghost use Rattle.table_words.specs.Parts.{IsAscending, HaveTwoShapes, settings_words, index_words, entry_words};
 
+use crate::entries::FIRST_ENTRY;
 use aftr_base::{OutOfMemory, WordList};
 use binding_rules::{Binding, Softwire, Table};
 use std::alloc::Global;
@@ -18,7 +19,7 @@ pub fn compile(alloc: Global, table: &Table) -> Result<WordList, OutOfMemory>
 {
     let bindings = table.bindings();
     let rows = rows_of(alloc, bindings)?;
-    let mut words = Vec::with_capacity(alloc, 65545 + 3 * rows.len())?;
+    let mut words = Vec::with_capacity(alloc, FIRST_ENTRY as usize + 3 * rows.len())?;
     put_settings(
         &mut words,
         rows.len(),
@@ -115,13 +116,13 @@ fn flag_of(on: bool, worth: u64) -> u64
 }
 
 fn high_half(address: u128) -> u64
-    ensures { result ≡ address / 18446744073709551616 }
+    ensures { result ≡ address / 2 ^ 64 }
 {
     (address / 0x1_0000_0000_0000_0000) as u64
 }
 
 fn low_half(address: u128) -> u64
-    ensures { result ≡ address % 18446744073709551616 }
+    ensures { result ≡ address % 2 ^ 64 }
 {
     (address % 0x1_0000_0000_0000_0000) as u64
 }

@@ -1,6 +1,7 @@
 // The three words of an entry.
 ghost use Rattle.std.specs.Prelude.{◌≡◌, ◌+◌, ◌-◌, ◌*◌, ◌/◌, ◌%◌, ◌<◌, ◌≤◌, length};
 ghost use Rattle.port_set.specs.Shapes.{IsShape};
+ghost use Rattle.table_words.specs.Layout.{first_entry};
 ghost use Rattle.table_words.specs.Reads.{read_more};
 ghost use Rattle.table_words.specs.Spans.{IsKey, first_at, b4_at};
 
@@ -11,6 +12,9 @@ use binding_rules::Want;
 use port_set::{psid_of, shape_of};
 use std::sync::ledger::Ledger;
 
+/// Where the first entry stands: behind the eight words of settings and the 65,537 of the index.
+pub(crate) const FIRST_ENTRY: u32 = 65_545;
+
 /// The first word of an entry.
 pub(crate) fn first_word<W: Words, L: Ledger>(
     words: &mut W,
@@ -18,28 +22,28 @@ pub(crate) fn first_word<W: Words, L: Ledger>(
     steps: &mut Steps<L>,
 ) -> u64
     requires few { entry < 65536 }
-    requires within { 65545 + 3 * entry + 3 ≤ length (W.list words.old) }
+    requires within { first_entry + 3 * entry + 3 ≤ length (W.list words.old) }
     ensures value { result ≡ first_at (W.list words.old) entry }
     ensures list { W.list words.new ≡ W.list words.old }
     ensures reads { W.reads words.new ≡ read_more (W.reads words.old) 1 }
     ensures goes { W.goes words.old words.new }
     ensures steps { steps.new ≡ steps.old + 1 }
 {
-    words.word(65545 + 3 * entry, steps)
+    words.word(FIRST_ENTRY + 3 * entry, steps)
 }
 
 /// The address of the tunnel's end of an entry.
 pub(crate) fn tunnel_end<W: Words, L: Ledger>(words: &mut W, entry: u32, steps: &mut Steps<L>) -> V6
     requires few { entry < 65536 }
-    requires within { 65545 + 3 * entry + 3 ≤ length (W.list words.old) }
+    requires within { first_entry + 3 * entry + 3 ≤ length (W.list words.old) }
     ensures value { result.0 ≡ b4_at (W.list words.old) entry }
     ensures list { W.list words.new ≡ W.list words.old }
     ensures reads { W.reads words.new ≡ read_more (W.reads words.old) 2 }
     ensures goes { W.goes words.old words.new }
     ensures steps { steps.new ≡ steps.old + 2 }
 {
-    let high = words.word(65546 + 3 * entry, steps);
-    let low = words.word(65547 + 3 * entry, steps);
+    let high = words.word(FIRST_ENTRY + 1 + 3 * entry, steps);
+    let low = words.word(FIRST_ENTRY + 2 + 3 * entry, steps);
     V6(u128::from(high) * 0x1_0000_0000_0000_0000 + u128::from(low))
 }
 
