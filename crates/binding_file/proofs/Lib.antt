@@ -4,3 +4,4 @@ mod Trees
 mod Members
 mod Written
 mod Unique
+mod Looks

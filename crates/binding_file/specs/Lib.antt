@@ -2,3 +2,4 @@ pub mod Names
 pub mod Keys
 pub mod Files
 pub mod Parts
+pub mod Costs

@@ -1,5 +1,5 @@
 -- What the steps of the reader and of the writer give. No public contract cites these but the words of the refusals.
-use Rattle.std.specs.Prelude.{◌≡◌, ℕ, ◌≤◌, List, [], ◌∷◌, true, is_some, Result, Ok, Err}
+use Rattle.std.specs.Prelude.{◌≡◌, ℕ, ◌+◌, ◌==◌, ◌≤◌, ◌||◌, if◌then◌else◌, List, [], ◌∷◌, true, is_some, Result, Ok, Err}
 use Rattle.std.specs.Ordering.{nat_cmp, match_ordering}
 use Rattle.std.specs.Cmp.Lexicographic.{slice_cmp}
 use Rattle.binding_rules.specs.declared.binding.Binding.{Binding}
@@ -9,6 +9,7 @@ use Rattle.binding_rules.specs.declared.settings.Softwire.{Softwire}
 use Rattle.binding_rules.specs.declared.refused.TableError.{TableError}
 use Rattle.binding_rules.specs.declared.refused.TableError.TheVariants as table_error
 use Rattle.toml.specs.Data.{Data, array, table, depth, members_depth, as_table, Items, no_items, item, Members, no_members, member}
+use Rattle.binding_file.specs.Costs.{ends_header}
 use Rattle.binding_file.specs.Files.{IsElement, IsSoftwire}
 use Rattle.binding_file.specs.declared.refusals.FileRefused.{FileRefused}
 use Rattle.binding_file.specs.declared.refusals.FileRefused.TheVariants as refused
@@ -64,3 +65,7 @@ pub record IsSoftwireData (d : Data) (s : Softwire) : Type 0 where
   pub is : d ≡ table members
   pub spelled : IsSoftwire members (Ok s)
   pub flat : members_depth members ≡ 0
+
+-- how much of a header stands in front once this byte is passed, its bracket included
+abbrev pub header_after : ℕ → ℕ → ℕ
+header_after header b = if b == 91 then 1 else if ends_header b || header == 0 then 0 else header + 1

@@ -2,6 +2,7 @@
 //! the reader reads as the same table. TOML itself is read and printed by `toml`.
 #![tactic(auto)]
 
+mod costs;
 mod keys;
 mod laws;
 mod names;

@@ -1,10 +1,13 @@
 // Reads a table file: the document's tree first, then the keys in their order, then the rules of tables.
-ghost use Rattle.std.specs.Prelude.{◌≡◌, ◌≤◌, IfOk, IfErr, vec_len};
+ghost use Rattle.std.specs.Prelude.{◌≡◌, ◌≤◌, true, length, Err, IfOk, IfErr, vec_len};
 ghost use Rattle.toml.specs.View.{view, table_view, items_view};
 ghost use Rattle.binding_rules.specs.Tables.{binding_table};
-ghost use Rattle.binding_file.specs.Files.{top_edition, settings_of, port_set_of, elements_of, are_tables, IsSoftwire, IsElement, AreBindings, IsDocument, IsTree, TableOf, IsFileCause};
+ghost use Rattle.binding_file.specs.Files.{top_edition, settings_of, port_set_of, elements_of, are_tables, IsSoftwire, IsElement, AreBindings, IsDocument, IsTree, TableOf, IsFileCause, most_bytes};
+ghost use Rattle.binding_file.specs.Costs.{is_costly};
 ghost use Rattle.binding_file.specs.Parts.{IsRead, value_or_refusal};
+ghost use Rattle.binding_file.specs.declared.refusals.FileError.TheVariants as file_error;
 
+use crate::costs::is_costly;
 use crate::keys::{
     address4_at, address6_at, byte_at, flag_at, has_other, member_at, number_at, required, table_at,
 };
@@ -38,13 +41,18 @@ const BINDING_NAMES: [Name; 5] = [Name::B4, Name::Ipv4, Name::Offset, Name::Leng
 /// `Name`, each with `Missing`, `Kind` and then `Address` or `Range`, then `UnknownKey` in it; `Kind` of `binding` where it
 /// is no array of tables; then each of its elements in order, its keys like those of `softwire`; and last the first
 /// refusal by the rules of tables. `OutOfMemory` comes where the allocator has no room for the document, the bindings or
-/// the test of the rules.
+/// the test of the rules, and for a text that is held back: one with more than 1,048,576 of the bytes `.`, `=`, `[`, `{`
+/// outside of comments and quoted texts, or a header of more than 64 bytes, as no table of bindings has.
 pub fn read_table(alloc: Global, text: &[u8]) -> Result<Table, FileError>
     ensures table { IfOk result (λ t. TableOf text.now (Ok t)) }
     ensures cause { IfErr result (IsFileCause text.now) }
+    ensures held_back { length text.now ≤ most_bytes → is_costly text.now ≡ true → result ≡ Err file_error.OutOfMemory }
 {
     if text.len() > MOST_BYTES {
         return Err(FileError::Refused(FileRefused::TooBig));
+    }
+    if is_costly(text) {
+        return Err(FileError::OutOfMemory);
     }
     let document = document_of(alloc, text)?;
     let spelled = tree_of(alloc, &document)?;

@@ -1,6 +1,8 @@
 // Files as an operator writes them, and what they are.
 use aftr_base::{V4, V6};
-use binding_file::{FileError, FileRefused, Name, Place, RuleText, read_table, write_table};
+use binding_file::{
+    FileError, FileRefused, LoadText, Name, Place, RuleText, read_table, write_table,
+};
 use binding_rules::{Binding, Edition, Refused, Softwire, Table, table_of};
 use case_data::{SETTINGS, SHARED, SUBSCRIBER, subscriber};
 use std::alloc::Global;
@@ -164,7 +166,7 @@ fn lines_of(alloc: Global, piece: &str, end: &str) -> Result<String, Fail> {
 }
 
 // What reading says of a file, as a text.
-fn answer(alloc: Global, file: &[u8]) -> Result<String, Fail> {
+pub(crate) fn answer(alloc: Global, file: &[u8]) -> Result<String, Fail> {
     Ok(match read_table(alloc, file) {
         Ok(table) => {
             let count = table.bindings().len();
@@ -321,6 +323,13 @@ fn refusals_have_texts_and_numbers(rt: HostRuntime) -> Result<(), Fail> {
         second: 64,
     });
     assert!(rt; format!(in alloc; "{rule}")?.as_str() == "mixed-shape 0 64");
+    let load = LoadText(FileRefused::Rules(Refused::Twice {
+        first: 0,
+        second: 64,
+    }));
+    assert!(rt; format!(in alloc; "{load}")?.as_str() == "twice 0 64");
+    let load = LoadText(FileRefused::Range(place));
+    assert!(rt; format!(in alloc; "{load}")?.as_str() == "range binding 3 psid");
     assert!(rt; format!(in alloc; "{}", FileError::OutOfMemory)?.as_str() == "out of memory");
     Ok(())
 }

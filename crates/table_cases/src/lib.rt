@@ -5,6 +5,8 @@
 #[cfg(test)]
 mod files;
 #[cfg(test)]
+mod held_back;
+#[cfg(test)]
 mod lookups;
 #[cfg(test)]
 mod port_sets;
