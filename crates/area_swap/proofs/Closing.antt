@@ -1,11 +1,12 @@
 -- What the last reading says of the draws and points.
-use Rattle.std.proofs.Common.{◌≡◌, ℕ, ◌+◌, ◌<◌, ◌≤◌, true, List, ◌++◌, length, slice_index, subst, sym, refl, ap, ◌∙◌, arith}
+use Rattle.std.proofs.Common.{◌≡◌, ℕ, ◌+◌, true, List, ◌++◌, subst, sym, refl, ap, ◌∙◌, arith}
 use Rattle.std.proofs.lemmas.List.{append-nil}
 use Rattle.std.proofs.lemmas.List.Elements.{All-weaker}
-use Rattle.swap_core.specs.Plans.{Tables, IsPlan, window}
+use Rattle.swap_core.specs.Plans.{Tables, IsPlan}
+use Rattle.swap_core.specs.Points.{in_force, AreInWindows}
 use Rattle.swap_core.specs.States.{newcomer}
 use Rattle.swap_core.specs.declared.actors.Actor.{Actor}
-use Rattle.swap_core.specs.Sound.{Sound, IsDrawRight, in_force}
+use Rattle.swap_core.specs.Sound.{Sound, IsDrawRight}
 use Rattle.swap_core.proofs.Laws.{few_records}
 use Rattle.area_swap.specs.declared.answers.Seen.{Seen}
 use Rattle.area_swap.specs.declared.board.View.{View}
@@ -53,20 +54,13 @@ module _ (v : View) (s : Seen) (sees : Sees v s) (whole : v.share ≡ 65536) (ha
   history_so =
       let sound : Sound sees.moment.ruled.core = sees.moment.ruled.sound in
       let P : Tables → Type 0 = λ q. IsPlan q in
-      let I : List ℕ → Type 0 = λ l. (k : ℕ) → k < length l
-      → ((window v.plan (k + 1)).earliest ≤ slice_index l k) × (slice_index l k ≤ (window v.plan (k + 1)).latest) in
-      let W : Tables → Type 0 = λ q. (k : ℕ) → k < length sees.moment.ruled.core.points
-      → ((window q (k + 1)).earliest ≤ slice_index sees.moment.ruled.core.points k) × (slice_index sees.moment.ruled.core.points k ≤ (window q (k + 1)).latest) in
-      let R : List ℕ → Type 0 = λ l. (k : ℕ) → k + 1 < length l → slice_index l k ≤ slice_index l (k + 1) in
-      let A : List ℕ → Type 0 = λ l. (k : ℕ) → k < length l → slice_index l k ≤ s.records in
-      let reached : (k : ℕ) → k < length sees.moment.ruled.core.points → slice_index sees.moment.ruled.core.points k ≤ s.records =
-      λ k l. omega (arith, sound.reached k l, records_are) in
+      let InPlan : Tables → Type 0 = λ q. AreInWindows q.windows sees.moment.ruled.core.points sees.moment.ruled.core.records in
+      let Points : List ℕ → Type 0 = λ l. AreInWindows v.plan.windows l sees.moment.ruled.core.records in
+      let Records : ℕ → Type 0 = λ n. AreInWindows v.plan.windows v.points n in
       record {
         planned = subst P sees.moment.ruled.same_plan sound.planned;
         few = omega (arith, sees.pointed has, sees.there);
-        rising = subst R (sym points_are) sound.rising;
-        reached = subst A (sym points_are) reached;
-        in_window = subst I (sym points_are) (subst W sees.moment.ruled.same_plan sound.in_window);
+        placed = subst Records records_are (subst Points (sym points_are) (subst InPlan sees.moment.ruled.same_plan sound.placed));
         draws = v.actor.draws;
         drawn = drawn_so;
       }

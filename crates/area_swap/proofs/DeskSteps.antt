@@ -13,7 +13,7 @@ use Rattle.swap_core.specs.declared.actors.DeskState.{DeskState}
 use Rattle.swap_core.specs.declared.actors.DeskState.TheVariants.{Resting, Ready, Writing}
 use Rattle.swap_core.proofs.Laws.{few_records, few_versions}
 use Rattle.swap_core.proofs.Laws.{due_sound, count_sound, write_sound, publish_sound}
-use Rattle.swap_core.proofs.Laws.{table_fits}
+use Rattle.swap_core.proofs.Laws.{table_fits, in_window_of}
 use Rattle.area_swap.specs.declared.answers.Seen.{Seen}
 use Rattle.area_swap.specs.declared.board.View.{View}
 use Rattle.area_swap.specs.Views.{now_of, packed, unpacked, reading, next_of, spare_of, IsUpTo}
@@ -167,18 +167,18 @@ module _ (p : Tables) (s : State (Unit {0}) View) (r : Ruled p s) (id : ℕ) (v 
       let last : r.core.version < length (r.core.points ++ r.core.records ∷ []) = omega (arith, length_push r.core.points r.core.records, r.sound.pointed) in
       let is : slice_index (r.core.points ++ r.core.records ∷ []) r.core.version ≡ r.core.records =
       get_or_push r.core.points r.core.records 0 r.core.version r.sound.pointed in
-      let both = after.in_window r.core.version last in
       let W : Tables → Type 0 = λ q. ((window q (r.core.version + 1)).earliest ≤ r.core.records) × (r.core.records ≤ (window q (r.core.version + 1)).latest) in
       let N : ℕ → Type 0 = λ n. ((window v.plan (n + 1)).earliest ≤ r.core.records) × (r.core.records ≤ (window v.plan (n + 1)).latest) in
       let R : ℕ → Type 0 = λ n. ((window v.plan (length v.points + 1)).earliest ≤ n) × (n ≤ (window v.plan (length v.points + 1)).latest) in
       let V : ℕ → Type 0 = λ n. ((window r.core.plan (r.core.version + 1)).earliest ≤ n) × (n ≤ (window r.core.plan (r.core.version + 1)).latest) in
-      subst R (sym records_are) (subst N (sym knows_version) (subst W (r.same_plan ∙ sym same) (subst V is both)))
+      subst R (sym records_are) (subst N (sym knows_version) (subst W (r.same_plan ∙ sym same)
+      (subst V is (in_window_of r.core.plan (r.core.points ++ r.core.records ∷ []) r.core.records after.placed r.core.version last))))
 
   rises : (k : ℕ) → k < length v.points → slice_index v.points k ≤ (unpacked (slice_index s.words 0)).records
   rises k l =
       let inside : k < length r.core.points = omega (arith, ap (λ (l : List ℕ). length l) shown.1) in
       let same : slice_index v.points k ≡ slice_index r.core.points k = ap (λ (l : List ℕ). slice_index l k) shown.1 in
-      omega (arith, r.sound.reached k inside, records_are)
+      omega (arith, r.sound.placed.reached k inside, records_are)
 
 module _ (p : Tables) (slots id : ℕ) (me : Seated) (same : me.0.plan ≡ p) (has : me.0.has_desk ≡ true) where
   pub finds_due : (IsWriting me.0.desk → ⊥) → Allows (Ruled p) slots id me 0 (λ n. n) (FoundDue (step slots 0 0 0 none) me)

@@ -8,15 +8,15 @@ use Rattle.area_swap.specs.Views.{packed, unpacked, reading, taking, held_versio
 use Rattle.area_swap.specs.Rule.{Sees}
 use Rattle.area_swap.specs.Answers.{HasDrawn, IsNotHeld, IsAtEnd, IsAtLimit, HasLost}
 use Rattle.area_swap.specs.SeatSteps.{Stepped, Seated, Glanced, Drew}
-use Rattle.area_swap.specs.Values.{IsWorker, HoldsOne}
+use Rattle.area_swap.specs.Values.{HoldsAtMost, HoldsOne}
 
 pub pack_unpack : (n : ℕ) → packed (unpacked n) ≡ n
 pack_unpack n = omega arith
 
 -- what the seat keeps of the version is what it holds
-pub held_is : (v : View) (held : ℕ) → IsWorker v held → HoldsOne v → held_version v ≡ held
-held_is v held w holds =
-    elim w.state [
+pub held_is : (v : View) (held : ℕ) → HoldsAtMost held v → HoldsOne v → held_version v ≡ held
+held_is v held state holds =
+    elim state [
       | inl idle ↦ absurd (let is : Idle ≡ Holds (held_version v % 2) (held_version v) = sym idle ∙ holds in cc)
       | inr e ↦ let is : Holds (held % 2) held ≡ Holds (held_version v % 2) (held_version v) = sym e ∙ holds in cc
     ]
@@ -145,5 +145,5 @@ module _ {st1 : Stepped} {m0 m1 : Seated} {n1 : ℕ} (k1 : Glanced st1 m0 n1 m1)
         })
 
 -- the state of a holding seat, by the version that it keeps
-pub holds_it : (v : View) (held : ℕ) → IsWorker v held → HoldsOne v → v.actor.state ≡ Holds (held % 2) held
-holds_it v held w holds = holds ∙ ap (λ (n : ℕ). Holds (n % 2) n) (held_is v held w holds)
+pub holds_it : (v : View) (held : ℕ) → HoldsAtMost held v → HoldsOne v → v.actor.state ≡ Holds (held % 2) held
+holds_it v held state holds = holds ∙ ap (λ (n : ℕ). Holds (n % 2) n) (held_is v held state holds)

@@ -7,8 +7,9 @@ use Rattle.std.proofs.lemmas.List.Elements.{All-weaker}
 use Rattle.std.proofs.lemmas.List.Sums.{count_by-le-length}
 use Rattle.atomic_table.specs.Table.{State}
 use Rattle.swap_core.specs.Plans.{Tables, IsPlan, limit, window}
+use Rattle.swap_core.specs.Points.{in_force}
 use Rattle.swap_core.specs.States.{IsActor, newcomer, count_of}
-use Rattle.swap_core.specs.Sound.{Sound, HoldsRightly, IsAtWork, IsDrawRight, times, draw_count, once_below, in_force}
+use Rattle.swap_core.specs.Sound.{Sound, HoldsRightly, IsAtWork, IsDrawRight, times, draw_count, once_below}
 use Rattle.swap_core.specs.declared.actors.Actor.{Actor}
 use Rattle.swap_core.specs.declared.actors.ActorState.TheVariants.{Holds}
 use Rattle.swap_core.specs.declared.actors.DeskState.{DeskState}

@@ -54,13 +54,17 @@ IsClear v = v.desk ≡ Writing 0
 abbrev pub IsFull : View → Type 0
 IsFull v = v.desk ≡ Writing (length (next_of v))
 
--- what holds of a worker's seat between two calls
-pub record IsWorker (v : View) (held : ℕ) : Type 0 where
+-- what holds of a worker's seat
+pub record IsWorker (v : View) : Type 0 where
   pub shared : 0 < v.share
   pub no_desk : v.has_desk ≡ false
-  pub state : (v.actor.state ≡ Idle) ⊎ (v.actor.state ≡ Holds (held % 2) held)
 
--- what holds of the desk between two calls
+-- between two calls it is idle, or holds this version
+abbrev pub HoldsAtMost : ℕ → View → Type 0
+HoldsAtMost held v = IsIdle v ⊎ (v.actor.state ≡ Holds (held % 2) held)
+
+-- What holds of the desk between two calls. It is no worker; there are at most 256 tables, one for each point and one more, and
+-- a next one where it is at work.
 pub record IsDesk (v : View) : Type 0 where
   pub unshared : v.share ≡ 0
   pub idle : v.actor ≡ newcomer

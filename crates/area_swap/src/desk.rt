@@ -47,7 +47,8 @@ impl Desk {
 
     /// The points so far, in order.
     pub fn points(&self) -> &[u32]
-        ensures { result.now ≡ self.now.known.points }
+        ensures points { result.now ≡ self.now.known.points }
+        ensures is_desk { IsDesk self.now.known }
     {
         self.points.as_slice()
     }
@@ -78,6 +79,7 @@ impl Areas {
         requires areas { IsOf self.now desk.old }
         requires phase { IsResting desk.old.known ⊎ IsReady desk.old.known }
         ensures areas { IsOf self.now desk.new }
+        ensures is_desk { IsDesk desk.new.known }
         ensures due { IsDue result self.now.plan desk.old.known desk.new.known }
         ensures rule { Moment desk.new.known }
     {
@@ -105,6 +107,7 @@ impl Areas {
         requires areas { IsOf self.now desk.old }
         requires phase { IsReady desk.old.known }
         ensures areas { IsOf self.now desk.new }
+        ensures is_desk { IsDesk desk.new.known }
         ensures quiet { IsQuiet result desk.old.known desk.new.known }
         ensures rule { Moment desk.new.known }
     {
@@ -125,6 +128,7 @@ impl Areas {
         requires areas { IsOf self.now desk.old }
         requires phase { IsClear desk.old.known }
         ensures areas { IsOf self.now desk.new }
+        ensures is_desk { IsDesk desk.new.known }
         ensures desk { desk.new.known ≡ record desk.old.known { desk = Writing (length (next_of desk.old.known)) } }
         ensures rule { Moment desk.new.known }
     {
@@ -140,6 +144,7 @@ impl Areas {
         requires areas { IsOf self.now desk.old }
         requires phase { IsFull desk.old.known }
         ensures areas { IsOf self.now desk.new }
+        ensures is_desk { IsDesk desk.new.known }
         ensures published { HasPublished result desk.old.known desk.new.known }
         ensures rule { Moment desk.new.known }
     {

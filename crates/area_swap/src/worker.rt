@@ -24,18 +24,19 @@ pub struct WorkerSeat {
 
 impl Model for WorkerSeat {
     ghost use Rattle.std.specs.Prelude.{◌≡◌, []};
-    ghost use Rattle.area_swap.specs.Values.{IsWorker, SeatValue};
+    ghost use Rattle.area_swap.specs.Values.{HoldsAtMost, IsWorker, SeatValue};
 
     ghost Value = { SeatValue };
 
     ghost view = { λ s. record { table_id = s.place.table_id; known = s.place.me.0 } };
 
-    ghost invariant = { λ s. IsWorker s.place.me.0 s.held × (s.place.me.1 ≡ []) };
+    ghost invariant = { λ s. IsWorker s.place.me.0 × HoldsAtMost s.held s.place.me.0 × (s.place.me.1 ≡ []) };
 }
 
 impl WorkerSeat {
     pub(crate) fn at(place: Place) -> WorkerSeat
-        requires worker { IsWorker place.me.0 0 }
+        requires worker { IsWorker place.me.0 }
+        requires idle { IsIdle place.me.0 }
         requires bare { place.me.1 ≡ [] }
         ensures areas { result.table_id ≡ place.table_id }
         ensures known { result.known ≡ place.me.0 }
@@ -60,6 +61,7 @@ impl Areas {
         requires areas { IsOf self.now seat.old }
         requires idle { IsIdle seat.old.known }
         ensures areas { IsOf self.now seat.new }
+        ensures worker { IsWorker seat.new.known }
         ensures seat { seat.new.known ≡ reading seat.old.known result }
         ensures sees { Sees seat.old.known result }
         ensures rule { Moment seat.new.known }

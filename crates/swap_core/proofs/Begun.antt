@@ -33,9 +33,7 @@ opening_sound plan actors h =
       held = λ who x at. (right who x at).0;
       next = λ w. absurd w;
       pointed = refl;
-      rising = λ k l. absurd (omega arith);
-      reached = λ k l. absurd (omega arith);
-      in_window = λ k l. absurd (omega arith);
+      placed = record { rising = λ k l. absurd (omega arith); reached = λ k l. absurd (omega arith); inside = λ k l. absurd (omega arith) };
       each_once = λ n. nothing (times n) refl ∙ sym (ap (λ (t : Bool). let k : ℕ = cond t 1 0 in k) (le-ltb n 0 (omega arith)));
       all_drawn = nothing draw_count refl;
       under = λ who x at. (right who x at).1;

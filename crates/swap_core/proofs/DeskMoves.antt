@@ -1,19 +1,21 @@
 -- The steps of the desk: it waits, finds the spare area free, writes the next table there, and puts it into force.
-use Rattle.std.proofs.Common.{◌≡◌, ℕ, ◌+◌, ◌%◌, ◌<◌, ◌≤◌, ◌≢◌, Bool, false, cond, nat_le, List, [], ◌∷◌, ◌++◌, length, set, slice_index, subst, sym, refl, ap, ◌∙◌, arith, inl, inr, length-set, get_or-set_same, get_or-set_other}
+use Rattle.std.proofs.Common.{◌≡◌, ℕ, ◌+◌, ◌%◌, ◌<◌, ◌≤◌, ◌≢◌, Bool, false, cond, nat_le, List, [], ◌∷◌, ◌++◌, length, get_or, set, slice_index, subst, sym, refl, ap, ◌∙◌, arith, inl, inr, length-set, get_or-set_same, get_or-set_other}
 use borrow.Author.Tests.{lt-leb}
 use Rattle.std.proofs.lemmas.Bool.{cases_eq, cases_lt}
 use Rattle.std.proofs.lemmas.List.{length_push, get_or_push, get_or_append_left}
 use Rattle.std.proofs.lemmas.List.Elements.{All-weaker}
 use Rattle.std.proofs.lemmas.List.Sums.{sum_by_push}
-use Rattle.swap_core.specs.Plans.{limit, table, window, width}
+use Rattle.swap_core.specs.Plans.{always, limit, table, window, width}
+use Rattle.swap_core.specs.Points.{in_force}
 use Rattle.swap_core.specs.States.{CoreState, IsActor, area, count_of, spare, next_table, with_desk, written, published}
-use Rattle.swap_core.specs.Sound.{Sound, HoldsRightly, IsWriting, IsAtWork, IsDrawRight, Begins, BeginsWith, in_force}
+use Rattle.swap_core.specs.Sound.{Sound, HoldsRightly, IsWriting, IsAtWork, IsDrawRight, Begins, BeginsWith}
 use Rattle.swap_core.specs.declared.actors.Actor.{Actor}
 use Rattle.swap_core.specs.declared.actors.ActorState.{ActorState}
 use Rattle.swap_core.specs.declared.actors.ActorState.TheVariants.{Idle, Looked, Asks, Holds}
 use Rattle.swap_core.specs.declared.actors.DeskState.{DeskState}
 use Rattle.swap_core.specs.declared.actors.DeskState.TheVariants.{Resting, Ready, Writing}
-use Rattle.swap_core.proofs.PlanLemmas.{limit_before, limit_rises, table_fits}
+use Rattle.swap_core.specs.declared.plan.Window.{Window}
+use Rattle.swap_core.proofs.PlanLemmas.{limit_before, limit_rises, table_fits, window_at}
 use Rattle.swap_core.proofs.Moves.{counted_there}
 
 -- the desk's state changes, and nothing else
@@ -37,9 +39,7 @@ desk_moves c d h writing before held next =
       held = held;
       next = next;
       pointed = h.pointed;
-      rising = h.rising;
-      reached = h.reached;
-      in_window = h.in_window;
+      placed = h.placed;
       each_once = h.each_once;
       all_drawn = h.all_drawn;
       under = h.under;
@@ -110,9 +110,7 @@ write_sound c j h desk more =
       held = λ who x at. held x.state (h.held who x at);
       next = λ _. h.next at_work;
       pointed = h.pointed;
-      rising = h.rising;
-      reached = h.reached;
-      in_window = h.in_window;
+      placed = h.placed;
       each_once = h.each_once;
       all_drawn = h.all_drawn;
       under = h.under;
@@ -185,9 +183,7 @@ publish_sound c j h desk done =
       held = λ who x at. held x.state (h.held who x at);
       next = λ w. absurd w;
       pointed = length_push c.points c.records ∙ ap (λ (n : ℕ). n + 1) h.pointed;
-      rising = rising;
-      reached = reached;
-      in_window = in_window;
+      placed = record { rising = rising; reached = reached; inside = inside };
       each_once = h.each_once;
       all_drawn = h.all_drawn;
       under = λ who x at. All-weaker (IsDrawRight c) (IsDrawRight (published c)) older x.draws (h.under who x at);
@@ -227,36 +223,36 @@ publish_sound c j h desk done =
     rising k l =
         let inside : k < length c.points = omega (arith, longer) in
         elim (cases_lt (k + 1) (length c.points)) [
-          | inl m ↦ omega (arith, old_point k inside, old_point (k + 1) m, h.rising k m)
+          | inl m ↦ omega (arith, old_point k inside, old_point (k + 1) m, h.placed.rising k m)
           | inr m ↦
               let last : length c.points ≡ k + 1 = omega (arith, longer) in
-              omega (arith, old_point k inside, new_point (k + 1) last, h.reached k inside)
+              omega (arith, old_point k inside, new_point (k + 1) last, h.placed.reached k inside)
         ]
 
     reached : (k : ℕ) → k < length (c.points ++ c.records ∷ []) → slice_index (c.points ++ c.records ∷ []) k ≤ c.records
     reached k l =
         elim (cases_lt k (length c.points)) [
-          | inl m ↦ omega (arith, old_point k m, h.reached k m)
+          | inl m ↦ omega (arith, old_point k m, h.placed.reached k m)
           | inr m ↦ let last : length c.points ≡ k = omega (arith, longer) in omega (arith, new_point k last)
         ]
 
-    in_window : (k : ℕ) → k < length (c.points ++ c.records ∷ [])
-        → ((window c.plan (k + 1)).earliest ≤ slice_index (c.points ++ c.records ∷ []) k)
-        × (slice_index (c.points ++ c.records ∷ []) k ≤ (window c.plan (k + 1)).latest)
-    in_window k l =
+    inside : (k : ℕ) → k < length (c.points ++ c.records ∷ [])
+        → ((get_or c.plan.windows k always).earliest ≤ slice_index (c.points ++ c.records ∷ []) k)
+        × (slice_index (c.points ++ c.records ∷ []) k ≤ (get_or c.plan.windows k always).latest)
+    inside k l =
         elim (cases_lt k (length c.points)) [
-          | inl m ↦ (omega (arith, old_point k m, (h.in_window k m).0), omega (arith, old_point k m, (h.in_window k m).1))
+          | inl m ↦ (omega (arith, old_point k m, (h.placed.inside k m).0), omega (arith, old_point k m, (h.placed.inside k m).1))
           | inr m ↦
               let last : length c.points ≡ k = omega (arith, longer) in
               let now : c.version ≡ k = omega (arith, h.pointed) in
-              let due : (window c.plan (k + 1)).earliest ≤ c.records =
-              let P : ℕ → Type 0 = λ v. (window c.plan (v + 1)).earliest ≤ c.records in subst P now (h.next at_work).1 in
+              let this : window c.plan (c.version + 1) ≡ get_or c.plan.windows k always =
+              window_at c.plan c.version ∙ ap (λ (n : ℕ). get_or c.plan.windows n always) now in
+              let opens : (window c.plan (c.version + 1)).earliest ≡ (get_or c.plan.windows k always).earliest = ap (λ (w : Window). w.earliest) this in
+              let ends : (window c.plan (c.version + 1)).latest ≡ (get_or c.plan.windows k always).latest = ap (λ (w : Window). w.latest) this in
+              let due : (window c.plan (c.version + 1)).earliest ≤ c.records = (h.next at_work).1 in
               let more : c.version < length c.plan.windows = omega (arith, (h.next at_work).0, h.planned.paired) in
               let most : limit c.plan c.version ≡ (window c.plan (c.version + 1)).latest = limit_before c.plan c.version more in
-              let until : c.records ≤ (window c.plan (c.version + 1)).latest = omega (arith, h.within) in
-              let late : c.records ≤ (window c.plan (k + 1)).latest =
-              let P : ℕ → Type 0 = λ v. c.records ≤ (window c.plan (v + 1)).latest in subst P now until in
-              (omega (arith, new_point k last), omega (arith, new_point k last))
+              (omega (arith, new_point k last), omega (arith, new_point k last, h.within))
         ]
 
     older : (d : ℕ × ℕ) → IsDrawRight c d → IsDrawRight (published c) d

@@ -8,7 +8,8 @@ use Rattle.std.proofs.lemmas.List.Elements.{All-push, All-weaker}
 use Rattle.std.proofs.lemmas.List.Sums.{sum_by_push, sum_by-cons}
 use Rattle.swap_core.specs.Plans.{limit}
 use Rattle.swap_core.specs.States.{CoreState, IsActor, with_draw, drawn}
-use Rattle.swap_core.specs.Sound.{Sound, HoldsRightly, IsDrawRight, times, draw_count, once_below, in_force}
+use Rattle.swap_core.specs.Points.{in_force}
+use Rattle.swap_core.specs.Sound.{Sound, HoldsRightly, IsDrawRight, times, draw_count, once_below}
 use Rattle.swap_core.specs.declared.actors.Actor.{Actor}
 use Rattle.aftr_base.proofs.PlaceLemmas.{at_set}
 use Rattle.aftr_base.proofs.TotalLemmas.{sum_changed, sum_kept}
@@ -24,7 +25,7 @@ all_in_force (p ∷ ps) n h =
     omega (arith, sum_by-cons (λ (q : ℕ). cond (nat_le q n) 1 0) p ps)
 
 pub version_in_force : (c : CoreState) → Sound c → c.version ≡ in_force c.points c.records
-version_in_force c h = sym h.pointed ∙ sym (all_in_force c.points c.records h.reached)
+version_in_force c h = sym h.pointed ∙ sym (all_in_force c.points c.records h.placed.reached)
 
 one_more : (n r : ℕ) → (let k : ℕ = cond (eqb r n) 1 0 in k) + once_below n r ≡ once_below n (r + 1)
 one_more n r =
@@ -64,9 +65,7 @@ draws_sound c who x h at room =
       held = held;
       next = λ w. ((h.next w).0, omega (arith, (h.next w).1));
       pointed = h.pointed;
-      rising = h.rising;
-      reached = λ k l. omega (arith, h.reached k l);
-      in_window = h.in_window;
+      placed = record { rising = h.placed.rising; reached = λ k l. omega (arith, h.placed.reached k l); inside = h.placed.inside };
       each_once = once;
       all_drawn =
           let e : sum_by draw_count (set c.actors who y) + draw_count x ≡ sum_by draw_count c.actors + draw_count y =

@@ -7,4 +7,5 @@ pub mod Kept
 pub mod Laws
 pub mod Moves
 pub mod PlanLemmas
+pub mod Pointing
 pub mod Seating

@@ -1,9 +1,10 @@
 -- What follows for whoever uses the machine.
-use Rattle.std.specs.Prelude.{◌≡◌, ℕ, ◌<◌, ◌≤◌, List, ◌≢◌, All, slice_index, length, sum_by}
-use Rattle.swap_core.specs.Plans.{Tables, IsPlan, table}
-use Rattle.swap_core.specs.States.{CoreState, IsActor, area, opening, joined_by_newcomer, merged}
+use Rattle.std.specs.Prelude.{◌≡◌, ℕ, ◌+◌, ◌<◌, ◌≤◌, ◌⊎◌, List, ◌≢◌, All, slice_index, length, sum_by}
+use Rattle.swap_core.specs.Plans.{Tables, IsPlan, table, window}
+use Rattle.swap_core.specs.Points.{in_force, AreInWindows, AreAllPoints}
+use Rattle.swap_core.specs.States.{CoreState, IsActor, area, spare, opening, joined_by_newcomer, merged}
 use Rattle.swap_core.specs.Transitions.{after, after_all, yes}
-use Rattle.swap_core.specs.Sound.{Sound, in_force, times}
+use Rattle.swap_core.specs.Sound.{Sound, IsWriting, times}
 use Rattle.swap_core.specs.declared.actors.Actor.{Actor}
 use Rattle.swap_core.specs.declared.actors.ActorState.TheVariants.{Idle, Holds}
 use Rattle.swap_core.specs.declared.steps.Step.{Step}
@@ -15,10 +16,11 @@ ReadsItsTable c =
     (who a w place : ℕ) (x : Actor) → IsActor c who x → x.state ≡ Holds a w → place < length (table c.plan w)
     → after c (step.Read who place) ≡ yes c (slice_index (table c.plan w) place)
 
--- a write changes no area that anybody holds
-abbrev pub WritesWhereNobodyHolds : CoreState → Type 0
-WritesWhereNobodyHolds c =
-    (who a w : ℕ) (x : Actor) → IsActor c who x → x.state ≡ Holds a w → area (after c step.Write).core a ≡ area c a
+-- The area that is written is the spare one, which nobody holds: while the desk writes, who holds an area holds the other.
+pub record WritesWhereNobodyHolds (c : CoreState) : Type 0 where
+  pub unheld : (who a w : ℕ) (x : Actor) → IsWriting c.desk → IsActor c who x → x.state ≡ Holds a w → a ≢ spare c
+  -- No other area changes.
+  pub others : (a : ℕ) → a ≢ spare c → area (after c step.Write).core a ≡ area c a
 
 -- all actors together have drawn no number twice
 abbrev pub NoneTwice : CoreState → Type 0
@@ -45,3 +47,11 @@ abbrev pub MergeKeepsSound : Type 0
 MergeKeepsSound =
     (c : CoreState) (into from : ℕ) (x y : Actor) → Sound c → into ≢ from
     → IsActor c into x → x.state ≡ Idle → IsActor c from y → y.state ≡ Idle → Sound (merged c into x from y)
+
+-- Where no table is left, or fewer records were drawn than the next one waits for, there is a point for each window that is
+-- reached, and no other.
+abbrev pub SettledPointsAreAll : Type 0
+SettledPointsAreAll =
+    (p : Tables) (points : List ℕ) (records : ℕ) → IsPlan p → length points < length p.tables → AreInWindows p.windows points records
+    → (length p.tables ≤ length points + 1) ⊎ (records < (window p (length points + 1)).earliest)
+    → AreAllPoints p.windows points records

@@ -15,7 +15,7 @@ table p k = slice_index_or p.tables k []
 abbrev pub always : Window
 always = record { earliest = 0; latest = 2 ^ 31 }
 
--- window k
+-- window k, for k from 1
 abbrev pub window : Tables → ℕ → Window
 window p k = slice_index_or p.windows (k - 1) always
 

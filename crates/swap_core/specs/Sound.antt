@@ -1,6 +1,8 @@
 -- What holds of the state of the machine at any moment.
-use Rattle.std.specs.Prelude.{◌≡◌, ℕ, ◌+◌, ◌%◌, ◌<◌, ◌≤◌, ◌⊎◌, Bool, false, cond, ◌==◌, nat_lt, nat_le, List, length, slice_index, All, sum_by, count_by}
+use Rattle.std.specs.Prelude.{◌≡◌, ℕ, ◌+◌, ◌%◌, ◌<◌, ◌≤◌, ◌⊎◌, Bool, false, cond, ◌==◌, nat_lt, List, length, slice_index, All, sum_by, count_by}
 use Rattle.swap_core.specs.Plans.{IsPlan, table, width, limit, window}
+pub use Rattle.swap_core.specs.Points.{in_force}
+use Rattle.swap_core.specs.Points.{AreInWindows}
 use Rattle.swap_core.specs.States.{CoreState, IsActor, count_of, area, spare, next_table}
 use Rattle.swap_core.specs.declared.actors.Actor.{Actor}
 use Rattle.swap_core.specs.declared.actors.ActorState.{ActorState}
@@ -42,10 +44,6 @@ HoldsRightly c (Holds a w) = (a ≡ w % 2) × ((w ≡ c.version) ⊎ ((w + 1 ≡
 HoldsRightly c (Asks a) = a < 2
 HoldsRightly c _ = Unit {0}
 
--- how many members of the points are at most this number: the version in force at it
-abbrev pub in_force : List ℕ → ℕ → ℕ
-in_force points number = count_by (λ p. nat_le p number) points
-
 -- how often the actor has drawn the number
 abbrev pub times : ℕ → Actor → ℕ
 times number x = count_by (λ (d : ℕ × ℕ). d.0 == number) x.draws
@@ -83,10 +81,7 @@ pub record Sound (c : CoreState) : Type 0 where
   -- There is a point for each version after the first; they never fall, none is above the records drawn, and each is in
   -- its window.
   pub pointed : length c.points ≡ c.version
-  pub rising : (k : ℕ) → k + 1 < length c.points → slice_index c.points k ≤ slice_index c.points (k + 1)
-  pub reached : (k : ℕ) → k < length c.points → slice_index c.points k ≤ c.records
-  pub in_window : (k : ℕ) → k < length c.points
-      → ((window c.plan (k + 1)).earliest ≤ slice_index c.points k) × (slice_index c.points k ≤ (window c.plan (k + 1)).latest)
+  pub placed : AreInWindows c.plan.windows c.points c.records
   -- The actors have drawn each number below the records drawn once, and no other, so as many as there are.
   pub each_once : (number : ℕ) → sum_by (times number) c.actors ≡ once_below number c.records
   pub all_drawn : sum_by draw_count c.actors ≡ c.records

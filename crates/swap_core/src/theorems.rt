@@ -1,5 +1,5 @@
 // What the machine is for, as laws over its definitions: each function's contract is one, and it does nothing.
-ghost use Rattle.swap_core.specs.Laws.{DrawnInForce, MergeKeepsSound, NewcomerKeepsSound, NoneTwice, ReadsItsTable, RunsAreSound, StepsKeepSound, WritesWhereNobodyHolds};
+ghost use Rattle.swap_core.specs.Laws.{DrawnInForce, MergeKeepsSound, NewcomerKeepsSound, NoneTwice, ReadsItsTable, RunsAreSound, SettledPointsAreAll, StepsKeepSound, WritesWhereNobodyHolds};
 ghost use Rattle.swap_core.specs.Sound.{Sound};
 ghost use Rattle.swap_core.specs.States.{CoreState};
 
@@ -18,7 +18,7 @@ pub fn held_tables_are_whole()
     ensures { (c : CoreState) → Sound c → ReadsItsTable c }
 {}
 
-/// A write changes no area that an actor holds.
+/// A write goes to the area that no actor holds, and to no other.
 pub fn writes_disturb_nobody()
     ensures { (c : CoreState) → Sound c → WritesWhereNobodyHolds c }
 {}
@@ -41,4 +41,9 @@ pub fn newcomers_keep_sound()
 /// Two idle actors: that the draws of one move behind those of the other leaves a sound state sound.
 pub fn merges_keep_sound()
     ensures { MergeKeepsSound }
+{}
+
+/// Where no table is left, or fewer records were drawn than the next one waits for, each window that is reached has a point.
+pub fn settled_points_are_all()
+    ensures { SettledPointsAreAll }
 {}

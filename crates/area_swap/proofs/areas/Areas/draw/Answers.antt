@@ -30,7 +30,7 @@ returns-then-found-saw-clause-drawn c =
     let holds : HoldsOne c.seat.inside.place.me.0 =
     let P : SeatValue → Type 0 = λ s. HoldsOne s.known in subst P (sym c.seat.view_is) c.requires.holding in
     let held : c.halves-seen.result.version ≡ held_version c.seat.inside.place.me.0 =
-    c.if-in_force-seat.false ∙ sym (held_is _ _ c.seat.invariant.0 holds) in
+    c.if-in_force-seat.false ∙ sym (held_is c.seat.inside.place.me.0 _ c.seat.invariant.1 holds) in
     let lost : HasLost c.self.inside.plan c.args.end c.load-saw.result c.compare_exchange-found.result (held_version c.seat.inside.place.me.0) c.seat.inside.place.me.0 c.compare_exchange-found.new.seat.me.0 =
     lost_is c.load-saw.ensures.2 _ c.halves-seen.ensures c.compare_exchange-found.ensures.2 c.self.inside.plan c.args.end _ _ same refl
     c.if-found-saw.true held c.if-seen-end.false c.limit-limit.ensures c.if-seen-limit.false in
@@ -47,7 +47,7 @@ returns-clause-drawn c =
     let holds : HoldsOne c.seat.inside.place.me.0 =
     let P : SeatValue → Type 0 = λ s. HoldsOne s.known in subst P (sym c.seat.view_is) c.requires.holding in
     let held : c.halves-seen.result.version ≡ held_version c.seat.inside.place.me.0 =
-    c.if-in_force-seat.false ∙ sym (held_is _ _ c.seat.invariant.0 holds) in
+    c.if-in_force-seat.false ∙ sym (held_is c.seat.inside.place.me.0 _ c.seat.invariant.1 holds) in
     let taken : HasDrawn c.self.inside.plan c.args.end c.halves-seen.result.records (held_version c.seat.inside.place.me.0) c.seat.inside.place.me.0 c.compare_exchange-found.new.seat.me.0 =
     taken_is c.load-saw.ensures.2 _ c.halves-seen.ensures c.compare_exchange-found.ensures.2 c.self.inside.plan c.args.end _ _ same refl
     c.if-found-saw.false held c.if-seen-end.false c.limit-limit.ensures c.if-seen-limit.false in

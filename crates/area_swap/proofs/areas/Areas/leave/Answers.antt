@@ -12,5 +12,5 @@ fetch_sub-requires c =
       search rules,
       omega (arith, c.self.invariant.2),
       leaves _ _ _ _ (knows_plan _ _ _ _ _ _ _ c.self.view_is c.seat.view_is c.requires.areas c.self.invariant.0) (c.seat.inside.held % 2)
-          c.seat.invariant.0.shared (inr (c.seat.inside.held, holds_it _ _ c.seat.invariant.0 holds)),
+          c.seat.invariant.0.shared (inr (c.seat.inside.held, holds_it c.seat.inside.place.me.0 _ c.seat.invariant.1 holds)),
     )

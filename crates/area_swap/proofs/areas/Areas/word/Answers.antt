@@ -24,5 +24,5 @@ load-requires c =
     let in_row : c.args.j < c.self.inside.long = omega arith in (
       search rules,
       omega (arith, row_fits (c.seat.inside.held % 2) c.self.inside.long c.args.j in_two in_row, c.self.invariant.1, c.self.invariant.2),
-      reads_word _ _ _ _ plan _ _ _ c.seat.invariant.0.shared (holds_it _ _ c.seat.invariant.0 holds),
+      reads_word _ _ _ _ plan _ _ _ c.seat.invariant.0.shared (holds_it c.seat.inside.place.me.0 _ c.seat.invariant.1 holds),
     )
