@@ -1,5 +1,5 @@
 -- The steps of the desk, each as a step of the machine, or as none.
-use Rattle.std.proofs.Common.{◌≡◌, ℕ, ◌+◌, ◌*◌, ◌%◌, ◌^◌, ◌<◌, ◌≤◌, true, false, List, [], ◌∷◌, ◌++◌, length, set, slice_index, subst, sym, refl, ap, ◌∙◌, arith, inl, inr}
+use Rattle.std.proofs.Common.{◌≡◌, ℕ, ◌+◌, ◌%◌, ◌^◌, ◌<◌, ◌≤◌, true, false, List, [], ◌∷◌, ◌++◌, length, set, slice_index, subst, sym, refl, ap, ◌∙◌, arith, inl, inr}
 use mathlib.Core.Option.{some, none}
 use lib.ListN.{get_elem?}
 use Rattle.std.proofs.lemmas.Bool.{cases_eq, cases_lt}
@@ -14,6 +14,7 @@ use Rattle.swap_core.specs.declared.actors.DeskState.TheVariants.{Resting, Ready
 use Rattle.swap_core.proofs.Laws.{few_records, few_versions}
 use Rattle.swap_core.proofs.Laws.{due_sound, count_sound, write_sound, publish_sound}
 use Rattle.swap_core.proofs.Laws.{table_fits, in_window_of}
+use Rattle.area_swap.specs.Places.{version_place, claims_place, row_place}
 use Rattle.area_swap.specs.declared.answers.Seen.{Seen}
 use Rattle.area_swap.specs.declared.board.View.{View}
 use Rattle.area_swap.specs.Views.{now_of, packed, unpacked, reading, next_of, spare_of, IsUpTo}
@@ -64,19 +65,19 @@ module _ (p : Tables) (s : State (Unit {0}) View) (r : Ruled p s) (id : ℕ) (v 
   -- the next table is due
   ready_now : v.plan ≡ p → (IsWriting v.desk → ⊥) → r.core.version + 1 < length v.plan.tables
       → (window v.plan (r.core.version + 1)).earliest ≤ r.core.records
-      → Ruled p (record { words = set s.words 0 (slice_index s.words 0); homes = s.homes; views = set s.views id (record (reading v (unpacked (slice_index s.words 0))) { desk = Ready }) })
+      → Ruled p (record { words = set s.words version_place (slice_index s.words version_place); homes = s.homes; views = set s.views id (record (reading v (unpacked (slice_index s.words version_place))) { desk = Ready }) })
   ready_now same still more reached =
       let plans : v.plan ≡ r.core.plan = same ∙ sym r.same_plan in
       let More : Tables → Type 0 = λ q. r.core.version + 1 < length q.tables in
       let Reached : Tables → Type 0 = λ q. (window q (r.core.version + 1)).earliest ≤ r.core.records in
       let Still : DeskState → Type 0 = λ d. IsWriting d → ⊥ in
       let P : Seen → Type 0 =
-      λ t. Ruled p (record { words = set s.words 0 (slice_index s.words 0); homes = s.homes; views = set s.views id (record (reading v t) { desk = Ready }) }) in
+      λ t. Ruled p (record { words = set s.words version_place (slice_index s.words version_place); homes = s.homes; views = set s.views id (record (reading v t) { desk = Ready }) }) in
       let f = fits p s r id v at in
       subst P (sym (unpacks p s r id v at))
-      (seat_step p s r id v at 0 (slice_index s.words 0) (record (reading v (now_of r.core)) { desk = Ready }) (with_desk r.core Ready)
+      (seat_step p s r id v at version_place (slice_index s.words version_place) (record (reading v (now_of r.core)) { desk = Ready }) (with_desk r.core Ready)
       (due_sound r.core r.sound (subst Still shown.0 still) (subst More plans more) (subst Reached plans reached)) refl
-      (same_words p s r id v at 0) (same_actors p s r id v at) refl (λ _. (refl, shown.1)) (λ lacks. not_false lacks)
+      (same_words p s r id v at version_place) (same_actors p s r id v at) refl (λ _. (refl, shown.1)) (λ lacks. not_false lacks)
       (up_to (now_of r.core)) refl
       (record { same_plan = f.same_plan; unshared = f.unshared; seen = up_to (now_of r.core); prior = f.seen }))
 
@@ -89,19 +90,19 @@ module _ (p : Tables) (s : State (Unit {0}) View) (r : Ruled p s) (id : ℕ) (v 
       (fits_desk (now_of r.core) (record v { counted = n; counts = v.counts + 1 }) (up_to (now_of r.core)) refl refl refl refl refl refl)
 
   -- there are none, and writing begins
-  free_now : (i n : ℕ) → v.desk ≡ Ready → i ≡ 1 + spare_of v → slice_index s.words i ≡ 0
+  free_now : (i n : ℕ) → v.desk ≡ Ready → i ≡ claims_place (spare_of v) → slice_index s.words i ≡ 0
       → Ruled p (record { words = set s.words i (slice_index s.words i); homes = s.homes; views = set s.views id (record v { counted = n; counts = v.counts + 1; desk = Writing 0 }) })
   free_now i n ready place no_claims =
       let in_two : spare r.core < 2 = omega arith in
       let count : count_of r.core (spare r.core) ≡ 0 =
-      sym (r.words.claims (spare r.core) in_two) ∙ sym (ap (λ (k : ℕ). slice_index s.words k) (place ∙ ap (λ (a : ℕ). 1 + a) spare_is)) ∙ no_claims in
+      sym (r.words.claims (spare r.core) in_two) ∙ sym (ap (λ (k : ℕ). slice_index s.words k) (place ∙ ap (λ (a : ℕ). claims_place a) spare_is)) ∙ no_claims in
       seat_step p s r id v at i (slice_index s.words i) (record v { counted = n; counts = v.counts + 1; desk = Writing 0 }) (with_desk r.core (Writing 0))
       (count_sound r.core r.sound (sym shown.0 ∙ ready) count) refl (same_words p s r id v at i)
       (same_actors p s r id v at) refl (λ _. (refl, shown.1)) (λ lacks. not_false lacks) (up_to (now_of r.core)) refl
       (fits_desk (now_of r.core) (record v { counted = n; counts = v.counts + 1; desk = Writing 0 }) (up_to (now_of r.core)) refl refl refl refl refl refl)
 
   -- one word more of the next table
-  write_now : v.plan ≡ p → (j i x : ℕ) → v.desk ≡ Writing j → j < length (next_of v) → i ≡ 3 + spare_of v * width v.plan + j
+  write_now : v.plan ≡ p → (j i x : ℕ) → v.desk ≡ Writing j → j < length (next_of v) → i ≡ row_place (width v.plan) (spare_of v) + j
       → x ≡ slice_index (next_of v) j
       → Ruled p (record { words = set s.words i x; homes = s.homes; views = set s.views id (record v { desk = Writing (j + 1) }) })
   write_now same j i x writing more place word =
@@ -110,12 +111,12 @@ module _ (p : Tables) (s : State (Unit {0}) View) (r : Ruled p s) (id : ℕ) (v 
       let left : j < length (next_table r.core) = omega (arith, ap (λ (l : List ℕ). length l) (next_is same)) in
       let in_two : spare r.core < 2 = omega arith in
       let in_row : j < width r.core.plan = omega (arith, table_fits r.core.plan (r.core.version + 1)) in
-      let here : i ≡ 3 + spare r.core * width r.core.plan + j =
-      place ∙ ap (λ (a : ℕ). 3 + a * width v.plan + j) spare_is ∙ ap (λ (q : Tables). 3 + spare r.core * width q + j) plans in
+      let here : i ≡ row_place (width r.core.plan) (spare r.core) + j =
+      place ∙ ap (λ (a : ℕ). row_place (width v.plan) a + j) spare_is ∙ ap (λ (q : Tables). row_place (width q) (spare r.core) + j) plans in
       let value : x ≡ slice_index (next_table r.core) j = word ∙ ap (λ (l : List ℕ). slice_index l j) (next_is same) in
       let Here : ℕ → Type 0 = λ k. ShowsWords (set s.words k x) (written r.core j) in
-      let Value : ℕ → Type 0 = λ y. ShowsWords (set s.words (3 + spare r.core * width r.core.plan + j) y) (written r.core j) in
-      let stored : ShowsWords (set s.words (3 + spare r.core * width r.core.plan + j) (slice_index (next_table r.core) j)) (written r.core j) =
+      let Value : ℕ → Type 0 = λ y. ShowsWords (set s.words (row_place (width r.core.plan) (spare r.core) + j) y) (written r.core j) in
+      let stored : ShowsWords (set s.words (row_place (width r.core.plan) (spare r.core) + j) (slice_index (next_table r.core) j)) (written r.core j) =
       laid_row s.words _ _ _ _ r.words (spare r.core) j (slice_index (next_table r.core) j) in_two in_row r.sound.two_areas (r.sound.rows (spare r.core) in_two) in
       seat_step p s r id v at i x (record v { desk = Writing (j + 1) }) (written r.core j) (write_sound r.core j r.sound desk left) refl
       (subst Here (sym here) (subst Value (sym value) stored))
@@ -134,22 +135,22 @@ module _ (p : Tables) (s : State (Unit {0}) View) (r : Ruled p s) (id : ℕ) (v 
 
   -- the next table comes into force
   publish_now : v.plan ≡ p → v.desk ≡ Writing (length (next_of v))
-      → Ruled p (record { words = set s.words 0 ((slice_index s.words 0 + 4294967296) % 2 ^ 64); homes = s.homes; views = set s.views id (record v { desk = Resting; points = v.points ++ (unpacked (slice_index s.words 0)).records ∷ [] }) })
+      → Ruled p (record { words = set s.words version_place ((slice_index s.words version_place + 4294967296) % 2 ^ 64); homes = s.homes; views = set s.views id (record v { desk = Resting; points = v.points ++ (unpacked (slice_index s.words version_place)).records ∷ [] }) })
   publish_now same writing =
       let one_more : IsUpTo (now_of r.core) (now_of (published r.core)) = record { version = omega arith; records = omega arith } in
-      let word : (slice_index s.words 0 + 4294967296) % 2 ^ 64 ≡ packed (now_of (published r.core)) =
+      let word : (slice_index s.words version_place + 4294967296) % 2 ^ 64 ≡ packed (now_of (published r.core)) =
       omega (arith, r.words.first, few_records r.core r.sound, few_versions r.core r.sound) in
       let P : Seen → Type 0 =
-      λ t. Ruled p (record { words = set s.words 0 ((slice_index s.words 0 + 4294967296) % 2 ^ 64); homes = s.homes; views = set s.views id (record v { desk = Resting; points = v.points ++ t.records ∷ [] }) }) in
+      λ t. Ruled p (record { words = set s.words version_place ((slice_index s.words version_place + 4294967296) % 2 ^ 64); homes = s.homes; views = set s.views id (record v { desk = Resting; points = v.points ++ t.records ∷ [] }) }) in
       subst P (sym (unpacks p s r id v at))
-      (seat_step p s r id v at 0 ((slice_index s.words 0 + 4294967296) % 2 ^ 64) (record v { desk = Resting; points = v.points ++ r.core.records ∷ [] }) (published r.core)
+      (seat_step p s r id v at version_place ((slice_index s.words version_place + 4294967296) % 2 ^ 64) (record v { desk = Resting; points = v.points ++ r.core.records ∷ [] }) (published r.core)
       (sound_then same writing) refl
-      (laid_now s.words _ _ _ _ r.words ((slice_index s.words 0 + 4294967296) % 2 ^ 64) (now_of (published r.core)) word)
+      (laid_now s.words _ _ _ _ r.words ((slice_index s.words version_place + 4294967296) % 2 ^ 64) (now_of (published r.core)) word)
       (same_actors p s r id v at) refl (λ _. (refl, ap (λ (l : List ℕ). l ++ r.core.records ∷ []) shown.1)) (λ lacks. not_false lacks) one_more refl
       (fits_desk (now_of (published r.core)) (record v { desk = Resting; points = v.points ++ r.core.records ∷ [] }) one_more refl refl refl refl refl refl))
 
   -- the new point
-  records_are : (unpacked (slice_index s.words 0)).records ≡ r.core.records
+  records_are : (unpacked (slice_index s.words version_place)).records ≡ r.core.records
   records_are = ap (λ (t : Seen). t.records) (unpacks p s r id v at)
 
   next_there : v.plan ≡ p → v.desk ≡ Writing (length (next_of v)) → length v.points + 1 < length v.plan.tables
@@ -160,8 +161,8 @@ module _ (p : Tables) (s : State (Unit {0}) View) (r : Ruled p s) (id : ℕ) (v 
       omega (arith, knows_version)
 
   in_window : v.plan ≡ p → v.desk ≡ Writing (length (next_of v))
-      → ((window v.plan (length v.points + 1)).earliest ≤ (unpacked (slice_index s.words 0)).records)
-      × ((unpacked (slice_index s.words 0)).records ≤ (window v.plan (length v.points + 1)).latest)
+      → ((window v.plan (length v.points + 1)).earliest ≤ (unpacked (slice_index s.words version_place)).records)
+      × ((unpacked (slice_index s.words version_place)).records ≤ (window v.plan (length v.points + 1)).latest)
   in_window same writing =
       let after : Sound (published r.core) = sound_then same writing in
       let last : r.core.version < length (r.core.points ++ r.core.records ∷ []) = omega (arith, length_push r.core.points r.core.records, r.sound.pointed) in
@@ -174,20 +175,20 @@ module _ (p : Tables) (s : State (Unit {0}) View) (r : Ruled p s) (id : ℕ) (v 
       subst R (sym records_are) (subst N (sym knows_version) (subst W (r.same_plan ∙ sym same)
       (subst V is (in_window_of r.core.plan (r.core.points ++ r.core.records ∷ []) r.core.records after.placed r.core.version last))))
 
-  rises : (k : ℕ) → k < length v.points → slice_index v.points k ≤ (unpacked (slice_index s.words 0)).records
+  rises : (k : ℕ) → k < length v.points → slice_index v.points k ≤ (unpacked (slice_index s.words version_place)).records
   rises k l =
       let inside : k < length r.core.points = omega (arith, ap (λ (l : List ℕ). length l) shown.1) in
       let same : slice_index v.points k ≡ slice_index r.core.points k = ap (λ (l : List ℕ). slice_index l k) shown.1 in
       omega (arith, r.sound.placed.reached k inside, records_are)
 
 module _ (p : Tables) (slots id : ℕ) (me : Seated) (same : me.0.plan ≡ p) (has : me.0.has_desk ≡ true) where
-  pub finds_due : (IsWriting me.0.desk → ⊥) → Allows (Ruled p) slots id me 0 (λ n. n) (FoundDue (step slots 0 0 0 none) me)
+  pub finds_due : (IsWriting me.0.desk → ⊥) → Allows (Ruled p) slots id me version_place (λ n. n) (FoundDue (step slots version_place 0 0 none) me)
   finds_due still s r deep at range =
-      let version_is : (unpacked (slice_index s.words 0)).version ≡ r.core.version = ap (λ (t : Seen). t.version) (unpacks p s r id me.0 at) in
-      let records_is : (unpacked (slice_index s.words 0)).records ≡ r.core.records = ap (λ (t : Seen). t.records) (unpacks p s r id me.0 at) in
-      let stays : View = reading me.0 (unpacked (slice_index s.words 0)) in
-      let stays_ruled : Ruled p (record { words = set s.words 0 (slice_index s.words 0); homes = s.homes; views = set s.views id stays }) = read_now p s r id me.0 at in
-      elim (cases_lt ((unpacked (slice_index s.words 0)).version + 1) (length me.0.plan.tables)) [
+      let version_is : (unpacked (slice_index s.words version_place)).version ≡ r.core.version = ap (λ (t : Seen). t.version) (unpacks p s r id me.0 at) in
+      let records_is : (unpacked (slice_index s.words version_place)).records ≡ r.core.records = ap (λ (t : Seen). t.records) (unpacks p s r id me.0 at) in
+      let stays : View = reading me.0 (unpacked (slice_index s.words version_place)) in
+      let stays_ruled : Ruled p (record { words = set s.words version_place (slice_index s.words version_place); homes = s.homes; views = set s.views id stays }) = read_now p s r id me.0 at in
+      elim (cases_lt ((unpacked (slice_index s.words version_place)).version + 1) (length me.0.plan.tables)) [
         | inr last ↦ (
           stays,
           acts.keeps,
@@ -198,11 +199,11 @@ module _ (p : Tables) (slots id : ℕ) (me : Seated) (same : me.0.plan ≡ p) (h
             later = λ more few. refl;
             ready = λ more reached. absurd (omega arith);
             sees = sees_word p s r id me.0 at same;
-            now = moment_after p s r id me.0 at 0 (slice_index s.words 0) stays same stays_ruled;
+            now = moment_after p s r id me.0 at version_place (slice_index s.words version_place) stays same stays_ruled;
           },
         )
         | inl more ↦
-            elim (cases_lt (unpacked (slice_index s.words 0)).records (window me.0.plan ((unpacked (slice_index s.words 0)).version + 1)).earliest) [
+            elim (cases_lt (unpacked (slice_index s.words version_place)).records (window me.0.plan ((unpacked (slice_index s.words version_place)).version + 1)).earliest) [
               | inl few ↦ (
                 stays,
                 acts.keeps,
@@ -213,14 +214,14 @@ module _ (p : Tables) (slots id : ℕ) (me : Seated) (same : me.0.plan ≡ p) (h
                   later = λ _ _. refl;
                   ready = λ _ reached. absurd (omega arith);
                   sees = sees_word p s r id me.0 at same;
-                  now = moment_after p s r id me.0 at 0 (slice_index s.words 0) stays same stays_ruled;
+                  now = moment_after p s r id me.0 at version_place (slice_index s.words version_place) stays same stays_ruled;
                 },
               )
               | inr reached ↦
-                  let w : View = record (reading me.0 (unpacked (slice_index s.words 0))) { desk = Ready } in
-                  let N : ℕ → Type 0 = λ n. (window me.0.plan (n + 1)).earliest ≤ (unpacked (slice_index s.words 0)).records in
-                  let until : (window me.0.plan (r.core.version + 1)).earliest ≤ (unpacked (slice_index s.words 0)).records = subst N version_is reached in
-                  let ruled : Ruled p (record { words = set s.words 0 (slice_index s.words 0); homes = s.homes; views = set s.views id w }) =
+                  let w : View = record (reading me.0 (unpacked (slice_index s.words version_place))) { desk = Ready } in
+                  let N : ℕ → Type 0 = λ n. (window me.0.plan (n + 1)).earliest ≤ (unpacked (slice_index s.words version_place)).records in
+                  let until : (window me.0.plan (r.core.version + 1)).earliest ≤ (unpacked (slice_index s.words version_place)).records = subst N version_is reached in
+                  let ruled : Ruled p (record { words = set s.words version_place (slice_index s.words version_place); homes = s.homes; views = set s.views id w }) =
                   ready_now p s r id me.0 at has same still (omega arith) (omega arith) in (
                     w,
                     acts.keeps,
@@ -231,13 +232,13 @@ module _ (p : Tables) (slots id : ℕ) (me : Seated) (same : me.0.plan ≡ p) (h
                       later = λ _ few. absurd (omega arith);
                       ready = λ _ _. refl;
                       sees = sees_word p s r id me.0 at same;
-                      now = moment_after p s r id me.0 at 0 (slice_index s.words 0) w same ruled;
+                      now = moment_after p s r id me.0 at version_place (slice_index s.words version_place) w same ruled;
                     },
                   )
             ]
       ]
 
-  pub counts_claims : (i : ℕ) → me.0.desk ≡ Ready → i ≡ 1 + spare_of me.0 → Allows (Ruled p) slots id me i (λ n. n) (ReadClaims (step slots i 0 0 none) me)
+  pub counts_claims : (i : ℕ) → me.0.desk ≡ Ready → i ≡ claims_place (spare_of me.0) → Allows (Ruled p) slots id me i (λ n. n) (ReadClaims (step slots i 0 0 none) me)
   counts_claims i ready place s r deep at range =
       elim (cases_eq (slice_index s.words i) 0) [
         | inl no_claims ↦
@@ -272,7 +273,7 @@ module _ (p : Tables) (slots id : ℕ) (me : Seated) (same : me.0.plan ≡ p) (h
             )
       ]
 
-  pub writes_word : (j i x : ℕ) → me.0.desk ≡ Writing j → j < length (next_of me.0) → i ≡ 3 + spare_of me.0 * width me.0.plan + j
+  pub writes_word : (j i x : ℕ) → me.0.desk ≡ Writing j → j < length (next_of me.0) → i ≡ row_place (width me.0.plan) (spare_of me.0) + j
       → x ≡ slice_index (next_of me.0) j → Allows (Ruled p) slots id me i (λ _. x) (λ _. Wrote (step slots i x 0 none) me x)
   writes_word j i x writing more place word s r deep at range =
       let ruled = write_now p s r id me.0 at has same j i x writing more place word in (
@@ -289,10 +290,10 @@ module _ (p : Tables) (slots id : ℕ) (me : Seated) (same : me.0.plan ≡ p) (h
       )
 
   pub publishes : me.0.desk ≡ Writing (length (next_of me.0))
-      → Allows (Ruled p) slots id me 0 (λ n. (n + 4294967296) % 2 ^ 64) (Published (step slots 0 4294967296 0 none) me)
+      → Allows (Ruled p) slots id me version_place (λ n. (n + 4294967296) % 2 ^ 64) (Published (step slots version_place 4294967296 0 none) me)
   publishes writing s r deep at range =
-      let w : View = record me.0 { desk = Resting; points = me.0.points ++ (unpacked (slice_index s.words 0)).records ∷ [] } in
-      let ruled : Ruled p (record { words = set s.words 0 ((slice_index s.words 0 + 4294967296) % 2 ^ 64); homes = s.homes; views = set s.views id w }) =
+      let w : View = record me.0 { desk = Resting; points = me.0.points ++ (unpacked (slice_index s.words version_place)).records ∷ [] } in
+      let ruled : Ruled p (record { words = set s.words version_place ((slice_index s.words version_place + 4294967296) % 2 ^ 64); homes = s.homes; views = set s.views id w }) =
       publish_now p s r id me.0 at has same writing in (
         w,
         acts.keeps,
@@ -304,6 +305,6 @@ module _ (p : Tables) (slots id : ℕ) (me : Seated) (same : me.0.plan ≡ p) (h
           there = next_there p s r id me.0 at has same writing;
           in_window = in_window p s r id me.0 at has same writing;
           rises = rises p s r id me.0 at has;
-          now = moment_after p s r id me.0 at 0 ((slice_index s.words 0 + 4294967296) % 2 ^ 64) w same ruled;
+          now = moment_after p s r id me.0 at version_place ((slice_index s.words version_place + 4294967296) % 2 ^ 64) w same ruled;
         },
       )

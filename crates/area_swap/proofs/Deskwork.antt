@@ -1,11 +1,12 @@
 -- What the steps of the desk make of its seat, from what each of them told.
-use Rattle.std.proofs.Common.{◌≡◌, ◌⊎◌, ℕ, ◌+◌, ◌*◌, ◌<◌, ◌≤◌, true, List, length, slice_index, subst, sym, refl, ap, ◌∙◌, arith, inl, inr}
+use Rattle.std.proofs.Common.{◌≡◌, ◌⊎◌, ℕ, ◌+◌, ◌<◌, ◌≤◌, true, List, length, slice_index, subst, sym, refl, ap, ◌∙◌, arith, inl, inr}
 use mathlib.Core.Option.{none}
 use Rattle.atomic_table.specs.Table.{Allows, step}
 use Rattle.swap_core.specs.Plans.{Tables, width, window}
 use Rattle.swap_core.specs.Sound.{IsWriting, IsAtWork}
 use Rattle.swap_core.specs.declared.actors.DeskState.{DeskState}
 use Rattle.swap_core.specs.declared.actors.DeskState.TheVariants.{Resting, Ready, Writing}
+use Rattle.area_swap.specs.Places.{row_place}
 use Rattle.area_swap.specs.declared.answers.Seen.{Seen}
 use Rattle.area_swap.specs.Views.{unpacked, reading, next_of, spare_of}
 use Rattle.area_swap.specs.Rule.{Ruled, Sees}
@@ -85,7 +86,7 @@ abbrev pub writing_at : Seated → ℕ → Seated
 writing_at m j = (record m.0 { desk = Writing j }, m.1)
 
 pub may_write : (p : Tables) (slots id : ℕ) (m0 me : Seated) (j row x : ℕ) (words : List ℕ) → me ≡ writing_at m0 j → m0.0.plan ≡ p
-    → m0.0.has_desk ≡ true → words ≡ next_of m0.0 → j < length words → row ≡ 3 + spare_of m0.0 * width m0.0.plan
+    → m0.0.has_desk ≡ true → words ≡ next_of m0.0 → j < length words → row ≡ row_place (width m0.0.plan) (spare_of m0.0)
     → x ≡ slice_index words j
     → Allows (Ruled p) slots id me (row + j) (λ _. x) (λ _. Wrote (step slots (row + j) x 0 none) me x)
 may_write p slots id m0 me j row x words e plan has next more place word =

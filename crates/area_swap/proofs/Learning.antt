@@ -15,6 +15,7 @@ use Rattle.swap_core.specs.declared.actors.ActorState.TheVariants.{Holds}
 use Rattle.swap_core.specs.declared.actors.DeskState.{DeskState}
 use Rattle.swap_core.proofs.Laws.{few_records, few_versions}
 use Rattle.swap_core.proofs.Laws.{weight}
+use Rattle.area_swap.specs.Places.{version_place, claims_place}
 use Rattle.area_swap.specs.declared.board.View.{View}
 use Rattle.area_swap.specs.Views.{now_of, unpacked, spare_of}
 use Rattle.area_swap.specs.Rule.{Ruled, Sees, SeesClaims, IsDrawnBy, actor_of, share_of}
@@ -120,14 +121,14 @@ module _ (p : Tables) (s : State (Unit {0}) View) (r : Ruled p s) where
           small = few_records r.core r.sound;
         }
 
-    pub unpacks : unpacked (slice_index s.words 0) ≡ now_of r.core
+    pub unpacks : unpacked (slice_index s.words version_place) ≡ now_of r.core
     unpacks =
-        unpack_packed (slice_index s.words 0) (now_of r.core) r.words.first (omega (arith, few_records r.core r.sound))
+        unpack_packed (slice_index s.words version_place) (now_of r.core) r.words.first (omega (arith, few_records r.core r.sound))
 
-    pub sees_word : v.plan ≡ p → Sees v (unpacked (slice_index s.words 0))
+    pub sees_word : v.plan ≡ p → Sees v (unpacked (slice_index s.words version_place))
     sees_word same = subst (Sees v) (sym unpacks) (sees_now same)
 
-    pub sees_claims : v.plan ≡ p → (i : ℕ) → i ≡ 1 + spare_of v → SeesClaims v (slice_index s.words i)
+    pub sees_claims : v.plan ≡ p → (i : ℕ) → i ≡ claims_place (spare_of v) → SeesClaims v (slice_index s.words i)
     sees_claims same i place =
         record {
           moment = record { board = s; ruled = ruled_as p s r id v at same; seat = id; sits = at };

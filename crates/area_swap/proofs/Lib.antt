@@ -1,4 +1,5 @@
 pub mod Members
+pub mod Apart
 pub mod Packing
 pub mod Keeping
 pub mod Learning

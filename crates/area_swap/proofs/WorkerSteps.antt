@@ -1,5 +1,5 @@
 -- The steps of a worker's seat, each as a step of the machine, or as none.
-use Rattle.std.proofs.Common.{◌≡◌, ℕ, ◌+◌, ◌-◌, ◌*◌, ◌%◌, ◌^◌, ◌<◌, ◌≤◌, Bool, true, false, eqb, length, set, slice_index, subst, sym, refl, ap, ◌∙◌, arith, inl, inr, eq-eqb, ne_eqb}
+use Rattle.std.proofs.Common.{◌≡◌, ℕ, ◌+◌, ◌-◌, ◌%◌, ◌^◌, ◌<◌, ◌≤◌, Bool, true, false, eqb, length, set, slice_index, subst, sym, refl, ap, ◌∙◌, arith, inl, inr, eq-eqb, ne_eqb}
 use prog.Atomic.{either}
 use mathlib.Core.Option.{some, none}
 use lib.ListN.{get_elem?}
@@ -15,6 +15,7 @@ use Rattle.swap_core.proofs.Laws.{few_records}
 use Rattle.swap_core.proofs.Laws.{draws_sound}
 use Rattle.swap_core.proofs.Laws.{looks_sound, enters_sound, confirms_sound, leaves_sound, claimed_area, counted_there, reads_whole}
 use Rattle.swap_core.proofs.Laws.{table_fits}
+use Rattle.area_swap.specs.Places.{version_place, claims_place, row_place}
 use Rattle.area_swap.specs.declared.answers.Seen.{Seen}
 use Rattle.area_swap.specs.declared.board.View.{View}
 use Rattle.area_swap.specs.Views.{now_of, packed, unpacked, acting, reading, taking, IsUpTo}
@@ -37,36 +38,36 @@ module _ (p : Tables) (s : State (Unit {0}) View) (r : Ruled p s) (id : ℕ) (v 
       record { same_plan = f.same_plan; unshared = λ none. absurd (omega arith); seen = f.seen; prior = f.prior }
 
   -- the version word is read, and the machine stays
-  pub read_now : Ruled p (record { words = set s.words 0 (slice_index s.words 0); homes = s.homes; views = set s.views id (reading v (unpacked (slice_index s.words 0))) })
+  pub read_now : Ruled p (record { words = set s.words version_place (slice_index s.words version_place); homes = s.homes; views = set s.views id (reading v (unpacked (slice_index s.words version_place))) })
   read_now =
       let P : Seen → Type 0 =
-      λ t. Ruled p (record { words = set s.words 0 (slice_index s.words 0); homes = s.homes; views = set s.views id (reading v t) }) in
+      λ t. Ruled p (record { words = set s.words version_place (slice_index s.words version_place); homes = s.homes; views = set s.views id (reading v t) }) in
       subst P (sym (unpacks p s r id v at))
-      (seat_step p s r id v at 0 (slice_index s.words 0) (reading v (now_of r.core)) r.core r.sound refl (same_words p s r id v at 0)
+      (seat_step p s r id v at version_place (slice_index s.words version_place) (reading v (now_of r.core)) r.core r.sound refl (same_words p s r id v at version_place)
       (same_actors p s r id v at) refl (shows_desk p s r id v at) (λ _. (refl, refl)) (up_to (now_of r.core)) refl fits_reading)
 
   -- an idle worker reads the version, and will claim its area
   look_now : 0 < v.share → v.actor.state ≡ Idle
-      → Ruled p (record { words = set s.words 0 (slice_index s.words 0); homes = s.homes; views = set s.views id (acting (reading v (unpacked (slice_index s.words 0))) (Looked (unpacked (slice_index s.words 0)).version)) })
+      → Ruled p (record { words = set s.words version_place (slice_index s.words version_place); homes = s.homes; views = set s.views id (acting (reading v (unpacked (slice_index s.words version_place))) (Looked (unpacked (slice_index s.words version_place)).version)) })
   look_now shared idle =
       let P : Seen → Type 0 =
-      λ t. Ruled p (record { words = set s.words 0 (slice_index s.words 0); homes = s.homes; views = set s.views id (acting (reading v t) (Looked t.version)) }) in
+      λ t. Ruled p (record { words = set s.words version_place (slice_index s.words version_place); homes = s.homes; views = set s.views id (acting (reading v t) (Looked t.version)) }) in
       subst P (sym (unpacks p s r id v at))
-      (seat_step p s r id v at 0 (slice_index s.words 0) (acting (reading v (now_of r.core)) (Looked r.core.version))
-      (looked r.core id v.actor) (looks_sound r.core id v.actor r.sound (actor_at p s r id v at) idle) refl (same_words p s r id v at 0)
+      (seat_step p s r id v at version_place (slice_index s.words version_place) (acting (reading v (now_of r.core)) (Looked r.core.version))
+      (looked r.core id v.actor) (looks_sound r.core id v.actor r.sound (actor_at p s r id v at) idle) refl (same_words p s r id v at version_place)
       refl refl (shows_desk p s r id v at) (λ _. (refl, refl)) (up_to (now_of r.core)) refl
       (fits_acting (now_of r.core) (reading v (now_of r.core)) (Looked r.core.version) shared fits_reading))
 
   -- the version read stands in the area that is asked for
   confirm_now : (a : ℕ) → 0 < v.share → v.actor.state ≡ Asks a → r.core.version % 2 ≡ a
-      → Ruled p (record { words = set s.words 0 (slice_index s.words 0); homes = s.homes; views = set s.views id (acting (reading v (unpacked (slice_index s.words 0))) (Holds a (unpacked (slice_index s.words 0)).version)) })
+      → Ruled p (record { words = set s.words version_place (slice_index s.words version_place); homes = s.homes; views = set s.views id (acting (reading v (unpacked (slice_index s.words version_place))) (Holds a (unpacked (slice_index s.words version_place)).version)) })
   confirm_now a shared asks same =
       let P : Seen → Type 0 =
-      λ t. Ruled p (record { words = set s.words 0 (slice_index s.words 0); homes = s.homes; views = set s.views id (acting (reading v t) (Holds a t.version)) }) in
+      λ t. Ruled p (record { words = set s.words version_place (slice_index s.words version_place); homes = s.homes; views = set s.views id (acting (reading v t) (Holds a t.version)) }) in
       subst P (sym (unpacks p s r id v at))
-      (seat_step p s r id v at 0 (slice_index s.words 0) (acting (reading v (now_of r.core)) (Holds a r.core.version))
+      (seat_step p s r id v at version_place (slice_index s.words version_place) (acting (reading v (now_of r.core)) (Holds a r.core.version))
       (confirmed r.core id v.actor a) (confirms_sound r.core id v.actor a r.sound (actor_at p s r id v at) asks same) refl
-      (same_words p s r id v at 0) refl refl (shows_desk p s r id v at) (λ _. (refl, refl)) (up_to (now_of r.core)) refl
+      (same_words p s r id v at version_place) refl refl (shows_desk p s r id v at) (λ _. (refl, refl)) (up_to (now_of r.core)) refl
       (fits_acting (now_of r.core) (reading v (now_of r.core)) (Holds a r.core.version) shared fits_reading))
 
   fits_still : (x : ActorState) → 0 < v.share → IsLawfulView p (now_of r.core) (acting v x)
@@ -74,34 +75,34 @@ module _ (p : Tables) (s : State (Unit {0}) View) (r : Ruled p s) (id : ℕ) (v 
 
   -- one claim more on an area
   enter_now : (version : ℕ) → 0 < v.share → v.actor.state ≡ Looked version
-      → Ruled p (record { words = set s.words (1 + version % 2) ((slice_index s.words (1 + version % 2) + 1) % 2 ^ 64); homes = s.homes; views = set s.views id (acting v (Asks (version % 2))) })
+      → Ruled p (record { words = set s.words (claims_place (version % 2)) ((slice_index s.words (claims_place (version % 2)) + 1) % 2 ^ 64); homes = s.homes; views = set s.views id (acting v (Asks (version % 2))) })
   enter_now version shared looks =
       let a : ℕ = version % 2 in
       let la : version % 2 < 2 = omega arith in
-      let was : slice_index s.words (1 + version % 2) ≡ count_of r.core (version % 2) = r.words.claims (version % 2) la in
+      let was : slice_index s.words (claims_place (version % 2)) ≡ count_of r.core (version % 2) = r.words.claims (version % 2) la in
       let few : count_of r.core (version % 2) ≤ 65536 = few_claims p s r (version % 2) la in
-      let more : (slice_index s.words (1 + version % 2) + 1) % 2 ^ 64 ≡ count_of r.core (version % 2) + 1 = omega arith in
+      let more : (slice_index s.words (claims_place (version % 2)) + 1) % 2 ^ 64 ≡ count_of r.core (version % 2) + 1 = omega arith in
       let P : ℕ → Type 0 =
-      λ x. Ruled p (record { words = set s.words (1 + version % 2) x; homes = s.homes; views = set s.views id (acting v (Asks (version % 2))) }) in
+      λ x. Ruled p (record { words = set s.words (claims_place (version % 2)) x; homes = s.homes; views = set s.views id (acting v (Asks (version % 2))) }) in
       subst P (sym more)
-      (seat_step p s r id v at (1 + version % 2) (count_of r.core (version % 2) + 1) (acting v (Asks (version % 2)))
+      (seat_step p s r id v at (claims_place (version % 2)) (count_of r.core (version % 2) + 1) (acting v (Asks (version % 2)))
       (entered r.core id v.actor (version % 2)) (enters_sound r.core id v.actor version r.sound (actor_at p s r id v at) looks) refl
       (laid_claims s.words _ _ _ _ r.words (version % 2) (count_of r.core (version % 2) + 1) la r.sound.two_counts)
       refl refl (shows_desk p s r id v at) (λ _. (refl, refl)) (up_to (now_of r.core)) refl (fits_still (Asks (version % 2)) shared))
 
   -- one claim less on an area
   leave_now : (a : ℕ) → 0 < v.share → HasClaimed a v.actor.state
-      → Ruled p (record { words = set s.words (1 + a) ((slice_index s.words (1 + a) + (2 ^ 64 - 1)) % 2 ^ 64); homes = s.homes; views = set s.views id (acting v Idle) })
+      → Ruled p (record { words = set s.words (claims_place a) ((slice_index s.words (claims_place a) + (2 ^ 64 - 1)) % 2 ^ 64); homes = s.homes; views = set s.views id (acting v Idle) })
   leave_now a shared has =
       let la : a < 2 = claimed_area r.core id v.actor a r.sound (actor_at p s r id v at) has in
-      let was : slice_index s.words (1 + a) ≡ count_of r.core a = r.words.claims a la in
+      let was : slice_index s.words (claims_place a) ≡ count_of r.core a = r.words.claims a la in
       let few : count_of r.core a ≤ 65536 = few_claims p s r a la in
       let some_one : 1 ≤ count_of r.core a = counted_there r.core id v.actor a r.sound (actor_at p s r id v at) has in
-      let less : (slice_index s.words (1 + a) + (2 ^ 64 - 1)) % 2 ^ 64 ≡ count_of r.core a - 1 = omega arith in
+      let less : (slice_index s.words (claims_place a) + (2 ^ 64 - 1)) % 2 ^ 64 ≡ count_of r.core a - 1 = omega arith in
       let P : ℕ → Type 0 =
-      λ x. Ruled p (record { words = set s.words (1 + a) x; homes = s.homes; views = set s.views id (acting v Idle) }) in
+      λ x. Ruled p (record { words = set s.words (claims_place a) x; homes = s.homes; views = set s.views id (acting v Idle) }) in
       subst P (sym less)
-      (seat_step p s r id v at (1 + a) (count_of r.core a - 1) (acting v Idle) (gone r.core id v.actor a)
+      (seat_step p s r id v at (claims_place a) (count_of r.core a - 1) (acting v Idle) (gone r.core id v.actor a)
       (leaves_sound r.core id v.actor a r.sound (actor_at p s r id v at) has) refl
       (laid_claims s.words _ _ _ _ r.words a (count_of r.core a - 1) la r.sound.two_counts)
       refl refl (shows_desk p s r id v at) (λ _. (refl, refl)) (up_to (now_of r.core)) refl (fits_still Idle shared))
@@ -117,7 +118,7 @@ module _ (p : Tables) (s : State (Unit {0}) View) (r : Ruled p s) (id : ℕ) (v 
 
   -- and is the word of the held table
   word_is : (a w : ℕ) → v.plan ≡ p → v.actor.state ≡ Holds a w → (j : ℕ) → j < length (table v.plan w)
-      → slice_index s.words (3 + a * width v.plan + j) ≡ slice_index (table v.plan w) j
+      → slice_index s.words (row_place (width v.plan) a + j) ≡ slice_index (table v.plan w) j
   word_is a w same holds j inside =
       let plans : r.core.plan ≡ v.plan = r.same_plan ∙ sym same in
       let right : HoldsRightly r.core (Holds a w) = subst (HoldsRightly r.core) holds (r.sound.held id v.actor (actor_at p s r id v at)) in
@@ -125,58 +126,58 @@ module _ (p : Tables) (s : State (Unit {0}) View) (r : Ruled p s) (id : ℕ) (v 
       let Inside : Tables → Type 0 = λ q. j < length (table q w) in
       let in_table : j < length (table r.core.plan w) = subst Inside (sym plans) inside in
       let in_row : j < width r.core.plan = omega (arith, table_fits r.core.plan w) in
-      let Word : Tables → Type 0 = λ q. slice_index s.words (3 + a * width q + j) ≡ slice_index (table q w) j in
-      let here : slice_index s.words (3 + a * width r.core.plan + j) ≡ slice_index (table r.core.plan w) j =
+      let Word : Tables → Type 0 = λ q. slice_index s.words (row_place (width q) a + j) ≡ slice_index (table q w) j in
+      let here : slice_index s.words (row_place (width r.core.plan) a + j) ≡ slice_index (table r.core.plan w) j =
       r.words.rows a j la in_row ∙ reads_whole r.core id v.actor a w r.sound (actor_at p s r id v at) holds j in_table in
       subst Word plans here
 
   -- the next number is the seat's
-  draw_now : (old : ℕ) → 0 < v.share → slice_index s.words 0 ≡ old → r.core.records < limit r.core.plan r.core.version
-      → Ruled p (record { words = set s.words 0 (old + 1); homes = s.homes; views = set s.views id (taking (reading v (unpacked (slice_index s.words 0))) (unpacked (slice_index s.words 0)).records (unpacked (slice_index s.words 0)).version) })
+  draw_now : (old : ℕ) → 0 < v.share → slice_index s.words version_place ≡ old → r.core.records < limit r.core.plan r.core.version
+      → Ruled p (record { words = set s.words version_place (old + 1); homes = s.homes; views = set s.views id (taking (reading v (unpacked (slice_index s.words version_place))) (unpacked (slice_index s.words version_place)).records (unpacked (slice_index s.words version_place)).version) })
   draw_now old shared found room =
       let P : Seen → Type 0 =
-      λ t. Ruled p (record { words = set s.words 0 (old + 1); homes = s.homes; views = set s.views id (taking (reading v t) t.records t.version) }) in
+      λ t. Ruled p (record { words = set s.words version_place (old + 1); homes = s.homes; views = set s.views id (taking (reading v t) t.records t.version) }) in
       let f = fits p s r id v at in
       let one_more : IsUpTo (now_of r.core) (now_of (drawn r.core id v.actor)) = record { version = omega arith; records = omega arith } in
       let word : old + 1 ≡ packed (now_of (drawn r.core id v.actor)) = omega (arith, r.words.first) in
       subst P (sym (unpacks p s r id v at))
-      (seat_step p s r id v at 0 (old + 1) (taking (reading v (now_of r.core)) r.core.records r.core.version)
+      (seat_step p s r id v at version_place (old + 1) (taking (reading v (now_of r.core)) r.core.records r.core.version)
       (drawn r.core id v.actor) (draws_sound r.core id v.actor r.sound (actor_at p s r id v at) room) refl
       (laid_now s.words _ _ _ _ r.words (old + 1) (now_of (drawn r.core id v.actor)) word)
       refl refl (shows_desk p s r id v at) (λ _. (refl, refl)) one_more refl
       (record { same_plan = f.same_plan; unshared = λ none. absurd (omega arith); seen = one_more; prior = f.seen }))
 
 module _ (p : Tables) (slots id : ℕ) (me : Seated) (same : me.0.plan ≡ p) where
-  pub glances : Allows (Ruled p) slots id me 0 (λ n. n) (Glanced (step slots 0 0 0 none) me)
+  pub glances : Allows (Ruled p) slots id me version_place (λ n. n) (Glanced (step slots version_place 0 0 none) me)
   glances s r deep at range = (
-    reading me.0 (unpacked (slice_index s.words 0)),
+    reading me.0 (unpacked (slice_index s.words version_place)),
     acts.keeps,
     tt,
     read_now p s r id me.0 at,
     record {
       after = refl;
       sees = sees_word p s r id me.0 at same;
-      now = moment_after p s r id me.0 at 0 (slice_index s.words 0) (reading me.0 (unpacked (slice_index s.words 0))) same (read_now p s r id me.0 at);
+      now = moment_after p s r id me.0 at version_place (slice_index s.words version_place) (reading me.0 (unpacked (slice_index s.words version_place))) same (read_now p s r id me.0 at);
     },
   )
 
-  pub looks : 0 < me.0.share → me.0.actor.state ≡ Idle → Allows (Ruled p) slots id me 0 (λ n. n) (LookedAt (step slots 0 0 0 none) me)
+  pub looks : 0 < me.0.share → me.0.actor.state ≡ Idle → Allows (Ruled p) slots id me version_place (λ n. n) (LookedAt (step slots version_place 0 0 none) me)
   looks shared idle s r deep at range =
       let ruled = look_now p s r id me.0 at shared idle in (
-        acting (reading me.0 (unpacked (slice_index s.words 0))) (Looked (unpacked (slice_index s.words 0)).version),
+        acting (reading me.0 (unpacked (slice_index s.words version_place))) (Looked (unpacked (slice_index s.words version_place)).version),
         acts.keeps,
         tt,
         ruled,
         record {
           after = refl;
           sees = sees_word p s r id me.0 at same;
-          now = moment_after p s r id me.0 at 0 (slice_index s.words 0) (acting (reading me.0 (unpacked (slice_index s.words 0))) (Looked (unpacked (slice_index s.words 0)).version)) same ruled;
+          now = moment_after p s r id me.0 at version_place (slice_index s.words version_place) (acting (reading me.0 (unpacked (slice_index s.words version_place))) (Looked (unpacked (slice_index s.words version_place)).version)) same ruled;
         },
       )
 
-  pub enters : (version : ℕ) → 0 < me.0.share → me.0.actor.state ≡ Looked version
-      → Allows (Ruled p) slots id me (1 + version % 2) (λ n. (n + 1) % 2 ^ 64) (Entered (step slots (1 + version % 2) 1 0 none) me)
-  enters version shared looks s r deep at range =
+  enters_there : (version : ℕ) → 0 < me.0.share → me.0.actor.state ≡ Looked version
+      → Allows (Ruled p) slots id me (claims_place (version % 2)) (λ n. (n + 1) % 2 ^ 64) (Entered (step slots (claims_place (version % 2)) 1 0 none) me)
+  enters_there version shared looks s r deep at range =
       let ruled = enter_now p s r id me.0 at version shared looks in (
         acting me.0 (Asks (version % 2)),
         acts.keeps,
@@ -186,13 +187,19 @@ module _ (p : Tables) (slots id : ℕ) (me : Seated) (same : me.0.plan ≡ p) wh
           version = version;
           looked = looks;
           after = refl;
-          now = moment_after p s r id me.0 at (1 + version % 2) ((slice_index s.words (1 + version % 2) + 1) % 2 ^ 64) (acting me.0 (Asks (version % 2))) same ruled;
+          now = moment_after p s r id me.0 at (claims_place (version % 2)) ((slice_index s.words (claims_place (version % 2)) + 1) % 2 ^ 64) (acting me.0 (Asks (version % 2))) same ruled;
         },
       )
 
-  pub leaves : (a : ℕ) → 0 < me.0.share → HasClaimed a me.0.actor.state
-      → Allows (Ruled p) slots id me (1 + a) (λ n. (n + (2 ^ 64 - 1)) % 2 ^ 64) (LeftIt (step slots (1 + a) 1 0 none) me)
-  leaves a shared has s r deep at range =
+  pub enters : (version i : ℕ) → i ≡ claims_place (version % 2) → 0 < me.0.share → me.0.actor.state ≡ Looked version
+      → Allows (Ruled p) slots id me i (λ n. (n + 1) % 2 ^ 64) (Entered (step slots i 1 0 none) me)
+  enters version i here shared looks =
+      let P : ℕ → Type 0 = λ k. Allows (Ruled p) slots id me k (λ n. (n + 1) % 2 ^ 64) (Entered (step slots k 1 0 none) me) in
+      subst P (sym here) (enters_there version shared looks)
+
+  leaves_there : (a : ℕ) → 0 < me.0.share → HasClaimed a me.0.actor.state
+      → Allows (Ruled p) slots id me (claims_place a) (λ n. (n + (2 ^ 64 - 1)) % 2 ^ 64) (LeftIt (step slots (claims_place a) 1 0 none) me)
+  leaves_there a shared has s r deep at range =
       let ruled = leave_now p s r id me.0 at a shared has in (
         acting me.0 Idle,
         acts.keeps,
@@ -200,19 +207,25 @@ module _ (p : Tables) (slots id : ℕ) (me : Seated) (same : me.0.plan ≡ p) wh
         ruled,
         record {
           after = refl;
-          now = moment_after p s r id me.0 at (1 + a) ((slice_index s.words (1 + a) + (2 ^ 64 - 1)) % 2 ^ 64) (acting me.0 Idle) same ruled;
+          now = moment_after p s r id me.0 at (claims_place a) ((slice_index s.words (claims_place a) + (2 ^ 64 - 1)) % 2 ^ 64) (acting me.0 Idle) same ruled;
         },
       )
 
-  pub confirms : (a : ℕ) → 0 < me.0.share → me.0.actor.state ≡ Asks a → Allows (Ruled p) slots id me 0 (λ n. n) (Confirmed (step slots 0 0 0 none) me)
+  pub leaves : (a i : ℕ) → i ≡ claims_place a → 0 < me.0.share → HasClaimed a me.0.actor.state
+      → Allows (Ruled p) slots id me i (λ n. (n + (2 ^ 64 - 1)) % 2 ^ 64) (LeftIt (step slots i 1 0 none) me)
+  leaves a i here shared has =
+      let P : ℕ → Type 0 = λ k. Allows (Ruled p) slots id me k (λ n. (n + (2 ^ 64 - 1)) % 2 ^ 64) (LeftIt (step slots k 1 0 none) me) in
+      subst P (sym here) (leaves_there a shared has)
+
+  pub confirms : (a : ℕ) → 0 < me.0.share → me.0.actor.state ≡ Asks a → Allows (Ruled p) slots id me version_place (λ n. n) (Confirmed (step slots version_place 0 0 none) me)
   confirms a shared asks s r deep at range =
-      let n : ℕ = slice_index s.words 0 in
-      let version_is : (unpacked (slice_index s.words 0)).version ≡ r.core.version = ap (λ (t : Seen). t.version) (unpacks p s r id me.0 at) in
-      elim (cases_eq ((unpacked (slice_index s.words 0)).version % 2) a) [
+      let n : ℕ = slice_index s.words version_place in
+      let version_is : (unpacked (slice_index s.words version_place)).version ≡ r.core.version = ap (λ (t : Seen). t.version) (unpacks p s r id me.0 at) in
+      elim (cases_eq ((unpacked (slice_index s.words version_place)).version % 2) a) [
         | inl e ↦
             let there : r.core.version % 2 ≡ a = ap (λ (w : ℕ). w % 2) (sym version_is) ∙ e in
             let ruled = confirm_now p s r id me.0 at a shared asks there in (
-              acting (reading me.0 (unpacked (slice_index s.words 0))) (Holds a (unpacked (slice_index s.words 0)).version),
+              acting (reading me.0 (unpacked (slice_index s.words version_place))) (Holds a (unpacked (slice_index s.words version_place)).version),
               acts.keeps,
               tt,
               ruled,
@@ -222,12 +235,12 @@ module _ (p : Tables) (slots id : ℕ) (me : Seated) (same : me.0.plan ≡ p) wh
                 held = λ _. refl;
                 moved = λ other. absurd (other e);
                 sees = sees_word p s r id me.0 at same;
-                now = moment_after p s r id me.0 at 0 (slice_index s.words 0) (acting (reading me.0 (unpacked (slice_index s.words 0))) (Holds a (unpacked (slice_index s.words 0)).version)) same ruled;
+                now = moment_after p s r id me.0 at version_place (slice_index s.words version_place) (acting (reading me.0 (unpacked (slice_index s.words version_place))) (Holds a (unpacked (slice_index s.words version_place)).version)) same ruled;
               },
             )
         | inr other ↦
             let ruled = read_now p s r id me.0 at in (
-              reading me.0 (unpacked (slice_index s.words 0)),
+              reading me.0 (unpacked (slice_index s.words version_place)),
               acts.keeps,
               tt,
               ruled,
@@ -237,7 +250,7 @@ module _ (p : Tables) (slots id : ℕ) (me : Seated) (same : me.0.plan ≡ p) wh
                 held = λ e. absurd (other e);
                 moved = λ _. refl;
                 sees = sees_word p s r id me.0 at same;
-                now = moment_after p s r id me.0 at 0 (slice_index s.words 0) (reading me.0 (unpacked (slice_index s.words 0))) same ruled;
+                now = moment_after p s r id me.0 at version_place (slice_index s.words version_place) (reading me.0 (unpacked (slice_index s.words version_place))) same ruled;
               },
             )
       ]
@@ -263,9 +276,9 @@ module _ (p : Tables) (slots id : ℕ) (me : Seated) (same : me.0.plan ≡ p) wh
 
   pub draws : (old : ℕ) → 0 < me.0.share → packed me.0.seen ≡ old → me.0.seen.records < 4294967296
       → me.0.seen.records < limit me.0.plan me.0.seen.version
-      → Allows (Ruled p) slots id me 0 (λ n. either (eqb n old) (old + 1) n) (Drew (step slots 0 old (old + 1) none) me)
+      → Allows (Ruled p) slots id me version_place (λ n. either (eqb n old) (old + 1) n) (Drew (step slots version_place old (old + 1) none) me)
   draws old shared saw small room s r deep at range =
-      elim (cases_eq (slice_index s.words 0) old) [
+      elim (cases_eq (slice_index s.words version_place) old) [
         | inl e ↦
             let same_now : me.0.seen ≡ now_of r.core =
             same_packed me.0.seen (now_of r.core) (saw ∙ sym e ∙ r.words.first) small (omega (arith, few_records r.core r.sound)) in
@@ -273,13 +286,13 @@ module _ (p : Tables) (slots id : ℕ) (me : Seated) (same : me.0.plan ≡ p) wh
             let in_plan : r.core.records < limit me.0.plan r.core.version = subst Room same_now room in
             let Limit : Tables → Type 0 = λ q. r.core.records < limit q r.core.version in
             let in_core : r.core.records < limit r.core.plan r.core.version = subst Limit (same ∙ sym r.same_plan) in_plan in
-            let v : View = taking (reading me.0 (unpacked (slice_index s.words 0))) (unpacked (slice_index s.words 0)).records (unpacked (slice_index s.words 0)).version in
-            let ruled : Ruled p (record { words = set s.words 0 (old + 1); homes = s.homes; views = set s.views id v }) =
+            let v : View = taking (reading me.0 (unpacked (slice_index s.words version_place))) (unpacked (slice_index s.words version_place)).records (unpacked (slice_index s.words version_place)).version in
+            let ruled : Ruled p (record { words = set s.words version_place (old + 1); homes = s.homes; views = set s.views id v }) =
             draw_now p s r id me.0 at old shared e in_core in
-            let P : ℕ → Type 0 = λ x. Ruled p (record { words = set s.words 0 x; homes = s.homes; views = set s.views id v }) in
-            let test : eqb (slice_index s.words 0) old ≡ true = eq-eqb (slice_index s.words 0) old e in
-            let wrote : either (eqb (slice_index s.words 0) old) (old + 1) (slice_index s.words 0) ≡ old + 1 =
-            ap (λ (b : Bool). either b (old + 1) (slice_index s.words 0)) test in (
+            let P : ℕ → Type 0 = λ x. Ruled p (record { words = set s.words version_place x; homes = s.homes; views = set s.views id v }) in
+            let test : eqb (slice_index s.words version_place) old ≡ true = eq-eqb (slice_index s.words version_place) old e in
+            let wrote : either (eqb (slice_index s.words version_place) old) (old + 1) (slice_index s.words version_place) ≡ old + 1 =
+            ap (λ (b : Bool). either b (old + 1) (slice_index s.words version_place)) test in (
               v,
               acts.keeps,
               tt,
@@ -288,17 +301,17 @@ module _ (p : Tables) (slots id : ℕ) (me : Seated) (same : me.0.plan ≡ p) wh
                 taken = λ _. refl;
                 lost = λ other. absurd (other e);
                 sees = sees_word p s r id me.0 at same;
-                now = moment_after p s r id me.0 at 0 (old + 1) v same ruled;
+                now = moment_after p s r id me.0 at version_place (old + 1) v same ruled;
               },
             )
         | inr other ↦
-            let v : View = reading me.0 (unpacked (slice_index s.words 0)) in
-            let ruled : Ruled p (record { words = set s.words 0 (slice_index s.words 0); homes = s.homes; views = set s.views id v }) =
+            let v : View = reading me.0 (unpacked (slice_index s.words version_place)) in
+            let ruled : Ruled p (record { words = set s.words version_place (slice_index s.words version_place); homes = s.homes; views = set s.views id v }) =
             read_now p s r id me.0 at in
-            let P : ℕ → Type 0 = λ x. Ruled p (record { words = set s.words 0 x; homes = s.homes; views = set s.views id v }) in
-            let test : eqb (slice_index s.words 0) old ≡ false = ne_eqb (slice_index s.words 0) old other in
-            let wrote : either (eqb (slice_index s.words 0) old) (old + 1) (slice_index s.words 0) ≡ slice_index s.words 0 =
-            ap (λ (b : Bool). either b (old + 1) (slice_index s.words 0)) test in (
+            let P : ℕ → Type 0 = λ x. Ruled p (record { words = set s.words version_place x; homes = s.homes; views = set s.views id v }) in
+            let test : eqb (slice_index s.words version_place) old ≡ false = ne_eqb (slice_index s.words version_place) old other in
+            let wrote : either (eqb (slice_index s.words version_place) old) (old + 1) (slice_index s.words version_place) ≡ slice_index s.words version_place =
+            ap (λ (b : Bool). either b (old + 1) (slice_index s.words version_place)) test in (
               v,
               acts.keeps,
               tt,
@@ -307,7 +320,7 @@ module _ (p : Tables) (slots id : ℕ) (me : Seated) (same : me.0.plan ≡ p) wh
                 taken = λ e. absurd (other e);
                 lost = λ _. refl;
                 sees = sees_word p s r id me.0 at same;
-                now = moment_after p s r id me.0 at 0 (slice_index s.words 0) v same ruled;
+                now = moment_after p s r id me.0 at version_place (slice_index s.words version_place) v same ruled;
               },
             )
       ]

@@ -1,5 +1,6 @@
 pub mod Answers
 pub mod Histories
+pub mod Places
 pub mod Reading
 pub mod Rule
 pub mod SeatSteps

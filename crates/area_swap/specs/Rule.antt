@@ -1,5 +1,5 @@
 -- The rule: the words and the views of the seats show a sound state of the machine.
-use Rattle.std.specs.Prelude.{◌≡◌, ℕ, ◌+◌, ◌*◌, ◌<◌, ◌≤◌, ◌⊎◌, true, List, [], length, map, slice_index, slice_index_or, sum_by, All}
+use Rattle.std.specs.Prelude.{◌≡◌, ℕ, ◌+◌, ◌<◌, ◌≤◌, ◌⊎◌, true, List, [], length, map, slice_index, slice_index_or, sum_by, All}
 use mathlib.Core.Option.{some}
 use lib.ListN.{get_elem?}
 use Rattle.atomic_table.specs.Table.{State}
@@ -11,14 +11,15 @@ use Rattle.swap_core.specs.declared.actors.ActorState.TheVariants.{Holds}
 use Rattle.swap_core.specs.declared.actors.DeskState.{DeskState}
 use Rattle.area_swap.specs.declared.answers.Seen.{Seen}
 use Rattle.area_swap.specs.declared.board.View.{View}
+use Rattle.area_swap.specs.Places.{version_place, claims_place, row_place, all_places}
 use Rattle.area_swap.specs.Views.{packed, now_of, spare_of, IsUpTo, IsSeated}
 
--- The words, in this order: the version word, the claims on area 0 and on area 1, the rows of the two areas.
+-- What the words are: the version word, the claims on area 0 and on area 1, the rows of the two areas.
 pub record Laid (words : List ℕ) (long : ℕ) (now : Seen) (counts : List ℕ) (areas : List (List ℕ)) : Type 0 where
-  pub size : length words ≡ 3 + 2 * long
-  pub first : slice_index words 0 ≡ packed now
-  pub claims : (a : ℕ) → a < 2 → slice_index words (1 + a) ≡ slice_index counts a
-  pub rows : (a j : ℕ) → a < 2 → j < long → slice_index words (3 + a * long + j) ≡ slice_index (slice_index_or areas a []) j
+  pub size : length words ≡ all_places long
+  pub first : slice_index words version_place ≡ packed now
+  pub claims : (a : ℕ) → a < 2 → slice_index words (claims_place a) ≡ slice_index counts a
+  pub rows : (a j : ℕ) → a < 2 → j < long → slice_index words (row_place long a + j) ≡ slice_index (slice_index_or areas a []) j
 
 abbrev pub ShowsWords : List ℕ → CoreState → Type 0
 ShowsWords words c = Laid words (width c.plan) (now_of c) c.counts c.areas
@@ -73,7 +74,7 @@ IsDrawnBy now d = (d.0 < now.records) × (d.1 ≤ now.version)
 pub record Sees (v : View) (now : Seen) : Type 0 where
   -- It is the word of a moment at which the rule held.
   pub moment : Moment v
-  pub word : slice_index moment.board.words 0 ≡ packed now
+  pub word : slice_index moment.board.words version_place ≡ packed now
   pub later : IsUpTo v.seen now
   pub drawn : All (IsDrawnBy now) v.actor.draws
   -- Who has the whole share has drawn all numbers, each once.
@@ -96,4 +97,4 @@ pub record Sees (v : View) (now : Seen) : Type 0 where
 -- the rule held.
 pub record SeesClaims (v : View) (count : ℕ) : Type 0 where
   pub moment : Moment v
-  pub word : slice_index moment.board.words (1 + spare_of v) ≡ count
+  pub word : slice_index moment.board.words (claims_place (spare_of v)) ≡ count

@@ -1,11 +1,12 @@
 -- What each kind of step does to the seat that takes it, and tells it: of the step, the seat before, the word that it
 -- found and the seat after.
-use Rattle.std.specs.Prelude.{◌≡◌, ◌≢◌, ℕ, ◌+◌, ◌*◌, ◌%◌, ◌<◌, ◌≤◌, [], ◌∷◌, ◌++◌, length, slice_index}
+use Rattle.std.specs.Prelude.{◌≡◌, ◌≢◌, ℕ, ◌+◌, ◌%◌, ◌<◌, ◌≤◌, [], ◌∷◌, ◌++◌, length, slice_index}
 use Rattle.atomic_table.specs.Table.{Me, Step}
 use Rattle.swap_core.specs.Plans.{table, width, window}
 use Rattle.swap_core.specs.declared.actors.ActorState.TheVariants.{Idle, Looked, Asks, Holds}
 use Rattle.swap_core.specs.declared.actors.DeskState.TheVariants.{Resting, Ready, Writing}
 use Rattle.area_swap.specs.declared.board.View.{View}
+use Rattle.area_swap.specs.Places.{row_place}
 use Rattle.area_swap.specs.Views.{unpacked, acting, reading, taking}
 use Rattle.area_swap.specs.Rule.{Moment, Sees, SeesClaims}
 
@@ -54,7 +55,7 @@ pub record ReadOne (st : Stepped) (m : Seated) (n : ℕ) (m' : Seated) : Type 0 
   pub area : ℕ
   pub version : ℕ
   pub held : m.0.actor.state ≡ Holds area version
-  pub word : (j : ℕ) → j < length (table m.0.plan version) → st.word ≡ 3 + area * width m.0.plan + j
+  pub word : (j : ℕ) → j < length (table m.0.plan version) → st.word ≡ row_place (width m.0.plan) area + j
       → n ≡ slice_index (table m.0.plan version) j
   pub now : Moment m'.0
 

@@ -6,19 +6,13 @@ ghost use Rattle.area_swap.specs.Views.{desk_view, first_view, worker_view};
 
 use crate::board::{Board, Place};
 use crate::desk::Desk;
+use crate::places::{row_at, word_count};
 use crate::plays::DeskApart;
 use crate::worker::WorkerSeat;
 use aftr_base::OutOfMemory;
 use std::alloc::Global;
 use std::marker::Model;
 use swap_core::Plan;
-
-/// Where the version word, the claims and the rows of the two areas stand among the words.
-pub(crate) const VERSION_WORD: usize = 0;
-
-pub(crate) const FIRST_CLAIMS: usize = 1;
-
-pub(crate) const FIRST_ROW: usize = 3;
 
 /// Two areas of words, of which one holds the table in force. Threads share it.
 #[derive(Drop)]
@@ -29,15 +23,16 @@ pub struct Areas {
 }
 
 impl Model for Areas {
-    ghost use Rattle.std.specs.Prelude.{◌≡◌, ◌+◌, ◌*◌, ◌≤◌};
+    ghost use Rattle.std.specs.Prelude.{◌≡◌, ◌≤◌};
     ghost use Rattle.swap_core.specs.Plans.{IsPlan, width};
+    ghost use Rattle.area_swap.specs.Places.{all_places};
     ghost use Rattle.area_swap.specs.Values.{AreasValue};
 
     ghost Value = { AreasValue };
 
     ghost view = { λ a. record { table_id = a.table.shared.table_id; plan = a.plan } };
 
-    ghost invariant = { λ a. (a.table.shared.key ≡ a.plan) × (a.long ≡ width a.plan) × (a.table.shared.table_id.words ≡ 3 + 2 * width a.plan) × (width a.plan ≤ 16777216) × IsPlan a.plan };
+    ghost invariant = { λ a. (a.table.shared.key ≡ a.plan) × (a.long ≡ width a.plan) × (a.table.shared.table_id.words ≡ all_places (width a.plan)) × (width a.plan ≤ 16777216) × IsPlan a.plan };
 }
 
 /// The areas at the opening, with the one worker's seat and the desk: table 0 is in force, no record is drawn, and the
@@ -49,9 +44,9 @@ pub fn prepare(alloc: Global, plan: Plan) -> Result<(Areas, WorkerSeat, Desk), O
     ensures desk { IfOk result (λ made. (made.2.table_id ≡ made.0.table_id) × (made.2.known ≡ desk_view (first_view plan))) }
 {
     let long = plan.width();
-    let count = FIRST_ROW + 2 * long;
+    let count = word_count(long);
     let mut words: Vec<u64> = Vec::with_capacity(alloc, count)?;
-    words.resize(FIRST_ROW, 0)?;
+    words.resize(row_at(long, 0), 0)?;
     words.extend_from_slice(plan.words(0))?;
     words.resize(count, 0)?;
     let points = Vec::with_capacity(alloc, plan.len() as usize - 1)?;

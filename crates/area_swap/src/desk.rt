@@ -3,13 +3,15 @@ ghost use Rattle.std.specs.Prelude.{◌≡◌, ℕ, ◌⊎◌, ◌≤◌, ◌<�
 ghost use Rattle.swap_core.specs.Plans.{width};
 ghost use Rattle.swap_core.specs.declared.actors.DeskState.TheVariants.{Writing};
 ghost use Rattle.area_swap.specs.Answers.{HasPublished, IsDue, IsQuiet};
+ghost use Rattle.area_swap.specs.Places.{row_place};
 ghost use Rattle.area_swap.specs.Rule.{Moment};
 ghost use Rattle.area_swap.specs.Values.{IsClear, IsDesk, IsFull, IsOf, IsReady, IsResting};
 ghost use Rattle.area_swap.specs.Views.{next_of, spare_of};
 
 use crate::answers::{Due, Quiet};
-use crate::areas::{Areas, FIRST_CLAIMS, FIRST_ROW, VERSION_WORD};
+use crate::areas::Areas;
 use crate::board::{Place, SharedWords};
+use crate::places::{VERSION_PLACE, claims_at, row_at};
 use crate::plays::{CountClaims, FindDue, PublishTable, WriteWord};
 use crate::worker::halves;
 use std::marker::Model;
@@ -61,7 +63,7 @@ fn write_words(shared: &SharedWords, place: &mut Place, words: &[u64], row: usiz
     requires desk { IsDesk place.old.me.0 }
     requires clear { IsClear place.old.me.0 }
     requires words { words.now ≡ next_of place.old.me.0 }
-    requires row { row ≡ 3 + spare_of place.old.me.0 * width place.old.me.0.plan }
+    requires row { row ≡ row_place (width place.old.me.0.plan) (spare_of place.old.me.0) }
     requires inside { row + length words.now ≤ shared.now.table_id.words }
     requires small { row + length words.now < 18446744073709551616 }
     ensures table { place.new.table_id ≡ place.old.table_id }
@@ -86,7 +88,7 @@ impl Areas {
         let seen = halves(
             self.table
                 .shared
-                .load::<FindDue>(&mut desk.place, VERSION_WORD),
+                .load::<FindDue>(&mut desk.place, VERSION_PLACE),
         );
         let next = seen.version + 1;
         if next >= self.plan.len() {
@@ -111,7 +113,7 @@ impl Areas {
         ensures quiet { IsQuiet result desk.old.known desk.new.known }
         ensures rule { Moment desk.new.known }
     {
-        let claims = FIRST_CLAIMS + (desk.points.len() + 1) % 2;
+        let claims = claims_at((desk.points.len() + 1) % 2);
         let count = self
             .table
             .shared
@@ -134,7 +136,7 @@ impl Areas {
     {
         let next = desk.points.len() + 1;
         let area = next % 2;
-        let row = FIRST_ROW + area * self.long;
+        let row = row_at(self.long, area);
         let words = self.plan.words(next as u32);
         write_words(&self.table.shared, &mut desk.place, words, row);
     }
@@ -151,7 +153,7 @@ impl Areas {
         let found = self
             .table
             .shared
-            .fetch_add::<PublishTable>(&mut desk.place, VERSION_WORD, 1 << 32);
+            .fetch_add::<PublishTable>(&mut desk.place, VERSION_PLACE, 1 << 32);
         let point = halves(found).records;
         desk.points.push_reserved(point);
         point

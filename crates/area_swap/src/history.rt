@@ -3,9 +3,10 @@ ghost use Rattle.std.specs.Prelude.{◌≡◌, length};
 ghost use Rattle.area_swap.specs.Histories.{AreDrawn, IsHistory};
 ghost use Rattle.area_swap.specs.Values.{HasWholeShare, IsIdle, IsOf};
 
-use crate::areas::{Areas, VERSION_WORD};
+use crate::areas::Areas;
 use crate::board::Place;
 use crate::desk::Desk;
+use crate::places::VERSION_PLACE;
 use crate::plays::{Glance, WithDesk};
 use crate::worker::{WorkerSeat, halves};
 use std::marker::Model;
@@ -75,7 +76,7 @@ impl Areas {
             points,
         } = desk;
         table.shared.join_seat::<WithDesk>(&mut place, desk_place);
-        let records = halves(table.shared.load::<Glance>(&mut place, VERSION_WORD)).records;
+        let records = halves(table.shared.load::<Glance>(&mut place, VERSION_PLACE)).records;
         History {
             plan,
             points,

@@ -9,6 +9,7 @@ mod areas;
 mod board;
 mod desk;
 mod history;
+mod places;
 mod plays;
 mod worker;
 
@@ -17,4 +18,5 @@ pub use areas::{Areas, prepare};
 pub use board::{Swapping, View};
 pub use desk::Desk;
 pub use history::History;
+pub use places::parts_share_no_line;
 pub use worker::WorkerSeat;

@@ -8,8 +8,9 @@ ghost use Rattle.area_swap.specs.Values.{HasWholeShare, HoldsOne, HoldsStill, Is
 ghost use Rattle.area_swap.specs.Views.{acting, held_table, held_version, kept_half, new_half, reading, together, unpacked};
 
 use crate::answers::{Claim, Draw, Seen};
-use crate::areas::{Areas, FIRST_CLAIMS, FIRST_ROW, VERSION_WORD};
+use crate::areas::Areas;
 use crate::board::Place;
+use crate::places::{VERSION_PLACE, claims_at, row_at};
 use crate::plays::{Confirm, Enter, Exchange, Glance, Halves, Leave, Look, ReadWord, Together};
 use std::marker::Model;
 
@@ -69,7 +70,7 @@ impl Areas {
         halves(
             self.table
                 .shared
-                .load::<Glance>(&mut seat.place, VERSION_WORD),
+                .load::<Glance>(&mut seat.place, VERSION_PLACE),
         )
     }
 
@@ -88,7 +89,7 @@ impl Areas {
         halves(
             self.table
                 .shared
-                .load::<Glance>(&mut seat.place, VERSION_WORD),
+                .load::<Glance>(&mut seat.place, VERSION_PLACE),
         )
         .records
     }
@@ -129,11 +130,11 @@ impl Areas {
         ensures rule { Moment seat.new.known }
     {
         let shared = &self.table.shared;
-        let before = halves(shared.load::<Look>(&mut seat.place, VERSION_WORD)).version;
+        let before = halves(shared.load::<Look>(&mut seat.place, VERSION_PLACE)).version;
         let area = before % 2;
-        let claims = FIRST_CLAIMS + area as usize;
+        let claims = claims_at(area as usize);
         shared.fetch_add::<Enter>(&mut seat.place, claims, 1);
-        let after = halves(shared.load::<Confirm>(&mut seat.place, VERSION_WORD)).version;
+        let after = halves(shared.load::<Confirm>(&mut seat.place, VERSION_PLACE)).version;
         let found = after % 2;
         if found == area {
             seat.held = after;
@@ -154,7 +155,7 @@ impl Areas {
         ensures seat { seat.new.known ≡ record seat.old.known { reads = seat.old.known.reads + 1 } }
         ensures rule { Moment seat.new.known }
     {
-        let row = FIRST_ROW + (seat.held % 2) as usize * self.long;
+        let row = row_at(self.long, (seat.held % 2) as usize);
         self.table
             .shared
             .load::<ReadWord>(&mut seat.place, row + j as usize)
@@ -170,7 +171,7 @@ impl Areas {
         ensures rule { Moment seat.new.known }
     {
         let shared = &self.table.shared;
-        let saw = shared.load::<Glance>(&mut seat.place, VERSION_WORD);
+        let saw = shared.load::<Glance>(&mut seat.place, VERSION_PLACE);
         let seen = halves(saw);
         let in_force = seen.version;
         if in_force != seat.held {
@@ -185,7 +186,7 @@ impl Areas {
         }
         let found = shared.compare_exchange::<Exchange>(
             &mut seat.place,
-            VERSION_WORD,
+            VERSION_PLACE,
             saw,
             saw + 1,
         );
@@ -205,7 +206,7 @@ impl Areas {
         ensures seat { seat.new.known ≡ acting seat.old.known Idle }
         ensures rule { Moment seat.new.known }
     {
-        let its_claims = FIRST_CLAIMS + (seat.held % 2) as usize;
+        let its_claims = claims_at((seat.held % 2) as usize);
         self.table
             .shared
             .fetch_sub::<Leave>(&mut seat.place, its_claims, 1);

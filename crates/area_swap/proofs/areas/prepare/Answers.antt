@@ -1,4 +1,5 @@
-use Rattle.std.proofs.Common.{rules, arith, ◌≡◌, ◌∙◌, ◌<◌, sym, ap, subst}
+use Rattle.std.proofs.Common.{rules, arith, ℕ, ◌≡◌, ◌∙◌, ◌<◌, sym, ap, subst}
+use Rattle.area_swap.specs.Places.{all_places, row_place}
 use Rattle.area_swap.specs.Rule.{Moment}
 use Rattle.area_swap.specs.Views.{first_view, worker_view, desk_view}
 use Rattle.area_swap.specs.SeatSteps.{Seated}
@@ -10,8 +11,9 @@ pub of_words-requires : goal.of_words-requires
 of_words-requires c =
     opens c.args.plan c.len.ensures.rules c.deref.result.now
     (c.deref.ensures.value
-    ∙ filled c.args.plan _ _ _ _ _ _ _ _ c.in_ok-words.ensures.items c.in_ok-words.ensures.len c.in_ok-resize.ensures.items
-    c.words.ensures c.in_ok-extend_from_slice.ensures.items (omega arith) c.width-long.ensures.value c.in_ok-resize-2.ensures.items)
+    ∙ filled c.args.plan _ _ _ _ _ _ _ _ _ c.in_ok-words.ensures.items c.in_ok-words.ensures.len (c.row_at.ensures ∙ ap (λ (n : ℕ). row_place n 0) c.width-long.ensures.value)
+    c.in_ok-resize.ensures.items c.words.ensures c.in_ok-extend_from_slice.ensures.items (omega arith)
+    (c.word_count-count.ensures ∙ ap all_places c.width-long.ensures.value) c.in_ok-resize-2.ensures.items)
 
 pub split_seat-desk_place-requires : goal.split_seat-desk_place-requires
 split_seat-desk_place-requires c =

@@ -12,7 +12,7 @@ use Rattle.area_swap.proofs.areas.Areas.claim.Goals as goal
 pub load-requires : goal.load-requires
 load-requires c = (
   search rules,
-  search rules,
+  omega (arith, c.self.invariant.2),
   looks _ _ _ _ (knows_plan _ _ _ _ _ _ _ c.self.view_is c.seat.view_is c.requires.areas c.self.invariant.0)
       c.seat.invariant.0.shared (ap (λ (s : SeatValue). s.known.actor.state) c.seat.view_is ∙ c.requires.idle),
 )
@@ -22,8 +22,8 @@ fetch_add-requires c =
     let plan = knows_plan _ _ _ _ _ _ _ c.self.view_is c.seat.view_is c.requires.areas c.self.invariant.0 in
     let k1 = c.load.ensures.2 in (
       search rules,
-      omega (arith, c.self.invariant.2),
-      enters _ _ _ _ (looked_plan k1 ∙ plan) c.halves-before.result.version (looked_share k1 c.seat.invariant.0.shared)
+      omega (arith, c.self.invariant.2, c.claims_at-claims.ensures),
+      enters _ _ _ _ (looked_plan k1 ∙ plan) c.halves-before.result.version _ c.claims_at-claims.ensures (looked_share k1 c.seat.invariant.0.shared)
           (looks_at k1 ∙ ap (λ (s : Seen). Looked s.version) (sym c.halves-before.ensures)),
     )
 
@@ -46,8 +46,8 @@ fetch_sub-requires c =
     let other : (unpacked c.load-2.result).version % 2 ≢ (unpacked c.load.result).version % 2 =
     λ e. c.if-found-area.false (ap (λ (s : Seen). s.version % 2) c.halves-after.ensures ∙ e ∙ ap (λ (s : Seen). s.version % 2) (sym c.halves-before.ensures)) in (
       search rules,
-      omega (arith, c.self.invariant.2),
-      leaves _ _ _ _ (plan_after k1 k2 k3 other ∙ plan) (c.halves-before.result.version % 2)
+      omega (arith, c.self.invariant.2, c.claims_at-claims.ensures),
+      leaves _ _ _ _ (plan_after k1 k2 k3 other ∙ plan) (c.halves-before.result.version % 2) _ c.claims_at-claims.ensures
           (shared_after k1 k2 k3 other c.seat.invariant.0.shared)
           (inl (still_asks k1 k2 k3 other ∙ ap (λ (s : Seen). Asks (s.version % 2)) (sym c.halves-before.ensures))),
     )

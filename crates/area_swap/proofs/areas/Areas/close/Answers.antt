@@ -1,4 +1,4 @@
-use Rattle.std.proofs.Common.{rules, ◌∙◌, ap, sym}
+use Rattle.std.proofs.Common.{rules, arith, ◌∙◌, ap, sym}
 use Rattle.swap_core.specs.declared.actors.Actor.{Actor}
 use Rattle.area_swap.specs.SeatSteps.{Seated}
 use Rattle.area_swap.specs.Values.{SeatValue}
@@ -22,7 +22,7 @@ join_seat-requires c = (
 pub load-requires : goal.load-requires
 load-requires c =
     let plan = knows_plan _ _ _ _ _ _ _ c.self.view_is c.seat.view_is c.requires.seat_areas c.self.invariant.0 in
-    (search rules, search rules, glances _ _ _ _ (ap (λ (m : Seated). m.0.plan) c.join_seat.ensures.2 ∙ plan))
+    (search rules, omega (arith, c.self.invariant.2), glances _ _ _ _ (ap (λ (m : Seated). m.0.plan) c.join_seat.ensures.2 ∙ plan))
 
 pub invariant_of-result : goal.invariant_of-result
 invariant_of-result c =

@@ -9,7 +9,7 @@ use Rattle.area_swap.proofs.areas.Areas.draw.Goals as goal
 
 pub load-saw-requires : goal.load-saw-requires
 load-saw-requires c =
-    (search rules, search rules, glances _ _ _ _ (knows_plan _ _ _ _ _ _ _ c.self.view_is c.seat.view_is c.requires.areas c.self.invariant.0))
+    (search rules, omega (arith, c.self.invariant.2), glances _ _ _ _ (knows_plan _ _ _ _ _ _ _ c.self.view_is c.seat.view_is c.requires.areas c.self.invariant.0))
 
 pub compare_exchange-found-requires : goal.compare_exchange-found-requires
 compare_exchange-found-requires c =

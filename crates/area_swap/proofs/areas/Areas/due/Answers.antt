@@ -13,7 +13,7 @@ load-requires c =
     let phase : IsResting c.desk.inside.place.me.0 ⊎ IsReady c.desk.inside.place.me.0 =
     let P : SeatValue → Type 0 = λ s. IsResting s.known ⊎ IsReady s.known in subst P (sym c.desk.view_is) c.requires.phase in (
       search rules,
-      search rules,
+      omega (arith, c.self.invariant.2),
       finds_due _ _ _ _ (knows_plan _ _ _ _ _ _ _ c.self.view_is c.desk.view_is c.requires.areas c.self.invariant.0) c.desk.invariant.0.has
           (not_writing _ phase),
     )

@@ -10,7 +10,7 @@ fetch_sub-requires c =
     let holds : HoldsOne c.seat.inside.place.me.0 =
     let P : SeatValue → Type 0 = λ s. HoldsOne s.known in subst P (sym c.seat.view_is) c.requires.holding in (
       search rules,
-      omega (arith, c.self.invariant.2),
-      leaves _ _ _ _ (knows_plan _ _ _ _ _ _ _ c.self.view_is c.seat.view_is c.requires.areas c.self.invariant.0) (c.seat.inside.held % 2)
+      omega (arith, c.self.invariant.2, c.claims_at-its_claims.ensures),
+      leaves _ _ _ _ (knows_plan _ _ _ _ _ _ _ c.self.view_is c.seat.view_is c.requires.areas c.self.invariant.0) (c.seat.inside.held % 2) _ c.claims_at-its_claims.ensures
           c.seat.invariant.0.shared (inr (c.seat.inside.held, holds_it c.seat.inside.place.me.0 _ c.seat.invariant.1 holds)),
     )

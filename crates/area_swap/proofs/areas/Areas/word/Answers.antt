@@ -5,7 +5,7 @@ use Rattle.area_swap.specs.Values.{SeatValue, HoldsOne}
 use Rattle.area_swap.specs.Views.{held_table, held_version}
 use Rattle.area_swap.proofs.Belonging.{knows_plan}
 use Rattle.area_swap.proofs.Drawing.{holds_it}
-use Rattle.area_swap.proofs.Packing.{row_fits}
+use Rattle.area_swap.proofs.Apart.{row_fits}
 use Rattle.area_swap.proofs.WorkerSteps.{reads_word}
 use Rattle.area_swap.proofs.areas.Areas.word.Goals as goal
 
@@ -23,6 +23,6 @@ load-requires c =
     let in_two : c.seat.inside.held % 2 < 2 = omega arith in
     let in_row : c.args.j < c.self.inside.long = omega arith in (
       search rules,
-      omega (arith, row_fits (c.seat.inside.held % 2) c.self.inside.long c.args.j in_two in_row, c.self.invariant.1, c.self.invariant.2),
+      omega (arith, row_fits (c.seat.inside.held % 2) c.self.inside.long c.args.j in_two in_row, c.self.invariant.1, c.self.invariant.2, c.row_at-row.ensures),
       reads_word _ _ _ _ plan _ _ _ c.seat.invariant.0.shared (holds_it c.seat.inside.place.me.0 _ c.seat.invariant.1 holds),
     )

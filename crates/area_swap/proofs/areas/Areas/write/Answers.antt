@@ -5,7 +5,7 @@ use Rattle.swap_core.specs.declared.actors.DeskState.{DeskState}
 use Rattle.swap_core.proofs.Laws.{table_fits}
 use Rattle.area_swap.specs.Values.{SeatValue, IsClear}
 use Rattle.area_swap.proofs.Belonging.{knows_plan}
-use Rattle.area_swap.proofs.Packing.{table_in_row}
+use Rattle.area_swap.proofs.Apart.{table_in_row}
 use Rattle.area_swap.proofs.areas.Areas.write.Goals as goal
 
 pub write_words-requires-clause-inside : goal.write_words-requires-clause-inside
@@ -17,7 +17,7 @@ write_words-requires-clause-inside c =
     let same : length c.words-words.result.now ≡ length (table c.self.inside.plan (c.len-next.result + 1)) =
     ap (λ (l : List ℕ). length l) c.words-words.ensures in
     let in_row : length c.words-words.result.now ≤ c.self.inside.long = omega (arith, c.self.invariant.1) in
-    omega (arith, table_in_row ((c.len-next.result + 1) % 2) c.self.inside.long (length c.words-words.result.now) in_two in_row, c.self.invariant.1, c.self.invariant.2)
+    omega (arith, table_in_row ((c.len-next.result + 1) % 2) c.self.inside.long (length c.words-words.result.now) in_two in_row, c.self.invariant.1, c.self.invariant.2, c.row_at-row.ensures)
 
 pub returns-clause-rule : goal.returns-clause-rule
 returns-clause-rule c =
