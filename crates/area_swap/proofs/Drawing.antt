@@ -1,12 +1,15 @@
 -- What the steps of a draw make of the seat, from what each of them told.
-use Rattle.std.proofs.Common.{◌≡◌, ◌≢◌, ℕ, ◌+◌, ◌%◌, ◌<◌, ◌≤◌, subst, sym, refl, ap, ◌∙◌, arith, inl, inr}
+use Rattle.std.proofs.Common.{◌≡◌, ◌≢◌, ℕ, ◌+◌, ◌-◌, ◌%◌, ◌<◌, ◌≤◌, min, subst, sym, refl, ap, ◌∙◌, arith, inl, inr}
 use Rattle.swap_core.specs.Plans.{Tables, limit}
+use Rattle.swap_core.specs.States.{consecutive}
 use Rattle.swap_core.specs.declared.actors.ActorState.TheVariants.{Idle, Holds}
+use Rattle.area_swap.specs.declared.answers.DrawRun.{DrawRun}
+use Rattle.area_swap.specs.declared.answers.DrawRun.TheVariants as run
 use Rattle.area_swap.specs.declared.answers.Seen.{Seen}
 use Rattle.area_swap.specs.declared.board.View.{View}
 use Rattle.area_swap.specs.Views.{packed, unpacked, reading, taking, held_version, IsUpTo}
 use Rattle.area_swap.specs.Rule.{Sees}
-use Rattle.area_swap.specs.Answers.{HasDrawn, IsNotHeld, IsAtEnd, IsAtLimit, HasLost}
+use Rattle.area_swap.specs.Answers.{HasDrawn, IsNotHeld, IsAtEnd, IsAtLimit, HasLost, RunDrawn, Drawn, one_of}
 use Rattle.area_swap.specs.SeatSteps.{Stepped, Seated, Glanced, Drew}
 use Rattle.area_swap.specs.Values.{HoldsAtMost, HoldsOne}
 
@@ -68,20 +71,28 @@ module _ {st1 : Stepped} {m0 m1 : Seated} {n1 : ℕ} (k1 : Glanced st1 m0 n1 m1)
       let within : s.records ≤ limit p s.version = subst Within plan glanced_sees.within in
       omega arith
 
-  pub room_after : (p : Tables) (most : ℕ) → m0.0.plan ≡ p → most ≡ limit p s.version → s.records ≢ most
-      → m1.0.seen.records < limit m1.0.plan m1.0.seen.version
-  room_after p most plan e other =
-      let P : Seated → Type 0 = λ m. m.0.seen.records < limit m.0.plan m.0.seen.version in
-      let Room : Tables → Type 0 = λ q. s.records < limit q s.version in
-      subst P (sym glanced_view) (subst Room (sym plan) (below_limit p most plan e other))
+  -- and below the held version's limit there are so many numbers more
+  pub room_after : (p : Tables) (most count : ℕ) → m0.0.plan ≡ p → most ≡ limit p s.version → s.records + count ≤ most
+      → m1.0.seen.records + count ≤ limit m1.0.plan m1.0.seen.version
+  room_after p most count plan e fits =
+      let P : Seated → Type 0 = λ m. m.0.seen.records + count ≤ limit m.0.plan m.0.seen.version in
+      let Room : Tables → Type 0 = λ q. s.records + count ≤ limit q s.version in
+      let here : s.records + count ≤ limit p s.version = omega arith in
+      subst P (sym glanced_view) (subst Room (sym plan) here)
+
+  -- the seat holds the version that it read
+  pub holds_after : (a held : ℕ) → m0.0.actor.state ≡ Holds a held → s.version ≡ held → m1.0.actor.state ≡ Holds a m1.0.seen.version
+  holds_after a held holds same =
+      let P : Seated → Type 0 = λ m. m.0.actor.state ≡ Holds a m.0.seen.version in
+      subst P (sym glanced_view) (holds ∙ ap (λ (w : ℕ). Holds a w) (sym same))
 
   pub small_after : m1.0.seen.records < 4294967296
   small_after =
       let P : Seated → Type 0 = λ m. m.0.seen.records < 4294967296 in
       subst P (sym glanced_view) (omega (arith, glanced_sees.small))
 
-  pub no_wrap : n1 + 1 < 18446744073709551616
-  no_wrap =
+  pub no_wrap : (count : ℕ) → count < 4294967296 → n1 + count < 18446744073709551616
+  no_wrap count small =
       let word : packed s ≡ n1 = ap packed es ∙ pack_unpack n1 in
       omega (arith, glanced_sees.small, glanced_sees.few)
 
@@ -89,29 +100,35 @@ module _ {st1 : Stepped} {m0 m1 : Seated} {n1 : ℕ} (k1 : Glanced st1 m0 n1 m1)
     later_sees : Sees (reading m0.0 s) (unpacked n2)
     later_sees = let P : Seated → Type 0 = λ m. Sees m.0 (unpacked n2) in subst P glanced_view k2.sees
 
-    taken_view : st2.first ≡ n1 → n2 ≡ n1 → m2 ≡ (taking (reading (reading m0.0 s) s) s.records s.version, m0.1)
-    taken_view first hit =
+    taken_view : (count : ℕ) → st2.first ≡ n1 → st2.second ≡ n1 + count → n2 ≡ n1
+        → m2 ≡ (taking (reading (reading m0.0 s) s) (consecutive s.records count s.version), m0.1)
+    taken_view count first second hit =
         let same : unpacked n2 ≡ s = ap unpacked hit ∙ sym es in
+        let many : st2.second - st2.first ≡ count = omega arith in
         k2.taken (hit ∙ sym first)
-        ∙ ap (λ (t : Seen). (taking (reading m1.0 t) t.records t.version, m1.1)) same
-        ∙ ap (λ (m : Seated). (taking (reading m.0 s) s.records s.version, m.1)) glanced_view
+        ∙ ap (λ (t : Seen). (taking (reading m1.0 t) (consecutive t.records (st2.second - st2.first) t.version), m1.1)) same
+        ∙ ap (λ (k : ℕ). (taking (reading m1.0 s) (consecutive s.records k s.version), m1.1)) many
+        ∙ ap (λ (m : Seated). (taking (reading m.0 s) (consecutive s.records count s.version), m.1)) glanced_view
 
-    pub taken_is : (p : Tables) (end held most : ℕ) → m0.0.plan ≡ p → st2.first ≡ n1 → n2 ≡ n1 → s.version ≡ held → s.records < end
-        → most ≡ limit p s.version → s.records ≢ most → HasDrawn p end s.records held m0.0 m2.0
-    taken_is p end held most plan first hit same l e other =
+    pub taken_is : (p : Tables) (end most held top count : ℕ) → m0.0.plan ≡ p → st2.first ≡ n1 → st2.second ≡ n1 + count → n2 ≡ n1
+        → s.version ≡ held → top ≡ limit p s.version → count ≡ min most (min (end - s.records) (top - s.records)) → 1 ≤ count
+        → s.records + count ≤ end → s.records + count ≤ top → HasDrawn p end most s.records count held m0.0 m2.0
+    taken_is p end most held top count plan first second hit same e many some_one below_end below_limit =
         let twice : m0.0.looks + 1 + 1 ≡ m0.0.looks + 2 = omega arith in
-        let P : Seated → Type 0 = λ m. HasDrawn p end s.records held m0.0 m.0 in
-        let Room : ℕ → Type 0 = λ w. s.records < limit p w in
-        subst P (sym (taken_view first hit))
+        let P : Seated → Type 0 = λ m. HasDrawn p end most s.records count held m0.0 m.0 in
+        let top_is : top ≡ limit p held = e ∙ ap (λ (w : ℕ). limit p w) same in
+        subst P (sym (taken_view count first second hit))
         (record {
-          after = λ i. record (taking (reading (reading m0.0 s) s) s.records (same i)) { looks = twice i };
+          after = λ i. record (taking (reading (reading m0.0 s) s) (consecutive s.records count (same i))) { looks = twice i };
           in_force = same;
           is_next = refl;
           sees_first = glanced_sees;
           sees_second = subst (Sees (reading m0.0 s)) (ap unpacked hit ∙ sym es) later_sees;
           same = refl;
-          below_end = l;
-          below_limit = subst Room same (below_limit p most plan e other);
+          many = many ∙ ap (λ (l : ℕ). min most (min (end - s.records) (l - s.records))) top_is;
+          some_one = some_one;
+          below_end = below_end;
+          below_limit = omega arith;
           earlier = glanced_sees.later;
           drawn = glanced_sees.drawn;
         })
@@ -147,3 +164,14 @@ module _ {st1 : Stepped} {m0 m1 : Seated} {n1 : ℕ} (k1 : Glanced st1 m0 n1 m1)
 -- the state of a holding seat, by the version that it keeps
 pub holds_it : (v : View) (held : ℕ) → HoldsAtMost held v → HoldsOne v → v.actor.state ≡ Holds (held % 2) held
 holds_it v held state holds = holds ∙ ap (λ (n : ℕ). Holds (n % 2) n) (held_is v held state holds)
+
+-- a run of at most one number is one
+pub one_drawn : (r : DrawRun) (p : Tables) (end held : ℕ) (v w : View) → RunDrawn r p end 1 held v w → Drawn (one_of r) p end held v w
+one_drawn (run.Taken number count) p end held v w h =
+    let one : count ≡ 1 = omega (arith, h.many, h.some_one) in
+    let P : ℕ → Type 0 = λ n. HasDrawn p end 1 number n held v w in
+    subst P one h
+one_drawn (run.Moved now) p end held v w h = h
+one_drawn run.End p end held v w h = h
+one_drawn (run.Hold records) p end held v w h = h
+one_drawn (run.Lost saw found) p end held v w h = h

@@ -7,12 +7,12 @@ use Rattle.std.proofs.lemmas.Bool.{cases_eq}
 use Rattle.atomic_table.specs.Table.{State, Me, Allows, step}
 use Rattle.atomic_table.specs.Table as acts
 use Rattle.swap_core.specs.Plans.{Tables, table, width, limit}
-use Rattle.swap_core.specs.States.{count_of, looked, entered, confirmed, gone, drawn}
+use Rattle.swap_core.specs.States.{consecutive, count_of, looked, entered, confirmed, gone, several_drawn}
 use Rattle.swap_core.specs.Sound.{HasClaimed, HoldsRightly}
 use Rattle.swap_core.specs.declared.actors.ActorState.{ActorState}
 use Rattle.swap_core.specs.declared.actors.ActorState.TheVariants.{Idle, Looked, Asks, Holds}
 use Rattle.swap_core.proofs.Laws.{few_records}
-use Rattle.swap_core.proofs.Laws.{draws_sound}
+use Rattle.swap_core.proofs.Laws.{several_sound}
 use Rattle.swap_core.proofs.Laws.{looks_sound, enters_sound, confirms_sound, leaves_sound, claimed_area, counted_there, reads_whole}
 use Rattle.swap_core.proofs.Laws.{table_fits}
 use Rattle.area_swap.specs.Places.{version_place, claims_place, row_place}
@@ -131,21 +131,22 @@ module _ (p : Tables) (s : State (Unit {0}) View) (r : Ruled p s) (id : ℕ) (v 
       r.words.rows a j la in_row ∙ reads_whole r.core id v.actor a w r.sound (actor_at p s r id v at) holds j in_table in
       subst Word plans here
 
-  -- the next number is the seat's
-  draw_now : (old : ℕ) → 0 < v.share → slice_index s.words version_place ≡ old → r.core.records < limit r.core.plan r.core.version
-      → Ruled p (record { words = set s.words version_place (old + 1); homes = s.homes; views = set s.views id (taking (reading v (unpacked (slice_index s.words version_place))) (unpacked (slice_index s.words version_place)).records (unpacked (slice_index s.words version_place)).version) })
-  draw_now old shared found room =
+  -- the next numbers are the seat's
+  draw_now : (old count a : ℕ) → 0 < v.share → slice_index s.words version_place ≡ old → v.actor.state ≡ Holds a r.core.version
+      → r.core.records + count ≤ limit r.core.plan r.core.version
+      → Ruled p (record { words = set s.words version_place (old + count); homes = s.homes; views = set s.views id (taking (reading v (unpacked (slice_index s.words version_place))) (consecutive (unpacked (slice_index s.words version_place)).records count (unpacked (slice_index s.words version_place)).version)) })
+  draw_now old count a shared found holds room =
       let P : Seen → Type 0 =
-      λ t. Ruled p (record { words = set s.words version_place (old + 1); homes = s.homes; views = set s.views id (taking (reading v t) t.records t.version) }) in
+      λ t. Ruled p (record { words = set s.words version_place (old + count); homes = s.homes; views = set s.views id (taking (reading v t) (consecutive t.records count t.version)) }) in
       let f = fits p s r id v at in
-      let one_more : IsUpTo (now_of r.core) (now_of (drawn r.core id v.actor)) = record { version = omega arith; records = omega arith } in
-      let word : old + 1 ≡ packed (now_of (drawn r.core id v.actor)) = omega (arith, r.words.first) in
+      let more : IsUpTo (now_of r.core) (now_of (several_drawn r.core id v.actor count)) = record { version = omega arith; records = omega arith } in
+      let word : old + count ≡ packed (now_of (several_drawn r.core id v.actor count)) = omega (arith, r.words.first) in
       subst P (sym (unpacks p s r id v at))
-      (seat_step p s r id v at version_place (old + 1) (taking (reading v (now_of r.core)) r.core.records r.core.version)
-      (drawn r.core id v.actor) (draws_sound r.core id v.actor r.sound (actor_at p s r id v at) room) refl
-      (laid_now s.words _ _ _ _ r.words (old + 1) (now_of (drawn r.core id v.actor)) word)
-      refl refl (shows_desk p s r id v at) (λ _. (refl, refl)) one_more refl
-      (record { same_plan = f.same_plan; unshared = λ none. absurd (omega arith); seen = one_more; prior = f.seen }))
+      (seat_step p s r id v at version_place (old + count) (taking (reading v (now_of r.core)) (consecutive r.core.records count r.core.version))
+      (several_drawn r.core id v.actor count) (several_sound r.core id count a v.actor r.sound (actor_at p s r id v at) holds room) refl
+      (laid_now s.words _ _ _ _ r.words (old + count) (now_of (several_drawn r.core id v.actor count)) word)
+      refl refl (shows_desk p s r id v at) (λ _. (refl, refl)) more refl
+      (record { same_plan = f.same_plan; unshared = λ none. absurd (omega arith); seen = more; prior = f.seen }))
 
 module _ (p : Tables) (slots id : ℕ) (me : Seated) (same : me.0.plan ≡ p) where
   pub glances : Allows (Ruled p) slots id me version_place (λ n. n) (Glanced (step slots version_place 0 0 none) me)
@@ -274,26 +275,29 @@ module _ (p : Tables) (slots id : ℕ) (me : Seated) (same : me.0.plan ≡ p) wh
         },
       )
 
-  pub draws : (old : ℕ) → 0 < me.0.share → packed me.0.seen ≡ old → me.0.seen.records < 4294967296
-      → me.0.seen.records < limit me.0.plan me.0.seen.version
-      → Allows (Ruled p) slots id me version_place (λ n. either (eqb n old) (old + 1) n) (Drew (step slots version_place old (old + 1) none) me)
-  draws old shared saw small room s r deep at range =
+  pub draws : (old count a : ℕ) → 0 < me.0.share → packed me.0.seen ≡ old → me.0.seen.records < 4294967296
+      → me.0.actor.state ≡ Holds a me.0.seen.version → me.0.seen.records + count ≤ limit me.0.plan me.0.seen.version
+      → Allows (Ruled p) slots id me version_place (λ n. either (eqb n old) (old + count) n) (Drew (step slots version_place old (old + count) none) me)
+  draws old count a shared saw small holds room s r deep at range =
       elim (cases_eq (slice_index s.words version_place) old) [
         | inl e ↦
             let same_now : me.0.seen ≡ now_of r.core =
             same_packed me.0.seen (now_of r.core) (saw ∙ sym e ∙ r.words.first) small (omega (arith, few_records r.core r.sound)) in
-            let Room : Seen → Type 0 = λ t. t.records < limit me.0.plan t.version in
-            let in_plan : r.core.records < limit me.0.plan r.core.version = subst Room same_now room in
-            let Limit : Tables → Type 0 = λ q. r.core.records < limit q r.core.version in
-            let in_core : r.core.records < limit r.core.plan r.core.version = subst Limit (same ∙ sym r.same_plan) in_plan in
-            let v : View = taking (reading me.0 (unpacked (slice_index s.words version_place))) (unpacked (slice_index s.words version_place)).records (unpacked (slice_index s.words version_place)).version in
-            let ruled : Ruled p (record { words = set s.words version_place (old + 1); homes = s.homes; views = set s.views id v }) =
-            draw_now p s r id me.0 at old shared e in_core in
-            let P : ℕ → Type 0 = λ x. Ruled p (record { words = set s.words version_place x; homes = s.homes; views = set s.views id v }) in
+            let Room : Seen → Type 0 = λ t. t.records + count ≤ limit me.0.plan t.version in
+            let in_plan : r.core.records + count ≤ limit me.0.plan r.core.version = subst Room same_now room in
+            let Limit : Tables → Type 0 = λ q. r.core.records + count ≤ limit q r.core.version in
+            let in_core : r.core.records + count ≤ limit r.core.plan r.core.version = subst Limit (same ∙ sym r.same_plan) in_plan in
+            let in_force : me.0.actor.state ≡ Holds a r.core.version = holds ∙ ap (λ (t : Seen). Holds a t.version) same_now in
+            let v : ℕ → View = λ k. taking (reading me.0 (unpacked (slice_index s.words version_place))) (consecutive (unpacked (slice_index s.words version_place)).records k (unpacked (slice_index s.words version_place)).version) in
+            let more : old + count - old ≡ count = omega arith in
+            let Q : ℕ → Type 0 = λ k. Ruled p (record { words = set s.words version_place (old + count); homes = s.homes; views = set s.views id (v k) }) in
+            let ruled : Ruled p (record { words = set s.words version_place (old + count); homes = s.homes; views = set s.views id (v (old + count - old)) }) =
+            subst Q (sym more) (draw_now p s r id me.0 at old count a shared e in_force in_core) in
+            let P : ℕ → Type 0 = λ x. Ruled p (record { words = set s.words version_place x; homes = s.homes; views = set s.views id (v (old + count - old)) }) in
             let test : eqb (slice_index s.words version_place) old ≡ true = eq-eqb (slice_index s.words version_place) old e in
-            let wrote : either (eqb (slice_index s.words version_place) old) (old + 1) (slice_index s.words version_place) ≡ old + 1 =
-            ap (λ (b : Bool). either b (old + 1) (slice_index s.words version_place)) test in (
-              v,
+            let wrote : either (eqb (slice_index s.words version_place) old) (old + count) (slice_index s.words version_place) ≡ old + count =
+            ap (λ (b : Bool). either b (old + count) (slice_index s.words version_place)) test in (
+              v (old + count - old),
               acts.keeps,
               tt,
               subst P (sym wrote) ruled,
@@ -301,7 +305,7 @@ module _ (p : Tables) (slots id : ℕ) (me : Seated) (same : me.0.plan ≡ p) wh
                 taken = λ _. refl;
                 lost = λ other. absurd (other e);
                 sees = sees_word p s r id me.0 at same;
-                now = moment_after p s r id me.0 at version_place (old + 1) v same ruled;
+                now = moment_after p s r id me.0 at version_place (old + count) (v (old + count - old)) same ruled;
               },
             )
         | inr other ↦
@@ -310,8 +314,8 @@ module _ (p : Tables) (slots id : ℕ) (me : Seated) (same : me.0.plan ≡ p) wh
             read_now p s r id me.0 at in
             let P : ℕ → Type 0 = λ x. Ruled p (record { words = set s.words version_place x; homes = s.homes; views = set s.views id v }) in
             let test : eqb (slice_index s.words version_place) old ≡ false = ne_eqb (slice_index s.words version_place) old other in
-            let wrote : either (eqb (slice_index s.words version_place) old) (old + 1) (slice_index s.words version_place) ≡ slice_index s.words version_place =
-            ap (λ (b : Bool). either b (old + 1) (slice_index s.words version_place)) test in (
+            let wrote : either (eqb (slice_index s.words version_place) old) (old + count) (slice_index s.words version_place) ≡ slice_index s.words version_place =
+            ap (λ (b : Bool). either b (old + count) (slice_index s.words version_place)) test in (
               v,
               acts.keeps,
               tt,

@@ -1,12 +1,15 @@
 -- What each answer says of the seat before the call and after it.
-use Rattle.std.specs.Prelude.{◌≡◌, ◌≢◌, ℕ, ◌+◌, ◌%◌, ◌<◌, ◌≤◌, [], ◌∷◌, ◌++◌, length, slice_index, All}
+use Rattle.std.specs.Prelude.{◌≡◌, ◌≢◌, ℕ, ◌+◌, ◌-◌, ◌%◌, ◌<◌, ◌≤◌, min, [], ◌∷◌, ◌++◌, length, slice_index, All}
 use Rattle.swap_core.specs.Plans.{Tables, IsTableSize, window, limit}
+use Rattle.swap_core.specs.States.{consecutive}
 use Rattle.swap_core.specs.declared.actors.ActorState.TheVariants.{Holds}
 use Rattle.swap_core.specs.declared.actors.DeskState.TheVariants.{Resting, Ready, Writing}
 use Rattle.area_swap.specs.declared.answers.Claim.{Claim}
 use Rattle.area_swap.specs.declared.answers.Claim.TheVariants as claim
 use Rattle.area_swap.specs.declared.answers.Draw.{Draw}
 use Rattle.area_swap.specs.declared.answers.Draw.TheVariants as draw
+use Rattle.area_swap.specs.declared.answers.DrawRun.{DrawRun}
+use Rattle.area_swap.specs.declared.answers.DrawRun.TheVariants as run
 use Rattle.area_swap.specs.declared.answers.Due.{Due}
 use Rattle.area_swap.specs.declared.answers.Due.TheVariants as due
 use Rattle.area_swap.specs.declared.answers.Quiet.{Quiet}
@@ -52,18 +55,24 @@ abbrev pub Claimed : Claim → View → View → Type 0
 Claimed (claim.Held version) v w = HoldsNow version v w
 Claimed (claim.Moved before after) v w = HasMoved before after v w
 
--- One record's number is the seat's, under the version that it holds, which is the one in force.
-pub record HasDrawn (p : Tables) (end number held : ℕ) (v w : View) : Type 0 where
-  pub after : w ≡ taking (read_twice v w) number held
+-- as many numbers from this one on as are asked for, and as there are below the end and below the held version's limit
+abbrev pub as_many : Tables → ℕ → ℕ → ℕ → ℕ → ℕ
+as_many p end most number held = min most (min (end - number) (limit p held - number))
+
+-- So many numbers in a row are the seat's, from this one on, under the version that it holds, which is the one in force.
+pub record HasDrawn (p : Tables) (end most number count held : ℕ) (v w : View) : Type 0 where
+  pub after : w ≡ taking (read_twice v w) (consecutive number count held)
   pub in_force : w.seen.version ≡ held
   pub is_next : w.seen.records ≡ number
   pub sees_first : Sees v w.prior
   pub sees_second : Sees (reading v w.prior) w.seen
   pub same : w.prior ≡ w.seen
-  pub below_end : number < end
-  pub below_limit : number < limit p held
+  pub many : count ≡ as_many p end most number held
+  pub some_one : 1 ≤ count
+  pub below_end : number + count ≤ end
+  pub below_limit : number + count ≤ limit p held
   pub earlier : IsUpTo v.seen w.prior
-  -- The number is above those of the seat's earlier draws.
+  -- The numbers are above those of the seat's earlier draws.
   pub drawn : All (IsDrawnBy w.seen) v.actor.draws
 
 -- One reading decided: another version is in force, the end is reached, or the limit.
@@ -79,12 +88,12 @@ pub record IsAtEnd (end held : ℕ) (v w : View) : Type 0 where
   pub reached : end ≤ w.seen.records
   pub sees : Sees v w.seen
 
-pub record IsAtLimit (p : Tables) (end most held : ℕ) (v w : View) : Type 0 where
+pub record IsAtLimit (p : Tables) (end records held : ℕ) (v w : View) : Type 0 where
   pub after : w ≡ reading v w.seen
   pub in_force : w.seen.version ≡ held
   pub below_end : w.seen.records < end
-  pub limit_is : limit p held ≡ most
-  pub reached : w.seen.records ≡ most
+  pub limit_is : limit p held ≡ records
+  pub reached : w.seen.records ≡ records
   pub sees : Sees v w.seen
 
 -- The exchange found another word than was read.
@@ -102,11 +111,26 @@ pub record HasLost (p : Tables) (end saw found held : ℕ) (v w : View) : Type 0
   pub later : IsUpTo w.prior w.seen
   pub drawn : All (IsDrawnBy w.prior) v.actor.draws
 
+abbrev pub RunDrawn : DrawRun → Tables → ℕ → ℕ → ℕ → View → View → Type 0
+RunDrawn (run.Taken number count) p end most held v w = HasDrawn p end most number count held v w
+RunDrawn (run.Moved now) p end most held v w = IsNotHeld now held v w
+RunDrawn run.End p end most held v w = IsAtEnd end held v w
+RunDrawn (run.Hold records) p end most held v w = IsAtLimit p end records held v w
+RunDrawn (run.Lost saw found) p end most held v w = HasLost p end saw found held v w
+
+-- the answer of a draw of one number
+abbrev pub one_of : DrawRun → Draw
+one_of (run.Taken number count) = draw.Taken number
+one_of (run.Moved now) = draw.Moved now
+one_of run.End = draw.End
+one_of (run.Hold records) = draw.Hold records
+one_of (run.Lost saw found) = draw.Lost saw found
+
 abbrev pub Drawn : Draw → Tables → ℕ → ℕ → View → View → Type 0
-Drawn (draw.Taken number) p end held v w = HasDrawn p end number held v w
+Drawn (draw.Taken number) p end held v w = HasDrawn p end 1 number 1 held v w
 Drawn (draw.Moved now) p end held v w = IsNotHeld now held v w
 Drawn draw.End p end held v w = IsAtEnd end held v w
-Drawn (draw.Hold most) p end held v w = IsAtLimit p end most held v w
+Drawn (draw.Hold records) p end held v w = IsAtLimit p end records held v w
 Drawn (draw.Lost saw found) p end held v w = HasLost p end saw found held v w
 
 -- No table is left.

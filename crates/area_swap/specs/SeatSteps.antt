@@ -1,8 +1,9 @@
 -- What each kind of step does to the seat that takes it, and tells it: of the step, the seat before, the word that it
 -- found and the seat after.
-use Rattle.std.specs.Prelude.{◌≡◌, ◌≢◌, ℕ, ◌+◌, ◌%◌, ◌<◌, ◌≤◌, [], ◌∷◌, ◌++◌, length, slice_index}
+use Rattle.std.specs.Prelude.{◌≡◌, ◌≢◌, ℕ, ◌+◌, ◌-◌, ◌%◌, ◌<◌, ◌≤◌, [], ◌∷◌, ◌++◌, length, slice_index}
 use Rattle.atomic_table.specs.Table.{Me, Step}
 use Rattle.swap_core.specs.Plans.{table, width, window}
+use Rattle.swap_core.specs.States.{consecutive}
 use Rattle.swap_core.specs.declared.actors.ActorState.TheVariants.{Idle, Looked, Asks, Holds}
 use Rattle.swap_core.specs.declared.actors.DeskState.TheVariants.{Resting, Ready, Writing}
 use Rattle.area_swap.specs.declared.board.View.{View}
@@ -59,9 +60,10 @@ pub record ReadOne (st : Stepped) (m : Seated) (n : ℕ) (m' : Seated) : Type 0 
       → n ≡ slice_index (table m.0.plan version) j
   pub now : Moment m'.0
 
--- a compare-exchange of the version word, which counts one record more where it finds the word that was read
+-- a compare-exchange of the version word, which counts more records where it finds the word that was read
 pub record Drew (st : Stepped) (m : Seated) (n : ℕ) (m' : Seated) : Type 0 where
-  pub taken : n ≡ st.first → m' ≡ (taking (reading m.0 (unpacked n)) (unpacked n).records (unpacked n).version, m.1)
+  pub taken : n ≡ st.first
+      → m' ≡ (taking (reading m.0 (unpacked n)) (consecutive (unpacked n).records (st.second - st.first) (unpacked n).version), m.1)
   pub lost : n ≢ st.first → m' ≡ (reading m.0 (unpacked n), m.1)
   pub sees : Sees m.0 (unpacked n)
   pub now : Moment m'.0

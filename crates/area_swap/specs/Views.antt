@@ -1,5 +1,5 @@
 -- What a seat knows, and how each of its moves changes that.
-use Rattle.std.specs.Prelude.{◌≡◌, ℕ, ◌+◌, ◌*◌, ◌/◌, ◌%◌, ◌<◌, ◌≤◌, ◌⊎◌, true, false, List, [], ◌∷◌, ◌++◌, length, max}
+use Rattle.std.specs.Prelude.{◌≡◌, ℕ, ◌+◌, ◌*◌, ◌/◌, ◌%◌, ◌<◌, ◌≤◌, ◌⊎◌, true, false, List, [], ◌++◌, length, max}
 use Rattle.swap_core.specs.Plans.{Tables, table}
 use Rattle.swap_core.specs.States.{CoreState, newcomer, in_state}
 use Rattle.swap_core.specs.declared.actors.ActorState.{ActorState}
@@ -93,9 +93,9 @@ reading v now = record v { seen = now; prior = v.seen; looks = v.looks + 1 }
 abbrev pub asking : View → Seen → View
 asking v now = acting (reading v now) (Asks (now.version % 2))
 
--- the number is the seat's, under the version
-abbrev pub taking : View → ℕ → ℕ → View
-taking v number version = record v { actor = record { state = v.actor.state; draws = v.actor.draws ++ (number, version) ∷ [] } }
+-- these draws are the seat's too
+abbrev pub taking : View → List (ℕ × ℕ) → View
+taking v news = record v { actor = record { state = v.actor.state; draws = v.actor.draws ++ news } }
 
 -- a seat with half of the share, and the new seat with the other half
 abbrev pub kept_half : View → View

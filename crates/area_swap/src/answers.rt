@@ -32,6 +32,39 @@ pub enum Draw {
     Lost { saw: u64, found: u64 },
 }
 
+/// What a try to draw several numbers in a row gave.
+#[derive(Clone, Copy, Debug, PartialEq, Eq)]
+pub enum DrawRun {
+    /// So many numbers from this one on belong to the seat, under the version that it holds.
+    Taken { number: u32, count: u32 },
+    /// As in `Draw`.
+    Moved { now: u32 },
+    /// As in `Draw`.
+    End,
+    /// As in `Draw`.
+    Hold { limit: u32 },
+    /// As in `Draw`.
+    Lost { saw: u64, found: u64 },
+}
+
+impl DrawRun {
+    ghost use Rattle.std.specs.Prelude.{◌≡◌};
+    ghost use Rattle.area_swap.specs.Answers.{one_of};
+
+    /// The answer of a draw of one number.
+    pub(crate) fn one(self) -> Draw
+        ensures { result ≡ one_of self }
+    {
+        match self {
+            DrawRun::Taken { number, .. } => Draw::Taken { number },
+            DrawRun::Moved { now } => Draw::Moved { now },
+            DrawRun::End => Draw::End,
+            DrawRun::Hold { limit } => Draw::Hold { limit },
+            DrawRun::Lost { saw, found } => Draw::Lost { saw, found },
+        }
+    }
+}
+
 /// Whether the next table may come into force.
 #[derive(Clone, Copy, Debug, PartialEq, Eq)]
 pub enum Due {

@@ -13,7 +13,7 @@ mod places;
 mod plays;
 mod worker;
 
-pub use answers::{Claim, Draw, Due, Quiet, Seen};
+pub use answers::{Claim, Draw, DrawRun, Due, Quiet, Seen};
 pub use areas::{Areas, prepare};
 pub use board::{Swapping, View};
 pub use desk::Desk;

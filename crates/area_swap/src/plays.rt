@@ -56,7 +56,7 @@ impl Play<(), View> for ReadWord {
     ghost then = { ReadOne };
 }
 
-/// A compare-exchange of the version word, by one record more.
+/// A compare-exchange of the version word, by some records more.
 pub struct Exchange;
 
 impl Play<(), View> for Exchange {

@@ -1,13 +1,13 @@
 // A worker's seat: the claims, readings and draws of one thread.
-ghost use Rattle.std.specs.Prelude.{◌≡◌, ℕ, ◌%◌, ◌+◌, ◌<◌, [], length, slice_index};
+ghost use Rattle.std.specs.Prelude.{◌≡◌, ℕ, ◌%◌, ◌+◌, ◌-◌, ◌<◌, ◌≤◌, min, [], length, slice_index};
 ghost use Rattle.swap_core.specs.Sound.{once_below, times};
 ghost use Rattle.swap_core.specs.declared.actors.ActorState.TheVariants.{Idle};
-ghost use Rattle.area_swap.specs.Answers.{Claimed, Drawn};
+ghost use Rattle.area_swap.specs.Answers.{Claimed, Drawn, RunDrawn};
 ghost use Rattle.area_swap.specs.Rule.{Moment, Sees};
 ghost use Rattle.area_swap.specs.Values.{HasWholeShare, HoldsOne, HoldsStill, IsIdle, IsOf, IsWorker};
 ghost use Rattle.area_swap.specs.Views.{acting, held_table, held_version, kept_half, new_half, reading, together, unpacked};
 
-use crate::answers::{Claim, Draw, Seen};
+use crate::answers::{Claim, Draw, DrawRun, Seen};
 use crate::areas::Areas;
 use crate::board::Place;
 use crate::places::{VERSION_PLACE, claims_at, row_at};
@@ -54,6 +54,19 @@ pub(crate) fn halves(word: u64) -> Seen
         version: (word >> 32) as u32,
         records: (word % (1 << 32)) as u32,
     }
+}
+
+/// How many numbers from this one on may be taken at once.
+fn count_within(number: u32, end: u32, limit: u32, most: u32) -> u32
+    requires end { number < end }
+    requires limit { number < limit }
+    requires some_one { 1 ≤ most }
+    ensures count { result ≡ min most (min (end - number) (limit - number)) }
+    ensures some_one { 1 ≤ result }
+    ensures below_end { number + result ≤ end }
+    ensures below_limit { number + result ≤ limit }
+{
+    most.min(end - number).min(limit - number)
 }
 
 impl Areas {
@@ -170,31 +183,47 @@ impl Areas {
         ensures drawn { Drawn result self.now.plan end (held_version seat.old.known) seat.old.known seat.new.known }
         ensures rule { Moment seat.new.known }
     {
+        self.draw_run(seat, end, 1).one()
+    }
+
+    /// Tries to draw the next numbers of records, up to `most` in a row, under the held version. One exchange is tried,
+    /// whatever their number: where threads meet on the version word, fewer of them meet.
+    pub fn draw_run(&self, seat: &mut WorkerSeat, end: u32, most: u32) -> DrawRun
+        requires areas { IsOf self.now seat.old }
+        requires holding { HoldsOne seat.old.known }
+        requires some_one { 1 ≤ most }
+        ensures areas { IsOf self.now seat.new }
+        ensures holding { HoldsStill seat.old.known seat.new.known }
+        ensures drawn { RunDrawn result self.now.plan end most (held_version seat.old.known) seat.old.known seat.new.known }
+        ensures rule { Moment seat.new.known }
+    {
         let shared = &self.table.shared;
         let saw = shared.load::<Glance>(&mut seat.place, VERSION_PLACE);
         let seen = halves(saw);
         let in_force = seen.version;
         if in_force != seat.held {
-            return Draw::Moved { now: in_force };
+            return DrawRun::Moved { now: in_force };
         }
         if seen.records >= end {
-            return Draw::End;
+            return DrawRun::End;
         }
         let limit = self.plan.limit(seen.version);
         if seen.records == limit {
-            return Draw::Hold { limit };
+            return DrawRun::Hold { limit };
         }
+        let count = count_within(seen.records, end, limit, most);
         let found = shared.compare_exchange::<Exchange>(
             &mut seat.place,
             VERSION_PLACE,
             saw,
-            saw + 1,
+            saw + count as u64,
         );
         if found != saw {
-            return Draw::Lost { saw, found };
+            return DrawRun::Lost { saw, found };
         }
-        Draw::Taken {
+        DrawRun::Taken {
             number: seen.records,
+            count,
         }
     }
 

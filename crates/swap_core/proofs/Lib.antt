@@ -9,3 +9,4 @@ pub mod Moves
 pub mod PlanLemmas
 pub mod Pointing
 pub mod Seating
+pub mod Several

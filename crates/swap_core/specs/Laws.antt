@@ -1,8 +1,8 @@
 -- What follows for whoever uses the machine.
-use Rattle.std.specs.Prelude.{◌≡◌, ℕ, ◌+◌, ◌<◌, ◌≤◌, ◌⊎◌, List, ◌≢◌, All, slice_index, length, sum_by}
-use Rattle.swap_core.specs.Plans.{Tables, IsPlan, table, window}
+use Rattle.std.specs.Prelude.{◌≡◌, ℕ, ◌+◌, ◌<◌, ◌≤◌, ◌⊎◌, List, ◌≢◌, All, slice_index, length, replicate, sum_by}
+use Rattle.swap_core.specs.Plans.{Tables, IsPlan, table, limit, window}
 use Rattle.swap_core.specs.Points.{in_force, AreInWindows, AreAllPoints}
-use Rattle.swap_core.specs.States.{CoreState, IsActor, area, spare, opening, joined_by_newcomer, merged}
+use Rattle.swap_core.specs.States.{CoreState, IsActor, area, spare, opening, several_drawn, joined_by_newcomer, merged}
 use Rattle.swap_core.specs.Transitions.{after, after_all, yes}
 use Rattle.swap_core.specs.Sound.{Sound, IsWriting, times}
 use Rattle.swap_core.specs.declared.actors.Actor.{Actor}
@@ -29,6 +29,14 @@ NoneTwice c = (number : ℕ) → sum_by (times number) c.actors ≤ 1
 -- each draw has the version that the points put in force at its number
 abbrev pub DrawnInForce : CoreState → Type 0
 DrawnInForce c = (who : ℕ) (x : Actor) → IsActor c who x → All (λ (d : ℕ × ℕ). d.1 ≡ in_force c.points d.0) x.draws
+
+-- So many draws, one after another, by an actor that holds the version in force, with room for all below its limit: each is
+-- taken, and together they give the actor so many numbers in a row.
+abbrev pub SeveralDrawsAreSteps : Type 0
+SeveralDrawsAreSteps =
+    (c : CoreState) (who count a : ℕ) (x : Actor) → IsActor c who x → x.state ≡ Holds a c.version
+    → c.records + count ≤ limit c.plan c.version
+    → after_all c (replicate count (step.Draw who)) ≡ several_drawn c who x count
 
 -- a step of any kind leaves a sound state sound
 abbrev pub StepsKeepSound : Type 0

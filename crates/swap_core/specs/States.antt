@@ -1,5 +1,6 @@
 -- The state of the machine, and the small changes of it that the kinds of step make.
-use Rattle.std.specs.Prelude.{◌≡◌, ℕ, ◌+◌, ◌-◌, ◌%◌, List, [], ◌∷◌, ◌++◌, length, slice_index, slice_index_or, slice_set, replicate}
+use Rattle.std.specs.Prelude.{◌≡◌, ℕ, ◌+◌, ◌-◌, ◌%◌, List, [], ◌∷◌, ◌++◌, length, slice_index, slice_index_or, slice_set, replicate, map}
+use Rattle.std.specs.List.{range_with_len}
 use lib.ListN.{get_elem?}
 use mathlib.Core.Option.{some}
 use Rattle.swap_core.specs.Plans.{Tables, table, width}
@@ -93,6 +94,15 @@ with_draw c x = record { state = x.state; draws = x.draws ++ (c.records, c.versi
 
 abbrev pub drawn : CoreState → ℕ → Actor → CoreState
 drawn c who x = record (with_actor c who (with_draw c x)) { records = c.records + 1 }
+
+-- so many numbers in a row, from this one on, each under the version
+abbrev pub consecutive : ℕ → ℕ → ℕ → List (ℕ × ℕ)
+consecutive first count version = map (λ (number : ℕ). (number, version)) (range_with_len first count)
+
+-- the next numbers, so many, belong to the actor x, under the version in force
+abbrev pub several_drawn : CoreState → ℕ → Actor → ℕ → CoreState
+several_drawn c who x count =
+    record (with_actor c who (record { state = x.state; draws = x.draws ++ consecutive c.records count c.version })) { records = c.records + count }
 
 -- word j of the next table stands in the spare area
 abbrev pub written : CoreState → ℕ → CoreState

@@ -1,5 +1,5 @@
 // What the machine is for, as laws over its definitions: each function's contract is one, and it does nothing.
-ghost use Rattle.swap_core.specs.Laws.{DrawnInForce, MergeKeepsSound, NewcomerKeepsSound, NoneTwice, ReadsItsTable, RunsAreSound, SettledPointsAreAll, StepsKeepSound, WritesWhereNobodyHolds};
+ghost use Rattle.swap_core.specs.Laws.{DrawnInForce, MergeKeepsSound, NewcomerKeepsSound, NoneTwice, ReadsItsTable, RunsAreSound, SettledPointsAreAll, SeveralDrawsAreSteps, StepsKeepSound, WritesWhereNobodyHolds};
 ghost use Rattle.swap_core.specs.Sound.{Sound};
 ghost use Rattle.swap_core.specs.States.{CoreState};
 
@@ -31,6 +31,11 @@ pub fn no_number_is_drawn_twice()
 /// Each number is drawn under the version that the points put in force at it.
 pub fn draws_are_in_force()
     ensures { (c : CoreState) → Sound c → DrawnInForce c }
+{}
+
+/// Draws in a row by one actor give it so many numbers in a row: what one step of its own may do at once.
+pub fn several_draws_are_steps()
+    ensures { SeveralDrawsAreSteps }
 {}
 
 /// One actor more, which is idle and has drawn nothing, leaves a sound state sound.
