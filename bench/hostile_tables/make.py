@@ -60,13 +60,12 @@ twelve = "".join(letter + "=1\n" for letter in LETTERS[:12])
 padded("maps_of_12", "".join("[" + key(n) + "]\n" + twelve for n in range(sections)))
 header = "[" + ".".join("a" * 32) + "]\n"
 padded("deep_header", header + pairs(MARKS - 40))
-others = "".join("A%d=1\n" % n for n in range(143))
+others = "".join("A%d=1\n" % n for n in range(3_000))
 crowd = "".join("[" + ".".join("a" * depth) + "]\n" + others for depth in range(1, 32))
-padded("deep_crowded_header", others + crowd + header + pairs(MARKS - 6_000))
+padded("deep_crowded_header", others + crowd + header + pairs(MARKS - 97_000))
 long = ["[" + "a" * 58 + "%06d]\n" % n for n in range(20_000)]
 padded("long_headers", "".join(long) + pairs(MARKS - 20_010))
-one = "[[a]]\n"
-write("array_of_tables", one * (MARKS // 2))
+write("array_of_tables", "[[a]]\n" * (MARKS // 2))
 
 # Tables of 65,536 bindings as they may be written: no limit holds these back.
 SETTINGS = 'version = 1\n[softwire]\naftr = "2001:db8::1"\nown = "192.0.2.1"\n'
