@@ -7,37 +7,37 @@ const HELD_BACK: &str = "out of memory";
 
 // A line has what stands before a run of `x`, the length of the run, what stands behind it, and the answer. `|` ends a line of
 // the file.
-const RUNS: &str = "[ ~ 64 ~ ] ~ missing version
-[ ~ 65 ~ ] ~ out of memory
-[[ ~ 64 ~ ]] ~ missing version
-[[ ~ 65 ~ ]] ~ out of memory
-[\" ~ 62 ~ \"] ~ missing version
-[\" ~ 63 ~ \"] ~ out of memory
-[\"=# ~ 61 ~ \"] ~ out of memory
-[' ~ 63 ~ '] ~ out of memory
-[a.b. ~ 60 ~ ] ~ missing version
-[a.b. ~ 61 ~ ] ~ out of memory
-a = 1|  [ ~ 65 ~ ] ~ out of memory
-\u{feff}[ ~ 65 ~ ] ~ out of memory
-# [ ~ 65 ~ ] ~ missing version
-# '|[ ~ 65 ~ ] ~ out of memory
-a = 1 # \"|[ ~ 65 ~ ] ~ out of memory
-a = \"[ ~ 65 ~ ]\" ~ missing version
-a = '[ ~ 65 ~ ]' ~ missing version
-a = \"\\\"[ ~ 65 ~ ]\" ~ missing version
-a = \"\\\\\" #[ ~ 65 ~ ] ~ missing version
-a = \"\\\\\"|[ ~ 65 ~ ] ~ out of memory
-a = '\\'|[ ~ 65 ~ ] ~ out of memory
-a = ['#', [ ~ 65 ~ ] ~ out of memory
-a = \"\"|b = \"[ ~ 65 ~ ]\" ~ missing version
-a = \"\"\"'\"\"\"|[ ~ 65 ~ ] ~ out of memory
-a = \"\"\"\"\"\"\"|[ ~ 65 ~ ] ~ out of memory
-a = '''\"'''|[ ~ 65 ~ ] ~ out of memory
-a = \"\"\"b\"\"\"|[ ~ 64 ~ ] ~ missing version
+const RUNS: &str = "[ ~ 32 ~ ] ~ missing version
+[ ~ 33 ~ ] ~ out of memory
+[[ ~ 32 ~ ]] ~ missing version
+[[ ~ 33 ~ ]] ~ out of memory
+[\" ~ 30 ~ \"] ~ missing version
+[\" ~ 31 ~ \"] ~ out of memory
+[\"=# ~ 29 ~ \"] ~ out of memory
+[' ~ 31 ~ '] ~ out of memory
+[a.b. ~ 28 ~ ] ~ missing version
+[a.b. ~ 29 ~ ] ~ out of memory
+a = 1|  [ ~ 33 ~ ] ~ out of memory
+\u{feff}[ ~ 33 ~ ] ~ out of memory
+# [ ~ 33 ~ ] ~ missing version
+# '|[ ~ 33 ~ ] ~ out of memory
+a = 1 # \"|[ ~ 33 ~ ] ~ out of memory
+a = \"[ ~ 33 ~ ]\" ~ missing version
+a = '[ ~ 33 ~ ]' ~ missing version
+a = \"\\\"[ ~ 33 ~ ]\" ~ missing version
+a = \"\\\\\" #[ ~ 33 ~ ] ~ missing version
+a = \"\\\\\"|[ ~ 33 ~ ] ~ out of memory
+a = '\\'|[ ~ 33 ~ ] ~ out of memory
+a = ['#', [ ~ 33 ~ ] ~ out of memory
+a = \"\"|b = \"[ ~ 33 ~ ]\" ~ missing version
+a = \"\"\"'\"\"\"|[ ~ 33 ~ ] ~ out of memory
+a = \"\"\"\"\"\"\"|[ ~ 33 ~ ] ~ out of memory
+a = '''\"'''|[ ~ 33 ~ ] ~ out of memory
+a = \"\"\"b\"\"\"|[ ~ 32 ~ ] ~ missing version
 ";
 
 #[test]
-fn headers_have_64_bytes_at_most(rt: HostRuntime) -> Result<(), Fail> {
+fn headers_have_32_bytes_at_most(rt: HostRuntime) -> Result<(), Fail> {
     let alloc = rt.alloc();
     for line in RUNS.lines() {
         let (before, rest) = line.split_once(" ~ ").ok_or("what stands before")?;
