@@ -1,7 +1,7 @@
 // Packets from outside: hand-made ones of a softwire, and others whose fields an independent packet builder gave.
 use aftr_base::V4;
 use case_data::{AFTR, DOWN, LAST_HOP, OPTIONS, SERVER, SHARED, SUBSCRIBER, UP, UP_TUNNEL};
-use ip_codec::{Head4, Head6, Ip4Bad, Ip6Bad, Rule, ip4, ip6, put4, put6};
+use ip_codec::{Head4, Head6, Ip4Bad, Ip6Bad, Rule, ip4, ip6, put4, put6, read_packet};
 use std::test::Fail;
 
 // All bits of flags and offset, forty bytes of options, no payload.
@@ -105,6 +105,31 @@ fn faulty_ip4_packets_are_refused(rt: HostRuntime) {
     assert_eq!(rt; ip4(&bytes).err(), Some(Ip4Bad::Checksum));
 }
 
+// How many bytes are kept of those that are no packet, and why they are none.
+fn unread(bytes: &[u8]) -> Option<(usize, Ip4Bad)> {
+    match read_packet(bytes) {
+        Ok(_) => None,
+        Err(unread) => Some((unread.bytes.len(), unread.why)),
+    }
+}
+
+#[test]
+fn a_packet_is_read_once(rt: HostRuntime) -> Result<(), Fail> {
+    let mut padded = [0; 36];
+    padded[..32].copy_from_slice(UP);
+    let Ok(packet) = read_packet(&padded) else {
+        return Err("a packet".into());
+    };
+    assert_eq!(rt; packet.view.header, &UP[..20]);
+    assert_eq!(rt; packet.view.payload, &UP[20..]);
+    assert_eq!(rt; (packet.view.src, packet.view.dst), (SHARED, SERVER));
+    assert_eq!(rt; unread(UP), None);
+    assert_eq!(rt; unread(&UP[..31]), Some((31, Ip4Bad::TotalLength)));
+    padded[11] = padded[11].wrapping_add(1);
+    assert_eq!(rt; unread(&padded), Some((36, Ip4Bad::Checksum)));
+    Ok(())
+}
+
 #[test]
 fn ip6_packets_are_read_and_written(rt: HostRuntime) -> Result<(), Fail> {
     let head = Head6 {
@@ -141,6 +166,10 @@ fn rules_have_numbers_and_names(rt: HostRuntime) -> Result<(), Fail> {
         (Rule::NoBinding, 20, "no-binding"),
         (Rule::Ttl, 21, "ttl"),
         (Rule::HairpinNoBinding, 24, "hairpin-no-binding"),
+        (Rule::Relayed, 25, "relayed"),
+        (Rule::RelayBad, 26, "relay-bad"),
+        (Rule::RelayNoBinding, 27, "relay-no-binding"),
+        (Rule::RelayMute, 28, "relay-mute"),
         (Rule::NotBuilt, 0, "not-built"),
     ];
     for (rule, number, name) in cases {

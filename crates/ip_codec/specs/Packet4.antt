@@ -92,6 +92,10 @@ packet4 view = record {
 abbrev pub is_fragment : Packet4 → Bool
 is_fragment packet = packet.mf || not (packet.offset == 0)
 
+-- the bytes of a packet, without whatever stands behind its total length (RFC 791, section 3.1)
+abbrev pub whole4 : Packet4 → List ℕ
+whole4 packet = packet.header ++ packet.payload
+
 -- how many bytes the packet has, header and payload
 abbrev pub packet_len : Packet4 → ℕ
 packet_len packet = length packet.header + length packet.payload

@@ -1,5 +1,6 @@
 // What records become.
 use crate::Rule;
+use crate::readings::{ReadPacket, Unread};
 use aftr_base::{Bytes, V6};
 
 /// The fields of an upstream packet's outer header that its judgement and its replies need.
@@ -13,7 +14,8 @@ pub struct Outer {
     pub dst: V6,
 }
 
-/// What a record of the capture is, before any table is asked.
+/// What a record of the capture is, before any table is asked. Definitions speak of it; `ItemView` is the same without a copy
+/// of the bytes.
 #[derive(Debug, Drop)]
 pub enum Item {
     /// A whole IPv4 packet towards a subscriber.
@@ -21,8 +23,30 @@ pub enum Item {
     /// What a softwire packet from a subscriber carries, and the outer header's fields. An IPv4 packet was read once, and
     /// cut to its total length; anything else stands as it came.
     Up { outer: Outer, inner: Bytes },
-    /// An IPv6 packet that carries no IPv4 packet.
+    /// An IPv6 packet that carries neither an IPv4 packet nor an ICMPv6 message.
     Six { dst: V6 },
+    /// An IPv6 packet that carries an ICMPv6 message (RFC 4443): its bytes, whatever they hold.
+    Six58 { src: V6, dst: V6, message: Bytes },
+    /// A fragment that is kept until its datagram is whole.
+    Held,
+    /// A record that is dropped before any table is asked.
+    Bad(Rule),
+}
+
+/// An item as a view of bytes that stand elsewhere, those of its record or of a datagram that was put together. Its IPv4
+/// packet was read once. Contracts see by `seen` which item it is.
+#[derive(Clone, Copy, Debug)]
+pub enum ItemView<'a> {
+    /// A whole IPv4 packet towards a subscriber.
+    Down { packet: ReadPacket<'a> },
+    /// A softwire packet from a subscriber: the outer header's fields, and the IPv4 packet that it carries.
+    Up { outer: Outer, inner: ReadPacket<'a> },
+    /// The same where what it carries is no IPv4 packet.
+    UpUnread { outer: Outer, inner: Unread<'a> },
+    /// An IPv6 packet that carries neither an IPv4 packet nor an ICMPv6 message.
+    Six { dst: V6 },
+    /// An IPv6 packet that carries an ICMPv6 message (RFC 4443): its bytes, whatever they hold.
+    Six58 { src: V6, dst: V6, message: &'a [u8] },
     /// A fragment that is kept until its datagram is whole.
     Held,
     /// A record that is dropped before any table is asked.

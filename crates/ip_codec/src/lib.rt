@@ -1,13 +1,15 @@
-//! IPv4 and IPv6 headers, read and written, and the words that the crates above share: the items that records become,
-//! and the rules by which packets are dropped.
+//! IPv4 and IPv6 headers, read and written, and the words that the crates above share: the items that records become, with
+//! their packet read once, and the rules by which packets are dropped.
 #![tactic(auto)]
 
 mod items;
 mod packet4;
 mod packet6;
+mod readings;
 mod rules;
 
-pub use items::{Item, Outer};
+pub use items::{Item, ItemView, Outer};
 pub use packet4::{Head4, Ip4Bad, Ip4View, ip4, put4};
 pub use packet6::{Head6, Ip6Bad, Ip6View, ip6, put6};
+pub use readings::{ReadPacket, Unread, read_packet};
 pub use rules::Rule;

@@ -55,12 +55,20 @@ pub enum Rule {
     HairpinOff,
     /// A packet to an address of subscribers whose port none of them owns.
     HairpinNoBinding,
+    /// An ICMPv6 error about a tunnel packet, passed on to the sender of the packet inside (RFC 2473, section 8).
+    Relayed,
+    /// An ICMPv6 error about a tunnel packet that has a wrong checksum, or quotes no tunnel packet of the router's.
+    RelayBad,
+    /// An ICMPv6 error about a tunnel packet that the table has no binding for.
+    RelayNoBinding,
+    /// An ICMPv6 error about a tunnel packet whose inner packet gets no ICMP error (RFC 1122, section 3.2.2).
+    RelayMute,
     /// No rule: this kind of packet is not judged yet.
     NotBuilt,
 }
 
 impl Rule {
-    /// The rule's number, from 1 to 24; 0 for `NotBuilt`.
+    /// The rule's number, from 1 to 28; 0 for `NotBuilt`.
     pub fn number(&self) -> u8
         ensures { result ≡ rule_number self.now }
     {
@@ -89,6 +97,10 @@ impl Rule {
             Rule::TooBig => 22,
             Rule::HairpinOff => 23,
             Rule::HairpinNoBinding => 24,
+            Rule::Relayed => 25,
+            Rule::RelayBad => 26,
+            Rule::RelayNoBinding => 27,
+            Rule::RelayMute => 28,
             Rule::NotBuilt => 0,
         }
     }
@@ -122,6 +134,10 @@ impl Rule {
             Rule::TooBig => "too-big",
             Rule::HairpinOff => "hairpin-off",
             Rule::HairpinNoBinding => "hairpin-no-binding",
+            Rule::Relayed => "relayed",
+            Rule::RelayBad => "relay-bad",
+            Rule::RelayNoBinding => "relay-no-binding",
+            Rule::RelayMute => "relay-mute",
             Rule::NotBuilt => "not-built",
         }
     }

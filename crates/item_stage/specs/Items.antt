@@ -1,5 +1,5 @@
 -- What records become: an item each, and the numbers of the datagrams that end with it unfinished.
-use Rattle.std.specs.Prelude.{ℕ, ◌==◌, Bool, ◌||◌, if◌then◌else◌, List, [], ◌++◌, map, Result, Ok, Err}
+use Rattle.std.specs.Prelude.{ℕ, ◌==◌, Bool, ◌||◌, if◌then◌else◌, List, [], map, Result, Ok, Err}
 use Rattle.capture_io.specs.Frames.{Carried, carried}
 use Rattle.capture_io.specs.Frames.Carried.{Packet4, Packet6, TooFew, Other}
 use Rattle.capture_io.specs.declared.forms.Form.{Form}
@@ -23,10 +23,6 @@ outer_of packet = record {
   dst = record { 0 = packet.dst };
 }
 
--- the bytes of a packet, without whatever stands behind its total length (RFC 791, section 3.1)
-abbrev pub whole4 : four.Packet4 → List ℕ
-whole4 packet = packet.header ++ packet.payload
-
 -- inner packets that are not staged yet: fragments, which would have to be put together, and ICMP (protocol 1)
 abbrev pub is_not_staged : four.Packet4 → Bool
 is_not_staged inner = four.is_fragment inner || (inner.protocol == 1)
@@ -36,7 +32,7 @@ is_not_staged inner = four.is_fragment inner || (inner.protocol == 1)
 abbrev pub up_item : six.Packet6 → Result four.Packet4 Ip4Bad → Item
 up_item packet (Ok inner) =
     if is_not_staged inner then item.Bad rule.NotBuilt
-    else item.Up (outer_of packet) (whole4 inner)
+    else item.Up (outer_of packet) (four.whole4 inner)
 up_item packet (Err _) = item.Up (outer_of packet) packet.body
 
 -- An IPv6 packet, by what its bytes are read as. Next header 4 is IPv4 in IPv6 (RFC 2473, section 5); every other one is not

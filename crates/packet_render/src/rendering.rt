@@ -75,7 +75,7 @@ fn packet_of(item: &Item) -> Option<Ip4View<'_>>
     let bytes = match item {
         Item::Down { packet } => packet,
         Item::Up { inner, .. } => inner,
-        Item::Six { .. } | Item::Held | Item::Bad(_) => return None,
+        Item::Six { .. } | Item::Six58 { .. } | Item::Held | Item::Bad(_) => return None,
     };
     match ip4(bytes.as_slice()) {
         Ok(view) => Some(view),

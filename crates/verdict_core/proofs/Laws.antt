@@ -302,6 +302,7 @@ forwards t (item.Up outer inner) v lawful j = λ built.
     forwards_by t outer inner v built (outcome t outer inner v lawful (first_line t (item.Up outer inner) v j))
 forwards t (item.Down packet) v lawful j = tt
 forwards t (item.Six dst) v lawful j = tt
+forwards t (item.Six58 src dst message) v lawful j = tt
 forwards t item.Held v lawful j = tt
 forwards t (item.Bad why) v lawful j = tt
 
@@ -310,6 +311,7 @@ forbidden t (item.Up outer inner) v lawful j = λ built.
     forbidden_by t outer inner v built (outcome t outer inner v lawful (first_line t (item.Up outer inner) v j))
 forbidden t (item.Down packet) v lawful j = tt
 forbidden t (item.Six dst) v lawful j = tt
+forbidden t (item.Six58 src dst message) v lawful j = tt
 forbidden t item.Held v lawful j = tt
 forbidden t (item.Bad why) v lawful j = tt
 
@@ -318,6 +320,7 @@ refused t (item.Up outer inner) v lawful j = λ built.
     refused_by t outer inner v built (outcome t outer inner v lawful (first_line t (item.Up outer inner) v j))
 refused t (item.Down packet) v lawful j = tt
 refused t (item.Six dst) v lawful j = tt
+refused t (item.Six58 src dst message) v lawful j = tt
 refused t item.Held v lawful j = tt
 refused t (item.Bad why) v lawful j = tt
 
@@ -359,6 +362,10 @@ good t (item.Six dst) v lawful j = good_first (first_line t (item.Six dst) v j)
   where
     good_first : first_true (lines t (item.Six dst)) ≡ Some v → IsGood (item.Six dst) v
     good_first is = let same : v ≡ silent rule.NotBuilt = cc in good_silent (item.Six dst) v rule.NotBuilt same
+good t (item.Six58 src dst message) v lawful j = good_first (first_line t (item.Six58 src dst message) v j)
+  where
+    good_first : first_true (lines t (item.Six58 src dst message)) ≡ Some v → IsGood (item.Six58 src dst message) v
+    good_first is = let same : v ≡ silent rule.NotBuilt = cc in good_silent (item.Six58 src dst message) v rule.NotBuilt same
 good t item.Held v lawful j = good_first (first_line t item.Held v j)
   where
     good_first : first_true (lines t item.Held) ≡ Some v → IsGood item.Held v

@@ -1,5 +1,8 @@
 -- Which verdicts an item can have.
-use Rattle.std.specs.Prelude.{◌≡◌, ℕ, ◌+◌, ◌-◌, ◌≤◌, true, false, List, Option, Some, None, Ok}
+use Rattle.std.specs.Prelude.{◌≡◌, ℕ, ◌+◌, ◌-◌, ◌≤◌, ◌⊎◌, true, false, List, Option, Some, None, Ok}
+use Rattle.aftr_base.specs.declared.numbers.V6.{V6}
+use Rattle.icmp_codec.specs.Message6.{Message6, icmp6_of}
+use Rattle.icmp_relay.specs.Quotes.{TunnelQuote, quote_of}
 use Rattle.ip_codec.specs.Packet4.{Packet4, ip4_of, is_fragment, packet_len}
 use Rattle.ip_codec.specs.declared.items.Item.{Item}
 use Rattle.ip_codec.specs.declared.items.Item.TheVariants as item
@@ -34,9 +37,22 @@ abbrev pub IsDown : Item → Type 0
 IsDown (item.Down packet) = Unit {0}
 IsDown _ = ⊥
 
+-- the ICMPv6 message is sound, and quotes a tunnel packet whose inner IPv4 header can be read (RFC 2473, section 8)
+pub record QuotesTunnel (from to : V6) (bytes : List ℕ) : Type 0 where
+  pub message : Message6
+  pub read : icmp6_of from.0 to.0 bytes ≡ Ok message
+  pub quote : TunnelQuote
+  pub quoted : quote_of message.rest ≡ Ok quote
+
+-- the item is an ICMPv6 message that can be passed on
+abbrev pub IsRelayable : Item → Type 0
+IsRelayable (item.Six58 src dst message) = QuotesTunnel src dst message
+IsRelayable _ = ⊥
+
 abbrev pub FitsReply : Item → Reply → Type 0
 FitsReply i reply.Silent = Unit {0}
 FitsReply i (reply.Policy from to hop) = IsUp i × ((p : Packet4) × HasPacket i p)
+FitsReply i (reply.Relay own code mtu path) = IsRelayable i × ((code ≡ 1) ⊎ (code ≡ 4))
 FitsReply i _ = (p : Packet4) × HasPacket i p
 
 -- the verdict fits the item

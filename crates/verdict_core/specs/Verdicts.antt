@@ -85,6 +85,7 @@ lines t (item.Bad why) = (true, silent why) ∷ []
 lines t (item.Up outer inner) = up_lines t outer (ip4_of inner)
 lines t (item.Down packet) = (true, silent rule.NotBuilt) ∷ []
 lines t (item.Six dst) = (true, silent rule.NotBuilt) ∷ []
+lines t (item.Six58 src dst message) = (true, silent rule.NotBuilt) ∷ []
 
 -- some line has a true condition, every line before it has a false one, and the verdict is what that line gives
 pub record Judged (t : BindingTable) (i : Item) (v : Verdict) : Type 0 where

@@ -81,7 +81,7 @@ fn judge_under<W: Words, L: Ledger>(
         Item::Bad(why) => silent(*why),
         Item::Up { outer, inner } => judge_up(words, settings, outer, inner.as_slice(), steps),
         Item::Down { .. } => silent(Rule::NotBuilt),
-        Item::Six { .. } => silent(Rule::NotBuilt),
+        Item::Six { .. } | Item::Six58 { .. } => silent(Rule::NotBuilt),
     }
 }
 

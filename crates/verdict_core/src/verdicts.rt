@@ -15,13 +15,35 @@ pub enum Reply {
     /// Nothing.
     Silent,
     /// ICMP host unreachable, from the router's address `own` (RFC 792).
-    Unreachable { own: V4, path: Path },
+    Unreachable {
+        own: V4,
+        path: Path,
+    },
     /// ICMP fragmentation needed, with the greatest size in bytes (RFC 1191).
-    TooBig { own: V4, mtu: u16, path: Path },
+    TooBig {
+        own: V4,
+        mtu: u16,
+        path: Path,
+    },
     /// ICMP time exceeded (RFC 792).
-    Exceeded { own: V4, path: Path },
+    Exceeded {
+        own: V4,
+        path: Path,
+    },
     /// ICMPv6 source address failed the policy (RFC 4443, section 3.1).
-    Policy { from: V6, to: V6, hop: u8 },
+    Policy {
+        from: V6,
+        to: V6,
+        hop: u8,
+    },
+    /// An ICMPv6 error about a tunnel packet, passed on as ICMP destination unreachable with this code, 1 or 4, and the
+    /// greatest size in bytes, from the router's address `own` (RFC 2473, section 8).
+    Relay {
+        own: V4,
+        code: u8,
+        mtu: u16,
+        path: Path,
+    },
 }
 
 /// What becomes of an item.

@@ -1,0 +1,36 @@
+// IPv4 packets that were read, with what is known of them.
+ghost use Rattle.std.specs.Prelude.{◌≡◌, ◌++◌, take, IfOk, IfErr, Ok, Err};
+ghost use Rattle.ip_codec.specs.Packet4.{ip4_of, packet4, packet_len, whole4, IsBounded4};
+
+use crate::packet4::{Ip4Bad, Ip4View, ip4};
+
+/// An IPv4 packet that was read: it reads the same from its header and payload alone, and keeps the format's limits.
+#[derive(Clone, Copy, Debug)]
+pub struct ReadPacket<'a> {
+    pub view: Ip4View<'a>,
+    pub ghost alone: { ip4_of (view.header.now ++ view.payload.now) ≡ Ok (packet4 view) },
+    pub ghost bounded: { IsBounded4 (packet4 view) },
+}
+
+/// Bytes that are no IPv4 packet, and why.
+#[derive(Clone, Copy, Debug)]
+pub struct Unread<'a> {
+    pub bytes: &'a [u8],
+    pub why: Ip4Bad,
+    pub ghost refused: { ip4_of bytes.now ≡ Err why },
+}
+
+/// Reads an IPv4 packet as `ip4` does (RFC 791, section 3.1), and keeps the answer with what it says. Bytes past the packet's
+/// total length are left out; bytes that are no packet stay as they are.
+pub fn read_packet(bytes: &[u8]) -> Result<ReadPacket<'_>, Unread<'_>>
+    ensures read { IfOk result (λ packet. ip4_of bytes.now ≡ Ok (packet4 packet.view)) }
+    ensures front { IfOk result (λ packet.
+        whole4 (packet4 packet.view) ≡ take (packet_len (packet4 packet.view)) bytes.now) }
+    ensures refused { IfErr result (λ unread. ip4_of bytes.now ≡ Err unread.why) }
+    ensures kept { IfErr result (λ unread. unread.bytes.now ≡ bytes.now) }
+{
+    match ip4(bytes) {
+        Ok(view) => Ok(ReadPacket { view }),
+        Err(why) => Err(Unread { bytes, why }),
+    }
+}
