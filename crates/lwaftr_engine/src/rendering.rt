@@ -18,7 +18,7 @@ use packet_render::packets;
 use std::alloc::Global;
 use std::sync::ledger::{Blank, Ledger};
 use table_words::{SliceWords, Steps};
-use verdict_core::{Verdict, judge};
+use verdict_core::{Verdict, judge_owned};
 
 /// How many bytes of packets are expected of a record.
 const PACKET_ROOM: usize = 128;
@@ -65,7 +65,7 @@ pub fn render_round<L: Ledger>(
     let mut i = 0;
     'records: while i < records.len() {
         let entry = &entries[i];
-        let verdict = judge(&mut reader, &entry.item, &mut steps);
+        let verdict = judge_owned(&mut reader, &entry.item, &mut steps);
         render_record(
             alloc,
             &mut rendered,

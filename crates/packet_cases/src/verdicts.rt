@@ -7,13 +7,13 @@ use binding_rules::{Binding, Edition, Softwire, Table, TableError, table_of};
 use case_data::{
     AFTR, FIRST_FRAGMENT, LAST_HOP, NO_PORTS, SETTINGS, SHARED, THREE_BYTES, UP, subscriber,
 };
-use ip_codec::{Item, Outer, Rule};
+use ip_codec::{Item, ItemView, Outer, Rule, read_packet};
 use std::alloc::Global;
 use std::marker::Brand;
 use std::sync::ledger::{Blank, Ledger};
 use std::test::Fail;
-use table_words::{SliceWords, Steps, compile};
-use verdict_core::{Reply, Verdict, judge};
+use table_words::{SliceWords, Steps, compile, softwire};
+use verdict_core::{Reply, Verdict, judge, judge_owned, judge_with};
 
 // The first datagram to the router's own address.
 const TO_OWN: &[u8; 32] =
@@ -80,7 +80,7 @@ fn table_under(
     table_of(alloc, Edition::One, settings, bindings)
 }
 
-fn judged_in<L: Ledger>(words: &[u64], item: &Item, blank: Blank) -> Verdict
+fn judged_in<L: Ledger>(words: &[u64], item: &ItemView<'_>, blank: Blank) -> Verdict
     requires compiled { AreCompiled words.now }
     requires name { blank.name ≡ L.name }
     requires parts { blank.parts ≡ L.parts }
@@ -91,38 +91,74 @@ fn judged_in<L: Ledger>(words: &[u64], item: &Item, blank: Blank) -> Verdict
     judge(&mut words, item, &mut steps)
 }
 
-fn judged(words: &WordList, item: &Item) -> Verdict
+fn judged(words: &WordList, item: &ItemView<'_>) -> Verdict
     requires { AreCompiled words.now }
 {
     judged_in::<Brand>(words.as_slice(), item, Blank::new(1))
 }
 
-// An upstream packet from a tunnel's end to an address of the router.
-fn up(alloc: Global, src: V6, dst: V6, inner: &[u8]) -> Result<Item, OutOfMemory> {
-    let outer = Outer {
+// The same with the settings read first.
+fn judged_with_in<L: Ledger>(words: &[u64], item: &ItemView<'_>, blank: Blank) -> Verdict
+    requires compiled { AreCompiled words.now }
+    requires name { blank.name ≡ L.name }
+    requires parts { blank.parts ≡ L.parts }
+    requires some { 0 < blank.parts }
+{
+    let mut words = SliceWords(words);
+    let mut steps = Steps::<L>::start(blank);
+    let settings = softwire(&mut words, &mut steps);
+    judge_with(&mut words, &settings, item, &mut steps)
+}
+
+fn judged_with(words: &WordList, item: &ItemView<'_>) -> Verdict
+    requires { AreCompiled words.now }
+{
+    judged_with_in::<Brand>(words.as_slice(), item, Blank::new(1))
+}
+
+// The same of an item that owns its bytes.
+fn judged_owned_in<L: Ledger>(words: &[u64], item: &Item, blank: Blank) -> Verdict
+    requires compiled { AreCompiled words.now }
+    requires name { blank.name ≡ L.name }
+    requires parts { blank.parts ≡ L.parts }
+    requires some { 0 < blank.parts }
+{
+    let mut words = SliceWords(words);
+    let mut steps = Steps::<L>::start(blank);
+    judge_owned(&mut words, item, &mut steps)
+}
+
+fn judged_owned(words: &WordList, item: &Item) -> Verdict
+    requires { AreCompiled words.now }
+{
+    judged_owned_in::<Brand>(words.as_slice(), item, Blank::new(1))
+}
+
+fn outer(src: V6, dst: V6) -> Outer {
+    Outer {
         word: 0x6000_0000,
         hop: 64,
         src,
         dst,
-    };
-    Ok(Item::Up {
-        outer,
-        inner: Bytes::copy(alloc, inner)?,
-    })
+    }
+}
+
+// An upstream packet from a tunnel's end to an address of the router.
+fn up(src: V6, dst: V6, inner: &[u8]) -> ItemView<'_> {
+    let outer = outer(src, dst);
+    match read_packet(inner) {
+        Ok(inner) => ItemView::Up { outer, inner },
+        Err(inner) => ItemView::UpUnread { outer, inner },
+    }
 }
 
 // The verdict on the first packet from another source port, in the tunnel of the subscriber with this number.
-fn judged_from(
-    alloc: Global,
-    words: &WordList,
-    number: u32,
-    port: u16,
-) -> Result<Verdict, OutOfMemory>
+fn judged_from(words: &WordList, number: u32, port: u16) -> Verdict
     requires { AreCompiled words.now }
 {
     let mut packet = *UP;
     packet[20..22].copy_from_slice(&port.to_be_bytes());
-    Ok(judged(words, &up(alloc, subscriber(number), AFTR, &packet)?))
+    judged(words, &up(subscriber(number), AFTR, &packet))
 }
 
 #[test]
@@ -133,14 +169,14 @@ fn forwards_the_ports_of_the_sender(rt: HostRuntime) -> Result<(), Fail> {
     let two = compile(alloc, &table(alloc, &[(6, 8, 52), (6, 8, 53)])?)?;
     let no_binding = dropped(Rule::NoBinding);
     for port in [1232, 1235, 2256, 64_723] {
-        assert_eq!(rt; judged_from(alloc, &one, 1, port)?, FORWARDED, "{port}");
-        assert_eq!(rt; judged_from(alloc, &two, 1, port)?, FORWARDED, "{port}");
-        assert_eq!(rt; judged_from(alloc, &two, 2, port)?, no_binding, "{port}");
+        assert_eq!(rt; judged_from(&one, 1, port), FORWARDED, "{port}");
+        assert_eq!(rt; judged_from(&two, 1, port), FORWARDED, "{port}");
+        assert_eq!(rt; judged_from(&two, 2, port), no_binding, "{port}");
     }
-    assert_eq!(rt; judged_from(alloc, &two, 2, 1236)?, FORWARDED);
+    assert_eq!(rt; judged_from(&two, 2, 1236), FORWARDED);
     for port in [1236, 208] {
-        assert_eq!(rt; judged_from(alloc, &one, 1, port)?, no_binding, "{port}");
-        assert_eq!(rt; judged_from(alloc, &two, 1, port)?, no_binding, "{port}");
+        assert_eq!(rt; judged_from(&one, 1, port), no_binding, "{port}");
+        assert_eq!(rt; judged_from(&two, 1, port), no_binding, "{port}");
     }
     Ok(())
 }
@@ -166,18 +202,25 @@ fn names_the_rule_of_each_drop(rt: HostRuntime) -> Result<(), Fail> {
         (subscriber(1), AFTR, ICMP, Rule::NotBuilt),
     ];
     for (src, dst, inner, rule) in cases {
-        let item = up(alloc, src, dst, inner)?;
+        let item = up(src, dst, inner);
         assert_eq!(rt; judged(&words, &item), dropped(rule), "{rule}");
     }
     Ok(())
 }
 
-// An upstream packet that starts with these bytes and has so many zeros behind them.
-fn up_padded(alloc: Global, start: &[u8], zeros: usize) -> Result<Item, OutOfMemory> {
+// The verdict on an upstream packet that starts with these bytes and has so many zeros behind them.
+fn judged_padded(
+    alloc: Global,
+    words: &WordList,
+    start: &[u8],
+    zeros: usize,
+) -> Result<Verdict, OutOfMemory>
+    requires { AreCompiled words.now }
+{
     let mut bytes = Vec::new(alloc);
     bytes.extend_from_slice(start)?;
     bytes.extend_from_slice(&vec![in alloc; 0u8; zeros]?)?;
-    up(alloc, subscriber(1), AFTR, &bytes)
+    Ok(judged(words, &up(subscriber(1), AFTR, &bytes)))
 }
 
 #[test]
@@ -188,10 +231,10 @@ fn forwards_up_to_the_mtu(rt: HostRuntime) -> Result<(), Fail> {
         ..SETTINGS
     };
     let words = compile(alloc, &table_under(alloc, settings, &[(6, 8, 52)])?)?;
-    let largest = up_padded(alloc, LARGEST, 552)?;
-    assert_eq!(rt; judged(&words, &largest), Verdict::Outward { mtu: 576 });
-    let too_large = up_padded(alloc, TOO_LARGE, 553)?;
-    assert_eq!(rt; judged(&words, &too_large), dropped(Rule::NotBuilt));
+    let largest = judged_padded(alloc, &words, LARGEST, 552)?;
+    assert_eq!(rt; largest, Verdict::Outward { mtu: 576 });
+    let too_large = judged_padded(alloc, &words, TOO_LARGE, 553)?;
+    assert_eq!(rt; too_large, dropped(Rule::NotBuilt));
     Ok(())
 }
 
@@ -205,7 +248,7 @@ fn leaves_packets_that_could_ask_for_an_error(rt: HostRuntime) -> Result<(), Fai
             ..SETTINGS
         };
         let words = compile(alloc, &table_under(alloc, settings, &[(6, 8, 52)])?)?;
-        let item = up(alloc, subscriber(1), AFTR, UP)?;
+        let item = up(subscriber(1), AFTR, UP);
         assert_eq!(rt; judged(&words, &item), dropped(Rule::NotBuilt));
     }
     Ok(())
@@ -216,7 +259,7 @@ fn forwards_a_whole_address(rt: HostRuntime) -> Result<(), Fail> {
     let alloc = rt.alloc();
     let words = compile(alloc, &table(alloc, &[(0, 0, 0)])?)?;
     for inner in [UP, NO_PORTS] {
-        let item = up(alloc, subscriber(1), AFTR, inner)?;
+        let item = up(subscriber(1), AFTR, inner);
         assert_eq!(rt; judged(&words, &item), FORWARDED);
     }
     Ok(())
@@ -226,17 +269,60 @@ fn forwards_a_whole_address(rt: HostRuntime) -> Result<(), Fail> {
 fn keeps_what_the_stage_said(rt: HostRuntime) -> Result<(), Fail> {
     let alloc = rt.alloc();
     let words = compile(alloc, &table(alloc, &[])?)?;
-    let down = Item::Down {
-        packet: Bytes::copy(alloc, UP)?,
+    let Ok(packet) = read_packet(UP) else {
+        return Err("a packet".into());
+    };
+    let down = ItemView::Down { packet };
+    let message = ItemView::Six58 {
+        src: subscriber(1),
+        dst: AFTR,
+        message: b"\x80\0\0\0\0\0\0\0",
     };
     let cases = [
-        (Item::Held, Verdict::Held),
-        (Item::Bad(Rule::FrameShort), dropped(Rule::FrameShort)),
-        (Item::Six { dst: AFTR }, dropped(Rule::NotBuilt)),
+        (ItemView::Held, Verdict::Held),
+        (ItemView::Bad(Rule::FrameShort), dropped(Rule::FrameShort)),
+        (ItemView::Six { dst: AFTR }, dropped(Rule::NotBuilt)),
+        (message, dropped(Rule::NotBuilt)),
         (down, dropped(Rule::NotBuilt)),
     ];
     for (item, expected) in &cases {
         assert_eq!(rt; judged(&words, item), *expected);
+    }
+    Ok(())
+}
+
+#[test]
+fn settings_handed_in_give_the_same_verdict(rt: HostRuntime) -> Result<(), Fail> {
+    let alloc = rt.alloc();
+    let words = compile(alloc, &table(alloc, &[(6, 8, 52)])?)?;
+    let cases: [(&[u8], Verdict); 4] = [
+        (UP, FORWARDED),
+        (CHECKSUM, dropped(Rule::InnerChecksum)),
+        (THREE_BYTES, dropped(Rule::NoPort)),
+        (TO_OWN, dropped(Rule::ToSelf)),
+    ];
+    for (inner, expected) in cases {
+        let item = up(subscriber(1), AFTR, inner);
+        assert_eq!(rt; judged_with(&words, &item), expected);
+    }
+    Ok(())
+}
+
+#[test]
+fn an_item_that_owns_its_bytes_has_the_same_verdict(rt: HostRuntime) -> Result<(), Fail> {
+    let alloc = rt.alloc();
+    let words = compile(alloc, &table(alloc, &[(6, 8, 52)])?)?;
+    let cases: [(&[u8], Verdict); 3] = [
+        (UP, FORWARDED),
+        (CHECKSUM, dropped(Rule::InnerChecksum)),
+        (NO_PORTS, dropped(Rule::NoBinding)),
+    ];
+    for (inner, expected) in cases {
+        let item = Item::Up {
+            outer: outer(subscriber(1), AFTR),
+            inner: Bytes::copy(alloc, inner)?,
+        };
+        assert_eq!(rt; judged_owned(&words, &item), expected);
     }
     Ok(())
 }

@@ -3,7 +3,9 @@
 #![tactic(auto)]
 
 mod judging;
+mod owned;
 mod verdicts;
 
-pub use judging::judge;
+pub use judging::{judge, judge_with};
+pub use owned::judge_owned;
 pub use verdicts::{Path, Reply, Verdict};

@@ -10,10 +10,10 @@ records-preserved g c =
     let next : c.args.start + c.records.i + 1 ≡ c.args.start + (c.records.i + 1) = omega arith in record {
       within = omega arith;
       counts = subst (IsWithin c.render_record.new.totals) next c.in_ok-render_record.ensures.within;
-      words = c.judge-verdict.ensures.list ∙ c.records.invariant.words;
-      remains = λ t compiled. remains_more t c.args.start c.records.i c.args.records.now c.args.entries.now c.index-records-i.result c.index-entries-i.result c.judge-verdict.result c.args.totals.now c.records.totals c.render_record.new.totals c.records.rendered c.render_record.new.rendered
+      words = c.judge_owned-verdict.ensures.list ∙ c.records.invariant.words;
+      remains = λ t compiled. remains_more t c.args.start c.records.i c.args.records.now c.args.entries.now c.index-records-i.result c.index-entries-i.result c.judge_owned-verdict.result c.args.totals.now c.records.totals c.render_record.new.totals c.records.rendered c.render_record.new.rendered
           (omega arith) c.requires.same c.index-records-i.is c.index-entries-i.is
-          (c.judge-verdict.ensures.value t (subst (IsCompiled t) (sym c.records.invariant.words) compiled))
+          (c.judge_owned-verdict.ensures.value t (subst (IsCompiled t) (sym c.records.invariant.words) compiled))
           c.in_ok-render_record.ensures.rendered
           (c.records.invariant.remains t compiled);
     }

@@ -1,41 +1,35 @@
-use Rattle.std.proofs.Common.{ℕ, ◌-◌, List, sym, ap, ◌∙◌, subst, arith}
-use Rattle.aftr_base.specs.First.{first_true}
-use Rattle.ip_codec.specs.Packet4.{packet4}
+use Rattle.std.proofs.Common.{ℕ, ◌-◌, List, sym, subst, arith}
+use Rattle.ip_codec.specs.Packet4.{packet4, whole4}
 use Rattle.table_words.specs.Layout.{IsCompiled}
 use Rattle.table_words.proofs.Laws.{reads_on}
-use Rattle.verdict_core.specs.Verdicts.{up_lines}
 use Rattle.verdict_core.specs.declared.verdicts.Verdict.TheVariants as verdict
 use Rattle.verdict_core.proofs.Exits.{at_end, at_foreign, at_icmp_bad, at_no_binding, at_no_port, at_not_built, at_self}
 use Rattle.verdict_core.proofs.judging.judge_up.Goals as goal
 
-pub returns-in-Err-clause-verdict : goal.returns-in-Err-clause-verdict
-returns-in-Err-clause-verdict g c = λ t h.
-    ap (λ r. first_true (up_lines t c.args.outer.now r)) c.in-Err.ensures.reads ∙ c.refused.ensures t (c.requires.settings t h)
-
 pub returns-then-is_not_judged-clause-verdict : goal.returns-then-is_not_judged-clause-verdict
 returns-then-is_not_judged-clause-verdict g c = λ t h.
-    at_not_built t c.args.outer.now c.args.inner.now c.args.settings.now (packet4 c.in-Ok.packet) _ (c.requires.settings t h) c.in-Ok.ensures.reads _ (c.is_not_judged.ensures.answer t h)
+    at_not_built t c.args.outer.now (whole4 (packet4 c.args.inner.now.view)) c.args.settings.now (packet4 c.args.inner.now.view) _ (c.requires.settings t h) c.args.inner.now.alone _ (c.is_not_judged.ensures.answer t h)
     c.if-is_not_judged.true c.silent.ensures
 
 pub returns-then-ne-clause-verdict : goal.returns-then-ne-clause-verdict
 returns-then-ne-clause-verdict g c = λ t h.
-    at_foreign t c.args.outer.now c.args.inner.now c.args.settings.now (packet4 c.in-Ok.packet) _ (c.requires.settings t h) c.in-Ok.ensures.reads _ (c.is_not_judged.ensures.answer t h)
+    at_foreign t c.args.outer.now (whole4 (packet4 c.args.inner.now.view)) c.args.settings.now (packet4 c.args.inner.now.view) _ (c.requires.settings t h) c.args.inner.now.alone _ (c.is_not_judged.ensures.answer t h)
     c.if-is_not_judged.false _ c.ne.ensures c.if-ne.true c.silent-then-ne.ensures
 
 pub returns-in-IcmpBad-clause-verdict : goal.returns-in-IcmpBad-clause-verdict
 returns-in-IcmpBad-clause-verdict g c = λ t h.
-    at_icmp_bad t c.args.outer.now c.args.inner.now c.args.settings.now (packet4 c.in-Ok.packet) _ (c.requires.settings t h) c.in-Ok.ensures.reads _ (c.is_not_judged.ensures.answer t h)
+    at_icmp_bad t c.args.outer.now (whole4 (packet4 c.args.inner.now.view)) c.args.settings.now (packet4 c.args.inner.now.view) _ (c.requires.settings t h) c.args.inner.now.alone _ (c.is_not_judged.ensures.answer t h)
     c.if-is_not_judged.false _ c.ne.ensures c.if-ne.false _ c.key_up.ensures c.in-IcmpBad.is c.silent-in-IcmpBad.ensures
 
 pub returns-in-NoPort-clause-verdict : goal.returns-in-NoPort-clause-verdict
 returns-in-NoPort-clause-verdict g c = λ t h.
-    at_no_port t c.args.outer.now c.args.inner.now c.args.settings.now (packet4 c.in-Ok.packet) _ (c.requires.settings t h) c.in-Ok.ensures.reads _ (c.is_not_judged.ensures.answer t h)
+    at_no_port t c.args.outer.now (whole4 (packet4 c.args.inner.now.view)) c.args.settings.now (packet4 c.args.inner.now.view) _ (c.requires.settings t h) c.args.inner.now.alone _ (c.is_not_judged.ensures.answer t h)
     c.if-is_not_judged.false _ c.ne.ensures c.if-ne.false _ c.key_up.ensures c.in-NoPort.is c.silent-in-NoPort.ensures
 
 pub returns-then-not-is_softwire-clause-verdict : goal.returns-then-not-is_softwire-clause-verdict
 returns-then-not-is_softwire-clause-verdict g c = λ t h.
     let here = subst (λ (ws : List ℕ). IsCompiled t ws) (sym c.is_not_judged.ensures.list) h in
-    at_no_binding t c.args.outer.now c.args.inner.now c.args.settings.now (packet4 c.in-Ok.packet) _ (c.requires.settings t h) c.in-Ok.ensures.reads _ (c.is_not_judged.ensures.answer t h)
+    at_no_binding t c.args.outer.now (whole4 (packet4 c.args.inner.now.view)) c.args.settings.now (packet4 c.args.inner.now.view) _ (c.requires.settings t h) c.args.inner.now.alone _ (c.is_not_judged.ensures.answer t h)
     c.if-is_not_judged.false _ c.ne.ensures c.if-ne.false _ c.key_up.ensures _ c.in-At.is _ (c.is_softwire.ensures.answer t here)
     c.if-not-is_softwire.true c.silent-then-not-is_softwire.ensures
 
@@ -55,7 +49,7 @@ returns-then-not-is_softwire-clause-bound g c = λ t h.
 pub returns-then-eq-clause-verdict : goal.returns-then-eq-clause-verdict
 returns-then-eq-clause-verdict g c = λ t h.
     let here = subst (λ (ws : List ℕ). IsCompiled t ws) (sym c.is_not_judged.ensures.list) h in
-    at_self t c.args.outer.now c.args.inner.now c.args.settings.now (packet4 c.in-Ok.packet) _ (c.requires.settings t h) c.in-Ok.ensures.reads _ (c.is_not_judged.ensures.answer t h)
+    at_self t c.args.outer.now (whole4 (packet4 c.args.inner.now.view)) c.args.settings.now (packet4 c.args.inner.now.view) _ (c.requires.settings t h) c.args.inner.now.alone _ (c.is_not_judged.ensures.answer t h)
     c.if-is_not_judged.false _ c.ne.ensures c.if-ne.false _ c.key_up.ensures _ c.in-At.is _ (c.is_softwire.ensures.answer t here)
     c.if-not-is_softwire.false _ c.eq.ensures c.if-eq.true c.silent-then-eq.ensures
 
@@ -75,7 +69,7 @@ returns-then-eq-clause-bound g c = λ t h.
 pub returns-clause-verdict : goal.returns-clause-verdict
 returns-clause-verdict g c = λ t h.
     let here = subst (λ (ws : List ℕ). IsCompiled t ws) (sym c.is_not_judged.ensures.list) h in
-    at_end t c.args.outer.now c.args.inner.now c.args.settings.now (packet4 c.in-Ok.packet) (verdict.Outward c.args.settings.now.mtu4) (c.requires.settings t h) c.in-Ok.ensures.reads _ (c.is_not_judged.ensures.answer t h)
+    at_end t c.args.outer.now (whole4 (packet4 c.args.inner.now.view)) c.args.settings.now (packet4 c.args.inner.now.view) (verdict.Outward c.args.settings.now.mtu4) (c.requires.settings t h) c.args.inner.now.alone _ (c.is_not_judged.ensures.answer t h)
     c.if-is_not_judged.false _ c.ne.ensures c.if-ne.false _ c.key_up.ensures _ c.in-At.is _ (c.is_softwire.ensures.answer t here)
     c.if-not-is_softwire.false _ c.eq.ensures c.if-eq.false
 
