@@ -3,7 +3,10 @@ pub mod Capture
 pub mod Frames
 pub mod Head
 pub mod Header
+pub mod Packets
 pub mod Record
+pub mod Records
+pub mod Rounds
 pub mod Texts
 pub mod Words
 pub mod Written

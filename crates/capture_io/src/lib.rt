@@ -7,10 +7,16 @@ mod frames;
 mod header;
 mod laws;
 mod record;
+mod records;
+mod rounds;
 mod words;
+mod written;
 
 pub use forms::{CaptureBad, CaptureError, Form, Next, Rec};
 pub use frames::{Frame, frame_of};
 pub use header::{put_header, read_header};
 pub use laws::{one_reading, records_rise, some_reading, spelling_is_read, written_is_read};
 pub use record::{next_record, put_record, time_of};
+pub use records::{Place, RecordView, Records};
+pub use rounds::{CaptureReader, Ending, Round};
+pub use written::Written;
