@@ -62,6 +62,10 @@ entry_of form r = record { ended = []; item = item_of form r.bytes }
 abbrev pub entries_of : Form → List Rec → List Entry
 entries_of form records = map (entry_of form) records
 
+-- the items of entries
+abbrev pub items_in : List Entry → List Item
+items_in entries = map (λ entry. entry.item) entries
+
 -- the first record's number of each datagram that is unfinished after these records, ascending; none is kept yet
 abbrev pub unfinished_of : Form → List Rec → List ℕ
 unfinished_of form records = []

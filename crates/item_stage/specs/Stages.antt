@@ -1,17 +1,20 @@
 -- What a stage is seen as, and which records it stands for.
-use Rattle.std.specs.Prelude.{◌≡◌, Bool, true, false, List}
+use Rattle.std.specs.Prelude.{◌≡◌, ℕ, Bool, true, false, List, length}
 use Rattle.capture_io.specs.declared.forms.Form.{Form}
 use Rattle.capture_io.specs.declared.forms.Rec.{Rec}
 
 pub record Staged : Type 0 where
   -- that of the capture whose records are taken
   pub form : Form
+  -- how many records were taken: the number of the next one
+  pub number : ℕ
   -- whether memory was wanted while records were taken
   pub failed : Bool
 
 -- the stage has taken these records, all of them, and what it keeps is what they leave
-abbrev pub Stands : Staged → List Rec → Type 0
-Stands stage taken = stage.failed ≡ false
+pub record Stands (stage : Staged) (taken : List Rec) : Type 0 where
+  pub sound : stage.failed ≡ false
+  pub number : stage.number ≡ length taken
 
 -- the stage takes no more records
 abbrev pub HasFailed : Staged → Type 0

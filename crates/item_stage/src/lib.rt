@@ -3,8 +3,12 @@
 #![tactic(auto)]
 
 mod entries;
+mod owned;
 mod reading;
+mod rounds;
 mod stage;
 
 pub use entries::{Entries, Entry};
+pub use reading::read_item;
+pub use rounds::{Items, RoundItems};
 pub use stage::Stage;

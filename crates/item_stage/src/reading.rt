@@ -1,15 +1,13 @@
 // The item of one record.
-ghost use Rattle.std.specs.Prelude.{◌≡◌, IfOk};
+ghost use Rattle.std.specs.Prelude.{◌≡◌, ◌++◌, IfOk};
 ghost use Rattle.capture_io.specs.Frames.{said};
-ghost use Rattle.item_stage.specs.Items.{carried_item, entries_of, entry_of, item_of, outer_of, six_item, up_item};
+ghost use Rattle.item_stage.specs.Items.{carried_item, item_of, outer_of, six_item, up_item};
 ghost use Rattle.ip_codec.specs.Packet4.{ip4_of};
 ghost use Rattle.ip_codec.specs.Packet6.{ip6_of, packet6};
+ghost use Rattle.ip_codec.specs.Seen.{seen};
 
-use crate::Entry;
-use aftr_base::{Bytes, Numbers, OutOfMemory};
-use capture_io::{Form, Frame, Rec, frame_of};
-use ip_codec::{Ip6View, Item, Outer, Rule, ip4, ip6};
-use std::alloc::Global;
+use capture_io::{Form, Frame, frame_of};
+use ip_codec::{Ip6View, ItemView, Outer, Rule, ip6, read_packet};
 
 /// The next header of an IPv4 packet in IPv6 (RFC 2473, section 5).
 const IPV4_IN_IPV6: u8 = 4;
@@ -17,80 +15,52 @@ const IPV4_IN_IPV6: u8 = 4;
 /// The protocol of ICMP (RFC 792).
 const ICMP: u8 = 1;
 
-/// The entries of records, in memory of its own final size.
-pub(crate) fn read_entries(
-    alloc: Global,
-    form: Form,
-    records: &[Rec],
-) -> Result<Vec<Entry>, OutOfMemory>
-    ensures { IfOk result (λ list. list.items ≡ entries_of form records.now) }
+/// The item of a record's bytes, in a capture of this form. What it carries is read once, and stands where it was.
+pub fn read_item(form: Form, bytes: &[u8]) -> ItemView<'_>
+    ensures { seen result ≡ item_of form bytes.now }
 {
-    let mut list = Vec::with_capacity(alloc, records.len())?;
-    'records: for rec in records {
-        list.push(read_entry(alloc, form, rec)?)?;
-    }
-    Ok(list)
+    read_frame(frame_of(form.link, bytes))
 }
 
-fn read_entry(alloc: Global, form: Form, rec: &Rec) -> Result<Entry, OutOfMemory>
-    ensures { IfOk result (λ entry. entry ≡ entry_of form rec.now) }
-{
-    Ok(Entry {
-        ended: Numbers::of(Vec::new(alloc)),
-        item: read_item(alloc, form, rec.bytes.as_slice())?,
-    })
-}
-
-fn read_item(alloc: Global, form: Form, bytes: &[u8]) -> Result<Item, OutOfMemory>
-    ensures { IfOk result (λ item. item ≡ item_of form bytes.now) }
-{
-    read_frame(alloc, frame_of(form.link, bytes))
-}
-
-fn read_frame(alloc: Global, frame: Frame<'_>) -> Result<Item, OutOfMemory>
-    ensures { IfOk result (λ item. item ≡ carried_item (said frame.entry)) }
+fn read_frame<'a>(frame: Frame<'a>) -> ItemView<'a>
+    ensures { seen result ≡ carried_item (said frame.entry) }
 {
     match frame {
-        Frame::V4(_) => Ok(Item::Bad(Rule::NotBuilt)),
-        Frame::V6(packet) => read_six(alloc, packet),
-        Frame::Short => Ok(Item::Bad(Rule::FrameShort)),
-        Frame::Kind => Ok(Item::Bad(Rule::FrameType)),
+        Frame::V4(_) => ItemView::Bad(Rule::NotBuilt),
+        Frame::V6(packet) => read_six(packet),
+        Frame::Short => ItemView::Bad(Rule::FrameShort),
+        Frame::Kind => ItemView::Bad(Rule::FrameType),
     }
 }
 
-fn read_six(alloc: Global, bytes: &[u8]) -> Result<Item, OutOfMemory>
-    ensures { IfOk result (λ item. item ≡ six_item (ip6_of bytes.now)) }
+fn read_six(bytes: &[u8]) -> ItemView<'_>
+    ensures { seen result ≡ six_item (ip6_of bytes.now) }
 {
     match ip6(bytes) {
         Ok(packet) => {
             if packet.next == IPV4_IN_IPV6 {
-                read_up(alloc, &packet)
+                read_up(&packet)
             } else {
-                Ok(Item::Bad(Rule::NotBuilt))
+                ItemView::Bad(Rule::NotBuilt)
             }
         }
-        Err(_) => Ok(Item::Bad(Rule::Ip6Malformed)),
+        Err(_) => ItemView::Bad(Rule::Ip6Malformed),
     }
 }
 
-/// The item of a packet in the tunnel.
-fn read_up(alloc: Global, packet: &Ip6View<'_>) -> Result<Item, OutOfMemory>
-    ensures { IfOk result (λ item. item ≡ up_item (packet6 packet.now) (ip4_of packet.now.body.now)) }
+// The item of a packet in the tunnel.
+fn read_up<'a>(packet: &Ip6View<'a>) -> ItemView<'a>
+    ensures { seen result ≡ up_item (packet6 packet.now) (ip4_of packet.now.body.now) }
 {
-    match ip4(packet.body) {
+    let outer = outer_fields(packet);
+    match read_packet(packet.body) {
         Ok(inner) => {
-            if inner.is_fragment() || inner.protocol == ICMP {
-                return Ok(Item::Bad(Rule::NotBuilt));
+            if inner.view.is_fragment() || inner.view.protocol == ICMP {
+                return ItemView::Bad(Rule::NotBuilt);
             }
-            Ok(Item::Up {
-                outer: outer_fields(packet),
-                inner: Bytes::copy(alloc, &packet.body[..inner.total_len()])?,
-            })
+            ItemView::Up { outer, inner }
         }
-        Err(_) => Ok(Item::Up {
-            outer: outer_fields(packet),
-            inner: Bytes::copy(alloc, packet.body)?,
-        }),
+        Err(inner) => ItemView::UpUnread { outer, inner },
     }
 }
 

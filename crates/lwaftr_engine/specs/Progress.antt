@@ -19,9 +19,10 @@ use Rattle.lwaftr_engine.specs.Outputs.{Course, packets_from, lines_from}
 use Rattle.lwaftr_engine.specs.Rendering.{IsWithin}
 use Rattle.lwaftr_engine.specs.Rounds.{Precedes}
 
--- the places and counts are in their ranges
+-- the places and counts are in their ranges, and the stage has taken the records before the next one
 pub record IsInRange (p : Progress) : Type 0 where
   pub number : p.number ≤ 2 ^ 31
+  pub staged : p.stage.number ≡ p.number
   pub place : p.at ≤ 24 + 262160 * p.number
   pub totals : IsWithin p.totals p.number
 

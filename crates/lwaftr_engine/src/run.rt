@@ -78,7 +78,7 @@ fn run_round<F: Files>(
 {
     let start = progress.number;
     let round = read_round(alloc, files, job.input, form, progress.at, start)?;
-    let entries = progress.stage.items(alloc, &round.records, start)?;
+    let entries = progress.stage.owned_items(alloc, &round.records, start)?;
     let rendered = render_round::<Brand>(
         alloc,
         words,

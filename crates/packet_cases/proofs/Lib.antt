@@ -1,1 +1,2 @@
 pub mod SendableLemmas
+pub mod PlaceLemmas

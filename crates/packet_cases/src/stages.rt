@@ -1,9 +1,11 @@
 // Frames and packets made by hand; the changed header checksums are computed by another program.
+ghost use Rattle.std.specs.Prelude.{◌≡◌, length, IfOk};
+
 use aftr_base::{Bytes, OutOfMemory};
-use capture_io::{Form, Rec};
+use capture_io::{Form, Place, Rec, Records};
 use case_data::{AFTR, SUBSCRIBER, UP, UP_TUNNEL};
-use ip_codec::{Item, Outer, Rule};
-use item_stage::{Entries, Stage};
+use ip_codec::{Ip4Bad, Item, ItemView, Outer, Rule};
+use item_stage::{RoundItems, Stage, read_item};
 use std::alloc::Global;
 use std::test::Fail;
 
@@ -22,52 +24,59 @@ const ETHERNET: u32 = 1;
 
 const PLAIN: u32 = 101;
 
-// The one record that the pieces make, joined.
-fn record_of(alloc: Global, pieces: &[&[u8]]) -> Result<Rec, OutOfMemory> {
+fn form(link: u32) -> Form {
+    Form {
+        big: false,
+        nano: false,
+        link,
+    }
+}
+
+// The bytes of a record that the pieces make, joined.
+fn joined(alloc: Global, pieces: &[&[u8]]) -> Result<Vec<u8>, OutOfMemory> {
     let mut list = Vec::new(alloc);
     for piece in pieces {
         list.extend_from_slice(piece)?;
     }
-    Ok(Rec {
-        seconds: 1,
-        fraction: 0,
-        bytes: Bytes::of(list),
-        next_at: 24,
-    })
+    Ok(list)
 }
 
-fn staged(alloc: Global, link: u32, pieces: &[&[u8]]) -> Result<Entries, OutOfMemory> {
-    let form = Form {
-        big: false,
-        nano: false,
-        link,
-    };
-    let mut stage = Stage::new(alloc, form)?;
-    stage.items(alloc, &[record_of(alloc, pieces)?], 0)
-}
-
-fn goes_up(entries: &Entries, inner_bytes: &[u8]) -> bool {
-    let outer_fields = Outer {
+// The fields of the tunnel packet's header in `case_data`.
+fn of_tunnel() -> Outer {
+    Outer {
         word: 0x6000_0000,
         hop: 64,
         src: SUBSCRIBER,
         dst: AFTR,
-    };
-    match entries.as_slice() {
-        [entry] => match &entry.item {
-            Item::Up { outer, inner } => *outer == outer_fields && inner.as_slice() == inner_bytes,
-            _ => false,
-        },
+    }
+}
+
+// Whether the item goes up with just these bytes, read as a packet.
+fn goes_up(item: &ItemView<'_>, bytes: &[u8]) -> bool {
+    match item {
+        ItemView::Up { outer, inner } => {
+            *outer == of_tunnel()
+                && inner.view.total_len() == bytes.len()
+                && bytes.starts_with(inner.view.header)
+                && bytes.ends_with(inner.view.payload)
+        }
         _ => false,
     }
 }
 
-fn is_bad(entries: &Entries, rule: Rule) -> bool {
-    match entries.as_slice() {
-        [entry] => match &entry.item {
-            Item::Bad(why) => *why == rule,
-            _ => false,
-        },
+// Whether the item goes up with these bytes, which are no packet.
+fn goes_up_unread(item: &ItemView<'_>, bytes: &[u8], why: Ip4Bad) -> bool {
+    match item {
+        ItemView::UpUnread { outer, inner } => {
+            *outer == of_tunnel() && inner.bytes == bytes && inner.why == why
+        }
+        _ => false,
+    }
+}
+
+fn is_bad(item: &ItemView<'_>, rule: Rule) -> bool {
+    match item {
+        ItemView::Bad(why) => *why == rule,
         _ => false,
     }
 }
@@ -75,17 +84,17 @@ fn is_bad(entries: &Entries, rule: Rule) -> bool {
 #[test]
 fn packets_in_the_tunnel_go_up(rt: HostRuntime) -> Result<(), Fail> {
     let alloc = rt.alloc();
-    let in_frame = staged(alloc, ETHERNET, &[TAGGED, UP_TUNNEL, UP, b"padded"])?;
+    let framed = joined(alloc, &[TAGGED, UP_TUNNEL, UP, b"padded"])?;
+    let in_frame = read_item(form(ETHERNET), &framed);
     assert!(rt; goes_up(&in_frame, UP), "padding behind the frame's packet");
-    let unread = staged(
-        alloc,
-        PLAIN,
-        &[UP_TUNNEL, b"no packet of 32 bytes, but bytes"],
-    )?;
-    assert!(rt; goes_up(&unread, b"no packet of 32 bytes, but bytes"));
+    let text = b"no packet of 32 bytes, but bytes";
+    let other = joined(alloc, &[UP_TUNNEL, text])?;
+    let unread = read_item(form(PLAIN), &other);
+    assert!(rt; goes_up_unread(&unread, text, Ip4Bad::Version));
     let mut longer = *UP_TUNNEL;
     longer[5] = 0x24;
-    let cut = staged(alloc, PLAIN, &[&longer, UP, b"more"])?;
+    let padded = joined(alloc, &[&longer, UP, b"more"])?;
+    let cut = read_item(form(PLAIN), &padded);
     assert!(rt; goes_up(&cut, UP), "padding behind the inner packet");
     Ok(())
 }
@@ -109,30 +118,80 @@ fn other_records_are_bad(rt: HostRuntime) -> Result<(), Fail> {
         (PLAIN, [UP_TUNNEL, ICMP, behind], Rule::NotBuilt),
     ];
     for (link, pieces, rule) in cases {
-        assert!(rt; is_bad(&staged(rt.alloc(), link, &pieces)?, rule));
+        let bytes = joined(rt.alloc(), &pieces)?;
+        assert!(rt; is_bad(&read_item(form(link), &bytes), rule));
     }
     let mut carries_tcp = *UP_TUNNEL;
     carries_tcp[6] = 6;
-    let tcp = staged(rt.alloc(), PLAIN, &[&carries_tcp, UP])?;
-    assert!(rt; is_bad(&tcp, Rule::NotBuilt));
+    let bytes = joined(rt.alloc(), &[&carries_tcp, UP])?;
+    assert!(rt; is_bad(&read_item(form(PLAIN), &bytes), Rule::NotBuilt));
+    Ok(())
+}
+
+// Records that stand one behind the other in a buffer.
+fn records_of(alloc: Global, packets: &[&[u8]]) -> Result<Records, OutOfMemory>
+    ensures { IfOk result (λ records. length records ≡ length packets.now) }
+{
+    let mut buffer = Vec::new(alloc);
+    let mut places = Vec::new(alloc);
+    'packets: for packet in packets {
+        let place = Place {
+            seconds: 1,
+            fraction: 0,
+            from: buffer.len(),
+            count: packet.len(),
+            next_at: 24,
+        };
+        buffer.extend_from_slice(packet)?;
+        places.push(place)?;
+    }
+    Ok(Records::of(buffer, places))
+}
+
+// Whether three items are those of a packet that goes up, of an empty record, and of a packet that goes up.
+fn are_up_short_up<I: RoundItems + Sync>(items: &I) -> bool {
+    items.len() == 3
+        && goes_up(&items.item(0), UP)
+        && is_bad(&items.item(1), Rule::FrameShort)
+        && goes_up(&items.item(2), UP)
+}
+
+#[test]
+fn a_stage_takes_records_in_rounds(rt: HostRuntime) -> Result<(), Fail> {
+    let alloc = rt.alloc();
+    let packet = joined(alloc, &[UP_TUNNEL, UP])?;
+    let mut stage = Stage::new(alloc, form(PLAIN))?;
+    let first = records_of(alloc, &[&packet, b"", &packet])?;
+    let items = stage.items(alloc, &first, 0)?;
+    assert!(rt; are_up_short_up(&items));
+    if items.len() > 1 {
+        assert_eq!(rt; items.ended(1).len(), 0);
+    }
+    let none = records_of(alloc, &[])?;
+    let count = first.len() as u32;
+    assert_eq!(rt; stage.items(alloc, &none, count)?.len(), 0);
+    assert_eq!(rt; stage.unfinished(alloc)?.as_slice().len(), 0);
     Ok(())
 }
 
 #[test]
-fn a_stage_takes_records_in_pieces(rt: HostRuntime) -> Result<(), Fail> {
+fn records_that_own_their_bytes_have_items_that_do(rt: HostRuntime) -> Result<(), Fail> {
     let alloc = rt.alloc();
-    let form = Form {
-        big: true,
-        nano: true,
-        link: PLAIN,
+    let records = [Rec {
+        seconds: 1,
+        fraction: 0,
+        bytes: Bytes::of(joined(alloc, &[UP_TUNNEL, UP])?),
+        next_at: 24,
+    }];
+    let mut stage = Stage::new(alloc, form(PLAIN))?;
+    let entries = stage.owned_items(alloc, &records, 0)?;
+    let is_up = match entries.as_slice() {
+        [entry] => match &entry.item {
+            Item::Up { outer, inner } => *outer == of_tunnel() && inner.as_slice() == UP.as_slice(),
+            _ => false,
+        },
+        _ => false,
     };
-    let mut stage = Stage::new(alloc, form)?;
-    let records = [record_of(alloc, &[UP_TUNNEL, UP])?, record_of(alloc, &[])?];
-    let first = stage.items(alloc, &records, 0)?;
-    assert_eq!(rt; first.as_slice().len(), 2);
-    assert_eq!(rt; stage.items(alloc, &[], 2)?.as_slice().len(), 0);
-    let last = stage.items(alloc, &[record_of(alloc, &[UP_TUNNEL, UP])?], 2)?;
-    assert!(rt; goes_up(&last, UP));
-    assert_eq!(rt; stage.unfinished(alloc)?.as_slice().len(), 0);
+    assert!(rt; is_up);
     Ok(())
 }

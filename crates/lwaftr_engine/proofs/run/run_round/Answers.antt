@@ -8,7 +8,7 @@ pub returns-clause-went : goal.returns-clause-went
 returns-clause-went g c =
     let f = g.F.Files in
     went_seen (names_of c.args.job) c.args.form c.args.words.now (apart (names_of c.args.job) c.requires.apart) c.args.progress.now
-    c.in_ok-round.round c.in_ok-entries.entries c.items.new.self c.render_round.new.totals c.in_ok-rendered.rendered
+    c.in_ok-round.round c.in_ok-entries.entries c.owned_items.new.self c.render_round.new.totals c.in_ok-rendered.rendered
     (f.outside c.args.files.now).last (f.outside c.read_round.new.files).last (f.outside c.append_all-2.new.files).last
     c.deref.result.now c.deref-2.result.now c.as_slice.result.now c.deref-3.result.now c.deref-4.result.now
     c.deref.ensures.value c.deref-2.ensures.value c.as_slice.ensures c.deref-3.ensures.value c.deref-4.ensures.value

@@ -1,6 +1,6 @@
 use Rattle.std.proofs.Common.{◌≡◌, ◌++◌, drop}
 use Rattle.item_stage.specs.Items.{entries_of}
-use Rattle.item_stage.proofs.reading.read_entries.Given as goal
+use Rattle.item_stage.proofs.owned.owned_entries.Given as goal
 
 abbrev pub invariant-records : goal.invariant-records
 invariant-records l =
