@@ -1,7 +1,9 @@
 // Packets from outside: hand-made ones of a softwire, and others whose fields an independent packet builder gave.
 use aftr_base::V4;
 use case_data::{AFTR, DOWN, LAST_HOP, OPTIONS, SERVER, SHARED, SUBSCRIBER, UP, UP_TUNNEL};
-use ip_codec::{Head4, Head6, Ip4Bad, Ip6Bad, Rule, ip4, ip6, put4, put6, read_packet};
+use ip_codec::{
+    Head4, Head6, Ip4Bad, Ip6Bad, Rule, ip4, ip6, push_head4, push_head6, put4, put6, read_packet,
+};
 use std::test::Fail;
 
 // All bits of flags and offset, forty bytes of options, no payload.
@@ -154,6 +156,25 @@ fn ip6_packets_are_read_and_written(rt: HostRuntime) -> Result<(), Fail> {
     let mut other = *UP_TUNNEL;
     other[0] = 0x46;
     assert_eq!(rt; ip6(&other).err(), Some(Ip6Bad::Version));
+    Ok(())
+}
+
+#[test]
+fn headers_are_put_behind_what_is_there(rt: HostRuntime) -> Result<(), Fail> {
+    let mut out = Vec::new(rt.alloc());
+    out.push(7)?;
+    let tunnel = Head6 {
+        word: 0x6000_0000,
+        next: 4,
+        hop: 64,
+        src: SUBSCRIBER,
+        dst: AFTR,
+    };
+    push_head6(&mut out, &tunnel, 32)?;
+    push_head4(&mut out, &udp(1, 64, SHARED, SERVER), &[], 12)?;
+    assert_eq!(rt; out.len(), 61);
+    assert!(rt; out.starts_with(b"\x07") && out.ends_with(&UP[..20]));
+    assert_eq!(rt; &out[1..41], UP_TUNNEL.as_slice());
     Ok(())
 }
 

@@ -2,3 +2,4 @@ pub mod FieldLemmas
 pub mod Laws
 pub mod Packet4Lemmas
 pub mod Packet6Lemmas
+pub mod PartLemmas

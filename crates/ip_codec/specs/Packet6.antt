@@ -70,15 +70,18 @@ pub record IsBounded6 (packet : Packet6) : Type 0 where
   pub hop : packet.hop ≤ 255
   pub most : length packet.body ≤ 65535
 
--- a packet with these fields and body, byte for byte
-abbrev pub bytes6 : Head6 → List ℕ → List ℕ
-bytes6 head body =
+-- the fixed header with these fields, before a body of a length
+abbrev pub header6 : Head6 → ℕ → List ℕ
+header6 head payload_len =
     to_be_bytes w32 head.word
-    ++ word_bytes (length body)
+    ++ word_bytes payload_len
     ++ head.next ∷ head.hop ∷ []
     ++ to_be_bytes w128 head.src.0
     ++ to_be_bytes w128 head.dst.0
-    ++ body
+
+-- a packet with these fields and body, byte for byte
+abbrev pub bytes6 : Head6 → List ℕ → List ℕ
+bytes6 head body = header6 head (length body) ++ body
 
 -- the packet that has these fields and body
 abbrev pub made6 : Head6 → List ℕ → Packet6

@@ -1,9 +1,10 @@
 // IPv4 packets, read and written.
 ghost use Rattle.std.specs.Prelude.{◌≡◌, ◌+◌, ◌%◌, ◌^◌, ◌<◌, ◌≤◌, ◌++◌, length, take, IfOk, Ok};
 ghost use Rattle.aftr_base.specs.Numbers.{span};
+ghost use Rattle.aftr_base.specs.Sums.{checksum};
 ghost use Rattle.ip_codec.specs.Packet4.{ip4_of, packet4, Reads4, IsBounded4, fields4, header4, fixed4, flags_of, flag_worth, made4, is_fragment, packet_len};
 
-use aftr_base::{Bytes, OutOfMemory, V4, be16, be32, put_checksum, sum16};
+use aftr_base::{Bytes, OutOfMemory, V4, be16, be32, patch16, put_be16, put_checksum, sum16};
 use std::alloc::Global;
 
 /// An IPv4 packet as it stands in bytes (RFC 791, section 3.1).
@@ -162,6 +163,38 @@ pub fn put4(
     put_checksum(&mut list, 10);
     list.extend_from_slice(payload)?;
     Ok(Bytes::of(list))
+}
+
+/// Appends the header with these fields, options and its checksum, before a payload of a length (RFC 791, section 3.1). The
+/// options fill whole words of four bytes, ten at most; the packet has at most 65,535 bytes.
+pub fn push_head4(
+    out: &mut Vec<u8>,
+    head: &Head4,
+    options: &[u8],
+    payload_len: usize,
+) -> Result<(), OutOfMemory>
+    requires whole_words { length options.now % 4 ≡ 0 }
+    requires most_options { length options.now ≤ 40 }
+    requires offset { head.now.offset ≤ 8191 }
+    requires most { 20 + length options.now + payload_len ≤ 65535 }
+    ensures { IfOk result (λ _. out.new.items ≡ out.old.items ++ header4 head.now options.now payload_len) }
+{
+    let header_len = 20 + options.len();
+    let total_len = header_len + payload_len;
+    let mut fixed = fixed_part(*head, header_len as u8, total_len as u16);
+    let sum = sum_of_both(&fixed, options);
+    put_be16(&mut fixed, 10, sum);
+    out.extend_from_slice(&fixed)?;
+    out.extend_from_slice(options)?;
+    Ok(())
+}
+
+// The checksum of bytes of an even number and of others behind them. Patching adds up the complements of two sums.
+fn sum_of_both(first: &[u8], rest: &[u8]) -> u16
+    requires { length first.now % 2 ≡ 0 }
+    ensures { result ≡ checksum (first.now ++ rest.now) }
+{
+    patch16(sum16(first), sum16(rest), 0)
 }
 
 // The twenty bytes before the options, with zero in the place of the checksum.
