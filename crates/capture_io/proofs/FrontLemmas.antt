@@ -8,7 +8,7 @@ use Rattle.capture_io.specs.Header.{header_in}
 use Rattle.capture_io.specs.Head.{head_in}
 
 -- bytes within the first few
-span_front : (bytes : List ℕ) (most at count : ℕ) → at + count ≤ most → span (take most bytes) at count ≡ span bytes at count
+pub span_front : (bytes : List ℕ) (most at count : ℕ) → at + count ≤ most → span (take most bytes) at count ≡ span bytes at count
 span_front bytes most at count within =
     let split : most ≡ at + (most - at) = omega arith in
     let front : drop at (take (at + (most - at)) bytes) ≡ take (most - at) (drop at bytes) = drop-take at (most - at) bytes in

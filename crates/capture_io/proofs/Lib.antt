@@ -1,6 +1,10 @@
 pub mod AnswerLemmas
+pub mod FetchLemmas
 pub mod FrontLemmas
 pub mod GrammarLemmas
 pub mod RecordLemmas
+pub mod RoundLemmas
 pub mod SpellingLemmas
 pub mod SplitLemmas
+pub mod TakenLemmas
+pub mod WindowLemmas

@@ -16,7 +16,7 @@ use Rattle.capture_io.specs.Capture.{Splits}
 use Rattle.capture_io.proofs.FrontLemmas.{head_front}
 
 -- the answers, by what the tests gave
-abbrev next_by : Bool → Bool → Bool → Bool → Bool → ℕ → Rec → Result Next CaptureBad
+abbrev pub next_by : Bool → Bool → Bool → Bool → Bool → ℕ → Rec → Result Next CaptureBad
 next_by end many cut long less at r =
     if end then Ok next.End
     else refused_or (first_true ((many, bad.TooMany at) ∷ (cut, bad.CutHeader at) ∷ (long, bad.TooLong at) ∷ (less, bad.CutRecord at) ∷ [])) (next.Rec r)
@@ -60,7 +60,7 @@ record_is_by false false false false true at r s e = absurd (cc)
 record_is_by false false false false false at r s e = cc
 
 -- what a record's header says
-abbrev head_of_left : Bool → List ℕ → Head
+abbrev pub head_of_left : Bool → List ℕ → Head
 head_of_left big left = record { seconds = word_at big left 0; fraction = word_at big left 4; captured = captured big left }
 
 -- the record that is found is the one at the front

@@ -1,12 +1,15 @@
 pub mod Answers
 pub mod Capture
+pub mod Classic
 pub mod Frames
+pub mod Fronts
 pub mod Head
 pub mod Header
 pub mod Packets
 pub mod Record
 pub mod Records
 pub mod Rounds
+pub mod Taken
 pub mod Texts
 pub mod Words
 pub mod Written

@@ -2,8 +2,10 @@
 //! refusal the first true one, and written; and the frames of the records.
 #![tactic(auto)]
 
+mod classic;
 mod forms;
 mod frames;
+mod fronts;
 mod header;
 mod laws;
 mod record;
@@ -12,6 +14,7 @@ mod rounds;
 mod words;
 mod written;
 
+pub use classic::ClassicReader;
 pub use forms::{CaptureBad, CaptureError, Form, Next, Rec};
 pub use frames::{Frame, frame_of};
 pub use header::{put_header, read_header};

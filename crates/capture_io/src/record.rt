@@ -12,11 +12,11 @@ use crate::{CaptureBad, CaptureError, Form, Next, Rec};
 use aftr_base::{Bytes, Files, OutOfMemory, bytes_at, fill};
 use std::alloc::Global;
 
-const HEADER_LEN: usize = 16;
+pub const HEADER_LEN: usize = 16;
 
-const MOST_BYTES: u32 = 262_144;
+pub const MOST_BYTES: u32 = 262_144;
 
-const MOST_RECORDS: u32 = 0x8000_0000;
+pub const MOST_RECORDS: u32 = 0x8000_0000;
 
 /// Reads the record of a number, counted from 0, which stands at the place `at`: the first at 24, each other at the
 /// `next_at` of the record before it. `End` where no byte is left, and otherwise the record or the first of these that
@@ -65,10 +65,10 @@ pub fn next_record<F: Files>(
 
 /// A record's header that is whole.
 #[derive(Clone, Copy)]
-struct Head {
-    seconds: u32,
-    fraction: u32,
-    captured: u32,
+pub struct Head {
+    pub seconds: u32,
+    pub fraction: u32,
+    pub captured: u32,
 }
 
 fn head_of(big: bool, bytes: &[u8], at: u64, number: u32) -> Result<Head, CaptureBad>
