@@ -1,6 +1,6 @@
 #!/usr/bin/env bash
-# Times reading a capture of 1,000,000 records of 80 bytes by the real files: builds the program in a temporary
-# repository, runs it three times, and counts its system calls where strace is there.
+# Times reading a capture of 1,000,000 records of 80 bytes by the real files, in rounds and one by one: builds the program in
+# a temporary repository, runs it three times, and counts its system calls where strace is there.
 #     bench/capture_records/run.sh
 set -e
 here="$(cd "$(dirname "$0")" && pwd)"
@@ -15,6 +15,8 @@ mkdir -p "$repository/crates/records_bench/src"
 cp "$here/program/main.rt.txt" "$repository/crates/records_bench/src/main.rt"
 mkdir -p "$repository/crates/records_bench/proofs/count_records"
 cp "$here/program/Invariants.antt.txt" "$repository/crates/records_bench/proofs/count_records/Invariants.antt"
+mkdir -p "$repository/crates/records_bench/proofs/count_rounds"
+cp "$here/program/RoundsInvariants.antt.txt" "$repository/crates/records_bench/proofs/count_rounds/Invariants.antt"
 printf 'aftr_base:\ncapture_io: aftr_base thiserror\nrecords_bench: aftr_base capture_io\n' > "$repository/crates.txt"
 [ -f "$work/records.pcap" ] || python3 - "$work/records.pcap" <<'P'
 import struct, sys
