@@ -16,3 +16,5 @@ mod numbers;
 mod outside;
 #[cfg(test)]
 mod real_files;
+#[cfg(test)]
+mod rounds;
