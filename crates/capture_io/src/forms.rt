@@ -2,6 +2,7 @@
 ghost use Rattle.std.specs.Prelude.{◌≡◌};
 ghost use Rattle.capture_io.specs.Answers.{error_of};
 
+use crate::NgBad;
 use aftr_base::{Bytes, Fault};
 use std::fmt;
 use thiserror::Error;
@@ -54,6 +55,8 @@ pub enum CaptureBad {
     TooLong { at: u64 },
     /// Something stands behind 2^31 records.
     TooMany { at: u64 },
+    /// A pcapng file is refused.
+    Ng(NgBad),
 }
 
 impl fmt::Display for CaptureBad {
@@ -71,6 +74,7 @@ impl fmt::Display for CaptureBad {
             CaptureBad::CutRecord { at } => write!(f, "cut record at {at}"),
             CaptureBad::TooLong { at } => write!(f, "too long at {at}"),
             CaptureBad::TooMany { at } => write!(f, "too many at {at}"),
+            CaptureBad::Ng(refusal) => write!(f, "{refusal}"),
         }
     }
 }
