@@ -1,1 +1,9 @@
 mod Appending
+mod AskLemmas
+mod CommandLemmas
+mod Cuts
+mod LoadLemmas
+mod Numbers64
+mod OneJob
+mod PartLemmas
+mod RunLemmas

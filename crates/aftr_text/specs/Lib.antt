@@ -1,1 +1,5 @@
+pub mod Commands
+pub mod Jobs
 pub mod Lines
+pub mod Parts
+pub mod Seen

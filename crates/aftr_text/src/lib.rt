@@ -1,12 +1,20 @@
-//! The texts of a run: the lines of its verdicts, the lines of the tables in force, and the summary. Each comes as a text of
-//! its own and as a call that puts it at the end of a longer one.
+//! The texts of a run: the command words that it is asked by, the lines of its verdicts, the lines of the tables in force, and
+//! the summary. Each line comes as a text of its own and as a call that puts it at the end of a longer one.
 #![tactic(auto)]
 
+mod commands;
+mod fields;
+mod help;
+mod jobs;
 mod lines;
 mod numbers;
+mod parts;
 mod summaries;
 mod tables;
+mod words;
 
+pub use help::HELP;
+pub use jobs::{Job, LoadList, LoadWords, RunJob, UsageError};
 pub use lines::{
     ended_line, limited_line, push_ended_line, push_limited_line, push_verdict_line, verdict_line,
 };
@@ -15,3 +23,4 @@ pub use tables::{
     initial_line, point_line, push_initial_line, push_point_line, push_refused_line,
     push_unreached_line, refused_line, unreached_line,
 };
+pub use words::read_words;
