@@ -8,3 +8,4 @@ pub mod Links
 pub mod Pairs
 pub mod Rising
 pub mod Slots
+pub mod Upwards

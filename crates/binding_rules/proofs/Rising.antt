@@ -1,11 +1,11 @@
 -- The walk over the places of an address, from the first one up.
-use Rattle.std.proofs.Common.{◌≡◌, ◌≢◌, ℕ, ◌+◌, ◌<◌, ◌≤◌, inl, inr, Bool, true, Option, Some, None, List, length, subst, sym, ap, ◌∙◌, arith}
+use Rattle.std.proofs.Common.{◌≡◌, ℕ, ◌+◌, ◌<◌, ◌≤◌, inl, inr, Bool, true, Option, Some, None, List, length, subst, sym, ap, ◌∙◌, arith}
 use Rattle.std.specs.Prelude.{slice_get}
 use Rattle.std.proofs.lemmas.Bool.{cases_Bool, cases_lt, cases_eq}
 use Rattle.std.proofs.lemmas.Option.{none-some, same_Some, slice_get_within}
 use Rattle.binding_rules.specs.declared.binding.Binding.{Binding}
 use Rattle.binding_rules.specs.Refusals.{At}
-use Rattle.binding_rules.specs.Scans.{IsLeast, IsFirstPair, ArePair, HasAddress, AreShared, AreFresh, IsMet, IsTaken, IsOwnersOf, has_key, owner_named, slot}
+use Rattle.binding_rules.specs.Scans.{IsLeast, IsFirstPair, IsFollowing, ArePair, HasAddress, AreShared, AreFresh, IsMet, IsTaken, IsOwnersOf, has_key, owner_named, slot}
 use Rattle.binding_rules.proofs.Links.{has_address_of, same_binding}
 use Rattle.binding_rules.proofs.Pairs.{counted_here, owners_next}
 
@@ -40,25 +40,40 @@ apart bp bs a i before owners risen f s l h =
     let second = risen.taken common.0 s y common.1 l other.1 at_s common.3 in
     omega (arith, h.1.ordered, same_Some f s (sym first ∙ second))
 
-pub risen_all : (bp : Bool) (bs : List Binding) (a i : ℕ) (before owners : List (Option ℕ)) → length bs ≤ i → IsRisen bp bs a i before owners
+pub risen_all : (bp : Bool) (bs : List Binding) (a : ℕ) (before owners : List (Option ℕ)) → IsRisen bp bs a (length bs) before owners
     → IsFirstPair bs (AreShared bp) (HasAddress bs a) None
-risen_all bp bs a i before owners end risen f s h =
+risen_all bp bs a before owners risen f s h =
     let other = h.1.there.2 in
-    apart bp bs a i before owners risen f s (omega (arith, end, slice_get_within bs s other.0 other.1)) h
+    apart bp bs a (length bs) before owners risen f s (slice_get_within bs s other.0 other.1) h
 
--- a place of another address
-pub risen_other : (bp : Bool) (bs : List Binding) (a i : ℕ) (y : Binding) (before owners : List (Option ℕ)) → slice_get bs i ≡ Some y → y.v4.0 ≢ a
-    → IsRisen bp bs a i before owners → IsRisen bp bs a (i + 1) before owners
-risen_other bp bs a i y before owners there other risen = record {
-  named = λ key n l e. (let h = risen.named key n l e in (omega (arith, h.0), h.1));
+-- from one place to a later one, where none between them is of the address
+pub risen_past : (bp : Bool) (bs : List Binding) (a i j : ℕ) (before owners : List (Option ℕ)) → i ≤ j
+    → ((n : ℕ) → i ≤ n → n < j → HasAddress bs a n → ⊥) → IsRisen bp bs a i before owners → IsRisen bp bs a j before owners
+risen_past bp bs a i j before owners up none risen = record {
+  named = λ key n l e. (let h = risen.named key n l e in (omega (arith, h.0, up), h.1));
   taken = λ key n x l m at_n address has. elim (cases_lt n i) [
     | inl less ↦ risen.taken key n x l less at_n address has
-    | inr more ↦ absurd (let same : n ≡ i = omega (arith, more, m) in
-        let x_is : x ≡ y = same_binding bs i x y (subst (λ (k : ℕ). slice_get bs k ≡ Some x) same at_n) there in
-        other (sym (ap (λ (z : Binding). z.v4.0) x_is) ∙ address))
+    | inr more ↦ absurd (none n more m (x, at_n, address))
   ];
   names = risen.names;
 }
+
+-- before the place, or before the end where none is given
+abbrev pub IsRisenTo : Bool → List Binding → ℕ → Option ℕ → List (Option ℕ) → List (Option ℕ) → Type 0
+IsRisenTo bp bs a None before owners = IsRisen bp bs a (length bs) before owners
+IsRisenTo bp bs a (Some i) before owners = IsRisen bp bs a i before owners
+
+pub risen_first : (bp : Bool) (bs : List Binding) (a head : ℕ) (owners : List (Option ℕ)) → IsLeast (HasAddress bs a) (Some head)
+    → AreFresh bs a owners → IsRisen bp bs a head owners owners
+risen_first bp bs a head owners least fresh =
+    risen_past bp bs a 0 head owners owners (omega arith) (λ n m l h. absurd (omega (arith, l, least.1 n h))) (risen_none bp bs a owners fresh)
+
+pub risen_up : (bp : Bool) (bs : List Binding) (a i : ℕ) (o : Option ℕ) (before now : List (Option ℕ)) → i < length bs
+    → IsFollowing bs a i (length bs) o → IsRisen bp bs a (i + 1) before now → IsRisenTo bp bs a o before now
+risen_up bp bs a i None before now within follows risen =
+    risen_past bp bs a (i + 1) (length bs) before now (omega (arith, within)) (λ n m l h. follows n (omega (arith, m)) l h) risen
+risen_up bp bs a i (Some j) before now within follows risen =
+    risen_past bp bs a (i + 1) j before now (omega (arith, follows.0)) (λ n m l h. follows.3 n (omega (arith, m)) l h) risen
 
 module _ (bp : Bool) (bs : List Binding) (a i : ℕ) (x : Binding) (before owners : List (Option ℕ)) (there : slice_get bs i ≡ Some x)
     (address : x.v4.0 ≡ a) (risen : IsRisen bp bs a i before owners) where

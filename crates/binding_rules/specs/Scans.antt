@@ -59,6 +59,18 @@ pub record IsLinked (bindings : List Binding) (previous : List (Option ℕ)) : T
   pub size : length previous ≡ length bindings
   pub nearest : (place : ℕ) (x : Binding) → slice_get bindings place ≡ Some x → IsNearest bindings x.v4.0 place (slot previous place)
 
+-- the nearest place behind the place and below the end whose binding has the address, if there is one
+abbrev pub IsFollowing : List Binding → ℕ → ℕ → ℕ → Option ℕ → Type 0
+IsFollowing bindings a place end None = (n : ℕ) → place < n → n < end → At bindings n (λ x. x.v4.0 ≡ a) → ⊥
+IsFollowing bindings a place end (Some later) = (place < later) × (later < end) × At bindings later (λ x. x.v4.0 ≡ a)
+    × ((n : ℕ) → place < n → n < later → At bindings n (λ x. x.v4.0 ≡ a) → ⊥)
+
+-- each place has the nearest later place of its address
+pub record IsLinkedUp (bindings : List Binding) (next : List (Option ℕ)) : Type 0 where
+  pub size : length next ≡ length bindings
+  pub following : (place : ℕ) (x : Binding) → slice_get bindings place ≡ Some x
+      → IsFollowing bindings x.v4.0 place (length bindings) (slot next place)
+
 -- from the place down the chain has at most so many places
 abbrev pub ends_within : List (Option ℕ) → Option ℕ → ℕ → Bool
 ends_within previous None most = true

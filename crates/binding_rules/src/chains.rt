@@ -1,9 +1,9 @@
-// The places of each address, chained from the last one to the first.
+// The places of each address, chained from the last one to the first, and from the first one to the last.
 ghost use Rattle.std.specs.Prelude.{ℕ, ◌≡◌, ◌<◌, ◌≤◌, ◌↔◌, Some, length, slice_get, IfOk, IsTrue};
 ghost use Rattle.std.specs.Ordering.{nat_cmp};
 ghost use Rattle.std.specs.BTreeMap.{get};
 ghost use Rattle.binding_rules.specs.Conflicts.{HaveCommonPort, HaveOneShape};
-ghost use Rattle.binding_rules.specs.Scans.{IsLinked, IsNearest, IsLast, IsLeast, IsLeastUnlike, IsLater, HasAddress, AreWell, ends_within};
+ghost use Rattle.binding_rules.specs.Scans.{IsLinked, IsLinkedUp, IsNearest, IsLast, IsLeast, IsLeastUnlike, IsLater, HasAddress, AreWell, ends_within};
 
 use crate::binding::Binding;
 use crate::ports::have_common_port;
@@ -11,16 +11,19 @@ use aftr_base::OutOfMemory;
 use std::alloc::Global;
 use std::collections::BTreeMap;
 
-/// For each place the nearest earlier place of the same address, and for each address its last place.
+/// For each place the nearest earlier place of the same address and the nearest later one, and for each address its last
+/// place.
 #[derive(Drop)]
 pub(crate) struct Chains {
     pub(crate) previous: Vec<Option<u32>>,
+    pub(crate) next: Vec<Option<u32>>,
     pub(crate) last: BTreeMap<u32, u32>,
 }
 
 pub(crate) fn chains_of(alloc: Global, bindings: &[Binding]) -> Result<Chains, OutOfMemory>
     requires { length bindings.now ≤ 65536 }
     ensures linked { IfOk result (λ c. IsLinked bindings.now c.previous.items) }
+    ensures linked_up { IfOk result (λ c. IsLinkedUp bindings.now c.next.items) }
     ensures ends { IfOk result (λ c. (a : ℕ) → IsNearest bindings.now a (length bindings.now) (get nat_cmp c.last a)) }
 {
     let mut previous = Vec::new(alloc);
@@ -29,7 +32,32 @@ pub(crate) fn chains_of(alloc: Global, bindings: &[Binding]) -> Result<Chains, O
         let earlier = last.insert(bindings[place].v4.0, place as u32)?;
         previous.push(earlier)?;
     }
-    Ok(Chains { previous, last })
+    let next = next_of(alloc, bindings, &previous)?;
+    Ok(Chains {
+        previous,
+        next,
+        last,
+    })
+}
+
+/// For each place the nearest later place of the same address.
+fn next_of(
+    alloc: Global,
+    bindings: &[Binding],
+    previous: &[Option<u32>],
+) -> Result<Vec<Option<u32>>, OutOfMemory>
+    requires few { length bindings.now ≤ 65536 }
+    requires linked { IsLinked bindings.now previous.now }
+    ensures { IfOk result (λ next. IsLinkedUp bindings.now next.items) }
+{
+    let mut next = Vec::with_capacity(alloc, bindings.len())?;
+    'places: for place in 0..bindings.len() {
+        next.push(None)?;
+        if let Some(earlier) = previous[place] {
+            next[earlier as usize] = Some(place as u32);
+        }
+    }
+    Ok(next)
 }
 
 /// The first place of the address of which `last` is a place.

@@ -1,7 +1,7 @@
 // The first conflict, found address by address.
 ghost use Rattle.std.specs.Prelude.{◌≡◌, ℕ, ◌<◌, ◌≤◌, true, false, None, Some, length, IfOk};
 ghost use Rattle.binding_rules.specs.Conflicts.{Conflict};
-ghost use Rattle.binding_rules.specs.Scans.{IsLinked, IsLast, IsFirstPair, HasAddress, AreShared, IsOwnersOf, AreWell, AreFresh, earlier_of, ends_within, paired, slot};
+ghost use Rattle.binding_rules.specs.Scans.{IsLinked, IsLinkedUp, IsLast, IsLeast, IsFirstPair, HasAddress, AreShared, IsOwnersOf, AreWell, AreFresh, earlier_of, ends_within, paired, slot};
 
 use crate::binding::Binding;
 use crate::chains::{chains_of, has_at_most, head_of, least_common, least_unlike};
@@ -94,22 +94,29 @@ fn compared_pair(bindings: &[Binding], previous: &[Option<u32>], v4: V4, last: u
 
 /// The same by the slots of the ports, from the first place up. It ends at the first place that owns a port of an earlier
 /// one: before it no port was taken twice, so no more than twice 65,536 ports are looked at.
-fn risen_pair(bindings: &[Binding], v4: V4, owners: &mut [Option<u32>]) -> Option<Pair>
+fn risen_pair(
+    bindings: &[Binding],
+    next: &[Option<u32>],
+    v4: V4,
+    head: u32,
+    owners: &mut [Option<u32>],
+) -> Option<Pair>
     requires few { length bindings.now ≤ 65536 }
+    requires linked { IsLinkedUp bindings.now next.now }
+    requires head { IsLeast (HasAddress bindings.now v4.0) (Some head) }
     requires well { AreWell bindings.now }
     requires size { length owners.old ≡ 65536 }
     requires fresh { AreFresh bindings.now v4.0 owners.old }
     ensures first { IsFirstPair bindings.now (AreShared true) (HasAddress bindings.now v4.0) result }
     ensures owners { IsOwnersOf bindings.now v4.0 owners.old owners.new }
 {
-    'places: for place in 0..bindings.len() {
-        let binding = bindings[place];
-        if binding.v4 == v4 {
-            let second = place as u32;
-            if let Some(first) = meet(bindings, v4, true, second, binding, owners) {
-                return Some(Pair { first, second });
-            }
+    let mut at = Some(head);
+    'chain: while let Some(second) = at {
+        let binding = bindings[second as usize];
+        if let Some(first) = meet(bindings, v4, true, second, binding, owners) {
+            return Some(Pair { first, second });
         }
+        at = next[second as usize];
     }
     None
 }
@@ -119,12 +126,14 @@ fn address_pair(
     edition: Edition,
     bindings: &[Binding],
     previous: &[Option<u32>],
+    next: &[Option<u32>],
     v4: V4,
     last: u32,
     owners: &mut [Option<u32>],
 ) -> Option<Pair>
     requires few { length bindings.now ≤ 65536 }
     requires linked { IsLinked bindings.now previous.now }
+    requires linked_up { IsLinkedUp bindings.now next.now }
     requires last { IsLast bindings.now v4.0 last }
     requires well { AreWell bindings.now }
     requires size { length owners.old ≡ 65536 }
@@ -146,7 +155,13 @@ fn address_pair(
             } else if has_at_most(bindings, previous, last, MOST_COMPARED) {
                 compared_pair(bindings, previous, v4, last)
             } else {
-                risen_pair(bindings, v4, owners)
+                risen_pair(
+                    bindings,
+                    next,
+                    v4,
+                    head_of(bindings, previous, last),
+                    owners,
+                )
             }
         }
     }
@@ -184,6 +199,7 @@ pub(crate) fn first_conflict(
                 edition,
                 bindings,
                 &chains.previous,
+                &chains.next,
                 v4,
                 place as u32,
                 &mut owners,

@@ -51,6 +51,9 @@ pub returns-then-has_at_most-clause-first : goal.returns-then-has_at_most-clause
 returns-then-has_at_most-clause-first c =
     rw c.in-Two.is (two_by_port c.args.bindings.now (HasAddress c.args.bindings.now c.args.v4.0) c.compared_pair.result c.compared_pair.ensures)
 
+pub risen_pair-requires-clause-head : goal.risen_pair-requires-clause-head
+risen_pair-requires-clause-head c = c.head_of.ensures c.args.v4.0 c.requires.last.here
+
 pub returns-else-has_at_most-clause-first : goal.returns-else-has_at_most-clause-first
 returns-else-has_at_most-clause-first c =
     rw c.in-Two.is (two_by_port c.args.bindings.now (HasAddress c.args.bindings.now c.args.v4.0) c.risen_pair.result c.risen_pair.ensures.first)

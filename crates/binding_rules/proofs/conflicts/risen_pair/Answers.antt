@@ -1,49 +1,79 @@
-use Rattle.std.proofs.Common.{◌≡◌, ◌≢◌, ◌∙◌, true, sym}
-use Rattle.std.proofs.lemmas.Bool.{eqb-true, eqb-false}
-use Rattle.binding_rules.proofs.Links.{read, read_is}
-use Rattle.binding_rules.proofs.Rising.{risen_none, risen_names, risen_next, risen_other, risen_found, risen_all}
+use Rattle.std.proofs.Common.{◌<◌, true, length, subst, arith}
+use Rattle.binding_rules.proofs.Links.{IsOf, of_within, has_address_of, read, read_is}
+use Rattle.binding_rules.proofs.Rising.{IsRisenTo, risen_first, risen_names, risen_next, risen_up, risen_found, risen_all}
+use Rattle.binding_rules.proofs.Upwards.{following_of, following_is_of, left_less}
 use Rattle.binding_rules.proofs.conflicts.risen_pair.Goals as goal
-use Rattle.binding_rules.proofs.conflicts.risen_pair.Goals.{then-eq+in_default, else-eq}
 
-pub places-init : goal.places-init
-places-init c = risen_none _ _ _ _ c.requires.fresh
+pub chain-init : goal.chain-init
+chain-init c = record { here = c.requires.head.0; risen = risen_first true _ _ _ _ c.requires.head c.requires.fresh }
 
-pub returns-in-Some-clause-first : goal.returns-in-Some-clause-first
-returns-in-Some-clause-first c =
+pub bounds-bindings-second : goal.bounds-bindings-second
+bounds-bindings-second c = of_within _ c.args.v4.0 _ (subst (IsOf c.args.bindings.now c.args.v4.0) c.in-Some.is c.chain.invariant.here)
+
+pub meet-requires-clause-shape : goal.meet-requires-clause-shape
+meet-requires-clause-shape c =
+    let here = subst (IsOf c.args.bindings.now c.args.v4.0) c.in-Some.is c.chain.invariant.here in
+    (c.requires.well c.in-Some.second _ (read_is c.args.bindings.now c.in-Some.second (of_within _ c.args.v4.0 _ here))).shape
+
+pub meet-requires-clause-psid : goal.meet-requires-clause-psid
+meet-requires-clause-psid c =
+    let here = subst (IsOf c.args.bindings.now c.args.v4.0) c.in-Some.is c.chain.invariant.here in
+    (c.requires.well c.in-Some.second _ (read_is c.args.bindings.now c.in-Some.second (of_within _ c.args.v4.0 _ here))).psid
+
+pub returns-in-Some-meet-clause-first : goal.returns-in-Some-meet-clause-first
+returns-in-Some-meet-clause-first c =
     let bs = c.args.bindings.now in
-    let i = c.places.place in
-    let x = read bs i in
-    let address : x.v4.0 ≡ c.args.v4.0 = eqb-true _ _ (sym c.eq.ensures ∙ c.if-eq.true) in
-    risen_found true bs c.args.v4.0 i x c.args.owners.now c.places.owners (read_is bs i c.places-test.true) address c.places.invariant
-    c.in-Some.first c.in-Some.ensures.least
+    let a = c.args.v4.0 in
+    let i = c.in-Some.second in
+    let here = subst (IsOf bs a) c.in-Some.is c.chain.invariant.here in
+    let there = read_is bs i (of_within bs a i here) in
+    let risen = subst (λ o. IsRisenTo true bs a o c.args.owners.now c.chain.owners) c.in-Some.is c.chain.invariant.risen in
+    risen_found true bs a i (read bs i) c.args.owners.now c.chain.owners there (has_address_of bs a i _ there here) risen
+    c.in-Some-meet.first c.in-Some-meet.ensures.least
 
-pub returns-in-Some-clause-owners : goal.returns-in-Some-clause-owners
-returns-in-Some-clause-owners c =
+pub returns-in-Some-meet-clause-owners : goal.returns-in-Some-meet-clause-owners
+returns-in-Some-meet-clause-owners c =
     let bs = c.args.bindings.now in
-    let i = c.places.place in
-    let x = read bs i in
-    let address : x.v4.0 ≡ c.args.v4.0 = eqb-true _ _ (sym c.eq.ensures ∙ c.if-eq.true) in
-    risen_names true bs c.args.v4.0 i x c.args.owners.now c.places.owners (read_is bs i c.places-test.true) address c.places.invariant
-    c.meet.new.owners c.in-Some.ensures.taken
+    let a = c.args.v4.0 in
+    let i = c.in-Some.second in
+    let here = subst (IsOf bs a) c.in-Some.is c.chain.invariant.here in
+    let there = read_is bs i (of_within bs a i here) in
+    let risen = subst (λ o. IsRisenTo true bs a o c.args.owners.now c.chain.owners) c.in-Some.is c.chain.invariant.risen in
+    risen_names true bs a i (read bs i) c.args.owners.now c.chain.owners there (has_address_of bs a i _ there here) risen
+    c.meet.new.owners c.in-Some-meet.ensures.taken
 
-pub places-preserved : goal.places-preserved
-places-preserved c =
+pub bounds-next-second : goal.bounds-next-second
+bounds-next-second c =
+    let here = subst (IsOf c.args.bindings.now c.args.v4.0) c.in-Some.is c.chain.invariant.here in
+    let within : c.in-Some.second < length c.args.bindings.now = of_within _ c.args.v4.0 _ here in
+    omega (arith, c.requires.linked.size, within)
+
+pub chain-smaller : goal.chain-smaller
+chain-smaller c =
     let bs = c.args.bindings.now in
-    let i = c.places.place in
-    let x = read bs i in
-    let there = read_is bs i c.places-test.true in
-    elim c.if-eq.branch [
-      | then-eq+in_default w ↦
-          (let address : x.v4.0 ≡ c.args.v4.0 = eqb-true _ _ (sym c.eq.ensures ∙ w.if-eq.true) in
-          rw w.owners-is
-          (risen_next true bs c.args.v4.0 i x c.args.owners.now c.places.owners there address c.places.invariant
-          w.meet.new.owners w.in_default.ensures.least w.in_default.ensures.taken))
-      | else-eq w ↦
-          (let other : x.v4.0 ≢ c.args.v4.0 = eqb-false _ _ (sym c.eq.ensures ∙ w.if-eq.false) in
-          rw w.owners-is
-          (risen_other true bs c.args.v4.0 i x c.args.owners.now c.places.owners there other c.places.invariant))
-    ]
+    let a = c.args.v4.0 in
+    let i = c.in-Some.second in
+    let here = subst (IsOf bs a) c.in-Some.is c.chain.invariant.here in
+    left_less bs a i c.chain.at _ c.in-Some.is (of_within bs a i here) (following_of bs c.args.next.now a i c.requires.linked here)
+
+pub chain-preserved : goal.chain-preserved
+chain-preserved c =
+    let bs = c.args.bindings.now in
+    let a = c.args.v4.0 in
+    let i = c.in-Some.second in
+    let here = subst (IsOf bs a) c.in-Some.is c.chain.invariant.here in
+    let within = of_within bs a i here in
+    let there = read_is bs i within in
+    let risen = subst (λ o. IsRisenTo true bs a o c.args.owners.now c.chain.owners) c.in-Some.is c.chain.invariant.risen in
+    let follows = following_of bs c.args.next.now a i c.requires.linked here in
+    record {
+      here = following_is_of bs a i _ follows;
+      risen = risen_up true bs a i _ c.args.owners.now c.meet.new.owners within follows
+          (risen_next true bs a i (read bs i) c.args.owners.now c.chain.owners there (has_address_of bs a i _ there here) risen
+          c.meet.new.owners c.in_default-meet.ensures.least c.in_default-meet.ensures.taken);
+    }
 
 pub returns-clause-first : goal.returns-clause-first
 returns-clause-first c =
-    risen_all true c.args.bindings.now c.args.v4.0 c.places.place c.args.owners.now c.places.owners c.places-test.false c.places.invariant
+    let risen = subst (λ o. IsRisenTo true c.args.bindings.now c.args.v4.0 o c.args.owners.now c.chain.owners) c.in_default.is c.chain.invariant.risen in
+    risen_all true c.args.bindings.now c.args.v4.0 c.args.owners.now c.chain.owners risen

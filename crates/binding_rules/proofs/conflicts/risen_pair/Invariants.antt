@@ -1,6 +1,14 @@
-use Rattle.binding_rules.proofs.Rising.{IsRisen}
-use Rattle.binding_rules.proofs.conflicts.risen_pair.Given as goal
 use Rattle.std.proofs.Common.{true}
+use Rattle.binding_rules.proofs.Links.{IsOf}
+use Rattle.binding_rules.proofs.Rising.{IsRisenTo}
+use Rattle.binding_rules.proofs.Upwards.{left_above}
+use Rattle.binding_rules.proofs.conflicts.risen_pair.Given as goal
 
-abbrev pub invariant-places : goal.invariant-places
-invariant-places l = IsRisen true l.bindings l.v4.0 l.place l.initial.owners l.owners
+abbrev pub invariant-chain : goal.invariant-chain
+invariant-chain l = record {
+  here : IsOf l.bindings l.v4.0 l.at;
+  risen : IsRisenTo true l.bindings l.v4.0 l.at l.initial.owners l.owners;
+}
+
+abbrev pub decreases-chain : goal.decreases-chain
+decreases-chain l = left_above l.bindings l.at
