@@ -1,0 +1,11 @@
+pub mod FrontLemmas
+pub mod FrameLemmas
+pub mod FileLemmas
+pub mod KindLemmas
+pub mod OptionLemmas
+pub mod InterfaceLemmas
+pub mod BlockLemmas
+pub mod WalkLemmas
+pub mod SplitLemmas
+pub mod OpenLemmas
+pub mod FindLemmas

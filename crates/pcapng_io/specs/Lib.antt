@@ -1,0 +1,9 @@
+pub mod Answers
+pub mod Blocks
+pub mod Captures
+pub mod Files
+pub mod Frames
+pub mod Interfaces
+pub mod Packets
+pub mod Results
+pub mod Seen

@@ -1,0 +1,237 @@
+// Section headers and packet blocks.
+ghost use Rattle.std.specs.Prelude.{◌≡◌, ℕ, ◌+◌, ◌-◌, ◌*◌, ◌/◌, ◌%◌, ◌^◌, ◌<◌, ◌≤◌, All, IfOk, length};
+ghost use Rattle.aftr_base.specs.Contents.{Told};
+ghost use Rattle.aftr_base.specs.Outside.{OnlyReads};
+ghost use Rattle.capture_io.specs.Answers.{Agrees, is_read_fault};
+ghost use Rattle.pcapng_io.specs.Files.{IsInside, IsSound, IsWhole, left_at};
+ghost use Rattle.pcapng_io.specs.Packets.{enhanced_in, nanos_of, seconds_of, section_in, simple_captured, simple_in};
+ghost use Rattle.pcapng_io.specs.Seen.{seen_by};
+
+use crate::block::{Block, Known, Packet, Passed};
+use crate::fields::read_bytes;
+use crate::frame::Frame;
+use crate::interface::Interface;
+use aftr_base::Files;
+use capture_io::{CaptureBad, CaptureError, NgBad, half, word};
+use std::alloc::Global;
+
+const MOST_BYTES: u32 = 262_144;
+
+const MOST_PACKETS: u32 = 0x8000_0000;
+
+const BILLION: u64 = 1_000_000_000;
+
+/// The section header of a frame.
+pub fn read_section<F: Files>(
+    alloc: Global,
+    files: &mut F,
+    name: &str,
+    at: u64,
+    frame: Frame,
+) -> Result<Block, CaptureError>
+    requires place { at ≤ 2 ^ 62 }
+    requires least { 28 ≤ frame.total }
+    requires whole { IsWhole (F.outside files.old).held name.now at frame }
+    ensures told { Told (F.outside files.old).held (λ m. Agrees result (section_in at (left_at m name.now at) frame)) }
+    ensures sound { IfOk result (λ block. (number : ℕ) → IsSound number block) }
+    ensures reads { OnlyReads (is_read_fault result) name.now (IsInside at frame.total)
+        (F.outside files.old) (F.outside files.new) }
+{
+    let mut front = [0; 14];
+    read_bytes(alloc, files, name, at, at, &mut front)?;
+    match section_of(at, &front, frame) {
+        Ok(block) => Ok(block),
+        Err(refusal) => Err(CaptureError::Bad(refusal)),
+    }
+}
+
+fn section_of(at: u64, front: &[u8], frame: Frame) -> Result<Block, CaptureBad>
+    requires long { 14 ≤ length front.now }
+    requires least { 28 ≤ frame.total }
+    ensures says { result ≡ section_in at front.now frame }
+    ensures sound { IfOk result (λ block. (number : ℕ) → IsSound number block) }
+{
+    if half(frame.big, front, 12) != 1 {
+        return Err(CaptureBad::Ng(NgBad::Version { at }));
+    }
+    Ok(Block::Passed(Passed::Section {
+        big: frame.big,
+        total: frame.total,
+    }))
+}
+
+/// The enhanced packet block of a frame, for a packet of this number.
+pub fn read_enhanced<F: Files>(
+    alloc: Global,
+    files: &mut F,
+    name: &str,
+    known: Known,
+    interfaces: &[Interface],
+    frame: Frame,
+    number: u32,
+) -> Result<Block, CaptureError>
+    requires place { known.at ≤ 2 ^ 62 }
+    requires number { number ≤ 2 ^ 31 }
+    requires least { 32 ≤ frame.total }
+    requires counted { All (λ interface. 0 < interface.ticks) interfaces.now }
+    requires whole { IsWhole (F.outside files.old).held name.now known.at frame }
+    ensures told { Told (F.outside files.old).held
+        (λ m. Agrees result (enhanced_in (seen_by known interfaces.now) (left_at m name.now known.at) number frame)) }
+    ensures sound { IfOk result (λ block. IsSound number block) }
+    ensures reads { OnlyReads (is_read_fault result) name.now (IsInside known.at frame.total)
+        (F.outside files.old) (F.outside files.new) }
+{
+    let mut front = [0; 24];
+    read_bytes(alloc, files, name, known.at, known.at, &mut front)?;
+    match enhanced_of(known, interfaces, &front, frame, number) {
+        Ok(block) => Ok(block),
+        Err(refusal) => Err(CaptureError::Bad(refusal)),
+    }
+}
+
+fn enhanced_of(
+    known: Known,
+    interfaces: &[Interface],
+    front: &[u8],
+    frame: Frame,
+    number: u32,
+) -> Result<Block, CaptureBad>
+    requires long { 24 ≤ length front.now }
+    requires number { number ≤ 2 ^ 31 }
+    requires least { 32 ≤ frame.total }
+    requires counted { All (λ interface. 0 < interface.ticks) interfaces.now }
+    ensures says { result ≡ enhanced_in (seen_by known interfaces.now) front.now number frame }
+    ensures sound { IfOk result (λ block. IsSound number block) }
+{
+    let at = known.at;
+    let sender = word(frame.big, front, 8) as usize;
+    if sender >= interfaces.len() {
+        return Err(CaptureBad::Ng(NgBad::Interface { at }));
+    }
+    let interface = interfaces[sender];
+    if number == MOST_PACKETS {
+        return Err(CaptureBad::Ng(NgBad::TooMany { at }));
+    }
+    let count = word(frame.big, front, 20);
+    if count > MOST_BYTES {
+        return Err(CaptureBad::Ng(NgBad::TooLong { at }));
+    }
+    if count > frame.total - 32 {
+        return Err(CaptureBad::Ng(NgBad::Captured { at }));
+    }
+    let ticks = ticks_of(word(frame.big, front, 12), word(frame.big, front, 16));
+    let seconds = whole_seconds(interface, ticks);
+    if seconds > u64::from(u32::MAX) {
+        return Err(CaptureBad::Ng(NgBad::Time { at }));
+    }
+    Ok(Block::Packet(Packet {
+        seconds: seconds as u32,
+        nanos: rest_in_nanos(interface, ticks),
+        start: 28,
+        count,
+        total: frame.total,
+    }))
+}
+
+fn ticks_of(high: u32, low: u32) -> u64
+    ensures { result ≡ high * 2 ^ 32 + low }
+{
+    u64::from(high) * 0x1_0000_0000 + u64::from(low)
+}
+
+fn whole_seconds(interface: Interface, ticks: u64) -> u64
+    requires { 0 < interface.ticks }
+    ensures { result ≡ seconds_of interface ticks }
+{
+    ticks / interface.ticks
+}
+
+/// What is left of a time behind its whole seconds, in nanoseconds, rounded down.
+fn rest_in_nanos(interface: Interface, ticks: u64) -> u32
+    requires { 0 < interface.ticks }
+    ensures is { result ≡ nanos_of interface ticks }
+    ensures few { result < 1000000000 }
+{
+    let rest = ticks % interface.ticks;
+    if interface.ticks <= BILLION {
+        return (rest * BILLION / interface.ticks) as u32;
+    }
+    (u128::from(rest) * u128::from(BILLION) / u128::from(interface.ticks)) as u32
+}
+
+/// The simple packet block of a frame, for a packet of this number.
+pub fn read_simple<F: Files>(
+    alloc: Global,
+    files: &mut F,
+    name: &str,
+    known: Known,
+    interfaces: &[Interface],
+    frame: Frame,
+    number: u32,
+) -> Result<Block, CaptureError>
+    requires place { known.at ≤ 2 ^ 62 }
+    requires number { number ≤ 2 ^ 31 }
+    requires time { known.nanos < 1000000000 }
+    requires least { 16 ≤ frame.total }
+    requires whole { IsWhole (F.outside files.old).held name.now known.at frame }
+    ensures told { Told (F.outside files.old).held
+        (λ m. Agrees result (simple_in (seen_by known interfaces.now) (left_at m name.now known.at) number frame)) }
+    ensures sound { IfOk result (λ block. IsSound number block) }
+    ensures reads { OnlyReads (is_read_fault result) name.now (IsInside known.at frame.total)
+        (F.outside files.old) (F.outside files.new) }
+{
+    let mut front = [0; 12];
+    read_bytes(alloc, files, name, known.at, known.at, &mut front)?;
+    match simple_of(known, interfaces, &front, frame, number) {
+        Ok(block) => Ok(block),
+        Err(refusal) => Err(CaptureError::Bad(refusal)),
+    }
+}
+
+fn simple_of(
+    known: Known,
+    interfaces: &[Interface],
+    front: &[u8],
+    frame: Frame,
+    number: u32,
+) -> Result<Block, CaptureBad>
+    requires long { 12 ≤ length front.now }
+    requires number { number ≤ 2 ^ 31 }
+    requires time { known.nanos < 1000000000 }
+    requires least { 16 ≤ frame.total }
+    ensures says { result ≡ simple_in (seen_by known interfaces.now) front.now number frame }
+    ensures sound { IfOk result (λ block. IsSound number block) }
+{
+    let at = known.at;
+    if interfaces.is_empty() {
+        return Err(CaptureBad::Ng(NgBad::Interface { at }));
+    }
+    if number == MOST_PACKETS {
+        return Err(CaptureBad::Ng(NgBad::TooMany { at }));
+    }
+    let count = captured_of(interfaces[0], word(frame.big, front, 8));
+    if count > MOST_BYTES {
+        return Err(CaptureBad::Ng(NgBad::TooLong { at }));
+    }
+    if count > frame.total - 16 {
+        return Err(CaptureBad::Ng(NgBad::Captured { at }));
+    }
+    Ok(Block::Packet(Packet {
+        seconds: known.seconds,
+        nanos: known.nanos,
+        start: 12,
+        count,
+        total: frame.total,
+    }))
+}
+
+/// How many bytes an interface captures of a packet.
+fn captured_of(interface: Interface, original: u32) -> u32
+    ensures { result ≡ simple_captured interface original }
+{
+    if interface.most != 0 && interface.most < original {
+        interface.most
+    } else {
+        original
+    }
+}

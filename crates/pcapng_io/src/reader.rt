@@ -1,0 +1,183 @@
+// A reader of one pcapng file.
+ghost use Rattle.std.specs.Prelude.{◌≡◌, ◌+◌, ◌^◌, ◌<◌, ◌≤◌, [], ◌∷◌, IfErr, IfOk, IfSome, drop, length, take};
+ghost use Rattle.aftr_base.specs.Contents.{content, Told};
+ghost use Rattle.aftr_base.specs.Outside.{OnlyReads};
+ghost use Rattle.capture_io.specs.Answers.{Agrees, is_read_fault};
+ghost use Rattle.capture_io.specs.declared.forms.CaptureError.TheVariants as error;
+ghost use Rattle.pcapng_io.specs.Answers.{Continues, IsBeforePacket, IsBounded, IsInHeader, IsKept, IsNext};
+ghost use Rattle.pcapng_io.specs.Captures.{form_of, header_in, is_pcapng, next_in};
+ghost use Rattle.pcapng_io.specs.Files.{IsFault, left_at};
+ghost use Rattle.pcapng_io.specs.Seen.{IsSoundSeen, seen_by};
+
+use crate::block::{Block, Known, Passed, read_block};
+use crate::frame::SECTION;
+use crate::interface::Interface;
+use crate::record::find_record;
+use crate::walk::behind_passed;
+use aftr_base::{Files, fill};
+use capture_io::{CaptureError, Form, Next, word};
+use std::alloc::Global;
+use std::marker::Model;
+
+const PLAIN_IP: u32 = 101;
+
+const NO_INTERFACES: [Interface; 0] = [];
+
+const START: Known = Known {
+    at: 0,
+    big: false,
+    link: None,
+    seconds: 0,
+    nanos: 0,
+};
+
+/// Whether a file begins as a pcapng file does, with the type of a section header. `ReadFault` comes only where a read of this
+/// file failed in this call, at a place below 4.
+pub fn is_ng<F: Files>(alloc: Global, files: &mut F, name: &str) -> Result<bool, CaptureError>
+    ensures told { IfOk result (λ is. Told (F.outside files.old).held (λ m. is ≡ is_pcapng (content m name.now))) }
+    ensures total { IfErr result (λ e. IsFault e) }
+    ensures reads { OnlyReads (is_read_fault result) name.now (λ place. place < 4) (F.outside files.old) (F.outside files.new) }
+{
+    let mut first = [0; 4];
+    let count = fill(alloc, files, name, 0, &mut first)?;
+    Ok(begins_section(&first[..count]))
+}
+
+fn begins_section(bytes: &[u8]) -> bool
+    ensures { result ≡ is_pcapng bytes.now }
+{
+    bytes.len() >= 4 && word(false, bytes, 0) == SECTION
+}
+
+/// A reader of a pcapng file, which stands between two of its packets. It is seen as its place, the order and the interfaces
+/// of its section, the first interface's link type and the time of the last packet.
+#[derive(Drop)]
+pub struct NgReader {
+    known: Known,
+    interfaces: Vec<Interface>,
+}
+
+impl Model for NgReader {
+    ghost use Rattle.pcapng_io.specs.Seen.{IsSoundSeen, Seen, seen_by};
+
+    ghost Value = { Seen };
+
+    ghost view = { λ r. seen_by r.known r.interfaces.items };
+
+    ghost invariant = { λ r. IsSoundSeen (seen_by r.known r.interfaces.items) };
+}
+
+impl NgReader {
+    /// Reads the file header: the blocks up to the first interface, or all blocks where there is none. `ReadFault` comes only
+    /// where a read of this file failed in this call, before the end of that interface's block, where there is one.
+    pub fn open<F: Files>(
+        alloc: Global,
+        files: &mut F,
+        name: &str,
+    ) -> Result<NgReader, CaptureError>
+        ensures told { Told (F.outside files.old).held (λ m. Agrees result (header_in (content m name.now))) }
+        ensures reads { OnlyReads (is_read_fault result) name.now (IsInHeader (F.outside files.old).held name.now)
+            (F.outside files.old) (F.outside files.new) }
+    {
+        let mut known = START;
+        'opening: loop {
+            match read_block(alloc, files, name, known, &NO_INTERFACES, 0)? {
+                Block::End => return Ok(NgReader::without_interfaces(alloc, known)),
+                // No packet is found without an interface.
+                Block::Packet(_) => return Ok(NgReader::without_interfaces(alloc, known)),
+                Block::Passed(passed) => {
+                    known = behind_passed(known, passed);
+                    if let Passed::Interface { interface, .. } = passed {
+                        return NgReader::with_interface(alloc, known, interface);
+                    }
+                }
+            }
+        }
+    }
+
+    fn without_interfaces(alloc: Global, known: Known) -> NgReader
+        requires { known.nanos < 1000000000 }
+        ensures { result ≡ seen_by known [] }
+    {
+        NgReader {
+            known,
+            interfaces: Vec::new(alloc),
+        }
+    }
+
+    fn with_interface(
+        alloc: Global,
+        known: Known,
+        interface: Interface,
+    ) -> Result<NgReader, CaptureError>
+        requires time { known.nanos < 1000000000 }
+        requires counted { 0 < interface.ticks }
+        ensures is { IfOk result (λ reader. reader ≡ seen_by known (interface ∷ [])) }
+        ensures memory { IfErr result (λ e. e ≡ error.OutOfMemory) }
+    {
+        let mut interfaces = Vec::new(alloc);
+        match interfaces.push(interface) {
+            Ok(()) => Ok(NgReader { known, interfaces }),
+            Err(_) => Err(CaptureError::OutOfMemory),
+        }
+    }
+
+    /// What is said of all records: numbers least significant byte first, times in nanoseconds, and the link type of the
+    /// first interface, or 101 where there is none.
+    pub fn form(&self) -> Form
+        ensures { result ≡ form_of self.now.known }
+    {
+        Form {
+            big: false,
+            nano: true,
+            link: self.known.link.unwrap_or(PLAIN_IP),
+        }
+    }
+
+    /// The packet of a number, counted from 0, as a record that ends where its block does; `End` where no packet is left; and
+    /// otherwise the refusal of the first block that is refused. Where no packet is found the reader is as before. `ReadFault`
+    /// comes only where a read of this file failed in this call, from the reader's place on, and before the end of the
+    /// packet's block.
+    pub fn next<F: Files>(
+        &mut self,
+        alloc: Global,
+        files: &mut F,
+        name: &str,
+        number: u32,
+    ) -> Result<Next, CaptureError>
+        requires { number ≤ 2 ^ 31 }
+        ensures told { Told (F.outside files.old).held
+            (λ m. IsNext result self.new (next_in self.old (left_at m name.now self.old.known.at) number)) }
+        ensures step { Told (F.outside files.old).held (λ m. Continues result self.old self.new (content m name.now) number) }
+        ensures kept { IsKept result self.old self.new }
+        ensures bounded { IsBounded result self.old self.new number }
+        ensures reads { OnlyReads (is_read_fault result) name.now
+            (IsBeforePacket (F.outside files.old).held name.now self.old number) (F.outside files.old) (F.outside files.new) }
+    {
+        let kept = self.interfaces.len();
+        match find_record(alloc, files, name, self.known, &mut self.interfaces, number) {
+            Ok(Some(found)) => {
+                drop_front(&mut self.interfaces, found.first);
+                self.known = found.known;
+                Ok(Next::Rec(found.record))
+            }
+            Ok(None) => {
+                self.interfaces.truncate(kept);
+                Ok(Next::End)
+            }
+            Err(error) => {
+                self.interfaces.truncate(kept);
+                Err(error)
+            }
+        }
+    }
+}
+
+fn drop_front(interfaces: &mut Vec<Interface>, count: usize)
+    requires { count ≤ length interfaces.old.items }
+    ensures { interfaces.new.items ≡ drop count interfaces.old.items }
+{
+    if count > 0 {
+        interfaces.drain(..count);
+    }
+}

@@ -1,0 +1,55 @@
+// The next packet, with its bytes.
+ghost use Rattle.std.specs.Prelude.{◌≡◌, ◌+◌, ◌^◌, ◌<◌, ◌≤◌, IfOk, IfSome, drop, length, take};
+ghost use Rattle.aftr_base.specs.Contents.{Told};
+ghost use Rattle.aftr_base.specs.Outside.{OnlyReads};
+ghost use Rattle.capture_io.specs.Answers.{is_read_fault};
+ghost use Rattle.pcapng_io.specs.Answers.{IsBeforePacket, IsFound, IsSoundFound};
+ghost use Rattle.pcapng_io.specs.Captures.{next_in};
+ghost use Rattle.pcapng_io.specs.Files.{left_at};
+ghost use Rattle.pcapng_io.specs.Seen.{IsSoundSeen, seen_by};
+
+use crate::block::Known;
+use crate::interface::Interface;
+use crate::walk::{behind_packet, find_packet, read_packet};
+use aftr_base::Files;
+use capture_io::{CaptureError, Rec};
+use std::alloc::Global;
+
+/// A packet's record, and what is known behind it. Of the interfaces that are kept, those of its section begin at `first`.
+#[derive(Drop)]
+pub struct Found {
+    pub record: Rec,
+    pub known: Known,
+    pub first: usize,
+}
+
+/// The record of the next packet, which has this number, from what is known on. The interfaces of blocks that are passed are
+/// put behind those that are kept.
+pub fn find_record<F: Files>(
+    alloc: Global,
+    files: &mut F,
+    name: &str,
+    known: Known,
+    interfaces: &mut Vec<Interface>,
+    number: u32,
+) -> Result<Option<Found>, CaptureError>
+    requires number { number ≤ 2 ^ 31 }
+    requires sound { IsSoundSeen (seen_by known interfaces.old.items) }
+    ensures front { take (length interfaces.old.items) interfaces.new.items ≡ interfaces.old.items }
+    ensures told { Told (F.outside files.old).held
+        (λ m. IsFound result interfaces.new.items (next_in (seen_by known interfaces.old.items) (left_at m name.now known.at) number)) }
+    ensures sound { IfOk result (λ found. IfSome found (λ f. IsSoundFound f known.at number interfaces.new.items)) }
+    ensures reads { OnlyReads (is_read_fault result) name.now
+        (IsBeforePacket (F.outside files.old).held name.now (seen_by known interfaces.old.items) number)
+        (F.outside files.old) (F.outside files.new) }
+{
+    let Some(sighted) = find_packet(alloc, files, name, known, interfaces, number)? else {
+        return Ok(None);
+    };
+    let record = read_packet(alloc, files, name, sighted.known, sighted.packet)?;
+    Ok(Some(Found {
+        record,
+        known: behind_packet(sighted.known, sighted.packet),
+        first: sighted.first,
+    }))
+}
