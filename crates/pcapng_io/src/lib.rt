@@ -11,5 +11,7 @@ mod packets;
 mod reader;
 mod record;
 mod walk;
+mod written;
 
 pub use reader::{NgReader, is_ng};
+pub use written::{put_enhanced, put_section};
