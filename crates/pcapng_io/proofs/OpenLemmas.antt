@@ -15,7 +15,7 @@ use Rattle.pcapng_io.specs.declared.block.Passed.{Passed}
 use Rattle.pcapng_io.specs.declared.block.Passed.TheVariants as passed
 use Rattle.pcapng_io.specs.Seen.{Seen, seen_by}
 use Rattle.pcapng_io.specs.Blocks.{block_in, known_after, seen_after, size_of}
-use Rattle.pcapng_io.specs.Captures.{at_start, header_in, open_by, open_within}
+use Rattle.pcapng_io.specs.Captures.{as_plain, at_start, header_in, open_by, open_within}
 use Rattle.pcapng_io.specs.Files.{IsBefore, IsInBlock, left_at}
 use Rattle.pcapng_io.specs.Answers.{EndsBehind, IsInHeader}
 use Rattle.pcapng_io.proofs.WalkLemmas.{after_at, sized}
@@ -52,10 +52,10 @@ same_open (suc n) (suc m) seen left f g =
 open_refused : (seen : Seen) (left : List ℕ) (refusal : CaptureBad) → block_in seen left 0 ≡ Err refusal → open_in seen left ≡ Err refusal
 open_refused seen left refusal e = ap (open_by (open_within (length left)) seen left) e
 
-open_ends : (seen : Seen) (left : List ℕ) → block_in seen left 0 ≡ Ok block.End → open_in seen left ≡ Ok seen
+open_ends : (seen : Seen) (left : List ℕ) → block_in seen left 0 ≡ Ok block.End → open_in seen left ≡ Ok (as_plain seen)
 open_ends seen left e = ap (open_by (open_within (length left)) seen left) e
 
-open_packet : (seen : Seen) (left : List ℕ) (p : Packet) → block_in seen left 0 ≡ Ok (block.Packet p) → open_in seen left ≡ Ok seen
+open_packet : (seen : Seen) (left : List ℕ) (p : Packet) → block_in seen left 0 ≡ Ok (block.Packet p) → open_in seen left ≡ Ok (as_plain seen)
 open_packet seen left p e = ap (open_by (open_within (length left)) seen left) e
 
 open_interface : (seen : Seen) (left : List ℕ) (i : Interface) (link total : ℕ) → block_in seen left 0 ≡ Ok (block.Passed (passed.Interface i link total)) → open_in seen left ≡ Ok (seen_after seen (passed.Interface i link total))
@@ -75,7 +75,7 @@ open_passed seen left (passed.Other total) plain e =
 
 -- a header ends where the reader begins, or behind it
 forward_within : (n : ℕ) (seen : Seen) (left : List ℕ) (opened : Seen) → open_within n seen left ≡ Ok opened → seen.known.at ≤ opened.known.at
-forward_within zero seen left opened e = let same : seen ≡ opened = cc in omega (arith, ap (λ (s : Seen). s.known.at) same)
+forward_within zero seen left opened e = let same : as_plain seen ≡ opened = cc in omega (arith, ap (λ (s : Seen). s.known.at) same)
 forward_within (suc n) seen left opened e =
     by_block n seen left opened (block_in seen left 0) refl e (λ p f. forward_within n (seen_after seen p) (drop (size_of p) left) opened f)
   where
@@ -83,11 +83,11 @@ forward_within (suc n) seen left opened e =
         ((p : Passed) → open_within n (seen_after seen p) (drop (size_of p) left) ≡ Ok opened → (seen_after seen p).known.at ≤ opened.known.at) → seen.known.at ≤ opened.known.at
     by_block n seen left opened (Err refusal) b e later = let none : open_by (open_within n) seen left (block_in seen left 0) ≡ Err refusal = ap (open_by (open_within n) seen left) b in absurd (cc)
     by_block n seen left opened (Ok block.End) b e later =
-        let is : open_by (open_within n) seen left (block_in seen left 0) ≡ Ok seen = ap (open_by (open_within n) seen left) b in
-        let same : seen ≡ opened = cc in omega (arith, ap (λ (s : Seen). s.known.at) same)
+        let is : open_by (open_within n) seen left (block_in seen left 0) ≡ Ok (as_plain seen) = ap (open_by (open_within n) seen left) b in
+        let same : as_plain seen ≡ opened = cc in omega (arith, ap (λ (s : Seen). s.known.at) same)
     by_block n seen left opened (Ok (block.Packet p)) b e later =
-        let is : open_by (open_within n) seen left (block_in seen left 0) ≡ Ok seen = ap (open_by (open_within n) seen left) b in
-        let same : seen ≡ opened = cc in omega (arith, ap (λ (s : Seen). s.known.at) same)
+        let is : open_by (open_within n) seen left (block_in seen left 0) ≡ Ok (as_plain seen) = ap (open_by (open_within n) seen left) b in
+        let same : as_plain seen ≡ opened = cc in omega (arith, ap (λ (s : Seen). s.known.at) same)
     by_block n seen left opened (Ok (block.Passed (passed.Section big total))) b e later =
         let is : open_by (open_within n) seen left (block_in seen left 0) ≡ open_within n (seen_after seen (passed.Section big total)) (drop total left) = ap (open_by (open_within n) seen left) b in
         omega (arith, later (passed.Section big total) (sym is ∙ e))
@@ -119,12 +119,12 @@ open_failed (Some m) name known result e is opens a =
     (open_failed_by (header_in (content m name)) (block_in (seen_by known []) (left_at m name known.at) 0) e (λ refusal r. opens ∙ open_refused (seen_by known []) (left_at m name known.at) refusal r) a)
 
 pub opened_end : (held : Option Contents) (name : List ℕ) (known : Known) (b : Block) → b ≡ block.End → OpensFrom held name known → Told held (λ m. block_in (seen_by known []) (left_at m name known.at) 0 ≡ Ok b) →
-    Told held (λ m. header_in (content m name) ≡ Ok (seen_by known []))
+    Told held (λ m. header_in (content m name) ≡ Ok (as_plain (seen_by known [])))
 opened_end None name known b is opens e = tt
 opened_end (Some m) name known b is opens e = opens ∙ open_ends (seen_by known []) (left_at m name known.at) (e ∙ ap Ok is)
 
 pub opened_packet : (held : Option Contents) (name : List ℕ) (known : Known) (b : Block) (p : Packet) → b ≡ block.Packet p → OpensFrom held name known → Told held (λ m. block_in (seen_by known []) (left_at m name known.at) 0 ≡ Ok b) →
-    Told held (λ m. header_in (content m name) ≡ Ok (seen_by known []))
+    Told held (λ m. header_in (content m name) ≡ Ok (as_plain (seen_by known [])))
 opened_packet None name known b p is opens e = tt
 opened_packet (Some m) name known b p is opens e = opens ∙ open_packet (seen_by known []) (left_at m name known.at) p (e ∙ ap Ok is)
 
@@ -150,53 +150,49 @@ opens_on (Some m) name known now b p is plain opens e k =
     no_interfaces known now (passed.Interface i link total) plain k = absurd plain
     no_interfaces known now (passed.Other total) plain k = ap (λ (x : Known). seen_by x []) (sym k)
 
-pub plain_keeps : (known now : Known) (p : Passed) → IsPlain p → now ≡ known_after known p → (now.link ≡ known.link) × (now.nanos ≡ known.nanos)
-plain_keeps known now (passed.Section big total) plain k = (ap (λ (x : Known). x.link) k, ap (λ (x : Known). x.nanos) k)
+pub plain_keeps : (known now : Known) (p : Passed) → IsPlain p → now ≡ known_after known p → now.nanos ≡ known.nanos
+plain_keeps known now (passed.Section big total) plain k = ap (λ (x : Known). x.nanos) k
 plain_keeps known now (passed.Interface i link total) plain k = absurd plain
-plain_keeps known now (passed.Other total) plain k = (ap (λ (x : Known). x.link) k, ap (λ (x : Known). x.nanos) k)
+plain_keeps known now (passed.Other total) plain k = ap (λ (x : Known). x.nanos) k
 
-ends_by : (place end : ℕ) (link : Option ℕ) → link ≡ None → EndsBehind place link end
-ends_by place end None e = tt
-ends_by place end (Some link) e = absurd (cc)
-
-behind_by : (place end : ℕ) (link : Option ℕ) → place < end → EndsBehind place link end
-behind_by place end None h = tt
-behind_by place end (Some link) h = h
+behind_by : (place end : ℕ) (interfaces : List Interface) → place < end → EndsBehind place interfaces end
+behind_by place end [] h = tt
+behind_by place end (interface ∷ interfaces) h = h
 
 -- a place in the block where the reader is is before the end of the first interface's block
-header_at : (bytes : List ℕ) (known : Known) (place : ℕ) (opened : Seen) → known.link ≡ None → ((b : Block) → block_in (seen_by known []) (drop known.at bytes) 0 ≡ Ok b → IsBefore place known.at b) →
-    open_in (seen_by known []) (drop known.at bytes) ≡ Ok opened → EndsBehind place opened.known.link opened.known.at
-header_at bytes known place opened none within e = by_block (block_in (seen_by known []) (drop known.at bytes) 0) refl
+header_at : (bytes : List ℕ) (known : Known) (place : ℕ) (opened : Seen) → ((b : Block) → block_in (seen_by known []) (drop known.at bytes) 0 ≡ Ok b → IsBefore place known.at b) →
+    open_in (seen_by known []) (drop known.at bytes) ≡ Ok opened → EndsBehind place opened.interfaces opened.known.at
+header_at bytes known place opened within e = by_block (block_in (seen_by known []) (drop known.at bytes) 0) refl
   where
-    stays : seen_by known [] ≡ opened → EndsBehind place opened.known.link opened.known.at
-    stays same = ends_by place opened.known.at opened.known.link (sym (ap (λ (s : Seen). s.known.link) same) ∙ none)
+    stays : as_plain (seen_by known []) ≡ opened → EndsBehind place opened.interfaces opened.known.at
+    stays same = subst (λ (s : Seen). EndsBehind place s.interfaces s.known.at) same tt
 
-    by_block : (b : Result Block CaptureBad) → block_in (seen_by known []) (drop known.at bytes) 0 ≡ b → EndsBehind place opened.known.link opened.known.at
+    by_block : (b : Result Block CaptureBad) → block_in (seen_by known []) (drop known.at bytes) 0 ≡ b → EndsBehind place opened.interfaces opened.known.at
     by_block (Err refusal) b = let is : open_in (seen_by known []) (drop known.at bytes) ≡ Err refusal = open_refused (seen_by known []) (drop known.at bytes) refusal b in absurd (cc)
-    by_block (Ok block.End) b = let is : open_in (seen_by known []) (drop known.at bytes) ≡ Ok (seen_by known []) = open_ends (seen_by known []) (drop known.at bytes) b in stays cc
-    by_block (Ok (block.Packet p)) b = let is : open_in (seen_by known []) (drop known.at bytes) ≡ Ok (seen_by known []) = open_packet (seen_by known []) (drop known.at bytes) p b in stays cc
+    by_block (Ok block.End) b = let is : open_in (seen_by known []) (drop known.at bytes) ≡ Ok (as_plain (seen_by known [])) = open_ends (seen_by known []) (drop known.at bytes) b in stays cc
+    by_block (Ok (block.Packet p)) b = let is : open_in (seen_by known []) (drop known.at bytes) ≡ Ok (as_plain (seen_by known [])) = open_packet (seen_by known []) (drop known.at bytes) p b in stays cc
     by_block (Ok (block.Passed (passed.Interface i link total))) b =
         let is : open_in (seen_by known []) (drop known.at bytes) ≡ Ok (seen_after (seen_by known []) (passed.Interface i link total)) = open_interface (seen_by known []) (drop known.at bytes) i link total b in
         let same : seen_after (seen_by known []) (passed.Interface i link total) ≡ opened = cc in
-        behind_by place opened.known.at opened.known.link (omega (arith, ap (λ (s : Seen). s.known.at) same, within (block.Passed (passed.Interface i link total)) b))
+        behind_by place opened.known.at opened.interfaces (omega (arith, ap (λ (s : Seen). s.known.at) same, within (block.Passed (passed.Interface i link total)) b))
     by_block (Ok (block.Passed (passed.Section big total))) b =
         let is : open_in (seen_after (seen_by known []) (passed.Section big total)) (drop total (drop known.at bytes)) ≡ Ok opened = sym (open_passed (seen_by known []) (drop known.at bytes) (passed.Section big total) tt b) ∙ e in
-        behind_by place opened.known.at opened.known.link (omega (
+        behind_by place opened.known.at opened.interfaces (omega (
           arith,
           within (block.Passed (passed.Section big total)) b,
           forward_within (suc (length (drop total (drop known.at bytes)))) (seen_after (seen_by known []) (passed.Section big total)) (drop total (drop known.at bytes)) opened is,
         ))
     by_block (Ok (block.Passed (passed.Other total))) b =
         let is : open_in (seen_after (seen_by known []) (passed.Other total)) (drop total (drop known.at bytes)) ≡ Ok opened = sym (open_passed (seen_by known []) (drop known.at bytes) (passed.Other total) tt b) ∙ e in
-        behind_by place opened.known.at opened.known.link (omega (
+        behind_by place opened.known.at opened.interfaces (omega (
           arith,
           within (block.Passed (passed.Other total)) b,
           forward_within (suc (length (drop total (drop known.at bytes)))) (seen_after (seen_by known []) (passed.Other total)) (drop total (drop known.at bytes)) opened is,
         ))
 
-pub open_inside : (held : Option Contents) (name : List ℕ) (known : Known) (place : ℕ) → known.link ≡ None → OpensFrom held name known → IsInBlock held name (seen_by known []) 0 place → IsInHeader held name place
-open_inside None name known place none opens within = tt
-open_inside (Some m) name known place none opens within = λ opened e. header_at (content m name) known place opened none within.1 (sym opens ∙ e)
+pub open_inside : (held : Option Contents) (name : List ℕ) (known : Known) (place : ℕ) → OpensFrom held name known → IsInBlock held name (seen_by known []) 0 place → IsInHeader held name place
+open_inside None name known place opens within = tt
+open_inside (Some m) name known place opens within = λ opened e. header_at (content m name) known place opened within.1 (sym opens ∙ e)
 
 pub plain_by : (p : Passed) → ((interface : Interface) (link total : ℕ) → p ≡ passed.Interface interface link total → ⊥) → IsPlain p
 plain_by (passed.Section big total) other = tt

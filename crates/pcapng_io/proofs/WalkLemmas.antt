@@ -1,5 +1,5 @@
 -- From block to block.
-use Rattle.std.proofs.Common.{◌≡◌, ℕ, zero, suc, ◌+◌, ◌^◌, ◌<◌, ◌≤◌, ◌==◌, nat_lt, Bool, true, false, List, [], ◌∷◌, length, take, drop, Option, Some, None, Result, Ok, Err, refl, sym, ◌∙◌, ap, subst, arith}
+use Rattle.std.proofs.Common.{◌≡◌, ℕ, zero, suc, ◌+◌, ◌^◌, ◌<◌, ◌≤◌, ◌==◌, nat_lt, Bool, true, false, List, [], ◌∷◌, length, take, drop, All, IsSome, Option, Some, None, Result, Ok, Err, refl, sym, ◌∙◌, ap, subst, arith}
 use Rattle.std.proofs.lemmas.List.{drop-drop, length-drop, length-take, take-take}
 use Rattle.std.proofs.lemmas.List.Elements.{All-nil, All-cons, All-append}
 use Rattle.std.proofs.lemmas.Bool.Decides.{nat_tests}
@@ -24,17 +24,17 @@ use Rattle.pcapng_io.specs.declared.walk.Sighted.{Sighted}
 use Rattle.pcapng_io.specs.Results.{◌>>=◌}
 use Rattle.pcapng_io.specs.Seen.{IsSoundSeen, Seen, seen_by}
 use Rattle.pcapng_io.specs.Frames.{frame_in}
-use Rattle.pcapng_io.specs.Blocks.{block_in, body_in, interfaces_after, known_after, record_of, seen_after, seen_behind, size_of}
+use Rattle.pcapng_io.specs.Blocks.{block_in, body_in, first_link, interfaces_after, known_after, record_of, seen_after, seen_behind, size_of}
 use Rattle.pcapng_io.specs.Captures.{Ends, Gives, next_in, next_within, Step, step_by}
 use Rattle.pcapng_io.specs.Files.{IsBefore, IsCounted, IsInBlock, left_at}
 use Rattle.pcapng_io.specs.Answers.{IsBeforePacket, IsSighted, step_at}
 use Rattle.pcapng_io.proofs.FrameLemmas.{frame_is}
 use Rattle.pcapng_io.proofs.BlockLemmas.{body_total, HasTotal}
 
-abbrev IsSome : Block → Type 0
-IsSome block.End = ⊥
-IsSome (block.Packet p) = Unit {0}
-IsSome (block.Passed p) = Unit {0}
+abbrev IsBlock : Block → Type 0
+IsBlock block.End = ⊥
+IsBlock (block.Packet p) = Unit {0}
+IsBlock (block.Passed p) = Unit {0}
 
 abbrev total_of : Block → ℕ
 total_of block.End = 0
@@ -52,7 +52,7 @@ pub record IsSized (seen : Seen) (left : List ℕ) (total : ℕ) : Type 0 where
   pub whole : total ≤ length left
   pub near : seen.known.at ≤ 2 ^ 62
 
-pub sized : (seen : Seen) (left : List ℕ) (number : ℕ) (b : Block) → IsSome b → block_in seen left number ≡ Ok b → IsSized seen left (total_of b)
+pub sized : (seen : Seen) (left : List ℕ) (number : ℕ) (b : Block) → IsBlock b → block_in seen left number ≡ Ok b → IsSized seen left (total_of b)
 sized seen left number b some e = by_far (nat_lt (2 ^ 62) seen.known.at) refl
   where
     by_frame : (r : Result Frame CaptureBad) → frame_in seen.known.big left seen.known.at ≡ r → nat_lt (2 ^ 62) seen.known.at ≡ false → (length left == 0) ≡ false → IsSized seen left (total_of b)
@@ -69,7 +69,7 @@ sized seen left number b some e = by_far (nat_lt (2 ^ 62) seen.known.at) refl
     by_end true z n =
         let ends : block_in seen left number ≡ Ok block.End = rw (n, z) refl in
         let is : block.End ≡ b = cc in
-        absurd (subst IsSome (sym is) some)
+        absurd (subst IsBlock (sym is) some)
     by_end false z n = by_frame (frame_in seen.known.big left seen.known.at) refl n z
 
     by_far : (far : Bool) → nat_lt (2 ^ 62) seen.known.at ≡ far → IsSized seen left (total_of b)
@@ -170,6 +170,7 @@ pub record IsWalk (held : Option Contents) (name : List ℕ) (known : Known) (in
   pub front : take (length interfaces) now ≡ interfaces
   pub within : first ≤ length now
   pub from : known.at ≤ here.at
+  pub link : here.link ≡ known.link
   pub sound : IsSoundSeen (seen_by here (drop first now))
 
 take_whole : {A : Type 0} → (l : List A) → take (length l) l ≡ l
@@ -182,6 +183,7 @@ walk_begins held name known interfaces number sound = record {
   front = take_whole interfaces;
   within = omega arith;
   from = omega arith;
+  link = refl;
   sound = sound;
 }
   where
@@ -189,13 +191,32 @@ walk_begins held name known interfaces number sound = record {
     told_refl None = tt
     told_refl (Some m) = refl
 
+same_link : (link : Option ℕ) (other : ℕ) → IsSome link → first_link link other ≡ link
+same_link None other some = absurd (cc)
+same_link (Some link) other some = refl
+
+pub keeps_link : (known : Known) (p : Passed) → IsSome known.link → (known_after known p).link ≡ known.link
+keeps_link known (passed.Section big total) some = refl
+keeps_link known (passed.Interface interface link total) some = same_link known.link link some
+keeps_link known (passed.Other total) some = refl
+
+keeps_nanos : (known : Known) (p : Passed) → (known_after known p).nanos ≡ known.nanos
+keeps_nanos known (passed.Section big total) = refl
+keeps_nanos known (passed.Interface interface link total) = refl
+keeps_nanos known (passed.Other total) = refl
+
+counted_after : (interfaces : List Interface) (p : Passed) → IsCounted p → All (λ (i : Interface). 0 < i.ticks) interfaces → All (λ (i : Interface). 0 < i.ticks) (interfaces_after interfaces p)
+counted_after interfaces (passed.Section big total) counted each = λ k d within. absurd (omega arith)
+counted_after interfaces (passed.Interface interface link total) counted each =
+    All-append (λ (i : Interface). 0 < i.ticks) interfaces (interface ∷ []) each (All-cons (λ (i : Interface). 0 < i.ticks) interface [] counted (All-nil (λ (i : Interface). 0 < i.ticks)))
+counted_after interfaces (passed.Other total) counted each = each
+
 sound_after : (known : Known) (interfaces : List Interface) (p : Passed) → IsCounted p → IsSoundSeen (seen_by known interfaces) → IsSoundSeen (seen_after (seen_by known interfaces) p)
-sound_after known interfaces (passed.Section big total) counted sound = record { time = sound.time; counted = λ k d within. absurd (omega arith) }
-sound_after known interfaces (passed.Interface interface link total) counted sound = record {
-  time = sound.time;
-  counted = All-append (λ (i : Interface). 0 < i.ticks) interfaces (interface ∷ []) sound.counted (All-cons (λ (i : Interface). 0 < i.ticks) interface [] counted (All-nil (λ (i : Interface). 0 < i.ticks)));
+sound_after known interfaces p counted sound = record {
+  time = omega (arith, sound.time, keeps_nanos known p);
+  counted = counted_after interfaces p counted sound.counted;
+  linked = subst IsSome (sym (keeps_link known p sound.linked)) sound.linked;
 }
-sound_after known interfaces (passed.Other total) counted sound = record { time = sound.time; counted = sound.counted }
 
 pass_at : (seen : Seen) (bytes : List ℕ) (number : ℕ) (p : Passed) → block_in seen (drop seen.known.at bytes) number ≡ Ok (block.Passed p) →
     next_in seen (drop seen.known.at bytes) number ≡ next_in (seen_after seen p) (drop (known_after seen.known p).at bytes) number
@@ -227,6 +248,7 @@ walk_passes held name known here next interfaces before now number first later p
       front = front_kept interfaces before now walk.front f;
       within = l;
       from = omega (arith, walk.from, after_at here p, ap (λ x. x.at) k);
+      link = ap (λ (x : Known). x.link) k ∙ (keeps_link here p walk.sound.linked ∙ walk.link);
       sound = subst IsSoundSeen seen (sound_after here (drop first before) p counted walk.sound);
     }
 

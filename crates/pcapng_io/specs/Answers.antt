@@ -37,6 +37,7 @@ pub record IsBoundedRec (r : Rec) (from to : Seen) (number : ℕ) : Type 0 where
   pub size : length r.bytes ≤ 262144
   pub time : r.fraction < 1000000000
   pub end : r.next_at ≡ to.known.at
+  pub link : to.known.link ≡ from.known.link
   pub behind : from.known.at + length r.bytes < r.next_at
 
 abbrev pub IsBounded : Result Next CaptureError → Seen → Seen → ℕ → Type 0
@@ -60,12 +61,12 @@ IsBeforePacket held name seen number place = (seen.known.at ≤ place) × Told h
     next_in seen (left_at m name seen.known.at) number ≡ Ok (Gives r behind) → place < r.next_at)
 
 -- a place before the end of the first interface's block, where there is one
-abbrev pub EndsBehind : ℕ → Option ℕ → ℕ → Type 0
-EndsBehind place None end = Unit {0}
-EndsBehind place (Some link) end = place < end
+abbrev pub EndsBehind : ℕ → List Interface → ℕ → Type 0
+EndsBehind place [] end = Unit {0}
+EndsBehind place (interface ∷ interfaces) end = place < end
 
 abbrev pub IsInHeader : Option Contents → List ℕ → ℕ → Type 0
-IsInHeader held name place = Told held (λ m. (seen : Seen) → header_in (content m name) ≡ Ok seen → EndsBehind place seen.known.link seen.known.at)
+IsInHeader held name place = Told held (λ m. (seen : Seen) → header_in (content m name) ≡ Ok seen → EndsBehind place seen.interfaces seen.known.at)
 
 -- what holds of a packet's record whatever the files hold
 pub record IsRecordOf (known : Known) (p : Packet) (r : Rec) : Type 0 where
@@ -88,8 +89,9 @@ IsSighted (Err (error.Bad refusal)) interfaces bytes step = step ≡ Err refusal
 IsSighted (Err error.ReadFault) interfaces bytes step = Unit {0}
 IsSighted (Err error.OutOfMemory) interfaces bytes step = Unit {0}
 
-pub record IsSoundSight (s : Sighted) (from number : ℕ) (interfaces : List Interface) : Type 0 where
-  pub forward : from ≤ s.known.at
+pub record IsSoundSight (s : Sighted) (from : Known) (number : ℕ) (interfaces : List Interface) : Type 0 where
+  pub forward : from.at ≤ s.known.at
+  pub link : s.known.link ≡ from.link
   pub near : s.known.at ≤ 2 ^ 62
   pub within : s.first ≤ length interfaces
   pub packet : IsSoundPacket number s.packet
@@ -103,11 +105,12 @@ IsFound (Err (error.Bad refusal)) interfaces step = step ≡ Err refusal
 IsFound (Err error.ReadFault) interfaces step = Unit {0}
 IsFound (Err error.OutOfMemory) interfaces step = Unit {0}
 
-pub record IsSoundFound (found : Found) (from number : ℕ) (interfaces : List Interface) : Type 0 where
+pub record IsSoundFound (found : Found) (from : Known) (number : ℕ) (interfaces : List Interface) : Type 0 where
+  pub link : found.known.link ≡ from.link
   pub in_count : number < 2 ^ 31
   pub size : length found.record.bytes ≤ 262144
   pub end : found.record.next_at ≡ found.known.at
   pub time : found.record.fraction < 1000000000
-  pub behind : from + length found.record.bytes < found.known.at
+  pub behind : from.at + length found.record.bytes < found.known.at
   pub within : found.first ≤ length interfaces
   pub sound : IsSoundSeen (seen_by found.known (drop found.first interfaces))

@@ -44,18 +44,22 @@ Splits seen left number (r ∷ rs) ending =
 abbrev pub at_start : Seen
 at_start = record { known = record { at = 0; big = false; link = None; seconds = 0; nanos = 0 }; interfaces = [] }
 
+-- a file without an interface counts as one of plain IP (ours)
+abbrev pub as_plain : Seen → Seen
+as_plain seen = record { known = record seen.known { link = Some 101 }; interfaces = seen.interfaces }
+
 -- The file header is the blocks up to the file's first interface, or all blocks where there is none. A packet in front of it
 -- is refused, since its section has no interface.
 abbrev pub open_by : (Seen → List ℕ → Result Seen CaptureBad) → Seen → List ℕ → Result Block CaptureBad → Result Seen CaptureBad
 open_by later seen left (Err refusal) = Err refusal
-open_by later seen left (Ok block.End) = Ok seen
-open_by later seen left (Ok (block.Packet p)) = Ok seen
+open_by later seen left (Ok block.End) = Ok (as_plain seen)
+open_by later seen left (Ok (block.Packet p)) = Ok (as_plain seen)
 open_by later seen left (Ok (block.Passed (passed.Section big total))) = later (seen_after seen (passed.Section big total)) (drop total left)
 open_by later seen left (Ok (block.Passed (passed.Interface interface link total))) = Ok (seen_after seen (passed.Interface interface link total))
 open_by later seen left (Ok (block.Passed (passed.Other total))) = later (seen_after seen (passed.Other total)) (drop total left)
 
 abbrev pub open_within : ℕ → Seen → List ℕ → Result Seen CaptureBad
-open_within zero seen left = Ok seen
+open_within zero seen left = Ok (as_plain seen)
 open_within (suc blocks) seen left = open_by (open_within blocks) seen left (block_in seen left 0)
 
 abbrev pub header_in : List ℕ → Result Seen CaptureBad

@@ -6,4 +6,5 @@ pub mod Frames
 pub mod Interfaces
 pub mod Packets
 pub mod Results
+pub mod Rounds
 pub mod Seen

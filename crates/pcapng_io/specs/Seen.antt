@@ -1,5 +1,5 @@
 -- What a reader knows of the blocks in front of its place.
-use Rattle.std.specs.Prelude.{◌<◌, List, All}
+use Rattle.std.specs.Prelude.{◌<◌, List, All, IsSome}
 use Rattle.pcapng_io.specs.declared.block.Known.{Known}
 use Rattle.pcapng_io.specs.declared.interface.Interface.{Interface}
 
@@ -16,3 +16,4 @@ seen_by known interfaces = record { known = known; interfaces = interfaces }
 pub record IsSoundSeen (seen : Seen) : Type 0 where
   pub time : seen.known.nanos < 1000000000
   pub counted : All (λ interface. 0 < interface.ticks) seen.interfaces
+  pub linked : IsSome seen.known.link

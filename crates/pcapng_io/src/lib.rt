@@ -10,6 +10,8 @@ mod interface;
 mod packets;
 mod reader;
 mod record;
+mod rounds;
+mod taken;
 mod walk;
 mod written;
 

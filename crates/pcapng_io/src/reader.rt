@@ -1,11 +1,11 @@
 // A reader of one pcapng file.
-ghost use Rattle.std.specs.Prelude.{◌≡◌, ◌+◌, ◌^◌, ◌<◌, ◌≤◌, [], ◌∷◌, IfErr, IfOk, IfSome, drop, length, take};
+ghost use Rattle.std.specs.Prelude.{◌≡◌, ◌+◌, ◌^◌, ◌<◌, ◌≤◌, [], ◌∷◌, IfErr, IfOk, IsSome, drop, length, take};
 ghost use Rattle.aftr_base.specs.Contents.{content, Told};
 ghost use Rattle.aftr_base.specs.Outside.{OnlyReads};
 ghost use Rattle.capture_io.specs.Answers.{Agrees, is_read_fault};
 ghost use Rattle.capture_io.specs.declared.forms.CaptureError.TheVariants as error;
 ghost use Rattle.pcapng_io.specs.Answers.{Continues, IsBeforePacket, IsBounded, IsInHeader, IsKept, IsNext};
-ghost use Rattle.pcapng_io.specs.Captures.{form_of, header_in, is_pcapng, next_in};
+ghost use Rattle.pcapng_io.specs.Captures.{as_plain, form_of, header_in, is_pcapng, next_in};
 ghost use Rattle.pcapng_io.specs.Files.{IsFault, left_at};
 ghost use Rattle.pcapng_io.specs.Seen.{IsSoundSeen, seen_by};
 
@@ -97,10 +97,13 @@ impl NgReader {
 
     fn without_interfaces(alloc: Global, known: Known) -> NgReader
         requires { known.nanos < 1000000000 }
-        ensures { result ≡ seen_by known [] }
+        ensures { result ≡ as_plain (seen_by known []) }
     {
         NgReader {
-            known,
+            known: Known {
+                link: Some(PLAIN_IP),
+                ..known
+            },
             interfaces: Vec::new(alloc),
         }
     }
@@ -112,6 +115,7 @@ impl NgReader {
     ) -> Result<NgReader, CaptureError>
         requires time { known.nanos < 1000000000 }
         requires counted { 0 < interface.ticks }
+        requires linked { IsSome known.link }
         ensures is { IfOk result (λ reader. reader ≡ seen_by known (interface ∷ [])) }
         ensures memory { IfErr result (λ e. e ≡ error.OutOfMemory) }
     {

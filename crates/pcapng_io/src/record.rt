@@ -38,7 +38,7 @@ pub fn find_record<F: Files>(
     ensures front { take (length interfaces.old.items) interfaces.new.items ≡ interfaces.old.items }
     ensures told { Told (F.outside files.old).held
         (λ m. IsFound result interfaces.new.items (next_in (seen_by known interfaces.old.items) (left_at m name.now known.at) number)) }
-    ensures sound { IfOk result (λ found. IfSome found (λ f. IsSoundFound f known.at number interfaces.new.items)) }
+    ensures sound { IfOk result (λ found. IfSome found (λ f. IsSoundFound f known number interfaces.new.items)) }
     ensures reads { OnlyReads (is_read_fault result) name.now
         (IsBeforePacket (F.outside files.old).held name.now (seen_by known interfaces.old.items) number)
         (F.outside files.old) (F.outside files.new) }

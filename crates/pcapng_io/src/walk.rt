@@ -41,7 +41,7 @@ pub fn find_packet<F: Files>(
         (λ m. IsSighted result interfaces.new.items (content m name.now) (next_in (seen_by known interfaces.old.items) (left_at m name.now known.at) number)) }
     ensures whole { IfOk result (λ found. IfSome found (λ s. Told (F.outside files.old).held
         (λ m. s.known.at + s.packet.total ≤ length (content m name.now)))) }
-    ensures sound { IfOk result (λ found. IfSome found (λ s. IsSoundSight s known.at number interfaces.new.items)) }
+    ensures sound { IfOk result (λ found. IfSome found (λ s. IsSoundSight s known number interfaces.new.items)) }
     ensures reads { OnlyReads (is_read_fault result) name.now
         (IsBeforePacket (F.outside files.old).held name.now (seen_by known interfaces.old.items) number)
         (F.outside files.old) (F.outside files.new) }

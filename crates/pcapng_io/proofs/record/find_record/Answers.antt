@@ -1,4 +1,4 @@
-use Rattle.std.proofs.Common.{◌≡◌, ◌+◌, ◌≤◌, length, Option, Err, IfSome, refl, sym, ◌∙◌, ap, subst, arith}
+use Rattle.std.proofs.Common.{◌≡◌, ℕ, ◌+◌, ◌≤◌, length, Option, Err, IfSome, IsSome, refl, sym, ◌∙◌, ap, subst, arith}
 use Rattle.std.proofs.lemmas.Result.{err_from_is_err_and}
 use Rattle.aftr_base.specs.Contents.{content, Told}
 use Rattle.aftr_base.proofs.OutsideLemmas.{read_well}
@@ -25,10 +25,10 @@ returns-in_err-sighted-clause-reads g c =
     (e.1 ∙ ap Err e.2) refl (λ place within. within) c.in_err-sighted.ensures.reads
 
 pub read_packet-requires-clause-place : goal.read_packet-requires-clause-place
-read_packet-requires-clause-place g c = (subst (λ (o : Option Sighted). IfSome o (λ s. IsSoundSight s c.args.known.at c.args.number c.find_packet.new.interfaces.items)) c.in-Some.is c.in_ok-sighted.ensures.sound).near
+read_packet-requires-clause-place g c = (subst (λ (o : Option Sighted). IfSome o (λ s. IsSoundSight s c.args.known c.args.number c.find_packet.new.interfaces.items)) c.in-Some.is c.in_ok-sighted.ensures.sound).near
 
 pub read_packet-requires-clause-inside : goal.read_packet-requires-clause-inside
-read_packet-requires-clause-inside g c = (subst (λ (o : Option Sighted). IfSome o (λ s. IsSoundSight s c.args.known.at c.args.number c.find_packet.new.interfaces.items)) c.in-Some.is c.in_ok-sighted.ensures.sound).packet.inside
+read_packet-requires-clause-inside g c = (subst (λ (o : Option Sighted). IfSome o (λ s. IsSoundSight s c.args.known c.args.number c.find_packet.new.interfaces.items)) c.in-Some.is c.in_ok-sighted.ensures.sound).packet.inside
 
 pub returns-in_err-record-clause-told : goal.returns-in_err-record-clause-told
 returns-in_err-record-clause-told g c =
@@ -41,7 +41,7 @@ returns-in_err-record-clause-reads g c =
     let e = err_from_is_err_and c.from_residual-in_err-record.result c.from_residual-in_err-record.ensures.1 in
     passed_inside Rec (Option Found) c.from_residual-in_err-record.result c.in_err-record.field-0.0 c.args.name.now _ _ (g.F.Files.outside c.args.files.now) (g.F.Files.outside c.find_packet.new.files) (g.F.Files.outside c.read_packet.new.files)
     (e.1 ∙ ap Err e.2) (read_well c.args.name.now _ _ _ c.in_ok-sighted.ensures.reads)
-    (λ place within. packet_inside (g.F.Files.outside c.args.files.now).held c.args.name.now (seen_by c.args.known c.args.interfaces.now.items) c.args.number c.find_packet.new.interfaces.items c.in-Some.sighted place (sighted_at (g.F.Files.outside c.args.files.now).held c.args.name.now (seen_by c.args.known c.args.interfaces.now.items) c.args.number c.find_packet.new.interfaces.items c.in_ok-sighted.field-0 c.in-Some.sighted c.in-Some.is c.in_ok-sighted.ensures.told) (subst (λ (o : Option Sighted). IfSome o (λ s. IsSoundSight s c.args.known.at c.args.number c.find_packet.new.interfaces.items)) c.in-Some.is c.in_ok-sighted.ensures.sound).forward within) c.in_err-record.ensures.reads
+    (λ place within. packet_inside (g.F.Files.outside c.args.files.now).held c.args.name.now (seen_by c.args.known c.args.interfaces.now.items) c.args.number c.find_packet.new.interfaces.items c.in-Some.sighted place (sighted_at (g.F.Files.outside c.args.files.now).held c.args.name.now (seen_by c.args.known c.args.interfaces.now.items) c.args.number c.find_packet.new.interfaces.items c.in_ok-sighted.field-0 c.in-Some.sighted c.in-Some.is c.in_ok-sighted.ensures.told) (subst (λ (o : Option Sighted). IfSome o (λ s. IsSoundSight s c.args.known c.args.number c.find_packet.new.interfaces.items)) c.in-Some.is c.in_ok-sighted.ensures.sound).forward within) c.in_err-record.ensures.reads
 
 pub returns-clause-told : goal.returns-clause-told
 returns-clause-told g c =
@@ -50,14 +50,15 @@ returns-clause-told g c =
 
 pub returns-clause-sound : goal.returns-clause-sound
 returns-clause-sound g c =
-    let s = (subst (λ (o : Option Sighted). IfSome o (λ s. IsSoundSight s c.args.known.at c.args.number c.find_packet.new.interfaces.items)) c.in-Some.is c.in_ok-sighted.ensures.sound) in
+    let s = (subst (λ (o : Option Sighted). IfSome o (λ s. IsSoundSight s c.args.known c.args.number c.find_packet.new.interfaces.items)) c.in-Some.is c.in_ok-sighted.ensures.sound) in
     let behind = c.behind_packet.ensures in
     record {
+      link = ap (λ k. k.link) behind ∙ s.link;
       in_count = s.packet.in_count;
       size = omega (arith, c.in_ok-record.ensures.record.size, s.packet.size);
       end = c.in_ok-record.ensures.record.end ∙ sym (ap (λ k. k.at) behind);
       time = omega (arith, c.in_ok-record.ensures.record.time, s.packet.time);
       behind = omega (arith, c.in_ok-record.ensures.record.size, s.forward, s.packet.inside, ap (λ k. k.at) behind);
       within = s.within;
-      sound = record { time = omega (arith, s.packet.time, ap (λ k. k.nanos) behind); counted = s.sound.counted };
+      sound = record { time = omega (arith, s.packet.time, ap (λ k. k.nanos) behind); counted = s.sound.counted; linked = subst (λ (o : Option ℕ). IsSome o) (sym (ap (λ k. k.link) behind)) s.sound.linked };
     }

@@ -63,6 +63,7 @@ returns-in-Packet-clause-whole g c = packet_whole (g.F.Files.outside c.args.file
 pub returns-in-Packet-clause-sound : goal.returns-in-Packet-clause-sound
 returns-in-Packet-clause-sound g c = record {
   forward = c.passing.invariant.1.from;
+  link = c.passing.invariant.1.link;
   near = c.in_ok-read_block.ensures.near;
   within = c.passing.invariant.1.within;
   packet = subst (λ (b : Block). IsSound c.args.number b) c.in-Packet.is c.in_ok-read_block.ensures.sound;

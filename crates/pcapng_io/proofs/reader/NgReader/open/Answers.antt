@@ -13,7 +13,7 @@ returns-in_err-read_block-clause-reads g c =
     let e = err_from_is_err_and c.from_residual.result c.from_residual.ensures.1 in
     passed_inside Block _ c.from_residual.result c.in_err-read_block.field-0.0 c.args.name.now _ _ (g.F.Files.outside c.args.files.now) (g.F.Files.outside c.opening.files) (g.F.Files.outside c.read_block.new.files)
     (e.1 ∙ ap Err e.2) c.opening.invariant.0
-    (λ place within. open_inside (g.F.Files.outside c.args.files.now).held c.args.name.now c.opening.known place c.opening.invariant.2 c.opening.invariant.1
+    (λ place within. open_inside (g.F.Files.outside c.args.files.now).held c.args.name.now c.opening.known place c.opening.invariant.1
     (inside_moved (g.F.Files.outside c.opening.files).held (g.F.Files.outside c.args.files.now).held c.args.name.now c.opening.known 0 place [] [] (ap (λ (o : Outside). o.held) c.opening.invariant.0) refl within))
     c.in_err-read_block.ensures.reads
 
@@ -25,6 +25,5 @@ opening-preserved g c =
       opens_on (g.F.Files.outside c.args.files.now).held c.args.name.now c.opening.known c.behind_passed-known.result c.in_ok-read_block.field-0 c.in-Passed.passed c.in-Passed.is plain c.opening.invariant.1
           (block_moved (g.F.Files.outside c.opening.files).held (g.F.Files.outside c.args.files.now).held c.args.name.now c.opening.known 0 [] [] (Ok c.in_ok-read_block.field-0) (ap (λ (o : Outside). o.held) c.opening.invariant.0) refl c.in_ok-read_block.ensures.told)
           c.behind_passed-known.ensures,
-      kept.0 ∙ c.opening.invariant.2,
-      omega (arith, kept.1, c.opening.invariant.3),
+      omega (arith, kept, c.opening.invariant.2),
     )

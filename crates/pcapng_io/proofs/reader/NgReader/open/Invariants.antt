@@ -6,7 +6,6 @@ abbrev pub invariant-opening : goal.invariant-opening
 invariant-opening g l =
     (g.F.Files.outside l.files ≡ g.F.Files.outside l.initial.files)
     × OpensFrom (g.F.Files.outside l.initial.files).held l.name l.known
-    × (l.known.link ≡ None)
     × (l.known.nanos < 1000000000)
 
 abbrev pub decreases-opening : goal.decreases-opening

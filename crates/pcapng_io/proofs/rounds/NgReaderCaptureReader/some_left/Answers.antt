@@ -1,0 +1,6 @@
+use Rattle.std.proofs.Common.{drop}
+use Rattle.pcapng_io.proofs.SplitLemmas.{some_way}
+use Rattle.pcapng_io.proofs.rounds.NgReaderCaptureReader.some_left.Goals as goal
+
+pub returns : goal.returns
+returns c = λ reader bytes number. some_way reader (drop reader.known.at bytes) number
