@@ -1,9 +1,11 @@
 //! Tests of the ground and the codecs by their public calls: numbers, lists, checksums and the outside (aftr_base), texts
-//! of addresses (addr_text), IPv4 and IPv6 headers (ip_codec), captures (capture_io). Nothing stands on this crate.
+//! of addresses (addr_text), IPv4 and IPv6 headers (ip_codec), captures (capture_io, pcapng_io). Nothing stands on this crate.
 #![tactic(auto)]
 
 #[cfg(test)]
 mod address_texts;
+#[cfg(test)]
+mod blocks;
 #[cfg(test)]
 mod captures;
 #[cfg(test)]
