@@ -7,6 +7,8 @@ mod areas;
 #[cfg(test)]
 mod machine;
 #[cfg(test)]
+mod seats;
+#[cfg(test)]
 mod threads;
 #[cfg(test)]
 mod words;
