@@ -7,3 +7,5 @@ mod limits;
 mod lines;
 #[cfg(test)]
 mod traffic;
+#[cfg(test)]
+mod words;
