@@ -1,1 +1,4 @@
-pub mod PassingLemmas
+mod FrontLemmas
+pub mod Laws
+mod PassingLemmas
+mod TunnelLemmas

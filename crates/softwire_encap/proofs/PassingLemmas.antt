@@ -1,6 +1,6 @@
 -- Lemmas on headers whose time to live is another one: nothing else that they spell differs.
-use Rattle.std.proofs.Common.{◌≡◌, ℕ, ◌+◌, ◌-◌, ◌*◌, ◌/◌, ◌%◌, ◌≤◌, List, [], ◌∷◌, ◌++◌, length, Ok, refl, sym, ◌∙◌, ap, subst, arith, slice_index, slice_set}
-use Rattle.std.proofs.lemmas.List.{get_or_append_left}
+use Rattle.std.proofs.Common.{◌≡◌, ℕ, ◌+◌, ◌-◌, ◌*◌, ◌/◌, ◌%◌, ◌≤◌, List, [], ◌∷◌, ◌++◌, length, drop, Ok, refl, sym, ◌∙◌, ap, subst, arith, slice_index, slice_set}
+use Rattle.std.proofs.lemmas.List.{get_or_append_left, length-append}
 use Rattle.aftr_base.specs.Numbers.{big_endian}
 use Rattle.aftr_base.specs.Sums.{checksum, sealed}
 use Rattle.aftr_base.proofs.SumLemmas.{checksum-sealed}
@@ -10,7 +10,7 @@ use Rattle.ip_codec.proofs.Laws.{ip4_of-Ok, ip4_of-joined, ip4_of-shaped}
 use Rattle.softwire_encap.specs.Passing.{lowered_header, lowered, passed}
 
 -- the first four of a list, and the rest
-record IsFour (l : List ℕ) : Type 0 where
+pub record IsFour (l : List ℕ) : Type 0 where
   pub a : ℕ
   pub b : ℕ
   pub c : ℕ
@@ -19,7 +19,7 @@ record IsFour (l : List ℕ) : Type 0 where
   pub is : l ≡ a ∷ b ∷ c ∷ d ∷ rest
   pub len : length l ≡ 4 + length rest
 
-four : (l : List ℕ) → 4 ≤ length l → IsFour l
+pub four : (l : List ℕ) → 4 ≤ length l → IsFour l
 four [] least = absurd (omega arith)
 four (a ∷ []) least = absurd (omega arith)
 four (a ∷ b ∷ []) least = absurd (omega arith)
@@ -34,6 +34,8 @@ with_ttl header ttl = sealed (slice_set header 8 ttl) 10
 record IsKept (header payload : List ℕ) (ttl : ℕ) : Type 0 where
   pub len : length (with_ttl header ttl) ≡ length header
   pub first : slice_index (with_ttl header ttl) 0 ≡ slice_index header 0
+  pub tos : slice_index (with_ttl header ttl) 1 ≡ slice_index header 1
+  pub options : drop 20 (with_ttl header ttl) ≡ drop 20 header
   pub total : total_len_of (with_ttl header ttl) ≡ total_len_of header
   pub sum : checksum (with_ttl header ttl) ≡ 0
   pub fields : fields4 (with_ttl header ttl) payload ≡ record (fields4 header payload) { ttl = ttl; header = with_ttl header ttl }
@@ -43,6 +45,8 @@ kept-cells : (a0 a1 a2 a3 a4 a5 a6 a7 a8 a9 a10 a11 a12 a13 a14 a15 a16 a17 a18 
 kept-cells a0 a1 a2 a3 a4 a5 a6 a7 a8 a9 a10 a11 a12 a13 a14 a15 a16 a17 a18 a19 options payload ttl = record {
   len = refl;
   first = refl;
+  tos = refl;
+  options = refl;
   total = refl;
   sum = checksum-sealed (a0 ∷ a1 ∷ a2 ∷ a3 ∷ a4 ∷ a5 ∷ a6 ∷ a7 ∷ ttl ∷ a9 ∷ a10 ∷ a11 ∷ a12 ∷ a13 ∷ a14 ∷ a15 ∷ a16 ∷ a17 ∷ a18 ∷ a19 ∷ options) 10 refl (omega arith);
   fields = refl;
@@ -65,7 +69,7 @@ kept header payload ttl least =
     subst Kept (sym cells) (kept-cells p.a p.b p.c p.d q.a q.b q.c q.d r.a r.b r.c r.d s.a s.b s.c s.d t.a t.b t.c t.d t.rest payload ttl)
 
 -- a packet that is read from its header and payload has the fields that the two spell
-fields-own : (packet : Packet4) → ip4_of (packet.header ++ packet.payload) ≡ Ok packet → packet ≡ fields4 packet.header packet.payload
+pub fields-own : (packet : Packet4) → ip4_of (packet.header ++ packet.payload) ≡ Ok packet → packet ≡ fields4 packet.header packet.payload
 fields-own packet is =
     let spelt = ip4_of-Ok (packet.header ++ packet.payload) packet is in
     let header_is = ap (λ p. p.header) spelt.is in
@@ -94,3 +98,26 @@ ip4_of-lowered packet is =
     total_is
     same.sum
     ∙ ap Ok (same.fields ∙ ap changed (sym (fields-own packet is)))
+
+-- passing a packet on changes neither its length, nor its type of service, nor its options
+pub record IsLikeOld (packet : Packet4) : Type 0 where
+  pub header_len : length (lowered_header packet) ≡ length packet.header
+  pub options : drop 20 (lowered_header packet) ≡ drop 20 packet.header
+  pub len : length (lowered packet) ≡ length packet.header + length packet.payload
+  pub tos : slice_index (lowered packet) 1 ≡ packet.tos
+
+pub like_old : (packet : Packet4) → ip4_of (packet.header ++ packet.payload) ≡ Ok packet → IsLikeOld packet
+like_old packet is =
+    let header = packet.header in
+    let payload = packet.payload in
+    let new = lowered_header packet in
+    let shaped = ip4_of-shaped (header ++ payload) packet is in
+    let same = kept header payload (packet.ttl - 1) shaped.least_header in
+    let first : slice_index (lowered packet) 1 ≡ slice_index new 1 = get_or_append_left new payload 0 1 (omega (arith, same.len, shaped.least_header)) in
+    let own : packet.tos ≡ slice_index header 1 = ap (λ (p : Packet4). p.tos) (fields-own packet is) in
+    record {
+      header_len = same.len;
+      options = same.options;
+      len = length-append new payload ∙ ap (λ n. n + length payload) same.len;
+      tos = first ∙ same.tos ∙ sym own;
+    }

@@ -1,20 +1,20 @@
 // Packets that are passed on.
-ghost use Rattle.std.specs.Prelude.{◌≡◌, ◌≤◌, ◌++◌, length, IfOk, Ok};
+ghost use Rattle.std.specs.Prelude.{◌≡◌, ◌≤◌, ◌++◌, drop, length, IfOk, Ok};
 ghost use Rattle.ip_codec.specs.Packet4.{ip4_of, packet4, packet_len};
-ghost use Rattle.softwire_encap.specs.Passing.{lowered, passed};
+ghost use Rattle.softwire_encap.specs.Passing.{lowered, lowered_header, passed};
 
-use aftr_base::{Bytes, OutOfMemory, put_checksum};
+use aftr_base::{Bytes, OutOfMemory, be16, patch16};
 use ip_codec::Ip4View;
 use std::alloc::Global;
 
-// Where the time to live and the checksum stand in a header (RFC 791, section 3.1).
-const TTL: usize = 8;
-
+// Where the checksum stands in a header, and what stands behind it (RFC 791, section 3.1).
 const CHECKSUM: usize = 10;
 
+const ADDRESSES: usize = 12;
+
 /// The packet as a router passes it on, in memory of its own final size: the time to live is one less, and the header's
-/// checksum is computed anew (RFC 791, section 3.2; RFC 1812, section 5.3.1). `p` is a packet as `ip4` reads one, with
-/// a time to live of at least 1.
+/// checksum is the one that belongs to it (RFC 791, section 3.2; RFC 1812, section 5.3.1). `p` is a packet as `ip4` reads
+/// one, with a time to live of at least 1.
 pub fn lower(alloc: Global, p: &Ip4View<'_>) -> Result<Bytes, OutOfMemory>
     requires whole { ip4_of (p.now.header.now ++ p.now.payload.now) ≡ Ok (packet4 p.now) }
     requires alive { 1 ≤ p.now.ttl }
@@ -22,10 +22,43 @@ pub fn lower(alloc: Global, p: &Ip4View<'_>) -> Result<Bytes, OutOfMemory>
     ensures read { IfOk result (λ packet. ip4_of packet ≡ Ok (passed (packet4 p.now))) }
     ensures size { IfOk result (λ packet. length packet ≡ packet_len (packet4 p.now)) }
 {
-    let mut list = Vec::with_capacity(alloc, p.header.len() + p.payload.len())?;
-    list.extend_from_slice(p.header)?;
-    list[TTL] = p.ttl - 1;
-    put_checksum(&mut list, CHECKSUM);
-    list.extend_from_slice(p.payload)?;
+    let mut list = Vec::with_capacity(alloc, p.total_len())?;
+    push_lowered(&mut list, p)?;
     Ok(Bytes::of(list))
+}
+
+/// Puts the packet that `lower` makes behind what `out` holds. After an `Err` some of it may stand there.
+pub fn push_lowered(out: &mut Vec<u8>, p: &Ip4View<'_>) -> Result<(), OutOfMemory>
+    requires whole { ip4_of (p.now.header.now ++ p.now.payload.now) ≡ Ok (packet4 p.now) }
+    requires alive { 1 ≤ p.now.ttl }
+    ensures bytes { IfOk result (λ _. out.new.items ≡ out.old.items ++ lowered (packet4 p.now)) }
+    ensures read { IfOk result (λ _. ip4_of (lowered (packet4 p.now)) ≡ Ok (passed (packet4 p.now))) }
+    ensures size { IfOk result (λ _. length (lowered (packet4 p.now)) ≡ packet_len (packet4 p.now)) }
+{
+    out.extend_from_slice(&lowered_front(p))?;
+    out.extend_from_slice(&p.header[ADDRESSES..])?;
+    out.extend_from_slice(p.payload)?;
+    Ok(())
+}
+
+// What stands before the addresses, with the time to live one less. The checksum is patched for the word that has it, which
+// for a header that sums up is the same as computing it anew (RFC 1624, section 3).
+fn lowered_front(p: &Ip4View<'_>) -> [u8; 12]
+    requires whole { ip4_of (p.now.header.now ++ p.now.payload.now) ≡ Ok (packet4 p.now) }
+    requires alive { 1 ≤ p.now.ttl }
+    requires least { 20 ≤ length p.now.header.now }
+    ensures bytes { result ++ drop 12 p.now.header.now ≡ lowered_header (packet4 p.now) }
+    ensures behind { 12 ≤ length p.now.header.now }
+{
+    let header = p.header;
+    let ttl = p.ttl - 1;
+    let was = u16::from(p.ttl) * 256 + u16::from(p.protocol);
+    let now = u16::from(ttl) * 256 + u16::from(p.protocol);
+    let sum = patch16(be16(header, CHECKSUM), was, now);
+    let high = (sum / 256) as u8;
+    let low = (sum % 256) as u8;
+    [
+        header[0], header[1], header[2], header[3], header[4], header[5], header[6], header[7],
+        ttl, p.protocol, high, low,
+    ]
 }

@@ -1,10 +1,13 @@
 // IPv4 packets in IPv6 packets.
-ghost use Rattle.std.specs.Prelude.{◌≡◌, ◌+◌, ◌≤◌, length, IfOk, Ok};
-ghost use Rattle.ip_codec.specs.Packet6.{Packet6, ip6_of};
-ghost use Rattle.softwire_encap.specs.Tunnel.{IsFirstWord, tos_of, wrapped, tunnelled};
+ghost use Rattle.std.specs.Prelude.{◌≡◌, ◌+◌, ◌*◌, ◌≤◌, ◌++◌, length, IfOk, Ok};
+ghost use Rattle.ip_codec.specs.Packet4.{ip4_of, packet4, packet_len};
+ghost use Rattle.ip_codec.specs.Packet6.{Packet6, ip6_of, packet6};
+ghost use Rattle.softwire_encap.specs.Passing.{lowered};
+ghost use Rattle.softwire_encap.specs.Tunnel.{IsFirstWord, tos_of, tunnel_front, wrapped, tunnelled};
 
+use crate::passing::push_lowered;
 use aftr_base::{Bytes, OutOfMemory, V6};
-use ip_codec::{Head6, put6};
+use ip_codec::{Head6, Ip4View, Ip6View, put6};
 use std::alloc::Global;
 
 // The version in the first word of an IPv6 header, and how far its traffic class is moved up (RFC 8200, section 3).
@@ -28,11 +31,83 @@ pub fn encap(alloc: Global, from: V6, to: V6, hop: u8, inner: &[u8]) -> Result<B
     ensures size { IfOk result (λ packet. length packet ≡ length inner.now + 40) }
 {
     let head = Head6 {
-        word: VERSION + u32::from(inner[1]) * CLASS,
+        word: first_word(inner[1]),
         next: IPV4,
         hop,
         src: from,
         dst: to,
     };
     put6(alloc, &head, inner)
+}
+
+// The first word of the header, before a packet with this type of service.
+fn first_word(tos: u8) -> u32
+    ensures { result ≡ 6 * 268435456 + tos * 1048576 }
+{
+    VERSION + u32::from(tos) * CLASS
+}
+
+/// The tunnel packet that `encap` makes of `inner`, as a view of it. `inner` has 20 bytes or more.
+pub fn tunnel_view<'a>(from: V6, to: V6, hop: u8, inner: &'a [u8]) -> Ip6View<'a>
+    requires { 20 ≤ length inner.now }
+    ensures { packet6 result ≡ tunnelled from to hop inner.now }
+{
+    Ip6View {
+        word: first_word(inner[1]),
+        next: IPV4,
+        hop,
+        src: from,
+        dst: to,
+        body: inner,
+    }
+}
+
+/// Puts the header of the tunnel packet that `encap` makes behind what `out` holds, for an inner packet of `len` bytes with
+/// the type of service `tos`. The inner packet goes behind it. After an `Err` some of the header may stand there.
+pub fn push_tunnel_head(
+    out: &mut Vec<u8>,
+    from: V6,
+    to: V6,
+    hop: u8,
+    tos: u8,
+    len: u16,
+) -> Result<(), OutOfMemory>
+    ensures { IfOk result (λ _. out.new.items ≡ out.old.items ++ tunnel_front from to hop tos len) }
+{
+    out.extend_from_slice(&tunnel_head(from, to, hop, tos, len))?;
+    Ok(())
+}
+
+fn tunnel_head(from: V6, to: V6, hop: u8, tos: u8, len: u16) -> [u8; 40]
+    ensures { result ≡ tunnel_front from to hop tos len }
+{
+    let word = first_word(tos);
+    let mut bytes = [0; 40];
+    bytes[..4].copy_from_slice(&word.to_be_bytes());
+    bytes[4..6].copy_from_slice(&len.to_be_bytes());
+    bytes[6] = IPV4;
+    bytes[7] = hop;
+    bytes[8..24].copy_from_slice(&from.0.to_be_bytes());
+    bytes[24..].copy_from_slice(&to.0.to_be_bytes());
+    bytes
+}
+
+/// Puts the packet that `lower` makes behind what `out` holds, in the tunnel packet that `encap` makes of it. After an `Err`
+/// some of it may stand there.
+pub fn push_tunnelled(
+    out: &mut Vec<u8>,
+    from: V6,
+    to: V6,
+    hop: u8,
+    p: &Ip4View<'_>,
+) -> Result<(), OutOfMemory>
+    requires whole { ip4_of (p.now.header.now ++ p.now.payload.now) ≡ Ok (packet4 p.now) }
+    requires alive { 1 ≤ p.now.ttl }
+    requires most { packet_len (packet4 p.now) ≤ 65535 }
+    ensures bytes { IfOk result (λ _. out.new.items ≡ out.old.items ++ wrapped from to hop (lowered (packet4 p.now))) }
+    ensures size { IfOk result (λ _. length (wrapped from to hop (lowered (packet4 p.now))) ≡ packet_len (packet4 p.now) + 40) }
+{
+    push_tunnel_head(out, from, to, hop, p.tos, p.total_len() as u16)?;
+    push_lowered(out, p)?;
+    Ok(())
 }

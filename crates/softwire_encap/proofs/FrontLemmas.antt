@@ -1,0 +1,103 @@
+-- Lemmas on the front of a header that is passed on: its checksum, patched, is the one that is computed anew.
+use Rattle.std.proofs.Common.{◌≡◌, ℕ, ◌+◌, ◌-◌, ◌*◌, ◌/◌, ◌%◌, ◌≤◌, List, [], ◌∷◌, ◌++◌, length, take, drop, Ok, sym, ◌∙◌, ap, subst, arith, slice_index, slice_set, append_assoc}
+use Rattle.std.proofs.lemmas.List.{get_or_append_left, take_rest}
+use Rattle.aftr_base.specs.Sums.{checksum, folded, patched, sealed, word_sum}
+use Rattle.aftr_base.proofs.SumLemmas.{folded-le, folded_inside, folded_shift}
+use Rattle.ip_codec.specs.Packet4.{Packet4, ip4_of, word}
+use Rattle.ip_codec.proofs.Laws.{ip4_of-Ok, ip4_of-shaped}
+use Rattle.softwire_encap.specs.Passing.{lowered_header}
+use Rattle.softwire_encap.proofs.PassingLemmas.{four, fields-own}
+
+-- A header that sums up, and one word of it changed: what the patched checksum folds is what the changed header sums to.
+-- `rest` is the sum of the other words.
+patched-same : (rest was now sum : ℕ) → was ≤ 65535 → sum ≤ 65535 → 1 ≤ rest → 1 ≤ (65535 - was) + now →
+    folded (rest + was + sum) ≡ 65535 → patched sum was now ≡ 65535 - folded (rest + now)
+patched-same rest was now sum word_was word_sum some changed full =
+    let terms : ℕ = (65535 - sum) + (65535 - was) + now in
+    let whole : ℕ = rest + was + sum in
+    let total : terms + whole ≡ rest + now + 65535 * 2 = omega arith in
+    let same : folded terms ≡ folded (rest + now) =
+    sym (folded_shift terms 1 (λ (z : terms ≡ 0). absurd (omega arith)))
+    ∙ ap (λ n. folded (terms + n)) (sym full)
+    ∙ sym (folded_inside terms whole)
+    ∙ ap folded total
+    ∙ folded_shift (rest + now) 2 (λ (z : rest + now ≡ 0). absurd (omega arith)) in
+    ap (λ n. 65535 - n) same
+
+-- the front with less time to live and the patched checksum, and then the rest, is the header that is passed on
+abbrev IsFront : ℕ → ℕ → List ℕ → Type 0
+IsFront ttl sum header =
+    slice_index header 8 ≡ ttl + 1 → slice_index header 8 ≤ 255 → slice_index header 9 ≤ 255 → word header 10 ≤ 65535 →
+    slice_index header 0 / 16 ≡ 4 → checksum header ≡ 0 →
+    sum ≡ patched (word header 10) (slice_index header 8 * 256 + slice_index header 9) (ttl * 256 + slice_index header 9) →
+    (slice_index header 0 ∷ slice_index header 1 ∷ slice_index header 2 ∷ slice_index header 3 ∷ slice_index header 4 ∷ slice_index header 5
+    ∷ slice_index header 6 ∷ slice_index header 7 ∷ ttl ∷ slice_index header 9 ∷ sum / 256 ∷ sum % 256 ∷ []) ++ drop 12 header
+    ≡ sealed (slice_set header 8 ttl) 10
+
+front-cells : (a0 a1 a2 a3 a4 a5 a6 a7 a8 a9 a10 a11 : ℕ) (rest : List ℕ) (ttl sum : ℕ) →
+    IsFront ttl sum (a0 ∷ a1 ∷ a2 ∷ a3 ∷ a4 ∷ a5 ∷ a6 ∷ a7 ∷ a8 ∷ a9 ∷ a10 ∷ a11 ∷ rest)
+front-cells a0 a1 a2 a3 a4 a5 a6 a7 a8 a9 a10 a11 rest ttl sum alive ttl_most protocol_most word_most version sums sum_is =
+    let header = a0 ∷ a1 ∷ a2 ∷ a3 ∷ a4 ∷ a5 ∷ a6 ∷ a7 ∷ a8 ∷ a9 ∷ a10 ∷ a11 ∷ rest in
+    let blank = a0 ∷ a1 ∷ a2 ∷ a3 ∷ a4 ∷ a5 ∷ a6 ∷ a7 ∷ ttl ∷ a9 ∷ 0 ∷ 0 ∷ rest in
+    let others : ℕ = (a0 * 256 + a1) + ((a2 * 256 + a3) + ((a4 * 256 + a5) + ((a6 * 256 + a7) + word_sum rest))) in
+    let was : ℕ = a8 * 256 + a9 in
+    let now : ℕ = ttl * 256 + a9 in
+    let old : ℕ = word header 10 in
+    let old_is : old ≡ a10 * 256 + a11 = omega arith in
+    let sum_all : word_sum header ≡ others + was + old = omega (arith, old_is) in
+    let sum_blank : word_sum blank ≡ others + now = omega arith in
+    let full : folded (others + was + old) ≡ 65535 = ap folded (sym sum_all) ∙ omega (arith, sums, folded-le (word_sum header)) in
+    let some : 1 ≤ others = omega (arith, version) in
+    let new_is : sum ≡ checksum blank =
+    sum_is
+    ∙ patched-same others was now old (omega arith) word_most some (omega (arith, alive)) full
+    ∙ ap (λ n. 65535 - folded n) (sym sum_blank) in
+    ap (λ n. a0 ∷ a1 ∷ a2 ∷ a3 ∷ a4 ∷ a5 ∷ a6 ∷ a7 ∷ ttl ∷ a9 ∷ n / 256 ∷ n % 256 ∷ rest) new_is
+
+front : (header : List ℕ) (ttl sum : ℕ) → 20 ≤ length header → IsFront ttl sum header
+front header ttl sum least =
+    let p = four header (omega arith) in
+    let q = four p.rest (omega (arith, p.len)) in
+    let r = four q.rest (omega (arith, p.len, q.len)) in
+    let cells : header ≡ p.a ∷ p.b ∷ p.c ∷ p.d ∷ q.a ∷ q.b ∷ q.c ∷ q.d ∷ r.a ∷ r.b ∷ r.c ∷ r.d ∷ r.rest =
+    p.is ∙ ap (λ l. p.a ∷ p.b ∷ p.c ∷ p.d ∷ l) (q.is ∙ ap (λ l. q.a ∷ q.b ∷ q.c ∷ q.d ∷ l) r.is) in
+    subst (λ l. IsFront ttl sum l) (sym cells) (front-cells p.a p.b p.c p.d q.a q.b q.c q.d r.a r.b r.c r.d r.rest ttl sum)
+
+-- the same of a packet that is read
+pub front-lowered : (packet : Packet4) (sum : ℕ) → ip4_of (packet.header ++ packet.payload) ≡ Ok packet → 1 ≤ packet.ttl →
+    packet.ttl ≤ 255 → packet.protocol ≤ 255 → word packet.header 10 ≤ 65535 →
+    sum ≡ patched (word packet.header 10) (packet.ttl * 256 + packet.protocol) ((packet.ttl - 1) * 256 + packet.protocol) →
+    (slice_index packet.header 0 ∷ slice_index packet.header 1 ∷ slice_index packet.header 2 ∷ slice_index packet.header 3
+    ∷ slice_index packet.header 4 ∷ slice_index packet.header 5 ∷ slice_index packet.header 6 ∷ slice_index packet.header 7
+    ∷ (packet.ttl - 1) ∷ packet.protocol ∷ sum / 256 ∷ sum % 256 ∷ []) ++ drop 12 packet.header
+    ≡ lowered_header packet
+front-lowered packet sum is alive ttl_most protocol_most word_most sum_is =
+    let header = packet.header in
+    let payload = packet.payload in
+    let spelt = ip4_of-Ok (header ++ payload) packet is in
+    let shaped = ip4_of-shaped (header ++ payload) packet is in
+    let own = fields-own packet is in
+    let ttl_is : slice_index header 8 ≡ packet.ttl = sym (ap (λ (p : Packet4). p.ttl) own) in
+    let protocol_is : slice_index header 9 ≡ packet.protocol = sym (ap (λ (p : Packet4). p.protocol) own) in
+    let first : slice_index header 0 ≡ slice_index (header ++ payload) 0 =
+    sym (get_or_append_left header payload 0 0 (omega (arith, shaped.least_header))) in
+    let version : slice_index header 0 / 16 ≡ 4 = ap (λ n. n / 16) first ∙ spelt.version in
+    let sums : checksum header ≡ 0 = ap checksum (ap (λ (p : Packet4). p.header) spelt.is) ∙ spelt.sum in
+    let old : ℕ = word header 10 in
+    let patch_is : sum ≡ patched old (slice_index header 8 * 256 + slice_index header 9) ((packet.ttl - 1) * 256 + slice_index header 9) =
+    sum_is ∙ ap (λ n. patched old (n * 256 + packet.protocol) ((packet.ttl - 1) * 256 + packet.protocol)) (sym ttl_is)
+    ∙ ap (λ n. patched old (slice_index header 8 * 256 + n) ((packet.ttl - 1) * 256 + n)) (sym protocol_is) in
+    ap (λ n. (slice_index header 0 ∷ slice_index header 1 ∷ slice_index header 2 ∷ slice_index header 3 ∷ slice_index header 4 ∷ slice_index header 5
+    ∷ slice_index header 6 ∷ slice_index header 7 ∷ (packet.ttl - 1) ∷ n ∷ sum / 256 ∷ sum % 256 ∷ []) ++ drop 12 header) (sym protocol_is)
+    ∙ front header (packet.ttl - 1) sum shaped.least_header (omega (arith, ttl_is)) (omega (arith, ttl_is)) (omega (arith, protocol_is)) word_most
+    version sums patch_is
+
+-- the front, the rest of the header and the payload were pushed
+pub pushed : (out out1 out2 out3 front header payload whole : List ℕ) → front ++ drop 12 header ≡ whole →
+    out1 ≡ out ++ front → out2 ≡ out1 ++ take (length header - 12) (drop 12 header) → out3 ≡ out2 ++ payload →
+    out3 ≡ out ++ (whole ++ payload)
+pushed out out1 out2 out3 front header payload whole whole_is is1 is2 is3 =
+    is3
+    ∙ ap (λ l. l ++ payload) (is2 ∙ ap (λ l. l ++ take (length header - 12) (drop 12 header)) is1
+    ∙ ap (λ l. (out ++ front) ++ l) (take_rest header 12) ∙ append_assoc out front (drop 12 header) ∙ ap (λ l. out ++ l) whole_is)
+    ∙ append_assoc out whole payload
