@@ -12,6 +12,10 @@ mod passing;
 #[cfg(test)]
 mod rendering;
 #[cfg(test)]
+mod replying;
+#[cfg(test)]
+mod sending;
+#[cfg(test)]
 mod stages;
 #[cfg(test)]
 mod verdicts;

@@ -1,75 +1,151 @@
-// A subscriber's UDP datagram and the answer to it, as an independent program built, passed on and wrapped them.
-use aftr_base::{Bytes, Packets};
-use case_data::{AFTR, DOWN, DOWN_LOWERED, DOWN_TUNNEL, SUBSCRIBER, UP, UP_LOWERED};
-use ip_codec::{Item, Outer, Rule, ip4};
-use packet_render::packets;
-use std::alloc::Global;
+// Packets that go on, whole and cut. The datagrams, the headers of what they become and their checksums were computed by Python
+// alone; the lengths follow from RFC 791, RFC 2473 and RFC 8200.
+use crate::sending::{are_just, is_packet, joined, pattern, sent_back, sent_in, sent_out};
+use aftr_base::V6;
+use case_data::{DOWN, DOWN_LOWERED, DOWN_TUNNEL, UP, UP_LOWERED};
 use std::test::Fail;
-use verdict_core::{Reply, Verdict};
 
-// The packets for a packet from a subscriber that goes out.
-fn sent_out(alloc: Global, bytes: &[u8]) -> Result<Packets, Fail> {
-    let Ok(view) = ip4(bytes) else {
-        return Err("a packet".into());
-    };
-    if view.is_fragment() || view.ttl < 2 || view.total_len() > 1500 {
-        return Err("a packet that can be sent on".into());
-    }
-    let outer = Outer {
-        word: 0x6000_0000,
-        hop: 64,
-        src: SUBSCRIBER,
-        dst: AFTR,
-    };
-    let inner = Bytes::copy(alloc, bytes)?;
-    let item = Item::Up { outer, inner };
-    Ok(packets(alloc, &item, Verdict::Outward { mtu: 1500 }, 0)?)
-}
+// Another subscriber's end of its tunnel.
+const OTHER: V6 = V6(0x2001_0db8_0001_0000_0000_0000_0000_0002);
+// A subscriber's datagram to that one, and what it becomes.
+const HAIRPIN: &[u8; 32] =
+    b"\x45\0\0\x20\0\x01\0\0\x40\x11\x02\xc9\xcb\0\x71\x01\xcb\0\x71\x01\x04\xd0\x04\xd4\0\x0c\0\0test";
 
-// The packets for a packet to a subscriber.
-fn sent_in(alloc: Global, bytes: &[u8]) -> Result<Packets, Fail> {
-    let Ok(view) = ip4(bytes) else {
-        return Err("a packet".into());
-    };
-    if view.is_fragment() || view.ttl < 2 || view.total_len() > 1460 {
-        return Err("a packet that can be sent on".into());
-    }
-    let packet = Bytes::copy(alloc, bytes)?;
-    let item = Item::Down { packet };
-    let verdict = Verdict::Inward {
-        from: AFTR,
-        to: SUBSCRIBER,
-        hop: 64,
-        mtu: 1500,
-        back: false,
-    };
-    Ok(packets(alloc, &item, verdict, 1)?)
-}
+const HAIRPIN_LOWERED: &[u8; 32] =
+    b"\x45\0\0\x20\0\x01\0\0\x3f\x11\x03\xc9\xcb\0\x71\x01\xcb\0\x71\x01\x04\xd0\x04\xd4\0\x0c\0\0test";
+
+const HAIRPIN_TUNNEL: &[u8; 40] =
+    b"\x60\0\0\0\0\x20\x04\x40\x20\x01\x0d\xb8\0\0\0\0\0\0\0\0\0\0\0\x01\x20\x01\x0d\xb8\0\x01\0\0\0\0\0\0\0\0\0\x02";
 
 #[test]
-fn packets_are_sent_on(rt: HostRuntime) -> Result<(), Fail> {
-    let out = sent_out(rt.alloc(), UP)?;
-    assert_eq!(rt; out.len(), 1);
-    assert_eq!(rt; out.get(0), UP_LOWERED.as_slice());
-    let inward = sent_in(rt.alloc(), DOWN)?;
-    assert_eq!(rt; inward.len(), 1);
-    let packet = inward.get(0);
-    assert_eq!(rt; packet.len(), 72);
-    assert!(rt; packet.starts_with(DOWN_TUNNEL) && packet.ends_with(DOWN_LOWERED));
+fn packets_go_on(rt: HostRuntime) -> Result<(), Fail> {
+    let alloc = rt.alloc();
+    let out = sent_out(alloc, UP, 1500)?;
+    assert!(rt;
+        are_just(&out, 1) && is_packet(&out.1, 0, &[UP_LOWERED]),
+        "out"
+    );
+    let inward = sent_in(alloc, DOWN, 1500, 9)?;
+    assert!(rt;
+        are_just(&inward, 1) && is_packet(&inward.1, 0, &[DOWN_TUNNEL, DOWN_LOWERED]),
+        "in"
+    );
+    let back = sent_back(alloc, HAIRPIN, OTHER, 1500)?;
+    assert!(rt;
+        are_just(&back, 1) && is_packet(&back.1, 0, &[HAIRPIN_TUNNEL, HAIRPIN_LOWERED]),
+        "back"
+    );
     Ok(())
 }
 
+// A header before 1,440 bytes, and before 1,441 bytes, to a subscriber.
+const FITTING: &[u8; 20] =
+    b"\x45\0\x05\xb4\0\x02\0\0\x40\x11\x0e\xfb\xc6\x33\x64\x07\xcb\0\x71\x01";
+
+const FITTING_LOWERED: &[u8; 20] =
+    b"\x45\0\x05\xb4\0\x02\0\0\x3f\x11\x0f\xfb\xc6\x33\x64\x07\xcb\0\x71\x01";
+
+const FITTING_TUNNEL: &[u8; 40] =
+    b"\x60\0\0\0\x05\xb4\x04\x40\x20\x01\x0d\xb8\0\0\0\0\0\0\0\0\0\0\0\x01\x20\x01\x0d\xb8\0\x01\0\0\0\0\0\0\0\0\0\x01";
+
+const LONG: &[u8; 20] = b"\x45\0\x05\xb5\0\x02\0\0\x40\x11\x0e\xfa\xc6\x33\x64\x07\xcb\0\x71\x01";
+
+const LONG_LOWERED: &[u8; 20] =
+    b"\x45\0\x05\xb5\0\x02\0\0\x3f\x11\x0f\xfa\xc6\x33\x64\x07\xcb\0\x71\x01";
+// The headers of its two fragments: 1,448 bytes of the inner packet and then 13, of datagram 9.
+const LONG_FIRST: &[u8; 48] =
+    b"\x60\0\0\0\x05\xb0\x2c\x40\x20\x01\x0d\xb8\0\0\0\0\0\0\0\0\0\0\0\x01\x20\x01\x0d\xb8\0\x01\0\0\0\0\0\0\0\0\0\x01\x04\0\0\x01\0\0\0\x09";
+
+const LONG_LAST: &[u8; 48] =
+    b"\x60\0\0\0\0\x15\x2c\x40\x20\x01\x0d\xb8\0\0\0\0\0\0\0\0\0\0\0\x01\x20\x01\x0d\xb8\0\x01\0\0\0\0\0\0\0\0\0\x01\x04\0\x05\xa8\0\0\0\x09";
+
 #[test]
-fn nothing_is_sent_for_what_is_kept_or_dropped(rt: HostRuntime) -> Result<(), Fail> {
-    let held = packets(rt.alloc(), &Item::Held, Verdict::Held, 2)?;
-    assert!(rt; held.is_empty());
-    let packet = Bytes::copy(rt.alloc(), DOWN)?;
-    let item = Item::Down { packet };
-    let verdict = Verdict::Drop {
-        why: Rule::NoBinding,
-        reply: Reply::Silent,
-    };
-    let dropped = packets(rt.alloc(), &item, verdict, 3)?;
-    assert!(rt; dropped.is_empty());
+fn tunnel_packets_are_cut(rt: HostRuntime) -> Result<(), Fail> {
+    let alloc = rt.alloc();
+    let data = pattern(alloc, 1441)?;
+    let fitting = sent_in(alloc, &joined(alloc, FITTING, &data[..1440])?, 1500, 9)?;
+    assert!(rt;
+        are_just(&fitting, 1)
+            && is_packet(
+                &fitting.1,
+                0,
+                &[FITTING_TUNNEL, FITTING_LOWERED, &data[..1440]]
+            ),
+        "1,500 bytes"
+    );
+    let long = sent_in(alloc, &joined(alloc, LONG, &data)?, 1500, 9)?;
+    assert!(rt; are_just(&long, 2), "two fragments");
+    assert!(rt;
+        is_packet(&long.1, 0, &[LONG_FIRST, LONG_LOWERED, &data[..1428]]),
+        "1,496 bytes"
+    );
+    assert!(rt;
+        is_packet(&long.1, 1, &[LONG_LAST, &data[1428..]]),
+        "61 bytes"
+    );
+    Ok(())
+}
+
+// A header before 65,515 bytes, and the headers of its first and its last fragment at 1,280 bytes, of datagram 0.
+const LONGEST: &[u8; 20] =
+    b"\x45\0\xff\xff\0\x03\0\0\x40\x11\x14\xae\xc6\x33\x64\x07\xcb\0\x71\x01";
+
+const LONGEST_LOWERED: &[u8; 20] =
+    b"\x45\0\xff\xff\0\x03\0\0\x3f\x11\x15\xae\xc6\x33\x64\x07\xcb\0\x71\x01";
+
+const LONGEST_FIRST: &[u8; 48] =
+    b"\x60\0\0\0\x04\xd8\x2c\x40\x20\x01\x0d\xb8\0\0\0\0\0\0\0\0\0\0\0\x01\x20\x01\x0d\xb8\0\x01\0\0\0\0\0\0\0\0\0\x01\x04\0\0\x01\0\0\0\0";
+
+const LONGEST_LAST: &[u8; 48] =
+    b"\x60\0\0\0\0\xf7\x2c\x40\x20\x01\x0d\xb8\0\0\0\0\0\0\0\0\0\0\0\x01\x20\x01\x0d\xb8\0\x01\0\0\0\0\0\0\0\0\0\x01\x04\0\xff\x10\0\0\0\0";
+
+#[test]
+fn the_longest_packet_is_cut(rt: HostRuntime) -> Result<(), Fail> {
+    let alloc = rt.alloc();
+    let data = pattern(alloc, 65515)?;
+    let sent = sent_in(alloc, &joined(alloc, LONGEST, &data)?, 1280, 0)?;
+    assert!(rt; are_just(&sent, 54), "54 fragments");
+    assert!(rt;
+        is_packet(&sent.1, 0, &[LONGEST_FIRST, LONGEST_LOWERED, &data[..1212]]),
+        "the first"
+    );
+    assert!(rt;
+        is_packet(&sent.1, 53, &[LONGEST_LAST, &data[65276..]]),
+        "the last, of 239 bytes"
+    );
+    Ok(())
+}
+
+// A header of 60 bytes before 1,100 bytes, from a subscriber: Router Alert, which is copied, and a Timestamp, which is not.
+const OPTIONS: &[u8; 60] =
+    b"\x4f\xb8\x04\x88\0\x04\0\0\x40\x11\x28\x44\xcb\0\x71\x01\xc6\x33\x64\x07\x94\x04\0\0\x44\x24\x05\0\0\0\0\0\0\0\0\0\0\0\0\0\0\0\0\0\0\0\0\0\0\0\0\0\0\0\0\0\0\0\0\0";
+// The headers of its pieces at 576 bytes, before 512, 552 and 36 bytes.
+const OPTIONS_FIRST: &[u8; 60] =
+    b"\x4f\xb8\x02\x3c\0\x04\x20\0\x3f\x11\x0b\x90\xcb\0\x71\x01\xc6\x33\x64\x07\x94\x04\0\0\x44\x24\x05\0\0\0\0\0\0\0\0\0\0\0\0\0\0\0\0\0\0\0\0\0\0\0\0\0\0\0\0\0\0\0\0\0";
+
+const OPTIONS_SECOND: &[u8; 24] =
+    b"\x46\xb8\x02\x40\0\x04\x20\x40\x3f\x11\x5d\x70\xcb\0\x71\x01\xc6\x33\x64\x07\x94\x04\0\0";
+
+const OPTIONS_LAST: &[u8; 24] =
+    b"\x46\xb8\0\x3c\0\x04\0\x85\x3f\x11\x7f\x2f\xcb\0\x71\x01\xc6\x33\x64\x07\x94\x04\0\0";
+
+#[test]
+fn packets_are_cut_on_their_way_out(rt: HostRuntime) -> Result<(), Fail> {
+    let alloc = rt.alloc();
+    let data = pattern(alloc, 1100)?;
+    let sent = sent_out(alloc, &joined(alloc, OPTIONS, &data)?, 576)?;
+    assert!(rt; are_just(&sent, 3), "three pieces");
+    assert!(rt;
+        is_packet(&sent.1, 0, &[OPTIONS_FIRST, &data[..512]]),
+        "the first"
+    );
+    assert!(rt;
+        is_packet(&sent.1, 1, &[OPTIONS_SECOND, &data[512..1064]]),
+        "the second"
+    );
+    assert!(rt;
+        is_packet(&sent.1, 2, &[OPTIONS_LAST, &data[1064..]]),
+        "the last"
+    );
     Ok(())
 }

@@ -1,6 +1,11 @@
-//! The packets that are sent for an item, by the verdict on it (RFC 7596, section 6.2).
+//! The packets that are sent for an item, by the verdict on it, recorded behind what a list holds (RFC 7596, section 6.2).
 #![tactic(auto)]
 
+mod carried;
+mod forwarding;
+mod pieces;
 mod rendering;
+mod replying;
+mod stamps;
 
-pub use rendering::packets;
+pub use rendering::{MOST_PACKETS, push_packets};

@@ -1,0 +1,233 @@
+// What the tests of packets that are sent share: items with their packet read, what is recorded for verdicts on them, and the
+// records taken apart.
+ghost use Rattle.std.specs.Prelude.{◌≡◌, ◌×◌, ◌⊎◌, ◌≤◌, ◌<◌, true, false};
+ghost use Rattle.ip_codec.specs.Packet4.{Packet4, is_fragment, packet4, packet_len};
+ghost use Rattle.ip_codec.specs.Seen.{seen};
+ghost use Rattle.verdict_core.specs.Fitting.{FitsReply, HasPacket, IsRelayable, IsUp};
+
+use aftr_base::{OutOfMemory, V6};
+use capture_io::Written;
+use case_data::{AFTR, SUBSCRIBER};
+use icmp_codec::icmp6;
+use icmp_relay::read_quote;
+use ip_codec::{ItemView, Outer, ReadPacket, Rule, read_packet};
+use packet_render::push_packets;
+use std::alloc::Global;
+use std::test::Fail;
+use verdict_core::{Reply, Verdict};
+
+// The form and the time of every record in these tests.
+pub const FORM: Written = Written::Classic { nano: false };
+
+pub const SECONDS: u32 = 1;
+
+pub const FRACTION: u32 = 0x0201;
+
+const TIME: &[u8; 8] = b"\x01\0\0\0\x01\x02\0\0";
+
+// What is recorded, and how many packets the call said.
+pub type Recorded = (u32, Vec<u8>);
+
+// Bytes that tell their places.
+pub fn pattern(alloc: Global, len: usize) -> Result<Vec<u8>, OutOfMemory> {
+    let mut list = Vec::new(alloc);
+    for place in 0..len {
+        list.push((place % 251) as u8)?;
+    }
+    Ok(list)
+}
+
+pub fn joined(alloc: Global, first: &[u8], rest: &[u8]) -> Result<Vec<u8>, OutOfMemory> {
+    let mut list = Vec::new(alloc);
+    list.extend_from_slice(first)?;
+    list.extend_from_slice(rest)?;
+    Ok(list)
+}
+
+// The packet of a subscriber's tunnel.
+pub fn up<'a>(from: V6, inner: ReadPacket<'a>) -> ItemView<'a> {
+    let outer = Outer {
+        word: 0x6000_0000,
+        hop: 64,
+        src: from,
+        dst: AFTR,
+    };
+    ItemView::Up { outer, inner }
+}
+
+// Whether a packet may be sent on in packets of so many bytes.
+pub fn is_sendable(packet: &ReadPacket<'_>, room: usize) -> bool
+    ensures { result ≡ true → (is_fragment (packet4 packet.now.view) ≡ false) × (2 ≤ packet.now.view.ttl)
+        × (packet.now.view.df ≡ true → packet_len (packet4 packet.now.view) ≤ room) }
+{
+    if packet.view.is_fragment() {
+        return false;
+    }
+    if packet.view.ttl < 2 {
+        return false;
+    }
+    !packet.view.df || packet.view.total_len() <= room
+}
+
+// What is recorded for a packet of a subscriber that goes out.
+pub fn sent_out(alloc: Global, bytes: &[u8], mtu: u16) -> Result<Recorded, Fail> {
+    let Ok(packet) = read_packet(bytes) else {
+        return Err("a packet".into());
+    };
+    if mtu < 576 || !is_sendable(&packet, usize::from(mtu)) {
+        return Err("a packet that can be sent on".into());
+    }
+    let item = up(SUBSCRIBER, packet);
+    let mut out = Vec::new(alloc);
+    let verdict = Verdict::Outward { mtu };
+    let count = push_packets(&mut out, FORM, &item, &verdict, 7, SECONDS, FRACTION)?;
+    Ok((count, out))
+}
+
+// What is recorded for a packet that goes to a subscriber, as record `number`.
+pub fn sent_in(alloc: Global, bytes: &[u8], mtu: u16, number: u32) -> Result<Recorded, Fail> {
+    let Ok(packet) = read_packet(bytes) else {
+        return Err("a packet".into());
+    };
+    if mtu < 1280 || !is_sendable(&packet, usize::from(mtu) - 40) {
+        return Err("a packet that can be sent on".into());
+    }
+    let item = ItemView::Down { packet };
+    let verdict = Verdict::Inward {
+        from: AFTR,
+        to: SUBSCRIBER,
+        hop: 64,
+        mtu,
+        back: false,
+    };
+    let mut out = Vec::new(alloc);
+    let count = push_packets(&mut out, FORM, &item, &verdict, number, SECONDS, FRACTION)?;
+    Ok((count, out))
+}
+
+// What is recorded for a packet of one subscriber that goes to another.
+pub fn sent_back(alloc: Global, bytes: &[u8], to: V6, mtu: u16) -> Result<Recorded, Fail> {
+    let Ok(packet) = read_packet(bytes) else {
+        return Err("a packet".into());
+    };
+    if mtu < 1280 || !is_sendable(&packet, usize::from(mtu) - 40) {
+        return Err("a packet that can be sent on".into());
+    }
+    let item = up(SUBSCRIBER, packet);
+    let verdict = Verdict::Inward {
+        from: AFTR,
+        to,
+        hop: 64,
+        mtu,
+        back: true,
+    };
+    let mut out = Vec::new(alloc);
+    let count = push_packets(&mut out, FORM, &item, &verdict, 7, SECONDS, FRACTION)?;
+    Ok((count, out))
+}
+
+// What is recorded for a drop of an item that the reply fits.
+pub fn dropped(
+    alloc: Global,
+    item: &ItemView<'_>,
+    why: Rule,
+    reply: Reply,
+) -> Result<Recorded, Fail> {
+    if !fits_reply(item, reply) {
+        return Err("a reply that fits".into());
+    }
+    let mut out = Vec::new(alloc);
+    let verdict = Verdict::Drop { why, reply };
+    let count = push_packets(&mut out, FORM, item, &verdict, 7, SECONDS, FRACTION)?;
+    Ok((count, out))
+}
+
+// Whether the reply fits the item.
+fn fits_reply(item: &ItemView<'_>, reply: Reply) -> bool
+    ensures { result ≡ true → FitsReply (seen item.now) reply }
+{
+    match reply {
+        Reply::Silent => true,
+        Reply::Unreachable { .. } | Reply::TooBig { .. } | Reply::Exceeded { .. } => {
+            holds_packet(item)
+        }
+        Reply::Policy { .. } => holds_inner(item),
+        Reply::Relay { code, .. } => may_be_passed_on(item, code),
+    }
+}
+
+fn holds_packet(item: &ItemView<'_>) -> bool
+    ensures { result ≡ true → (p : Packet4) × HasPacket (seen item.now) p }
+{
+    matches!(item, ItemView::Down { .. } | ItemView::Up { .. })
+}
+
+fn holds_inner(item: &ItemView<'_>) -> bool
+    ensures { result ≡ true → IsUp (seen item.now) × ((p : Packet4) × HasPacket (seen item.now) p) }
+{
+    matches!(item, ItemView::Up { .. })
+}
+
+fn may_be_passed_on(item: &ItemView<'_>, code: u8) -> bool
+    ensures { result ≡ true → IsRelayable (seen item.now) × ((code ≡ 1) ⊎ (code ≡ 4)) }
+{
+    if code != 1 && code != 4 {
+        return false;
+    }
+    let ItemView::Six58 { src, dst, message } = item else {
+        return false;
+    };
+    let Ok(view) = icmp6(*src, *dst, message) else {
+        return false;
+    };
+    read_quote(view.rest).is_ok()
+}
+
+// The packet of record `index`, where every record before it has the time of the tests and its length twice. The numbers of
+// the form are little-endian.
+pub fn packet_at(out: &[u8], index: usize) -> Option<&[u8]> {
+    let mut rest = out;
+    for _ in 0..index {
+        let (_, behind) = first_record(rest)?;
+        rest = behind;
+    }
+    let (packet, _) = first_record(rest)?;
+    Some(packet)
+}
+
+// The first record's packet, and what stands behind it.
+fn first_record(bytes: &[u8]) -> Option<(&[u8], &[u8])> {
+    let (head, rest) = bytes.split_at_checked(16)?;
+    let (time, lens) = head.split_at_checked(8)?;
+    if time != TIME.as_slice() {
+        return None;
+    }
+    let captured = u32::from_le_bytes([lens[0], lens[1], lens[2], lens[3]]);
+    let original = u32::from_le_bytes([lens[4], lens[5], lens[6], lens[7]]);
+    if captured != original {
+        return None;
+    }
+    rest.split_at_checked(captured as usize)
+}
+
+// Whether the packet of record `index` is these parts, one behind the other.
+pub fn is_packet(out: &[u8], index: usize, parts: &[&[u8]]) -> bool {
+    let Some(packet) = packet_at(out, index) else {
+        return false;
+    };
+    let mut rest = packet;
+    for part in parts {
+        match rest.strip_prefix(*part) {
+            Some(behind) => rest = behind,
+            None => return false,
+        }
+    }
+    rest.is_empty()
+}
+
+// Whether just so many packets are recorded, as the call said.
+pub fn are_just(recorded: &Recorded, count: u32) -> bool {
+    recorded.0 == count
+        && packet_at(&recorded.1, count as usize).is_none()
+        && (count == 0 || packet_at(&recorded.1, count as usize - 1).is_some())
+}
