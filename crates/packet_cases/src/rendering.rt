@@ -1,6 +1,6 @@
 // Packets that go on, whole and cut. The datagrams, the headers of what they become and their checksums were computed by Python
 // alone; the lengths follow from RFC 791, RFC 2473 and RFC 8200.
-use crate::sending::{are_just, is_packet, joined, pattern, sent_back, sent_in, sent_out};
+use crate::sending::{are_just, is_packet, joined, part, pattern, sent_back, sent_in, sent_out};
 use aftr_base::V6;
 use case_data::{DOWN, DOWN_LOWERED, DOWN_TUNNEL, UP, UP_LOWERED};
 use std::test::Fail;
@@ -63,24 +63,33 @@ const LONG_LAST: &[u8; 48] =
 fn tunnel_packets_are_cut(rt: HostRuntime) -> Result<(), Fail> {
     let alloc = rt.alloc();
     let data = pattern(alloc, 1441)?;
-    let fitting = sent_in(alloc, &joined(alloc, FITTING, &data[..1440])?, 1500, 9)?;
+    let fitting = sent_in(
+        alloc,
+        &joined(alloc, FITTING, part(&data, 0, 1440))?,
+        1500,
+        9,
+    )?;
     assert!(rt;
         are_just(&fitting, 1)
             && is_packet(
                 &fitting.1,
                 0,
-                &[FITTING_TUNNEL, FITTING_LOWERED, &data[..1440]]
+                &[FITTING_TUNNEL, FITTING_LOWERED, part(&data, 0, 1440)]
             ),
         "1,500 bytes"
     );
     let long = sent_in(alloc, &joined(alloc, LONG, &data)?, 1500, 9)?;
     assert!(rt; are_just(&long, 2), "two fragments");
     assert!(rt;
-        is_packet(&long.1, 0, &[LONG_FIRST, LONG_LOWERED, &data[..1428]]),
+        is_packet(
+            &long.1,
+            0,
+            &[LONG_FIRST, LONG_LOWERED, part(&data, 0, 1428)]
+        ),
         "1,496 bytes"
     );
     assert!(rt;
-        is_packet(&long.1, 1, &[LONG_LAST, &data[1428..]]),
+        is_packet(&long.1, 1, &[LONG_LAST, part(&data, 1428, 1441)]),
         "61 bytes"
     );
     Ok(())
@@ -106,11 +115,15 @@ fn the_longest_packet_is_cut(rt: HostRuntime) -> Result<(), Fail> {
     let sent = sent_in(alloc, &joined(alloc, LONGEST, &data)?, 1280, 0)?;
     assert!(rt; are_just(&sent, 54), "54 fragments");
     assert!(rt;
-        is_packet(&sent.1, 0, &[LONGEST_FIRST, LONGEST_LOWERED, &data[..1212]]),
+        is_packet(
+            &sent.1,
+            0,
+            &[LONGEST_FIRST, LONGEST_LOWERED, part(&data, 0, 1212)]
+        ),
         "the first"
     );
     assert!(rt;
-        is_packet(&sent.1, 53, &[LONGEST_LAST, &data[65276..]]),
+        is_packet(&sent.1, 53, &[LONGEST_LAST, part(&data, 65276, 65515)]),
         "the last, of 239 bytes"
     );
     Ok(())
@@ -136,15 +149,15 @@ fn packets_are_cut_on_their_way_out(rt: HostRuntime) -> Result<(), Fail> {
     let sent = sent_out(alloc, &joined(alloc, OPTIONS, &data)?, 576)?;
     assert!(rt; are_just(&sent, 3), "three pieces");
     assert!(rt;
-        is_packet(&sent.1, 0, &[OPTIONS_FIRST, &data[..512]]),
+        is_packet(&sent.1, 0, &[OPTIONS_FIRST, part(&data, 0, 512)]),
         "the first"
     );
     assert!(rt;
-        is_packet(&sent.1, 1, &[OPTIONS_SECOND, &data[512..1064]]),
+        is_packet(&sent.1, 1, &[OPTIONS_SECOND, part(&data, 512, 1064)]),
         "the second"
     );
     assert!(rt;
-        is_packet(&sent.1, 2, &[OPTIONS_LAST, &data[1064..]]),
+        is_packet(&sent.1, 2, &[OPTIONS_LAST, part(&data, 1064, 1100)]),
         "the last"
     );
     Ok(())

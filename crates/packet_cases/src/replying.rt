@@ -1,12 +1,13 @@
 // What senders are told of packets that are dropped. The errors and their checksums were computed by Python alone; the lengths
 // follow from RFC 1812, section 4.3.2.3, and RFC 4443, section 2.4 (c).
-use crate::sending::{are_just, dropped, is_packet, joined, pattern, up};
+use crate::sending::{
+    Recorded, are_just, dropped, exceeded, is_packet, joined, part, pattern, policy, relayed,
+    too_big, unreachable,
+};
 use aftr_base::V6;
 use case_data::{AFTR, DOWN_LOWERED, DOWN_TUNNEL, LAST_HOP, OWN, SUBSCRIBER, UP};
-use ip_codec::{ItemView, Rule, read_packet};
-use std::alloc::Global;
 use std::test::Fail;
-use verdict_core::{Path, Reply};
+use verdict_core::Path;
 
 const OTHER: V6 = V6(0x2001_0db8_0001_0000_0000_0000_0000_0002);
 
@@ -16,35 +17,9 @@ const BACK: Path = Path::Tunnel {
     hop: 64,
 };
 
-// Whether the one packet that is recorded for a drop of a packet from a subscriber is these parts.
-fn told_up(
-    alloc: Global,
-    bytes: &[u8],
-    from: V6,
-    why: Rule,
-    reply: Reply,
-    parts: &[&[u8]],
-) -> Result<bool, Fail> {
-    let Ok(packet) = read_packet(bytes) else {
-        return Err("a packet".into());
-    };
-    let told = dropped(alloc, &up(from, packet), why, reply)?;
-    Ok(are_just(&told, 1) && is_packet(&told.1, 0, parts))
-}
-
-// The same of a packet towards subscribers.
-fn told_down(
-    alloc: Global,
-    bytes: &[u8],
-    why: Rule,
-    reply: Reply,
-    parts: &[&[u8]],
-) -> Result<bool, Fail> {
-    let Ok(packet) = read_packet(bytes) else {
-        return Err("a packet".into());
-    };
-    let told = dropped(alloc, &ItemView::Down { packet }, why, reply)?;
-    Ok(are_just(&told, 1) && is_packet(&told.1, 0, parts))
+// Whether these parts are the one packet that is recorded.
+fn is_just(told: &Recorded, parts: &[&[u8]]) -> bool {
+    are_just(told, 1) && is_packet(&told.1, 0, parts)
 }
 
 // Before the 32 bytes of the last hop's datagram: the tunnel's header, and time exceeded.
@@ -66,47 +41,14 @@ const USED_UP_BEFORE: &[u8; 68] =
 #[test]
 fn subscribers_are_told_in_the_tunnel(rt: HostRuntime) -> Result<(), Fail> {
     let alloc = rt.alloc();
-    let exceeded = Reply::Exceeded {
-        own: OWN,
-        path: BACK,
-    };
-    let unreachable = Reply::Unreachable {
-        own: OWN,
-        path: BACK,
-    };
+    let used_up = exceeded(alloc, LAST_HOP, OWN, BACK)?;
+    assert!(rt; is_just(&used_up, &[EXCEEDED, LAST_HOP]), "time exceeded");
+    let stray = unreachable(alloc, STRAY, OWN, BACK)?;
+    assert!(rt; is_just(&stray, &[UNREACHABLE, STRAY]), "unreachable");
     let data = pattern(alloc, 1441)?;
-    let long = joined(alloc, USED_UP, &data)?;
+    let long = exceeded(alloc, &joined(alloc, USED_UP, &data)?, OWN, BACK)?;
     assert!(rt;
-        told_up(
-            alloc,
-            LAST_HOP,
-            SUBSCRIBER,
-            Rule::Ttl,
-            exceeded,
-            &[EXCEEDED, LAST_HOP]
-        )?,
-        "time exceeded"
-    );
-    assert!(rt;
-        told_up(
-            alloc,
-            STRAY,
-            SUBSCRIBER,
-            Rule::HairpinNoBinding,
-            unreachable,
-            &[UNREACHABLE, STRAY]
-        )?,
-        "unreachable"
-    );
-    assert!(rt;
-        told_up(
-            alloc,
-            &long,
-            SUBSCRIBER,
-            Rule::Ttl,
-            exceeded,
-            &[USED_UP_BEFORE, USED_UP, &data[..528]]
-        )?,
+        is_just(&long, &[USED_UP_BEFORE, USED_UP, part(&data, 0, 528)]),
         "616 bytes"
     );
     Ok(())
@@ -121,21 +63,10 @@ const TOO_BIG: &[u8; 28] =
 #[test]
 fn hosts_are_told_as_it_is(rt: HostRuntime) -> Result<(), Fail> {
     let alloc = rt.alloc();
-    let reply = Reply::TooBig {
-        own: OWN,
-        mtu: 1460,
-        path: Path::Plain,
-    };
     let data = pattern(alloc, 1441)?;
-    let long = joined(alloc, LONG, &data)?;
+    let long = too_big(alloc, &joined(alloc, LONG, &data)?, OWN, 1460)?;
     assert!(rt;
-        told_down(
-            alloc,
-            &long,
-            Rule::TooBig,
-            reply,
-            &[TOO_BIG, LONG, &data[..528]]
-        )?,
+        is_just(&long, &[TOO_BIG, LONG, part(&data, 0, 528)]),
         "576 bytes"
     );
     Ok(())
@@ -156,33 +87,12 @@ const FORGED_BEFORE: &[u8; 88] =
 #[test]
 fn subscribers_are_told_of_the_policy(rt: HostRuntime) -> Result<(), Fail> {
     let alloc = rt.alloc();
-    let reply = Reply::Policy {
-        from: AFTR,
-        to: OTHER,
-        hop: 64,
-    };
+    let short = policy(alloc, UP, OTHER)?;
+    assert!(rt; is_just(&short, &[POLICY, OTHER_TUNNEL, UP]), "120 bytes");
     let data = pattern(alloc, 1441)?;
-    let long = joined(alloc, FORGED, &data)?;
+    let long = policy(alloc, &joined(alloc, FORGED, &data)?, OTHER)?;
     assert!(rt;
-        told_up(
-            alloc,
-            UP,
-            OTHER,
-            Rule::NoBinding,
-            reply,
-            &[POLICY, OTHER_TUNNEL, UP]
-        )?,
-        "120 bytes"
-    );
-    assert!(rt;
-        told_up(
-            alloc,
-            &long,
-            OTHER,
-            Rule::NoBinding,
-            reply,
-            &[FORGED_BEFORE, FORGED, &data[..1172]]
-        )?,
+        is_just(&long, &[FORGED_BEFORE, FORGED, part(&data, 0, 1172)]),
         "1,280 bytes"
     );
     Ok(())
@@ -201,33 +111,14 @@ fn errors_about_tunnel_packets_are_passed_on(rt: HostRuntime) -> Result<(), Fail
     let alloc = rt.alloc();
     let quoted = joined(alloc, DOWN_TUNNEL, DOWN_LOWERED)?;
     let message = joined(alloc, PACKET_TOO_BIG, &quoted)?;
-    let item = ItemView::Six58 {
-        src: ROUTER,
-        dst: AFTR,
-        message: &message,
-    };
-    let reply = Reply::Relay {
-        own: OWN,
-        code: 4,
-        mtu: 1360,
-        path: Path::Plain,
-    };
-    let told = dropped(alloc, &item, Rule::Relayed, reply)?;
-    assert!(rt; are_just(&told, 1) && is_packet(&told.1, 0, &[RELAYED, DOWN_LOWERED]));
+    let told = relayed(alloc, ROUTER, &message, OWN, 1360)?;
+    assert!(rt; is_just(&told, &[RELAYED, DOWN_LOWERED]));
     Ok(())
 }
 
 #[test]
 fn nothing_is_sent_in_silence(rt: HostRuntime) -> Result<(), Fail> {
-    let Ok(packet) = read_packet(UP) else {
-        return Err("a packet".into());
-    };
-    let told = dropped(
-        rt.alloc(),
-        &up(SUBSCRIBER, packet),
-        Rule::NoBinding,
-        Reply::Silent,
-    )?;
+    let told = dropped(rt.alloc(), UP)?;
     assert!(rt; told.0 == 0 && told.1.is_empty());
     Ok(())
 }

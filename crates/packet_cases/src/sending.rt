@@ -1,11 +1,11 @@
 // What the tests of packets that are sent share: items with their packet read, what is recorded for verdicts on them, and the
 // records taken apart.
-ghost use Rattle.std.specs.Prelude.{◌≡◌, ◌×◌, ◌⊎◌, ◌≤◌, ◌<◌, true, false};
-ghost use Rattle.ip_codec.specs.Packet4.{Packet4, is_fragment, packet4, packet_len};
+ghost use Rattle.std.specs.Prelude.{◌≡◌, ◌≤◌, true, false};
+ghost use Rattle.ip_codec.specs.Packet4.{is_fragment, packet4, packet_len};
 ghost use Rattle.ip_codec.specs.Seen.{seen};
-ghost use Rattle.verdict_core.specs.Fitting.{FitsReply, HasPacket, IsRelayable, IsUp};
+ghost use Rattle.verdict_core.specs.Fitting.{Fits, HasRoom};
 
-use aftr_base::{OutOfMemory, V6};
+use aftr_base::{OutOfMemory, V4, V6};
 use capture_io::Written;
 use case_data::{AFTR, SUBSCRIBER};
 use icmp_codec::icmp6;
@@ -14,7 +14,7 @@ use ip_codec::{ItemView, Outer, ReadPacket, Rule, read_packet};
 use packet_render::push_packets;
 use std::alloc::Global;
 use std::test::Fail;
-use verdict_core::{Reply, Verdict};
+use verdict_core::{Path, Reply, Verdict};
 
 // The form and the time of every record in these tests.
 pub const FORM: Written = Written::Classic { nano: false };
@@ -44,19 +44,41 @@ pub fn joined(alloc: Global, first: &[u8], rest: &[u8]) -> Result<Vec<u8>, OutOf
     Ok(list)
 }
 
-// The packet of a subscriber's tunnel.
-pub fn up<'a>(from: V6, inner: ReadPacket<'a>) -> ItemView<'a> {
-    let outer = Outer {
+// A part of the bytes; nothing where they are shorter.
+pub fn part(bytes: &[u8], from: usize, to: usize) -> &[u8] {
+    match bytes.get(from..to) {
+        Some(part) => part,
+        None => &[],
+    }
+}
+
+// The header of a subscriber's tunnel packet.
+fn outer(from: V6) -> Outer {
+    Outer {
         word: 0x6000_0000,
         hop: 64,
         src: from,
         dst: AFTR,
-    };
-    ItemView::Up { outer, inner }
+    }
+}
+
+// What is recorded for record `number`.
+fn record(
+    alloc: Global,
+    item: &ItemView<'_>,
+    verdict: Verdict,
+    number: u32,
+) -> Result<Recorded, Fail>
+    requires fits { Fits (seen item.now) verdict }
+    requires room { HasRoom verdict }
+{
+    let mut out = Vec::new(alloc);
+    let count = push_packets(&mut out, FORM, item, &verdict, number, SECONDS, FRACTION)?;
+    Ok((count, out))
 }
 
 // Whether a packet may be sent on in packets of so many bytes.
-pub fn is_sendable(packet: &ReadPacket<'_>, room: usize) -> bool
+fn is_sendable(packet: &ReadPacket<'_>, room: usize) -> bool
     ensures { result ≡ true → (is_fragment (packet4 packet.now.view) ≡ false) × (2 ≤ packet.now.view.ttl)
         × (packet.now.view.df ≡ true → packet_len (packet4 packet.now.view) ≤ room) }
 {
@@ -71,17 +93,20 @@ pub fn is_sendable(packet: &ReadPacket<'_>, room: usize) -> bool
 
 // What is recorded for a packet of a subscriber that goes out.
 pub fn sent_out(alloc: Global, bytes: &[u8], mtu: u16) -> Result<Recorded, Fail> {
-    let Ok(packet) = read_packet(bytes) else {
+    let Ok(inner) = read_packet(bytes) else {
         return Err("a packet".into());
     };
-    if mtu < 576 || !is_sendable(&packet, usize::from(mtu)) {
-        return Err("a packet that can be sent on".into());
+    if mtu < 576 {
+        return Err("a size that every host takes".into());
     }
-    let item = up(SUBSCRIBER, packet);
-    let mut out = Vec::new(alloc);
-    let verdict = Verdict::Outward { mtu };
-    let count = push_packets(&mut out, FORM, &item, &verdict, 7, SECONDS, FRACTION)?;
-    Ok((count, out))
+    if is_sendable(&inner, usize::from(mtu)) {
+        let item = ItemView::Up {
+            outer: outer(SUBSCRIBER),
+            inner,
+        };
+        return record(alloc, &item, Verdict::Outward { mtu }, 7);
+    }
+    Err("a packet that can be sent on".into())
 }
 
 // What is recorded for a packet that goes to a subscriber, as record `number`.
@@ -89,98 +114,167 @@ pub fn sent_in(alloc: Global, bytes: &[u8], mtu: u16, number: u32) -> Result<Rec
     let Ok(packet) = read_packet(bytes) else {
         return Err("a packet".into());
     };
-    if mtu < 1280 || !is_sendable(&packet, usize::from(mtu) - 40) {
-        return Err("a packet that can be sent on".into());
+    if mtu < 1280 {
+        return Err("a size that every link takes".into());
     }
-    let item = ItemView::Down { packet };
-    let verdict = Verdict::Inward {
-        from: AFTR,
-        to: SUBSCRIBER,
-        hop: 64,
-        mtu,
-        back: false,
-    };
-    let mut out = Vec::new(alloc);
-    let count = push_packets(&mut out, FORM, &item, &verdict, number, SECONDS, FRACTION)?;
-    Ok((count, out))
+    if is_sendable(&packet, usize::from(mtu) - 40) {
+        let item = ItemView::Down { packet };
+        let verdict = Verdict::Inward {
+            from: AFTR,
+            to: SUBSCRIBER,
+            hop: 64,
+            mtu,
+            back: false,
+        };
+        return record(alloc, &item, verdict, number);
+    }
+    Err("a packet that can be sent on".into())
 }
 
 // What is recorded for a packet of one subscriber that goes to another.
 pub fn sent_back(alloc: Global, bytes: &[u8], to: V6, mtu: u16) -> Result<Recorded, Fail> {
+    let Ok(inner) = read_packet(bytes) else {
+        return Err("a packet".into());
+    };
+    if mtu < 1280 {
+        return Err("a size that every link takes".into());
+    }
+    if is_sendable(&inner, usize::from(mtu) - 40) {
+        let item = ItemView::Up {
+            outer: outer(SUBSCRIBER),
+            inner,
+        };
+        let verdict = Verdict::Inward {
+            from: AFTR,
+            to,
+            hop: 64,
+            mtu,
+            back: true,
+        };
+        return record(alloc, &item, verdict, 7);
+    }
+    Err("a packet that can be sent on".into())
+}
+
+// What is recorded for a packet of a subscriber that is dropped in silence.
+pub fn dropped(alloc: Global, bytes: &[u8]) -> Result<Recorded, Fail> {
+    let Ok(inner) = read_packet(bytes) else {
+        return Err("a packet".into());
+    };
+    let item = ItemView::Up {
+        outer: outer(SUBSCRIBER),
+        inner,
+    };
+    let verdict = Verdict::Drop {
+        why: Rule::NoBinding,
+        reply: Reply::Silent,
+    };
+    record(alloc, &item, verdict, 7)
+}
+
+// What a subscriber is told of a packet whose time to live is used up.
+pub fn exceeded(alloc: Global, bytes: &[u8], own: V4, path: Path) -> Result<Recorded, Fail> {
+    let Ok(inner) = read_packet(bytes) else {
+        return Err("a packet".into());
+    };
+    let item = ItemView::Up {
+        outer: outer(SUBSCRIBER),
+        inner,
+    };
+    let verdict = Verdict::Drop {
+        why: Rule::Ttl,
+        reply: Reply::Exceeded { own, path },
+    };
+    record(alloc, &item, verdict, 7)
+}
+
+// What a subscriber is told of a packet to an address and port that nobody has.
+pub fn unreachable(alloc: Global, bytes: &[u8], own: V4, path: Path) -> Result<Recorded, Fail> {
+    let Ok(inner) = read_packet(bytes) else {
+        return Err("a packet".into());
+    };
+    let item = ItemView::Up {
+        outer: outer(SUBSCRIBER),
+        inner,
+    };
+    let verdict = Verdict::Drop {
+        why: Rule::HairpinNoBinding,
+        reply: Reply::Unreachable { own, path },
+    };
+    record(alloc, &item, verdict, 7)
+}
+
+// What the end of a tunnel is told of a packet that is not its own.
+pub fn policy(alloc: Global, bytes: &[u8], end: V6) -> Result<Recorded, Fail> {
+    let Ok(inner) = read_packet(bytes) else {
+        return Err("a packet".into());
+    };
+    let item = ItemView::Up {
+        outer: outer(end),
+        inner,
+    };
+    let reply = Reply::Policy {
+        from: AFTR,
+        to: end,
+        hop: 64,
+    };
+    let verdict = Verdict::Drop {
+        why: Rule::NoBinding,
+        reply,
+    };
+    record(alloc, &item, verdict, 7)
+}
+
+// What a host is told of a packet that is too big.
+pub fn too_big(alloc: Global, bytes: &[u8], own: V4, mtu: u16) -> Result<Recorded, Fail> {
     let Ok(packet) = read_packet(bytes) else {
         return Err("a packet".into());
     };
-    if mtu < 1280 || !is_sendable(&packet, usize::from(mtu) - 40) {
-        return Err("a packet that can be sent on".into());
-    }
-    let item = up(SUBSCRIBER, packet);
-    let verdict = Verdict::Inward {
-        from: AFTR,
-        to,
-        hop: 64,
+    let reply = Reply::TooBig {
+        own,
         mtu,
-        back: true,
+        path: Path::Plain,
     };
-    let mut out = Vec::new(alloc);
-    let count = push_packets(&mut out, FORM, &item, &verdict, 7, SECONDS, FRACTION)?;
-    Ok((count, out))
+    let verdict = Verdict::Drop {
+        why: Rule::TooBig,
+        reply,
+    };
+    record(alloc, &ItemView::Down { packet }, verdict, 7)
 }
 
-// What is recorded for a drop of an item that the reply fits.
-pub fn dropped(
+// What a host is told of an ICMPv6 error about the tunnel packet that carried its own.
+pub fn relayed(
     alloc: Global,
-    item: &ItemView<'_>,
-    why: Rule,
-    reply: Reply,
+    src: V6,
+    message: &[u8],
+    own: V4,
+    mtu: u16,
 ) -> Result<Recorded, Fail> {
-    if !fits_reply(item, reply) {
-        return Err("a reply that fits".into());
-    }
-    let mut out = Vec::new(alloc);
-    let verdict = Verdict::Drop { why, reply };
-    let count = push_packets(&mut out, FORM, item, &verdict, 7, SECONDS, FRACTION)?;
-    Ok((count, out))
-}
-
-// Whether the reply fits the item.
-fn fits_reply(item: &ItemView<'_>, reply: Reply) -> bool
-    ensures { result ≡ true → FitsReply (seen item.now) reply }
-{
-    match reply {
-        Reply::Silent => true,
-        Reply::Unreachable { .. } | Reply::TooBig { .. } | Reply::Exceeded { .. } => {
-            holds_packet(item)
-        }
-        Reply::Policy { .. } => holds_inner(item),
-        Reply::Relay { code, .. } => may_be_passed_on(item, code),
-    }
-}
-
-fn holds_packet(item: &ItemView<'_>) -> bool
-    ensures { result ≡ true → (p : Packet4) × HasPacket (seen item.now) p }
-{
-    matches!(item, ItemView::Down { .. } | ItemView::Up { .. })
-}
-
-fn holds_inner(item: &ItemView<'_>) -> bool
-    ensures { result ≡ true → IsUp (seen item.now) × ((p : Packet4) × HasPacket (seen item.now) p) }
-{
-    matches!(item, ItemView::Up { .. })
-}
-
-fn may_be_passed_on(item: &ItemView<'_>, code: u8) -> bool
-    ensures { result ≡ true → IsRelayable (seen item.now) × ((code ≡ 1) ⊎ (code ≡ 4)) }
-{
-    if code != 1 && code != 4 {
-        return false;
-    }
-    let ItemView::Six58 { src, dst, message } = item else {
-        return false;
+    let Ok(view) = icmp6(src, AFTR, message) else {
+        return Err("an ICMPv6 message".into());
     };
-    let Ok(view) = icmp6(*src, *dst, message) else {
-        return false;
+    let Ok(quote) = read_quote(view.rest) else {
+        return Err("a quoted tunnel packet".into());
     };
-    read_quote(view.rest).is_ok()
+    if quote.src6 != AFTR {
+        return Err("a tunnel packet of the router".into());
+    }
+    let reply = Reply::Relay {
+        own,
+        code: 4,
+        mtu,
+        path: Path::Plain,
+    };
+    let verdict = Verdict::Drop {
+        why: Rule::Relayed,
+        reply,
+    };
+    let item = ItemView::Six58 {
+        src,
+        dst: AFTR,
+        message,
+    };
+    record(alloc, &item, verdict, 7)
 }
 
 // The packet of record `index`, where every record before it has the time of the tests and its length twice. The numbers of
