@@ -107,8 +107,8 @@ fn each_call_of_the_files_may_fail(rt: HostRuntime) -> Result<(), Fail> {
         assert!(rt; seen.takes(&ran, &fronts)?, "{call}");
         assert!(rt; keeps_inputs(&ran, &both), "{call}");
     }
-    // The header and the bytes of the first record, those of the second, and the end.
-    assert_eq!(rt; seen.cut.as_str(), "00112");
+    // One read brings the bytes of both records, and another one tells that nothing stands behind them.
+    assert_eq!(rt; seen.cut.as_str(), "02");
     assert!(rt; seen.done);
     Ok(())
 }

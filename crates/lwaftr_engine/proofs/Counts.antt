@@ -48,10 +48,10 @@ same_totals a b records held forwarded dropped packets version =
     ∙ ap (λ (k : ℕ). let t : Totals = record b { version = k } in t) version
 
 -- the totals of a run under one table are those that were counted
-pub totals_are : (c : Course) → length c.points ≡ 0 → (form : Form) (rs : List Rec) (totals : Totals) → totals.records ≡ length rs →
+pub totals_are : (c : Course) → c.loaded ≡ 0 → (form : Form) (rs : List Rec) (totals : Totals) → totals.records ≡ length rs →
     totals ≡ totals_from c no_totals 0 (entries_of form rs) → totals_of c form rs ≡ totals
-totals_are c points form rs totals records is =
+totals_are c loaded form rs totals records is =
     let sums : AreAdded c no_totals (totals_from c no_totals 0 (entries_of form rs)) 0 (entries_of form rs) = added c no_totals 0 (entries_of form rs) in
     same_totals (totals_of c form rs) totals (sym records)
     (omega (arith, sums.held, ap (λ k. k.held) is)) (omega (arith, sums.forwarded, ap (λ k. k.forwarded) is)) (omega (arith, sums.dropped, ap (λ k. k.dropped) is))
-    (omega (arith, sums.packets, ap (λ k. k.packets) is)) (omega (arith, points, sums.version, ap (λ k. k.version) is))
+    (omega (arith, sums.packets, ap (λ k. k.packets) is)) (omega (arith, loaded, sums.version, ap (λ k. k.version) is))

@@ -66,7 +66,7 @@ due_refused one n m refusal bad status.WriteFault due = absurd due
 due_refused one n m refusal bad status.OutOfMemory due = absurd due
 
 due_whole : AreSingle → (n : RunNames) (old new : Contents) (said now : Option (List ℕ)) (e : Option CaptureBad) → IsWholeRun n old new said now e → (s : Status) → IsAskedFor n old s → Asked e ≡ s
-due_whole one n old new said now e w s due = due_at one n old (Ok w.form) w.records e (w.bindings, w.run.table) w.capture s due
+due_whole one n old new said now e w s due = due_at one n old (Ok w.form) w.records e (w.tables.bindings, w.tables.table) w.capture s due
 
 pub is_due : AreSingle → (n : RunNames) (result : Status) (old new : Contents) (said now : Option (List ℕ)) (last : Option (List ℕ × ℕ)) →
     FilesAt n result old new said now last → (s : Status) → IsAskedFor n old s → (result ≡ s) ⊎ IsFault result

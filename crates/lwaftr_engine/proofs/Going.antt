@@ -1,30 +1,31 @@
--- One round more.
-use Rattle.std.proofs.Common.{◌≡◌, ◌≢◌, ℕ, ◌+◌, ◌≤◌, Bool, List, ◌++◌, length, drop, All, Option, Some, None, sym, ◌∙◌, ap, subst, append_assoc, length-append, arith}
+-- A round: what was read, judged and written, put together; and rounds one after another.
+use Rattle.std.proofs.Common.{◌≡◌, ℕ, ◌+◌, ◌≤◌, List, [], ◌++◌, length, All, Option, Some, None, refl, sym, ◌∙◌, ap, subst, arith, append-nil, append_assoc, length-append}
+use Rattle.std.specs.Prelude.{string_bytes}
 use Rattle.std.proofs.lemmas.List.Elements.{All-append}
-use Rattle.aftr_base.specs.Contents.{Contents, content, Told, Moves, Writes}
+use Rattle.aftr_base.specs.Contents.{Contents, content, Moves, Told}
 use Rattle.aftr_base.specs.Outside.{FailsAt}
 use Rattle.aftr_text.specs.declared.summaries.Totals.{Totals}
 use Rattle.binding_rules.specs.Tables.{BindingTable}
-use Rattle.capture_io.specs.Capture.{Splits}
 use Rattle.capture_io.specs.declared.forms.Form.{Form}
 use Rattle.capture_io.specs.declared.forms.Rec.{Rec}
+use Rattle.capture_io.specs.declared.rounds.Ending.{Ending}
+use Rattle.capture_io.specs.declared.rounds.Ending.TheVariants as ending
+use Rattle.capture_io.specs.declared.rounds.Round.{Round}
+use Rattle.capture_io.specs.declared.written.Written.{Written}
+use Rattle.capture_io.specs.Rounds.{GoesOn, IsEnding, IsInNext, IsPlaced, Left, Precedes, is_cut}
+use Rattle.item_stage.specs.declared.entries.Entry.{Entry}
 use Rattle.item_stage.specs.Items.{entries_of}
 use Rattle.item_stage.specs.Stages.{Staged, Stands}
-use Rattle.item_stage.specs.declared.entries.Entry.{Entry}
-use Rattle.lwaftr_engine.specs.Jobs.{RunNames}
 use Rattle.lwaftr_engine.specs.Counting.{no_totals, totals_from}
-use Rattle.lwaftr_engine.specs.Outputs.{Course, packets_from, lines_from, steady}
-use Rattle.lwaftr_engine.specs.Progress.{GoesOn, HasTaken, Stops}
+use Rattle.lwaftr_engine.specs.Jobs.{RunNames}
+use Rattle.lwaftr_engine.specs.Outputs.{Course, packets_from, lines_from, steady, written_as}
+use Rattle.lwaftr_engine.specs.Progress.{HasWritten, Stops, TakesOn, Wrote}
 use Rattle.lwaftr_engine.specs.Rendering.{IsRendered}
-use Rattle.lwaftr_engine.specs.Rounds.{IsCount, IsEnding, IsPlaced, IsInNext, IsRoundOf, Precedes, is_cut}
 use Rattle.lwaftr_engine.specs.declared.rendering.Rendered.{Rendered}
-use Rattle.lwaftr_engine.specs.declared.rounds.Ending.{Ending}
-use Rattle.lwaftr_engine.specs.declared.rounds.Ending.TheVariants as ending
-use Rattle.lwaftr_engine.specs.declared.rounds.Round.{Round}
-use Rattle.lwaftr_engine.specs.declared.run.Progress.{Progress}
+use Rattle.lwaftr_engine.specs.declared.rounds.Progress.{Progress}
 use Rattle.lwaftr_engine.proofs.Joining.{lines_join, packets_join, totals_join}
 use Rattle.lwaftr_engine.proofs.Moving.{moves_join, told_then}
-use Rattle.lwaftr_engine.proofs.Touching.{AreApart, More}
+use Rattle.lwaftr_engine.proofs.Touching.{AreApart}
 use Rattle.table_words.specs.Layout.{IsCompiled}
 
 -- what the stage says of the round's records
@@ -34,145 +35,173 @@ pub record IsStaged (before after : Staged) (records : List Rec) (es : List Entr
   pub count : length es ≡ length records
   pub form : after.form ≡ before.form
 
-no_further : (rs : List Rec) (here there : ℕ) → here ≤ there → All (λ r. r.next_at ≤ here) rs → All (λ r. r.next_at ≤ there) rs
-no_further rs here there forward each = λ k d within. omega (arith, each k d within)
-
 entries_more : (form : Form) (before after : Staged) (records : List Rec) (es : List Entry) (taken : List Rec) → before.form ≡ form → Stands before taken →
     IsStaged before after records es → entries_of form (taken ++ records) ≡ entries_of form taken ++ es
 entries_more form before after records es taken is stands staged =
     let P : Form → Type 0 = λ f. entries_of f (taken ++ records) ≡ entries_of f taken ++ es in subst P is (staged.entries taken stands)
 
-follows_more : (big : Bool) (bytes : List ℕ) (taken records : List Rec) (here number there next : ℕ) →
-    Precedes big bytes 24 0 taken here number → Precedes big bytes here number records there next → Precedes big bytes 24 0 (taken ++ records) there next
-follows_more big bytes taken records here number there next first second = λ rs e splits.
-    let P : List Rec → Type 0 = λ l. Splits big (drop 24 bytes) 24 0 l e in
-    subst P (sym (append_assoc taken records rs)) (first (records ++ rs) e (second rs e splits))
+-- behind what was written, more is
+wrote_more : (n : RunNames) (a b d : Contents) (packets lines more_packets more_lines : List ℕ) → Wrote n packets lines a b → Wrote n more_packets more_lines b d →
+    Wrote n (packets ++ more_packets) (lines ++ more_lines) a d
+wrote_more n a b d packets lines more_packets more_lines first second = record {
+  output = second.output ∙ (ap (λ (l : List ℕ). l ++ more_packets) first.output ∙ append_assoc (content a n.output) packets more_packets);
+  verdicts = second.verdicts ∙ (ap (λ (l : List ℕ). l ++ more_lines) first.verdicts ∙ append_assoc (content a n.verdicts) lines more_lines);
+  others = λ name x y. second.others name x y ∙ first.others name x y;
+}
 
--- a file that is no output holds what it held
-kept : (n : RunNames) → AreApart n → (a b c : Contents) (packets lines : List ℕ) → Writes a b n.output packets → Writes b c n.verdicts lines →
-    (name : List ℕ) → name ≢ n.output → name ≢ n.verdicts → content c name ≡ content a name
-kept n far a b c packets lines first second name x y = second.others name y ∙ first.others name x
-
-pub taken_more : (n : RunNames) (form : Form) (c : Course) → AreApart n → (opened a b d : Contents) (p : Progress) (round : Round) (es : List Entry) (stage : Staged) (totals : Totals) (r : Rendered) (taken : List Rec) →
-    IsCount p.at p.number round → IsPlaced p.at round → IsStaged p.stage stage round.records.items es →
-    IsRendered c p.number round.records.items es p.totals totals r →
-    Precedes form.big (content a n.input) p.at p.number round.records.items round.at round.number →
-    Writes a b n.output (content a n.output ++ r.packets.items) → Writes b d n.verdicts (content b n.verdicts ++ r.lines.items) →
-    HasTaken n form c opened a p taken →
-    HasTaken n form c opened d (record { stage = stage; at = round.at; number = round.number; totals = totals }) (taken ++ round.records.items)
-taken_more n form c far opened a b d p round es stage totals r taken count placed staged rendered follows first second h =
-    let records : List Rec = round.records.items in
+-- a round more is written
+pub written_more : (n : RunNames) (form : Form) (c : Course) (opened a d : Contents) (p : Progress) (records : List Rec) (next : ℕ) (es : List Entry) (stage : Staged) (totals : Totals) (r : Rendered) (taken : List Rec) →
+    next ≡ p.number + length records → IsStaged p.stage stage records es →
+    IsRendered c (written_as form) p.number records es p.totals totals r →
+    Wrote n r.packets.items (string_bytes r.lines) a d →
+    HasWritten n form c opened a p taken →
+    HasWritten n form c opened d (record { stage = stage; number = next; totals = totals }) (taken ++ records)
+written_more n form c opened a d p records next es stage totals r taken numbered staged rendered wrote h =
+    let w = written_as form in
     let more : entries_of form (taken ++ records) ≡ entries_of form taken ++ es = entries_more form p.stage stage records es taken h.stage_form h.stands staged in
     let here : p.number ≡ 0 + length taken = omega (arith, h.number) in
     let behind : p.number ≡ 0 + length (entries_of form taken) = omega (arith, h.number, h.entries) in
-    let input : content a n.input ≡ content opened n.input = h.others n.input (λ e. far.output_input (sym e)) (λ e. far.verdicts_input (sym e)) in
+    let packets : packets_from c w 0 taken (entries_of form taken) ++ r.packets.items ≡ packets_from c w 0 (taken ++ records) (entries_of form (taken ++ records)) =
+    ap (λ (l : List ℕ). packets_from c w 0 taken (entries_of form taken) ++ l) rendered.packets
+    ∙ (sym (packets_join c w 0 p.number taken records (entries_of form taken) es h.entries here)
+    ∙ ap (λ (l : List Entry). packets_from c w 0 (taken ++ records) l) (sym more)) in
+    let lines : lines_from c 0 (entries_of form taken) ++ string_bytes r.lines ≡ lines_from c 0 (entries_of form (taken ++ records)) =
+    ap (λ (l : List ℕ). lines_from c 0 (entries_of form taken) ++ l) rendered.lines
+    ∙ (sym (lines_join c 0 p.number (entries_of form taken) es behind)
+    ∙ ap (λ (l : List Entry). lines_from c 0 l) (sym more)) in
+    let W : List ℕ → List ℕ → Type 0 = λ x y. Wrote n x y opened d in
+    let both : W (packets_from c w 0 taken (entries_of form taken) ++ r.packets.items) (lines_from c 0 (entries_of form taken) ++ string_bytes r.lines) =
+    wrote_more n opened a d (packets_from c w 0 taken (entries_of form taken)) (lines_from c 0 (entries_of form taken)) r.packets.items (string_bytes r.lines) h.files wrote in
     record {
       stands = staged.stands taken h.stands;
       stage_form = staged.form ∙ h.stage_form;
-      number = omega (arith, count.numbered, h.number, length-append taken records);
+      number = omega (arith, numbered, h.number, length-append taken records);
       entries = ap length more ∙ omega (arith, length-append (entries_of form taken) es, length-append taken records, h.entries, staged.count);
-      behind = omega (arith, h.behind, placed.forward);
-      within = All-append (λ x. x.next_at ≤ round.at) taken records (no_further taken p.at round.at placed.forward h.within) placed.within;
-      follows = follows_more form.big (content opened n.input) taken records p.at p.number round.at round.number h.follows
-          (let P : List ℕ → Type 0 = λ l. Precedes form.big l p.at p.number records round.at round.number in subst P input follows);
       totals = rendered.totals ∙ (ap (λ (t : Totals). totals_from c t p.number es) h.totals
           ∙ (sym (totals_join c no_totals 0 p.number (entries_of form taken) es behind) ∙ ap (λ (l : List Entry). totals_from c no_totals 0 l) (sym more)));
-      output = second.others n.output far.output_verdicts ∙ (first.here
-          ∙ (ap (λ (l : List ℕ). l ++ r.packets.items) h.output
-          ∙ (append_assoc (content opened n.output) (packets_from c 0 taken (entries_of form taken)) r.packets.items
-          ∙ ap (λ (l : List ℕ). content opened n.output ++ l)
-          (ap (λ (l : List ℕ). packets_from c 0 taken (entries_of form taken) ++ l) rendered.packets
-          ∙ (sym (packets_join c 0 p.number taken records (entries_of form taken) es h.entries here)
-          ∙ ap (λ (l : List Entry). packets_from c 0 (taken ++ records) l) (sym more))))));
-      verdicts = second.here ∙ (ap (λ (l : List ℕ). l ++ r.lines.items) (first.others n.verdicts (λ e. far.output_verdicts (sym e)) ∙ h.verdicts)
-          ∙ (append_assoc (content opened n.verdicts) (lines_from c 0 (entries_of form taken)) r.lines.items
-          ∙ ap (λ (l : List ℕ). content opened n.verdicts ++ l)
-          (ap (λ (l : List ℕ). lines_from c 0 (entries_of form taken) ++ l) rendered.lines
-          ∙ (sym (lines_join c 0 p.number (entries_of form taken) es behind)
-          ∙ ap (λ (l : List Entry). lines_from c 0 l) (sym more)))));
-      others = λ name x y. kept n far a b d _ _ first second name x y ∙ h.others name x y;
+      files = subst (λ (y : List ℕ). W (packets_from c w 0 (taken ++ records) (entries_of form (taken ++ records))) y) lines
+          (subst (λ (x : List ℕ). W x (lines_from c 0 (entries_of form taken) ++ string_bytes r.lines)) packets both);
     }
 
--- what was read of the capture, and how it stopped
-pub record IsNext (name : List ℕ) (big : Bool) (bytes : List ℕ) (at number : ℕ) (round : Round) (last : Option (List ℕ × ℕ)) : Type 0 where
-  pub follows : Precedes big bytes at number round.records.items round.at round.number
-  pub stopped : Stops name big bytes round.at round.number round.ending last
-
-stops : (m : Contents) (name : List ℕ) (big : Bool) (at number : ℕ) (stop : Option Ending) (old new : Option (List ℕ × ℕ)) →
-    IsEnding big (content m name) at number stop → FailsAt (is_cut stop) name (IsInNext name big (Some m) at number) old new → Stops name big (content m name) at number stop new
-stops m name big at number None old new ended last = tt
-stops m name big at number (Some ending.End) old new ended last = ended
-stops m name big at number (Some (ending.Bad refusal)) old new ended last = ended
-stops m name big at number (Some ending.ReadFault) old new ended last = record { place = last.0; last_is = last.2; begun = last.1.0; before = last.1.1 }
-
-pub next_told : (held : Option Contents) (name : List ℕ) (big : Bool) (at number : ℕ) (round : Round) (old new : Option (List ℕ × ℕ)) →
-    Told held (λ m. IsRoundOf big (content m name) at number round) → FailsAt (is_cut round.ending) name (IsInNext name big held round.at round.number) old new →
-    Told held (λ m. IsNext name big (content m name) at number round new)
-next_told None name big at number round old new told last = tt
-next_told (Some m) name big at number round old new told last = record {
-  follows = told.follows;
-  stopped = stops m name big round.at round.number round.ending old new told.ended last;
+-- one round, over files that were this before it
+pub takes_on : (n : RunNames) (form : Form) (c : Course) → AreApart n → (a d : Contents) (Stood : List ℕ → Type 0) (before now : Left) (from to : ℕ) (p : Progress) (round : Round) (es : List Entry) (stage : Staged) (totals : Totals) (r : Rendered) (last : Option (List ℕ × ℕ)) →
+    round.number ≡ p.number + length round.records → IsPlaced from to round → IsStaged p.stage stage round.records es →
+    IsRendered c (written_as form) p.number round.records es p.totals totals r →
+    GoesOn Stood before now (content a n.input) p.number round → Stops n.input now to (content a n.input) round.number round.ending last →
+    Wrote n r.packets.items (string_bytes r.lines) a d →
+    TakesOn n form c a d Stood before now from to p (record { stage = stage; number = round.number; totals = totals }) round.ending last
+takes_on n form c far a d Stood before now from to p round es stage totals r last numbered placed staged rendered goes stopped wrote = record {
+  records = round.records;
+  stands = goes.stands;
+  input = wrote.others n.input (λ e. far.output_input (sym e)) (λ e. far.verdicts_input (sym e));
+  follows = goes.follows;
+  forward = placed.forward;
+  within = placed.within;
+  stopped = stopped;
+  written = λ opened taken h. written_more n form c opened a d p round.records round.number es stage totals r taken numbered staged rendered wrote h;
 }
 
--- the round's packets are written, after it was read
-record IsHalf (n : RunNames) (big : Bool) (at number : ℕ) (round : Round) (last : Option (List ℕ × ℕ)) (packets : List ℕ) (a b : Contents) : Type 0 where
-  taken : IsNext n.input big (content a n.input) at number round last
-  wrote : Writes a b n.output (content a n.output ++ packets)
+stops : (m : Contents) (name : List ℕ) (Stood : List ℕ → Type 0) (now : Left) (to number : ℕ) (stop : Option Ending) (old new : Option (List ℕ × ℕ)) → Stood (content m name) →
+    IsEnding now (content m name) number stop → FailsAt (is_cut stop) name (IsInNext name Stood now to (Some m) number) old new → Stops name now to (content m name) number stop new
+stops m name Stood now to number None old new stood ended last = tt
+stops m name Stood now to number (Some ending.End) old new stood ended last = ended
+stops m name Stood now to number (Some (ending.Bad refusal)) old new stood ended last = ended
+stops m name Stood now to number (Some ending.ReadFault) old new stood ended last = record { place = last.0; last_is = last.2; begun = last.1.0; before = last.1.1 stood }
 
--- and its lines
-record IsBoth (n : RunNames) (big : Bool) (at number : ℕ) (round : Round) (last : Option (List ℕ × ℕ)) (packets lines : List ℕ) (a d : Contents) : Type 0 where
-  middle : Contents
-  half : IsHalf n big at number round last packets a middle
-  wrote : Writes middle d n.verdicts (content middle n.verdicts ++ lines)
+-- what was read, and how the records stopped
+record IsNext (name : List ℕ) (Standing : List ℕ → Type 0) (before now : Left) (to number : ℕ) (bytes : List ℕ) (round : Round) (last : Option (List ℕ × ℕ)) : Type 0 where
+  goes : GoesOn Standing before now bytes number round
+  stopped : Stops name now to bytes round.number round.ending last
 
-gone : (n : RunNames) (form : Form) (c : Course) → AreApart n → (p : Progress) (round : Round) (es : List Entry) (stage : Staged) (totals : Totals) (r : Rendered) (last : Option (List ℕ × ℕ)) →
-    IsCount p.at p.number round → IsPlaced p.at round → IsStaged p.stage stage round.records.items es →
-    IsRendered c p.number round.records.items es p.totals totals r →
-    (a d : Contents) → IsBoth n form.big p.at p.number round last r.packets.items r.lines.items a d →
-    GoesOn n form c a d p (record { stage = stage; at = round.at; number = round.number; totals = totals }) round.ending last
-gone n form c far p round es stage totals r last count placed staged rendered a d both opened taken h =
-    let input : content a n.input ≡ content opened n.input = h.others n.input (λ e. far.output_input (sym e)) (λ e. far.verdicts_input (sym e)) in
-    let P : List ℕ → Type 0 = λ l. Stops n.input form.big l round.at round.number round.ending last in
-    record {
-      records = taken ++ round.records.items;
-      taken = taken_more n form c far opened a both.middle d p round es stage totals r taken count placed staged rendered both.half.taken.follows both.half.wrote both.wrote h;
-      stopped = subst P input both.half.taken.stopped;
-    }
+next_told : (held : Option Contents) (name : List ℕ) (Stood Standing : List ℕ → Type 0) (before now : Left) (to number : ℕ) (round : Round) (old new : Option (List ℕ × ℕ)) →
+    Told held (λ m. Stood (content m name) → GoesOn Standing before now (content m name) number round) →
+    FailsAt (is_cut round.ending) name (IsInNext name Stood now to held round.number) old new →
+    Told held (λ m. Stood (content m name) → IsNext name Standing before now to number (content m name) round new)
+next_told None name Stood Standing before now to number round old new told last = tt
+next_told (Some m) name Stood Standing before now to number round old new told last = λ stood.
+    record { goes = told stood; stopped = stops m name Stood now to round.number round.ending old new stood (told stood).ended last }
 
 -- the files before and after a round
-pub went : (n : RunNames) (form : Form) (words : List ℕ) → AreApart n → (p : Progress) (round : Round) (es : List Entry) (stage : Staged) (totals : Totals) (r : Rendered) (old last now : Option (List ℕ × ℕ)) →
-    IsCount p.at p.number round → IsPlaced p.at round → IsStaged p.stage stage round.records.items es →
-    ((t : BindingTable) → IsCompiled t words → IsRendered (steady t) p.number round.records.items es p.totals totals r) →
-    (h0 h1 h2 h3 : Option Contents) → h1 ≡ h0 → Told h0 (λ m. IsRoundOf form.big (content m n.input) p.at p.number round) →
-    FailsAt (is_cut round.ending) n.input (IsInNext n.input form.big h0 round.at round.number) old last →
-    More h1 h2 n.output r.packets.items → More h2 h3 n.verdicts r.lines.items → now ≡ last →
-    Moves h0 h3 (λ a d. (t : BindingTable) → IsCompiled t words → GoesOn n form (steady t) a d p (record { stage = stage; at = round.at; number = round.number; totals = totals }) round.ending now)
-went n form words far p round es stage totals r old last now count placed staged rendered h0 h1 h2 h3 same told stopped first second last_is =
-    let half : Moves h0 h2 (λ a b. IsHalf n form.big p.at p.number round last r.packets.items a b) =
-    told_then h0 h1 h2 (λ m. IsNext n.input form.big (content m n.input) p.at p.number round last) _ (λ a b. IsHalf n form.big p.at p.number round last r.packets.items a b)
-    (λ a b x w. record { taken = x; wrote = w }) same (next_told h0 n.input form.big p.at p.number round old last told stopped) first in
-    let M : Option (List ℕ × ℕ) → Type 0 = λ l. Moves h0 h3 (λ a d. (t : BindingTable) → IsCompiled t words → GoesOn n form (steady t) a d p (record { stage = stage; at = round.at; number = round.number; totals = totals }) round.ending l) in
-    subst M (sym last_is) (moves_join h0 h2 h3 (λ a b. IsHalf n form.big p.at p.number round last r.packets.items a b) _
-    (λ a d. (t : BindingTable) → IsCompiled t words → GoesOn n form (steady t) a d p (record { stage = stage; at = round.at; number = round.number; totals = totals }) round.ending last)
-    (λ a b d x w t compiled. gone n form (steady t) far p round es stage totals r last count placed staged (rendered t compiled) a d (record { middle = b; half = x; wrote = w }))
-    half second)
+pub went : (n : RunNames) (form : Form) (w : Written) (words : List ℕ) → AreApart n → (Stood Standing : List ℕ → Type 0) (before now : Left) (from to : ℕ) (p : Progress) (round : Round) (es : List Entry) (stage : Staged) (totals : Totals) (r : Rendered) (old last later : Option (List ℕ × ℕ)) →
+    w ≡ written_as form → round.number ≡ p.number + length round.records → IsPlaced from to round → IsStaged p.stage stage round.records es →
+    ((t : BindingTable) → IsCompiled t words → IsRendered (steady t) w p.number round.records es p.totals totals r) →
+    (h0 h1 h2 : Option Contents) → h1 ≡ h0 → Told h0 (λ m. Stood (content m n.input) → GoesOn Standing before now (content m n.input) p.number round) →
+    FailsAt (is_cut round.ending) n.input (IsInNext n.input Stood now to h0 round.number) old last → later ≡ last →
+    Moves h1 h2 (λ a d. Wrote n r.packets.items (string_bytes r.lines) a d) →
+    Moves h0 h2 (λ a d. (t : BindingTable) → IsCompiled t words → Stood (content a n.input) →
+    TakesOn n form (steady t) a d Standing before now from to p (record { stage = stage; number = round.number; totals = totals }) round.ending later)
+went n form w words far Stood Standing before now from to p round es stage totals r old last later form_is numbered placed staged rendered h0 h1 h2 same told stopped later_is wrote =
+    let q : Progress = record { stage = stage; number = round.number; totals = totals } in
+    let F : Option (List ℕ × ℕ) → Type 0 = λ l. FailsAt (is_cut round.ending) n.input (IsInNext n.input Stood now to h0 round.number) old l in
+    let next : Told h0 (λ m. Stood (content m n.input) → IsNext n.input Standing before now to p.number (content m n.input) round later) =
+    next_told h0 n.input Stood Standing before now to p.number round old later told (subst F (sym later_is) stopped) in
+    let seen : (t : BindingTable) → IsCompiled t words → IsRendered (steady t) (written_as form) p.number round.records es p.totals totals r =
+    λ t compiled. subst (λ (x : Written). IsRendered (steady t) x p.number round.records es p.totals totals r) form_is (rendered t compiled) in
+    told_then h0 h1 h2 (λ m. Stood (content m n.input) → IsNext n.input Standing before now to p.number (content m n.input) round later) (λ a d. Wrote n r.packets.items (string_bytes r.lines) a d)
+    (λ a d. (t : BindingTable) → IsCompiled t words → Stood (content a n.input) → TakesOn n form (steady t) a d Standing before now from to p q round.ending later)
+    (λ a d here done t compiled stood. takes_on n form (steady t) far a d Standing before now from to p round es stage totals r later numbered placed staged (seen t compiled) (here stood).goes (here stood).stopped done)
+    same next wrote
 
--- the same, as the code's calls say it: over slices of the lists
-pub went_seen : (n : RunNames) (form : Form) (words : List ℕ) → AreApart n → (p : Progress) (round : Round) (es : List Entry) (stage : Staged) (totals : Totals) (r : Rendered) (old last now : Option (List ℕ × ℕ)) →
-    (rs1 rs2 : List Rec) (es1 : List Entry) (packets lines : List ℕ) → rs1 ≡ round.records.items → rs2 ≡ round.records.items → es1 ≡ es → packets ≡ r.packets.items → lines ≡ r.lines.items →
-    IsCount p.at p.number round → IsPlaced p.at round →
-    ((taken : List Rec) → Stands p.stage taken → entries_of p.stage.form (taken ++ rs1) ≡ entries_of p.stage.form taken ++ es) →
-    ((taken : List Rec) → Stands p.stage taken → Stands stage (taken ++ rs1)) → length es ≡ length rs1 → stage.form ≡ p.stage.form →
-    ((t : BindingTable) → IsCompiled t words → IsRendered (steady t) p.number rs2 es1 p.totals totals r) →
-    (h0 h1 h2 h3 : Option Contents) → h1 ≡ h0 → Told h0 (λ m. IsRoundOf form.big (content m n.input) p.at p.number round) →
-    FailsAt (is_cut round.ending) n.input (IsInNext n.input form.big h0 round.at round.number) old last →
-    More h1 h2 n.output packets → More h2 h3 n.verdicts lines → now ≡ last →
-    Moves h0 h3 (λ a d. (t : BindingTable) → IsCompiled t words → GoesOn n form (steady t) a d p (record { stage = stage; at = round.at; number = round.number; totals = totals }) round.ending now)
-went_seen n form words far p round es stage totals r old last now rs1 rs2 es1 packets lines is1 is2 is3 is4 is5 count placed entries stands same_count same_form rendered h0 h1 h2 h3 same told stopped first second last_is =
-    let S : List Rec → Type 0 = λ l. IsStaged p.stage stage l es in
-    let staged : IsStaged p.stage stage rs1 es = record { entries = entries; stands = stands; count = same_count; form = same_form } in
-    let R : List Rec → Type 0 = λ l. (t : BindingTable) → IsCompiled t words → IsRendered (steady t) p.number l es1 p.totals totals r in
-    let E : List Entry → Type 0 = λ l. (t : BindingTable) → IsCompiled t words → IsRendered (steady t) p.number round.records.items l p.totals totals r in
-    let O : List ℕ → Type 0 = λ l. More h1 h2 n.output l in
-    let V : List ℕ → Type 0 = λ l. More h2 h3 n.verdicts l in
-    went n form words far p round es stage totals r old last now count placed (subst S is1 staged) (subst E is3 (subst R is2 rendered)) h0 h1 h2 h3 same told stopped (subst O is4 first) (subst V is5 second) last_is
+no_further : (rs : List Rec) (here there : ℕ) → here ≤ there → All (λ r. r.next_at ≤ here) rs → All (λ r. r.next_at ≤ there) rs
+no_further rs here there forward each = λ k d within. omega (arith, each k d within)
+
+follows_more : (first middle last : Left) (bytes : List ℕ) (number next there : ℕ) (rs ss : List Rec) →
+    Precedes first middle bytes number rs next → Precedes middle last bytes next ss there → Precedes first last bytes number (rs ++ ss) there
+follows_more first middle last bytes number next there rs ss one two = λ rest e left.
+    let P : List Rec → Type 0 = λ l. first bytes number l e in
+    subst P (sym (append_assoc rs ss rest)) (one (ss ++ rest) e (two rest e left))
+
+-- rounds, and then more of them
+joins : (n : RunNames) (form : Form) (c : Course) (a b d : Contents) (Stood Standing : List ℕ → Type 0) (first middle now : Left) (from mid to : ℕ) (p q r : Progress) (stop : Option Ending) (old last : Option (List ℕ × ℕ)) →
+    TakesOn n form c a b Stood first middle from mid p q None old → TakesOn n form c b d Standing middle now mid to q r stop last →
+    TakesOn n form c a d Standing first now from to p r stop last
+joins n form c a b d Stood Standing first middle now from mid to p q r stop old last one two =
+    let F : List ℕ → Type 0 = λ bytes. Precedes middle now bytes q.number two.records r.number in
+    let S : List ℕ → Type 0 = λ bytes. Stops n.input now to bytes r.number stop last in
+    record {
+      records = one.records ++ two.records;
+      stands = subst Standing one.input two.stands;
+      input = two.input ∙ one.input;
+      follows = follows_more first middle now (content a n.input) p.number q.number r.number one.records two.records one.follows (subst F one.input two.follows);
+      forward = omega (arith, one.forward, two.forward);
+      within = All-append (λ x. x.next_at ≤ to) one.records two.records (no_further one.records mid to two.forward one.within) two.within;
+      stopped = subst S one.input two.stopped;
+      written = λ opened taken h.
+          let H : List Rec → Type 0 = λ l. HasWritten n form c opened d r l in
+          subst H (append_assoc taken one.records two.records) (two.written opened (taken ++ one.records) (one.written opened taken h));
+    }
+
+pub rounds_join : (n : RunNames) (form : Form) (words : List ℕ) (h0 h1 h2 : Option Contents) (Started Stood Standing : List ℕ → Type 0) (first middle now : Left) (from mid to : ℕ) (p q r : Progress) (shown stop : Option Ending) (old last : Option (List ℕ × ℕ)) →
+    shown ≡ stop →
+    Moves h0 h1 (λ a b. (t : BindingTable) → IsCompiled t words → Started (content a n.input) → TakesOn n form (steady t) a b Stood first middle from mid p q None old) →
+    Moves h1 h2 (λ b d. (t : BindingTable) → IsCompiled t words → Stood (content b n.input) → TakesOn n form (steady t) b d Standing middle now mid to q r shown last) →
+    Moves h0 h2 (λ a d. (t : BindingTable) → IsCompiled t words → Started (content a n.input) → TakesOn n form (steady t) a d Standing first now from to p r stop last)
+rounds_join n form words h0 h1 h2 Started Stood Standing first middle now from mid to p q r shown stop old last is one two =
+    let T : Option Ending → Type 0 = λ k. Moves h1 h2 (λ b d. (t : BindingTable) → IsCompiled t words → Stood (content b n.input) → TakesOn n form (steady t) b d Standing middle now mid to q r k last) in
+    moves_join h0 h1 h2
+    (λ a b. (t : BindingTable) → IsCompiled t words → Started (content a n.input) → TakesOn n form (steady t) a b Stood first middle from mid p q None old)
+    (λ b d. (t : BindingTable) → IsCompiled t words → Stood (content b n.input) → TakesOn n form (steady t) b d Standing middle now mid to q r stop last)
+    (λ a d. (t : BindingTable) → IsCompiled t words → Started (content a n.input) → TakesOn n form (steady t) a d Standing first now from to p r stop last)
+    (λ a b d x y t compiled started.
+    let left = x t compiled started in
+    joins n form (steady t) a b d Stood Standing first middle now from mid to p q r stop old last left (y t compiled (subst Stood (sym left.input) left.stands)))
+    one (subst T is two)
+
+-- before the first round
+begins : (n : RunNames) (form : Form) (c : Course) (m : Contents) (Stood : List ℕ → Type 0) (left : Left) (at : ℕ) (p : Progress) (last : Option (List ℕ × ℕ)) →
+    Stood (content m n.input) → TakesOn n form c m m Stood left left at at p p None last
+begins n form c m Stood left at p last stood = record {
+  records = [];
+  stands = stood;
+  input = refl;
+  follows = λ rs e x. x;
+  forward = omega arith;
+  within = λ k d within. absurd (omega arith);
+  stopped = tt;
+  written = λ opened taken h. let H : List Rec → Type 0 = λ l. HasWritten n form c opened m p l in subst H (sym (append-nil taken)) h;
+}
+
+pub rounds_begin : (n : RunNames) (form : Form) (words : List ℕ) (h : Option Contents) (Stood : List ℕ → Type 0) (left : Left) (at : ℕ) (p : Progress) (last : Option (List ℕ × ℕ)) →
+    Moves h h (λ a d. (t : BindingTable) → IsCompiled t words → Stood (content a n.input) → TakesOn n form (steady t) a d Stood left left at at p p None last)
+rounds_begin n form words None Stood left at p last = tt
+rounds_begin n form words (Some m) Stood left at p last = λ t compiled stood. begins n form (steady t) m Stood left at p last stood

@@ -2,19 +2,20 @@
 use Rattle.std.proofs.Common.{◌≡◌, ℕ, ◌+◌, List, [], ◌∷◌, ◌++◌, length, sym, ◌∙◌, ap, append_assoc, arith}
 use Rattle.aftr_text.specs.declared.summaries.Totals.{Totals}
 use Rattle.capture_io.specs.declared.forms.Rec.{Rec}
+use Rattle.capture_io.specs.declared.written.Written.{Written}
 use Rattle.item_stage.specs.declared.entries.Entry.{Entry}
 use Rattle.lwaftr_engine.specs.Counting.{with_record, totals_from}
 use Rattle.lwaftr_engine.specs.Outputs.{Course, lines_at, lines_from, packets_at, packets_from, sent_at, verdict_at}
 
-pub packets_join : (c : Course) (number at : ℕ) (rs ss : List Rec) (es fs : List Entry) → length es ≡ length rs → at ≡ number + length rs →
-    packets_from c number (rs ++ ss) (es ++ fs) ≡ packets_from c number rs es ++ packets_from c at ss fs
-packets_join c number at [] ss [] fs same is =
-    let here : number ≡ at = omega arith in ap (λ (k : ℕ). packets_from c k ss fs) here
-packets_join c number at [] ss (e ∷ es) fs same is = absurd (omega arith)
-packets_join c number at (r ∷ rs) ss [] fs same is = absurd (omega arith)
-packets_join c number at (r ∷ rs) ss (e ∷ es) fs same is =
-    ap (λ l. packets_at c number r e ++ l) (packets_join c (number + 1) at rs ss es fs (omega arith) (omega arith))
-    ∙ sym (append_assoc (packets_at c number r e) (packets_from c (number + 1) rs es) (packets_from c at ss fs))
+pub packets_join : (c : Course) (w : Written) (number at : ℕ) (rs ss : List Rec) (es fs : List Entry) → length es ≡ length rs → at ≡ number + length rs →
+    packets_from c w number (rs ++ ss) (es ++ fs) ≡ packets_from c w number rs es ++ packets_from c w at ss fs
+packets_join c w number at [] ss [] fs same is =
+    let here : number ≡ at = omega arith in ap (λ (k : ℕ). packets_from c w k ss fs) here
+packets_join c w number at [] ss (e ∷ es) fs same is = absurd (omega arith)
+packets_join c w number at (r ∷ rs) ss [] fs same is = absurd (omega arith)
+packets_join c w number at (r ∷ rs) ss (e ∷ es) fs same is =
+    ap (λ l. packets_at c w number r e ++ l) (packets_join c w (number + 1) at rs ss es fs (omega arith) (omega arith))
+    ∙ sym (append_assoc (packets_at c w number r e) (packets_from c w (number + 1) rs es) (packets_from c w at ss fs))
 
 pub lines_join : (c : Course) (number at : ℕ) (es fs : List Entry) → at ≡ number + length es →
     lines_from c number (es ++ fs) ≡ lines_from c number es ++ lines_from c at fs

@@ -18,10 +18,6 @@ abbrev pub OneReading : Type 0
 OneReading = (big : Bool) (left : List ℕ) (at number : ℕ) (rs others : List Rec) (ending other : Option CaptureBad) →
     Splits big left at number rs ending → Splits big left at number others other → (rs ≡ others) × (ending ≡ other)
 
--- all bytes are split into records and an ending
-abbrev pub SomeReading : Type 0
-SomeReading = (big : Bool) (left : List ℕ) (at number : ℕ) → (rs : List Rec) × (ending : Option CaptureBad) × Splits big left at number rs ending
-
 -- a record ends behind its header
 abbrev pub RecordsRise : Type 0
 RecordsRise = (big : Bool) (left : List ℕ) (at number : ℕ) (r : Rec) → next_in big left at number ≡ Ok (next.Rec r) → at + 16 ≤ r.next_at

@@ -1,5 +1,6 @@
 mod Counts
 mod DueLemmas
+mod EndLemmas
 mod FinishLemmas
 mod FrontLemmas
 mod Going

@@ -11,29 +11,35 @@ use Rattle.capture_io.specs.declared.forms.CaptureBad.{CaptureBad}
 use Rattle.capture_io.specs.declared.forms.Form.{Form}
 use Rattle.capture_io.specs.declared.forms.Rec.{Rec}
 use Rattle.lwaftr_engine.specs.Jobs.{RunNames}
-use Rattle.lwaftr_engine.specs.Outputs.{steady, output_of, verdicts_of, versions_of, totals_of}
+use Rattle.lwaftr_engine.specs.Outputs.{Course, steady, output_of, verdicts_of, versions_of, totals_of}
 
 -- a name other than the three outputs holds what it held
 abbrev pub OthersKept : RunNames → Contents → Contents → Type 0
 OthersKept n old new = (name : List ℕ) → name ≢ n.output → name ≢ n.verdicts → name ≢ n.versions → content new name ≡ content old name
 
--- The files are those of one router that took these records of the capture, under the table of the run; the sink took the
--- summary.
-pub record IsRun (n : RunNames) (old new : Contents) (said now : Option (List ℕ)) (t : BindingTable) (form : Form) (rs : List Rec) : Type 0 where
-  pub table : TableOf (content old n.table) (Ok t)
-  pub output : content new n.output ≡ output_of (steady t) form rs
-  pub verdicts : content new n.verdicts ≡ verdicts_of (steady t) form rs
+-- The files are those of one router that took these records of the capture, each under the table in force at its number; the
+-- sink took the summary.
+pub record IsRun (n : RunNames) (old new : Contents) (said now : Option (List ℕ)) (c : Course) (form : Form) (rs : List Rec) : Type 0 where
+  pub output : content new n.output ≡ output_of c form rs
+  pub verdicts : content new n.verdicts ≡ verdicts_of c form rs
   pub versions : content new n.versions ≡ versions_of n.table
   pub others : OthersKept n old new
-  pub summary : now ≡ option_map (λ taken. taken ++ summary_text (totals_of (steady t) form rs)) said
+  pub summary : now ≡ option_map (λ taken. taken ++ summary_text (totals_of c form rs)) said
+
+-- the tables are those of the run's files: the one table from the first record to the last
+pub record IsCourse (n : RunNames) (old : Contents) (c : Course) : Type 0 where
+  pub bindings : BindingTable
+  pub table : TableOf (content old n.table) (Ok bindings)
+  pub course : c ≡ steady bindings
 
 -- a run of all whole records of the capture, which ends so
 pub record IsWholeRun (n : RunNames) (old new : Contents) (said now : Option (List ℕ)) (ending : Option CaptureBad) : Type 0 where
-  pub bindings : BindingTable
+  pub course : Course
+  pub tables : IsCourse n old course
   pub form : Form
   pub records : List Rec
   pub capture : IsCapture (content old n.input) (Ok form) records ending
-  pub run : IsRun n old new said now bindings form records
+  pub run : IsRun n old new said now course form records
 
 -- the records that end at or before a place
 abbrev pub ended_by : ℕ → List Rec → List Rec
@@ -42,7 +48,8 @@ ended_by place all = filter (λ r. nat_le r.next_at place) all
 -- A run cut short by a read that failed at a place of the capture: it took the records that end at or before it, which are
 -- the first ones.
 pub record IsCutRun (n : RunNames) (old new : Contents) (said now : Option (List ℕ)) (last : Option (List ℕ × ℕ)) : Type 0 where
-  pub bindings : BindingTable
+  pub course : Course
+  pub tables : IsCourse n old course
   pub form : Form
   pub all : List Rec
   pub ending : Option CaptureBad
@@ -51,7 +58,7 @@ pub record IsCutRun (n : RunNames) (old new : Contents) (said now : Option (List
   pub last_is : last ≡ Some (n.input, place)
   pub in_records : 24 ≤ place
   pub first_ones : take (length (ended_by place all)) all ≡ ended_by place all
-  pub run : IsRun n old new said now bindings form (ended_by place all)
+  pub run : IsRun n old new said now course form (ended_by place all)
 
 -- nothing was written: the files are as they were, and the sink took nothing
 pub record IsUntouched (old new : Contents) (said now : Option (List ℕ)) : Type 0 where

@@ -7,6 +7,5 @@ pub mod Outputs
 pub mod Progress
 pub mod Queries
 pub mod Rendering
-pub mod Rounds
 pub mod Statuses
 pub mod Tables

@@ -4,53 +4,56 @@ use Rattle.std.specs.Prelude.{ℕ, ◌+◌, Bool, true, false, List, [], ◌∷�
 use Rattle.binding_rules.specs.Tables.{BindingTable}
 use Rattle.capture_io.specs.declared.forms.Form.{Form}
 use Rattle.capture_io.specs.declared.forms.Rec.{Rec}
-use Rattle.capture_io.specs.Written.{header_bytes, record_bytes}
+use Rattle.capture_io.specs.Packets.{file_head, packet_bytes}
+use Rattle.capture_io.specs.declared.written.Written.{Written}
+use Rattle.capture_io.specs.declared.written.Written.TheVariants as written
 use Rattle.ip_codec.specs.declared.items.Item.{Item}
 use Rattle.item_stage.specs.declared.entries.Entry.{Entry}
 use Rattle.item_stage.specs.Items.{entries_of, unfinished_of}
 use Rattle.packet_render.specs.Sent.{sent}
-use Rattle.swap_core.specs.Sound.{in_force}
 use Rattle.verdict_core.specs.Verdicts.{verdict_of}
 use Rattle.verdict_core.specs.declared.verdicts.Verdict.{Verdict}
 use Rattle.verdict_core.specs.declared.verdicts.Verdict.TheVariants as verdict
 use Rattle.aftr_text.specs.declared.summaries.Totals.{Totals}
 use Rattle.aftr_text.specs.Lines.{verdict_text, ended_text, initial_text}
 
--- The tables of a run by their versions, and the points: the number of the record before which each later one came into
--- force.
+-- The tables of a run by their versions, the version in force at each number, and how many tables came into force after the
+-- first one.
 pub record Course : Type 0 where
   pub tables : ℕ → BindingTable
-  pub points : List ℕ
+  pub version : ℕ → ℕ
+  pub loaded : ℕ
 
 -- one table from the first record to the last
 abbrev pub steady : BindingTable → Course
-steady t = record { tables = λ _. t; points = [] }
+steady t = record { tables = λ _. t; version = λ _. 0; loaded = 0 }
 
-abbrev pub version_at : Course → ℕ → ℕ
-version_at c number = in_force c.points number
+-- the form of the capture that is written: its times have the resolution of those that were read
+abbrev pub written_as : Form → Written
+written_as form = written.Classic form.nano
 
 -- the verdict on the item of the record with this number
 abbrev pub verdict_at : Course → ℕ → Item → Verdict
-verdict_at c number i = verdict_of (c.tables (version_at c number)) i
+verdict_at c number i = verdict_of (c.tables (c.version number)) i
 
 -- the packets sent for it
 abbrev pub sent_at : Course → ℕ → Item → List (List ℕ)
 sent_at c number i = sent i (verdict_at c number i) number
 
 -- a record of the capture with its entry, as records of the capture that is written: each packet has the time of its record
-abbrev pub packets_at : Course → ℕ → Rec → Entry → List ℕ
-packets_at c number r e = flat_map (λ packet. record_bytes r.seconds r.fraction packet) (sent_at c number e.item)
+abbrev pub packets_at : Course → Written → ℕ → Rec → Entry → List ℕ
+packets_at c w number r e = flat_map (packet_bytes w r.seconds r.fraction) (sent_at c number e.item)
 
 -- the records written for records from a number on
-abbrev pub packets_from : Course → ℕ → List Rec → List Entry → List ℕ
-packets_from c number (r ∷ rs) (e ∷ es) = packets_at c number r e ++ packets_from c (number + 1) rs es
-packets_from c number _ _ = []
+abbrev pub packets_from : Course → Written → ℕ → List Rec → List Entry → List ℕ
+packets_from c w number (r ∷ rs) (e ∷ es) = packets_at c w number r e ++ packets_from c w (number + 1) rs es
+packets_from c w number _ _ = []
 
 -- the datagrams that ended unfinished at a record, and the record's own line
 abbrev pub lines_at : Course → ℕ → Entry → List ℕ
 lines_at c number e =
     flat_map (ended_text true) e.ended
-    ++ verdict_text number (version_at c number) (verdict_at c number e.item) (length (sent_at c number e.item))
+    ++ verdict_text number (c.version number) (verdict_at c number e.item) (length (sent_at c number e.item))
 
 -- the lines of records from a number on
 abbrev pub lines_from : Course → ℕ → List Entry → List ℕ
@@ -84,9 +87,9 @@ all_sent_from c number (e ∷ es) = sent_at c number e.item ++ all_sent_from c (
 abbrev pub how_many : (Verdict → Bool) → List Verdict → ℕ
 how_many test verdicts = length (filter test verdicts)
 
--- the capture that is written: its resolution is that of the capture that was read
+-- the capture that is written
 abbrev pub output_of : Course → Form → List Rec → List ℕ
-output_of c form rs = header_bytes form.nano ++ packets_from c 0 rs (entries_of form rs)
+output_of c form rs = file_head (written_as form) ++ packets_from c (written_as form) 0 rs (entries_of form rs)
 
 -- the lines of all records, and then of the datagrams that were never whole
 abbrev pub verdicts_of : Course → Form → List Rec → List ℕ
@@ -105,5 +108,5 @@ totals_of c form rs =
       forwarded = how_many is_forwarded verdicts;
       dropped = how_many is_dropped verdicts;
       packets = length (all_sent_from c 0 (entries_of form rs));
-      version = length c.points;
+      version = c.loaded;
     }

@@ -1,169 +1,174 @@
 // What a round of records writes.
-ghost use Rattle.std.specs.Prelude.{◌≡◌, ◌≤◌, ◌<◌, ◌+◌, ◌++◌, ◌^◌, IfOk, flat_map, length, true};
-ghost use Rattle.std.specs.List.{All};
+ghost use Rattle.std.specs.Prelude.{◌≡◌, ◌≤◌, ◌<◌, ◌+◌, ◌++◌, ◌^◌, IfOk, flat_map, length, string_bytes, true};
 ghost use Rattle.aftr_text.specs.Lines.{ended_text};
 ghost use Rattle.binding_rules.specs.Tables.{BindingTable};
-ghost use Rattle.capture_io.specs.Written.{record_bytes};
+ghost use Rattle.ip_codec.specs.Seen.{seen};
 ghost use Rattle.lwaftr_engine.specs.Counting.{with_record};
 ghost use Rattle.lwaftr_engine.specs.Outputs.{steady};
 ghost use Rattle.lwaftr_engine.specs.Rendering.{IsRendered, IsRenderedOne, IsWithin};
 ghost use Rattle.table_words.specs.Layout.{AreCompiled, IsCompiled};
-ghost use Rattle.verdict_core.specs.Fitting.{Fits, IsPlain};
+ghost use Rattle.verdict_core.specs.Fitting.{Fits, HasRoom};
 
-use aftr_base::{OutOfMemory, Packets};
-use aftr_text::{Totals, ended_line, verdict_line};
-use capture_io::{Rec, put_record};
-use item_stage::Entry;
-use packet_render::packets;
+use aftr_base::OutOfMemory;
+use aftr_text::{Totals, push_ended_line, push_verdict_line};
+use capture_io::{RecordView, Records, Written};
+use ip_codec::ItemView;
+use item_stage::{Items, RoundItems};
+use packet_render::push_packets;
 use std::alloc::Global;
 use std::sync::ledger::{Blank, Ledger};
-use table_words::{SliceWords, Steps};
-use verdict_core::{Verdict, judge_owned};
+use table_words::{SliceWords, Steps, softwire};
+use verdict_core::{Verdict, judge_with};
 
-/// How many bytes of packets are expected of a record.
-const PACKET_ROOM: usize = 128;
-
-/// How many bytes of lines are expected of a record.
-const LINE_ROOM: usize = 32;
-
-/// What some records write.
+/// What the records of a round write. Its room is kept from round to round.
 #[derive(Drop)]
 pub struct Rendered {
-    /// The packets sent, as records of a capture.
+    /// The packets sent, as a capture records them.
     pub packets: Vec<u8>,
     /// The lines of the verdicts.
-    pub lines: Vec<u8>,
+    pub lines: String,
+}
+
+impl Rendered {
+    ghost use Rattle.std.specs.Prelude.{[]};
+
+    /// Nothing, and no room yet.
+    pub fn new(alloc: Global) -> Rendered {
+        Rendered {
+            packets: Vec::new(alloc),
+            lines: String::new(alloc),
+        }
+    }
+
+    /// Lets go what a round wrote, and keeps the room.
+    fn clear(&mut self)
+        ensures packets { self.new.packets.items ≡ [] }
+        ensures lines { string_bytes self.new.lines ≡ [] }
+    {
+        self.packets.clear();
+        self.lines.clear();
+    }
+}
+
+/// What became of a record.
+#[derive(Clone, Copy, Debug)]
+pub struct Outcome {
+    /// The record's number.
+    pub number: u32,
+    /// The version of the table that judged it.
+    pub version: u32,
+    pub verdict: Verdict,
 }
 
 /// Judges the items of records, of which the first has this number, under the table whose words these are, and counts them.
+/// What they write takes the place of what stood in `rendered`.
 pub fn render_round<L: Ledger>(
-    alloc: Global,
     words: &[u64],
-    records: &[Rec],
-    entries: &[Entry],
+    form: Written,
+    records: &Records,
+    items: &Items<'_>,
     start: u32,
     totals: &mut Totals,
+    rendered: &mut Rendered,
     blank: Blank,
-) -> Result<Rendered, OutOfMemory>
+) -> Result<(), OutOfMemory>
     requires compiled { AreCompiled words.now }
-    requires same { length entries.now ≡ length records.now }
+    requires same { length items.now ≡ length records.now }
     requires few { start + length records.now ≤ 2 ^ 31 }
     requires within { IsWithin totals.old start }
     requires name { blank.name ≡ L.name }
     requires parts { blank.parts ≡ L.parts }
     requires some { 0 < blank.parts }
-    ensures rendered { IfOk result (λ r. (t : BindingTable) → IsCompiled t words.now →
-        IsRendered (steady t) start records.now entries.now totals.old totals.new r) }
-    ensures within { IfOk result (λ r. IsWithin totals.new (start + length records.now)) }
+    ensures rendered { IfOk result (λ _. (t : BindingTable) → IsCompiled t words.now →
+        IsRendered (steady t) form start records.now items.now totals.old totals.new rendered.new) }
+    ensures within { IfOk result (λ _. IsWithin totals.new (start + length records.now)) }
 {
+    rendered.clear();
     let mut reader = SliceWords(words);
     let mut steps = Steps::<L>::start(blank);
-    let mut rendered = Rendered {
-        packets: Vec::with_capacity(alloc, records.len() * PACKET_ROOM)?,
-        lines: Vec::with_capacity(alloc, records.len() * LINE_ROOM)?,
-    };
+    let settings = softwire(&mut reader, &mut steps);
     let mut i = 0;
     'records: while i < records.len() {
-        let entry = &entries[i];
-        let verdict = judge_owned(&mut reader, &entry.item, &mut steps);
+        let record = records.get(i);
+        let item = items.item(i);
+        let outcome = Outcome {
+            number: start + i as u32,
+            version: 0,
+            verdict: judge_with(&mut reader, &settings, &item, &mut steps),
+        };
         render_record(
-            alloc,
-            &mut rendered,
-            &records[i],
-            entry,
-            start + i as u32,
-            verdict,
+            form,
+            &record,
+            &item,
+            items.ended(i),
+            outcome,
             totals,
+            rendered,
         )?;
         i += 1;
     }
-    Ok(rendered)
+    Ok(())
 }
 
-// One record more, with its verdict.
+// One record more, with its outcome.
 fn render_record(
-    alloc: Global,
-    rendered: &mut Rendered,
-    rec: &Rec,
-    entry: &Entry,
-    number: u32,
-    verdict: Verdict,
-    totals: &mut Totals,
-) -> Result<(), OutOfMemory>
-    requires fits { Fits entry.now.item verdict }
-    requires plain { IsPlain entry.now.item verdict }
-    requires number { number < 2 ^ 31 }
-    requires within { IsWithin totals.old number }
-    ensures rendered { IfOk result (λ _. IsRenderedOne number rec.now entry.now verdict rendered.old rendered.new totals.old totals.new) }
-    ensures within { IfOk result (λ _. IsWithin totals.new (number + 1)) }
-{
-    let sent = packets(alloc, &entry.item, verdict, number)?;
-    put_packets(alloc, &mut rendered.packets, rec, &sent)?;
-    let line = verdict_line(alloc, number, 0, verdict, sent.len() as u32)?;
-    put_lines(
-        alloc,
-        &mut rendered.lines,
-        entry.ended.as_slice(),
-        line.as_slice(),
-    )?;
-    count(totals, verdict, sent.len() as u64);
-    Ok(())
-}
-
-// The packets sent for a record, behind others.
-fn put_packets(
-    alloc: Global,
-    list: &mut Vec<u8>,
-    rec: &Rec,
-    sent: &Packets,
-) -> Result<(), OutOfMemory>
-    requires { All (λ packet. length packet ≤ 65575) sent.now }
-    ensures { IfOk result (λ _. list.new.items ≡ list.old.items
-        ++ flat_map (λ packet. record_bytes rec.now.seconds rec.now.fraction packet) sent.now) }
-{
-    'packets: for packet in sent.as_slice() {
-        let spelled = put_record(alloc, rec.seconds, rec.fraction, packet.as_slice())?;
-        list.extend_from_slice(spelled.as_slice())?;
-    }
-    Ok(())
-}
-
-// The lines of the datagrams whose time was up with a record, and then the record's own, behind others.
-fn put_lines(
-    alloc: Global,
-    list: &mut Vec<u8>,
+    form: Written,
+    rec: &RecordView<'_>,
+    item: &ItemView<'_>,
     ended: &[u32],
-    line: &[u8],
+    outcome: Outcome,
+    totals: &mut Totals,
+    rendered: &mut Rendered,
 ) -> Result<(), OutOfMemory>
-    ensures { IfOk result (λ _. list.new.items ≡ list.old.items ++ (flat_map (ended_text true) ended.now ++ line.now)) }
+    requires fits { Fits (seen item.now) outcome.verdict }
+    requires room { HasRoom outcome.verdict }
+    requires number { outcome.number < 2 ^ 31 }
+    requires within { IsWithin totals.old outcome.number }
+    ensures rendered { IfOk result (λ _. IsRenderedOne form rec.now.seconds rec.now.fraction (seen item.now) ended.now outcome
+        rendered.old rendered.new totals.old totals.new) }
+    ensures within { IfOk result (λ _. IsWithin totals.new (outcome.number + 1)) }
 {
-    put_ended(alloc, list, true, ended)?;
-    list.extend_from_slice(line)?;
+    let count = push_packets(
+        &mut rendered.packets,
+        form,
+        item,
+        &outcome.verdict,
+        outcome.number,
+        rec.seconds,
+        rec.fraction,
+    )?;
+    push_ended_lines(&mut rendered.lines, true, ended)?;
+    push_verdict_line(
+        &mut rendered.lines,
+        outcome.number,
+        outcome.version,
+        outcome.verdict,
+        count,
+    )?;
+    count_record(totals, outcome.verdict, u64::from(count));
     Ok(())
 }
 
 /// Puts the lines of datagrams that ended unfinished behind others: those whose time was up, or those that the capture's
 /// end left.
-pub fn put_ended(
-    alloc: Global,
-    list: &mut Vec<u8>,
+pub fn push_ended_lines(
+    lines: &mut String,
     expired: bool,
     numbers: &[u32],
 ) -> Result<(), OutOfMemory>
-    ensures { IfOk result (λ _. list.new.items ≡ list.old.items ++ flat_map (ended_text expired) numbers.now) }
+    ensures { IfOk result (λ _. string_bytes lines.new ≡ string_bytes lines.old ++ flat_map (ended_text expired) numbers.now) }
 {
     'numbers: for number in numbers {
-        let line = ended_line(alloc, expired, *number)?;
-        list.extend_from_slice(line.as_slice())?;
+        push_ended_line(lines, expired, *number)?;
     }
     Ok(())
 }
 
 // The totals with one record more, and its packets.
-fn count(totals: &mut Totals, verdict: Verdict, packets: u64)
+fn count_record(totals: &mut Totals, verdict: Verdict, packets: u64)
     requires within { IsWithin totals.old totals.old.records }
     requires few { totals.old.records < 2 ^ 31 }
-    requires packets { packets ≤ 1 }
+    requires packets { packets ≤ 128 }
     ensures { totals.new ≡ with_record totals.old verdict packets }
 {
     totals.records += 1;

@@ -1,36 +1,32 @@
-// The run: records are read, judged and written in rounds.
-ghost use Rattle.std.specs.Prelude.{◌≡◌, ◌<◌, ◌++◌, IfOk, OnOk, IsTrue, false, flat_map, List, None, Some, Ok};
+// The run, from the table to the summary.
+ghost use Rattle.std.specs.Prelude.{◌≡◌, ◌++◌, IfOk, OnOk, IsTrue, false, flat_map, string_bytes, List, Some};
 ghost use Rattle.std.specs.Option.{option_map};
 ghost use Rattle.aftr_base.specs.Contents.{Moves, Writes, content};
-ghost use Rattle.aftr_base.specs.Outside.{Rises, has_failed};
+ghost use Rattle.aftr_base.specs.Outside.{has_failed};
 ghost use Rattle.aftr_text.specs.Lines.{ended_text, summary_text};
-ghost use Rattle.binding_file.specs.Files.{TableOf};
 ghost use Rattle.binding_rules.specs.Tables.{BindingTable};
 ghost use Rattle.capture_io.specs.declared.forms.Rec.{Rec as Record};
-ghost use Rattle.capture_io.specs.Header.{header_in};
+ghost use Rattle.capture_io.specs.Rounds.{is_cut};
 ghost use Rattle.item_stage.specs.Items.{unfinished_of};
 ghost use Rattle.item_stage.specs.Stages.{Stands};
 ghost use Rattle.lwaftr_engine.specs.Clauses.{FailedAt, FilesAt, HasCause, IsOfRun, counts};
 ghost use Rattle.lwaftr_engine.specs.Endings.{OthersKept};
 ghost use Rattle.lwaftr_engine.specs.Jobs.{are_apart, names_of};
 ghost use Rattle.lwaftr_engine.specs.Outputs.{steady};
-ghost use Rattle.lwaftr_engine.specs.Progress.{EndsAs, GoesOn, IsInRange, OneRises, ReadsOf};
-ghost use Rattle.lwaftr_engine.specs.Rounds.{is_cut};
+ghost use Rattle.lwaftr_engine.specs.Progress.{EndsAs, OneRises, ReadsOf};
 ghost use Rattle.table_words.specs.Layout.{AreCompiled, IsCompiled};
 
 use crate::outputs::open_outputs;
-use crate::rendering::{put_ended, render_round};
-use crate::rounds::{Ending, read_round};
+use crate::rendering::push_ended_lines;
+use crate::rounds::{Progress, run_records, written_form};
 use crate::status::Status;
 use crate::table_file::{NoTable, table_in};
 use crate::words::RunJob;
 use aftr_base::{Fault, Files, OutOfMemory, Sink, append_all, put_all};
 use aftr_text::{Totals, summary};
-use capture_io::{CaptureError, Form, read_header, records_rise, some_reading};
+use capture_io::{CaptureError, CaptureReader, ClassicReader, Ending, Form, records_rise};
 use item_stage::Stage;
 use std::alloc::Global;
-use std::marker::Brand;
-use std::sync::ledger::Blank;
 use table_words::compile;
 
 /// The totals before the first record.
@@ -43,92 +39,14 @@ const NONE_YET: Totals = Totals {
     version: 0,
 };
 
-/// How far a run has come.
-#[derive(Drop)]
-pub struct Progress {
-    /// What is known of the datagrams of earlier records.
-    pub stage: Stage,
-    /// The place of the next record.
-    pub at: u64,
-    /// Its number.
-    pub number: u32,
-    pub totals: Totals,
-}
-
-/// Reads, judges and writes one round of records, and answers how the records ended, if they did. A fault is one of
-/// writing.
-fn run_round<F: Files>(
-    alloc: Global,
-    files: &mut F,
-    job: RunJob<'_>,
-    form: Form,
-    words: &[u64],
-    progress: &mut Progress,
-) -> Result<Option<Ending>, Fault>
-    requires compiled { AreCompiled words.now }
-    requires apart { IsTrue (are_apart (names_of job)) }
-    requires bounded { IsInRange progress.old }
-    ensures went { IfOk result (λ ending. Moves (F.outside files.old).held (F.outside files.new).held (λ m n. (t : BindingTable) → IsCompiled t words.now →
-        GoesOn (names_of job.entry) form (steady t) m n progress.old progress.new ending (F.outside files.new).last)) }
-    ensures bounded { IfOk result (λ ending. IsInRange progress.new) }
-    ensures further { IfOk result (λ ending. ending ≡ None → progress.old.number < progress.new.number) }
-    ensures others { Moves (F.outside files.old).held (F.outside files.new).held (λ m n. OthersKept (names_of job.entry) m n) }
-    ensures reads { IfOk result (λ ending. ReadsOf (is_cut ending) (names_of job.entry).input (F.outside files.old) (F.outside files.new)) }
-    ensures spoiled { Rises (has_failed result) (F.outside files.old).spoiled (F.outside files.new).spoiled }
-{
-    let start = progress.number;
-    let round = read_round(alloc, files, job.input, form, progress.at, start)?;
-    let entries = progress.stage.owned_items(alloc, &round.records, start)?;
-    let rendered = render_round::<Brand>(
-        alloc,
-        words,
-        &round.records,
-        entries.as_slice(),
-        start,
-        &mut progress.totals,
-        Blank::new(1),
-    )?;
-    append_all(alloc, files, job.output, &rendered.packets)?;
-    append_all(alloc, files, job.verdicts, &rendered.lines)?;
-    progress.at = round.at;
-    progress.number = round.number;
-    Ok(round.ending)
-}
-
-/// Takes all records in rounds, and answers how they ended. A fault is one of writing.
-fn run_records<F: Files>(
-    alloc: Global,
-    files: &mut F,
-    job: RunJob<'_>,
-    form: Form,
-    words: &[u64],
-    progress: &mut Progress,
-) -> Result<Ending, Fault>
-    requires compiled { AreCompiled words.now }
-    requires apart { IsTrue (are_apart (names_of job)) }
-    requires bounded { IsInRange progress.old }
-    ensures went { IfOk result (λ ending. Moves (F.outside files.old).held (F.outside files.new).held (λ m n. (t : BindingTable) → IsCompiled t words.now →
-        GoesOn (names_of job.entry) form (steady t) m n progress.old progress.new (Some ending) (F.outside files.new).last)) }
-    ensures bounded { IfOk result (λ ending. IsInRange progress.new) }
-    ensures others { Moves (F.outside files.old).held (F.outside files.new).held (λ m n. OthersKept (names_of job.entry) m n) }
-    ensures reads { IfOk result (λ ending. ReadsOf (is_cut (Some ending)) (names_of job.entry).input (F.outside files.old) (F.outside files.new)) }
-    ensures spoiled { Rises (has_failed result) (F.outside files.old).spoiled (F.outside files.new).spoiled }
-{
-    'rounds: loop {
-        if let Some(ending) = run_round(alloc, files, job, form, words, progress)? {
-            return Ok(ending);
-        }
-    }
-}
-
 /// The lines of the datagrams that were never whole.
-fn unfinished_lines(alloc: Global, stage: &Stage) -> Result<Vec<u8>, OutOfMemory>
+fn unfinished_lines(alloc: Global, stage: &Stage) -> Result<String, OutOfMemory>
     ensures { IfOk result (λ lines. (taken : List Record) → Stands stage.now taken →
-        lines.items ≡ flat_map (ended_text false) (unfinished_of stage.now.form taken)) }
+        string_bytes lines ≡ flat_map (ended_text false) (unfinished_of stage.now.form taken)) }
 {
-    let mut lines = Vec::new(alloc);
+    let mut lines = String::new(alloc);
     let unfinished = stage.unfinished(alloc)?;
-    put_ended(alloc, &mut lines, false, unfinished.as_slice())?;
+    push_ended_lines(&mut lines, false, unfinished.as_slice())?;
     Ok(lines)
 }
 
@@ -150,40 +68,42 @@ fn finish<F: Files, O: Sink>(
     ensures writing { OneRises (has_failed result) (F.outside files.old).spoiled (F.outside files.new).spoiled (O.faults out.old) (O.faults out.new) }
 {
     let lines = unfinished_lines(alloc, &progress.stage)?;
-    append_all(alloc, files, job.verdicts, &lines)?;
+    append_all(alloc, files, job.verdicts, lines.as_bytes())?;
     let line = summary(alloc, progress.totals)?;
     put_all(alloc, out, line.as_str().as_bytes())
 }
 
-/// Makes the outputs, takes all records, and writes what is left: the steps of a run from the opening of its outputs on.
-fn run_capture<F: Files, O: Sink>(
+/// Makes the outputs, takes all records, and writes what is left: the steps of a run from the opening of its outputs on. The
+/// reader stands before the first record.
+fn run_capture<F: Files, O: Sink, R: CaptureReader>(
     alloc: Global,
     files: &mut F,
     out: &mut O,
     job: RunJob<'_>,
     form: Form,
     words: &[u64],
+    reader: &mut R,
 ) -> Result<Ending, Fault>
     requires compiled { AreCompiled words.now }
     requires apart { IsTrue (are_apart (names_of job)) }
+    requires ready { R.ready reader.old 0 }
     ensures ran { IfOk result (λ ending. Moves (F.outside files.old).held (F.outside files.new).held (λ m n. (t : BindingTable) → IsCompiled t words.now →
-        TableOf (content m (names_of job.entry).table) (Ok t) → header_in (content m (names_of job.entry).input) ≡ Ok form →
-        EndsAs (names_of job.entry) ending m n (O.out out.old) (O.out out.new) (F.outside files.new).last)) }
+        R.stands reader.old (content m (names_of job.entry).input) →
+        EndsAs (names_of job.entry) (R.at reader.old) (R.left reader.old (content m (names_of job.entry).input) 0) (steady t) form ending
+        m n (O.out out.old) (O.out out.new) (F.outside files.new).last)) }
     ensures others { Moves (F.outside files.old).held (F.outside files.new).held (λ m n. OthersKept (names_of job.entry) m n) }
     ensures reads { IfOk result (λ ending. ReadsOf (is_cut (Some ending)) (names_of job.entry).input (F.outside files.old) (F.outside files.new)) }
     ensures writing { OneRises (has_failed result) (F.outside files.old).spoiled (F.outside files.new).spoiled (O.faults out.old) (O.faults out.new) }
 {
-    // Laws, and no steps: bytes have some reading, and records follow one another.
-    some_reading();
-    records_rise();
+    // A law, and no step: whatever is left has some ending.
+    R::some_left();
     let mut progress = Progress {
         stage: Stage::new(alloc, form)?,
-        at: 24,
         number: 0,
         totals: NONE_YET,
     };
-    open_outputs(alloc, files, job, form.nano)?;
-    let ending = run_records(alloc, files, job, form, words, &mut progress)?;
+    open_outputs(alloc, files, job, written_form(form))?;
+    let ending = run_records(alloc, files, job, form, words, reader, &mut progress)?;
     finish(alloc, files, out, job, &progress)?;
     Ok(ending)
 }
@@ -204,6 +124,8 @@ pub fn run_job<F: Files, O: Sink>(
     ensures place { FailedAt (names_of job.entry) result (F.outside files.old).last (F.outside files.new).last }
     ensures of_run { IsOfRun result }
 {
+    // A law, and no step: records follow one another.
+    records_rise();
     let table = match table_in(alloc, files, job.table) {
         Ok(table) => table,
         Err(NoTable::ReadFault) => return Status::ReadFault,
@@ -214,13 +136,14 @@ pub fn run_job<F: Files, O: Sink>(
         Ok(words) => words,
         Err(OutOfMemory) => return Status::OutOfMemory,
     };
-    let form = match read_header(alloc, files, job.input) {
-        Ok(form) => form,
+    let mut reader = match ClassicReader::open(alloc, files, job.input) {
+        Ok(reader) => reader,
         Err(CaptureError::Bad(refusal)) => return Status::BadCapture(refusal),
         Err(CaptureError::ReadFault) => return Status::ReadFault,
         Err(CaptureError::OutOfMemory) => return Status::OutOfMemory,
     };
-    match run_capture(alloc, files, out, job, form, words.as_slice()) {
+    let form = reader.form();
+    match run_capture(alloc, files, out, job, form, words.as_slice(), &mut reader) {
         Ok(Ending::End) => Status::Done,
         Ok(Ending::Bad(refusal)) => Status::BadCapture(refusal),
         Ok(Ending::ReadFault) => Status::ReadFault,

@@ -11,7 +11,7 @@ invariant-records g l = record {
   within : l.i ≤ length l.records;
   counts : IsWithin l.totals (l.start + l.i);
   words : l.reader.0.now ≡ l.words;
-  remains : (t : BindingTable) → IsCompiled t l.words → Remains (steady t) l.start l.i l.records l.entries l.initial.totals l.totals l.rendered;
+  remains : (t : BindingTable) → IsCompiled t l.words → Remains (steady t) l.form l.start l.i l.records l.items l.initial.totals l.totals l.rendered;
 }
 
 abbrev pub decreases-records : goal.decreases-records
