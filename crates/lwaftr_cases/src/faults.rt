@@ -102,7 +102,7 @@ fn each_call_of_the_files_may_fail(rt: HostRuntime) -> Result<(), Fail> {
         cut: String::new(alloc),
         done: false,
     };
-    for call in 0..64 {
+    for call in 0..16 {
         let ran = run_failing(alloc, &both, call)?;
         assert!(rt; seen.takes(&ran, &fronts)?, "{call}");
         assert!(rt; keeps_inputs(&ran, &both), "{call}");

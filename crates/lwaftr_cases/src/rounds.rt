@@ -7,10 +7,15 @@ use lwaftr_engine::Status;
 use std::alloc::Global;
 use std::test::Fail;
 
-const COUNT: u32 = 40_000;
+const COUNT: u32 = 50_000;
 
-/// Where record 32,768 stands: each has 16 bytes and a packet of 72 before it.
-const PLACE: u64 = 24 + 32_768 * 88;
+/// The most records of a round.
+const MOST: u32 = 16_384;
+
+/// Where a record stands: each has 16 bytes and a packet of 72 before it.
+fn place_of(number: u32) -> u64 {
+    24 + u64::from(number) * 88
+}
 
 /// The datagram in the tunnel from port 1236, which is another subscriber's.
 fn foreign(alloc: Global) -> Result<Vec<u8>, Fail> {
@@ -37,10 +42,10 @@ fn records(alloc: Global) -> Result<Vec<u8>, Fail> {
     Ok(bytes)
 }
 
-/// The packets that leave, each with the time of its record.
-fn packets(alloc: Global) -> Result<Vec<u8>, Fail> {
+/// The packets of the first records that leave, each with the time of its record.
+fn packets(alloc: Global, count: u32) -> Result<Vec<u8>, Fail> {
     let mut bytes = hex(alloc, HEADER)?;
-    for number in 0..COUNT {
+    for number in 0..count {
         if is_owned(number) {
             put_record(&mut bytes, number, 5, UP_LOWERED)?;
         }
@@ -48,10 +53,10 @@ fn packets(alloc: Global) -> Result<Vec<u8>, Fail> {
     Ok(bytes)
 }
 
-/// The lines of these records.
-fn verdicts(alloc: Global) -> Result<String, Fail> {
+/// The lines of the first records.
+fn verdicts(alloc: Global, count: u32) -> Result<String, Fail> {
     let mut text = String::new(alloc);
-    for number in 0..COUNT {
+    for number in 0..count {
         let outcome = if is_owned(number) {
             "up 1"
         } else {
@@ -62,21 +67,31 @@ fn verdicts(alloc: Global) -> Result<String, Fail> {
     Ok(text)
 }
 
+/// Before the record is read that stands a full round behind the first ones, so many, the packets and lines of these are
+/// written; and in the end all are.
+fn are_written(alloc: Global, count: u32) -> Result<bool, Fail> {
+    let mut files = Watched::new(files_of(alloc, &records(alloc)?, PORT_SET_TABLE)?);
+    files.place = place_of(count.wrapping_add(MOST));
+    files.lines = verdicts(alloc, count)?.len();
+    files.packets = packets(alloc, count)?.len();
+    let ran = run_watched(alloc, &WORDS, files, MemSink::new(alloc));
+    let lines = verdicts(alloc, COUNT)?;
+    let packets = packets(alloc, COUNT)?;
+    Ok(
+        ran.status == Status::Done
+            && ran.files.late
+            && ran.files.early
+            && ran.files.text("verdicts.txt") == lines.as_str()
+            && ran.packets() == packets.as_slice()
+            && ran.said()
+                == "records 50000 held 0 forwarded 33333 dropped 16667 packets 33333 version 0\n",
+    )
+}
+
 #[test]
 fn records_are_written_in_rounds(rt: HostRuntime) -> Result<(), Fail> {
-    let alloc = rt.alloc();
-    let mut files = Watched::new(files_of(alloc, &records(alloc)?, PORT_SET_TABLE)?);
-    files.place = PLACE;
-    let ran = run_watched(alloc, &WORDS, files, MemSink::new(alloc));
-    let lines = verdicts(alloc)?;
-    let packets = packets(alloc)?;
-    assert!(rt; ran.status == Status::Done);
-    assert!(rt; ran.files.text("verdicts.txt") == lines.as_str());
-    assert!(rt; ran.packets() == packets.as_slice());
-    assert!(rt; ran.files.late && ran.files.early);
-    assert_eq!(rt;
-        ran.said(),
-        "records 40000 held 0 forwarded 26666 dropped 13334 packets 26666 version 0\n"
-    );
+    for count in [MOST, 2 * MOST] {
+        assert!(rt; are_written(rt.alloc(), count)?, "{count}");
+    }
     Ok(())
 }

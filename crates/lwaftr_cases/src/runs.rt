@@ -14,7 +14,7 @@ pub const WORDS: [&str; 6] = [
     "t0.toml",
 ];
 
-/// Files in memory that note which calls failed, and in which order lines are written and records are read.
+/// Files in memory that note which calls failed, and what is written by the time that a place of the capture is read.
 #[derive(Drop)]
 pub struct Watched {
     pub files: MemFiles,
@@ -24,9 +24,12 @@ pub struct Watched {
     pub spoiled: u32,
     /// A place of the capture.
     pub place: u64,
+    /// So many bytes of lines and of packets are due by then.
+    pub lines: usize,
+    pub packets: usize,
     /// It was read at that place or behind it.
     pub late: bool,
-    /// Lines were appended before that.
+    /// What was due stood there before that.
     pub early: bool,
 }
 
@@ -38,9 +41,21 @@ impl Watched {
             lost: 0,
             spoiled: 0,
             place: u64::MAX,
+            lines: 0,
+            packets: 0,
             late: false,
             early: false,
         }
+    }
+
+    /// How many bytes the name holds; none where there is no file.
+    fn size(&self, name: &str) -> usize {
+        self.files.get(name).unwrap_or(&[]).len()
+    }
+
+    /// Lines and packets that are due are written.
+    fn is_written(&self) -> bool {
+        self.size("verdicts.txt") >= self.lines && self.size("out.pcap") >= self.packets
     }
 
     /// What the name holds, as text; nothing where there is no file or no text.
@@ -62,7 +77,10 @@ impl Files for Watched {
         at: u64,
         into: &mut [u8],
     ) -> Result<usize, Fault> {
-        self.late |= (name == "in.pcap") & (at >= self.place);
+        if !self.late && name == "in.pcap" && at >= self.place {
+            self.late = true;
+            self.early = self.is_written();
+        }
         let answer = self.files.read(alloc, name, at, into);
         self.lost = self.lost.saturating_add(u32::from(answer.is_err()));
         answer
@@ -75,7 +93,6 @@ impl Files for Watched {
     }
 
     fn append(&mut self, alloc: Global, name: &str, bytes: &[u8]) -> Result<usize, Fault> {
-        self.early |= (name == "verdicts.txt") & !bytes.is_empty() & !self.late;
         let answer = self.files.append(alloc, name, bytes);
         self.spoiled = self.spoiled.saturating_add(u32::from(answer.is_err()));
         answer
