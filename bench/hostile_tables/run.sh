@@ -12,7 +12,11 @@ else
     "$top/lwaftr" > /dev/null 2>&1 || true
     program="$top/crates/lwaftr_main/out/lwaftr_main"
 fi
-[ -d "$work" ] || python3 "$here/make.py" "$work"
+if [ ! "$work/made" -nt "$here/make.py" ]; then
+    rm -rf "$work"
+    python3 "$here/make.py" "$work"
+    touch "$work/made"
+fi
 cd "$work"
 for limit in unlimited 1048576; do
     echo "address space: $limit (KiB)"
