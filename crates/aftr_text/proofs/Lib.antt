@@ -7,3 +7,4 @@ mod Numbers64
 mod OneJob
 mod PartLemmas
 mod RunLemmas
+mod DigitLemmas

@@ -1,5 +1,5 @@
 // Numbers in a line.
-ghost use Rattle.std.specs.Prelude.{◌≡◌, ◌++◌, IfOk, decimal, string_bytes};
+ghost use Rattle.std.specs.Prelude.{◌≡◌, ◌<◌, ◌++◌, IfOk, decimal, string_bytes};
 
 use aftr_base::OutOfMemory;
 use itoa::Buffer;
@@ -8,9 +8,33 @@ use itoa::Buffer;
 pub(crate) fn push_number(line: &mut String, number: u64) -> Result<(), OutOfMemory>
     ensures { IfOk result (λ _. string_bytes line.new ≡ string_bytes line.old ++ decimal number) }
 {
+    // Most numbers of a line have one digit: the version, and how many packets were written.
+    if number < 10 {
+        line.push_str(digit(number))?;
+        return Ok(());
+    }
     let mut buffer = Buffer::new();
     line.push_str(buffer.format(number))?;
     Ok(())
+}
+
+// A number below 10.
+fn digit(number: u64) -> &'static str
+    requires { number < 10 }
+    ensures { result.now ≡ decimal number }
+{
+    match number {
+        0 => "0",
+        1 => "1",
+        2 => "2",
+        3 => "3",
+        4 => "4",
+        5 => "5",
+        6 => "6",
+        7 => "7",
+        8 => "8",
+        _ => "9",
+    }
 }
 
 /// Puts a word and a number at the end of a line. The word brings its blanks.
