@@ -208,38 +208,6 @@ fn a_seek_or_a_read_that_fails_spoils_no_later_read(rt: HostRuntime) -> Result<(
     Ok(())
 }
 
-// Reads of 256 KiB and more go straight to where they are wanted, others through what is read ahead.
-#[test]
-fn long_and_short_reads_give_the_same_bytes(rt: HostRuntime) -> Result<(), Fail> {
-    let alloc = rt.alloc();
-    let path = temporary(&rt, "long")?;
-    let name = path.as_str();
-    let mut files = RealFiles::new(&rt, alloc);
-    let mut long = vec![in alloc; 0; 300_000]?;
-    let mut short = [0; 3];
-    files.create(alloc, name)?;
-    append_all(alloc, &mut files, name, &vec![in alloc; 1; 299_999]?)?;
-    append_all(alloc, &mut files, name, b"abcdefgh")?;
-    let answers = [
-        fill(alloc, &mut files, name, 299_998, &mut short),
-        fill(alloc, &mut files, name, 2, &mut long), // the first of them were read ahead
-        fill(alloc, &mut files, name, 300_005, &mut short),
-        fill(alloc, &mut files, name, u64::MAX, &mut long), // no place of a file
-        fill(alloc, &mut files, name, 299_999, &mut short),
-        fill(alloc, &mut files, name, 300_007, &mut long),
-        fill(alloc, &mut files, name, 1, &mut long),
-    ];
-    fs::remove_file(&rt, name)?;
-    let failed = Err(Fault::Failed);
-    assert_eq!(rt;
-        answers,
-        [Ok(3), Ok(300_000), Ok(2), failed, Ok(3), Ok(0), Ok(300_000)]
-    );
-    assert_eq!(rt; short, *b"abc");
-    assert_eq!(rt; &long[299_997..], b"\x01ab".as_slice());
-    Ok(())
-}
-
 #[test]
 fn a_file_cut_while_it_is_read_ends_there(rt: HostRuntime) -> Result<(), Fail> {
     let alloc = rt.alloc();
