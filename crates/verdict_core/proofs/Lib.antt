@@ -1,4 +1,8 @@
-pub mod Exits
 pub mod Firsts
-pub mod Laws
-pub mod Owners
+pub mod Good
+pub mod Items
+pub mod Joins
+pub mod Owned
+pub mod Permits
+pub mod Relaying
+pub mod Sending

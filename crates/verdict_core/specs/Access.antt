@@ -1,74 +1,153 @@
--- Who may send: the sender's tunnel address, IPv4 address and port stand in one binding (RFC 7596, section 6.2).
-use Rattle.std.specs.Prelude.{◌≡◌, ℕ, ◌↔◌, false, true, List, [], ◌∷◌, Result, Ok, Err}
+-- Who may send, who receives, and whom errors reach: the tunnel's address, the IPv4 address and the port of a subscriber stand
+-- in one binding (RFC 7596, section 6.2; RFC 2473, section 8).
+use Rattle.std.specs.Prelude.{◌≡◌, ℕ, ◌↔◌, Bool, false, true, List, [], ◌∷◌, Option, Some, None, Ok}
+use Rattle.aftr_base.specs.declared.numbers.V6.{V6}
 use Rattle.binding_rules.specs.Bindings.{bound}
 use Rattle.binding_rules.specs.Tables.{BindingTable}
 use Rattle.binding_rules.specs.declared.binding.Binding.{Binding}
 use Rattle.binding_rules.specs.declared.binding.Want.{Want}
+use Rattle.icmp_codec.specs.Message6.{Message6, icmp6_of}
+use Rattle.icmp_relay.specs.Quotes.{TunnelQuote, quote_of}
+use Rattle.icmp_errors.specs.Answers.{gets_answer}
 use Rattle.ip_codec.specs.Packet4.{Packet4, ip4_of}
 use Rattle.ip_codec.specs.declared.items.Item.{Item}
 use Rattle.ip_codec.specs.declared.items.Item.TheVariants as item
 use Rattle.ip_codec.specs.declared.items.Outer.{Outer}
-use Rattle.ip_codec.specs.declared.packet4.Ip4Bad.{Ip4Bad}
 use Rattle.ip_codec.specs.declared.rules.Rule.{Rule}
 use Rattle.ip_codec.specs.declared.rules.Rule.TheVariants as rule
-use Rattle.port_locate.specs.Keys.{upstream_key}
+use Rattle.port_locate.specs.Keys.{downstream_key, upstream_key}
 use Rattle.port_locate.specs.declared.keys.Key.TheVariants as key
-use Rattle.verdict_core.specs.Verdicts.{is_not_judged, silent}
+use Rattle.verdict_core.specs.Answers.{relayed}
+use Rattle.verdict_core.specs.Fitting.{HasPacket}
+use Rattle.verdict_core.specs.Lines.{verdict_in}
+use Rattle.verdict_core.specs.Verdicts.{is_bound_address, is_tunnel_error, onward_lines, owner_end, quoted_destination, quoted_source}
+use Rattle.verdict_core.specs.declared.verdicts.Path.{Path}
+use Rattle.verdict_core.specs.declared.verdicts.Path.TheVariants as path
+use Rattle.verdict_core.specs.declared.verdicts.Reply.{Reply}
+use Rattle.verdict_core.specs.declared.verdicts.Reply.TheVariants as reply
 use Rattle.verdict_core.specs.declared.verdicts.Verdict.{Verdict}
 use Rattle.verdict_core.specs.declared.verdicts.Verdict.TheVariants as verdict
 
--- the packet is for the router's tunnel address, its inner bytes are a packet, and one binding has its IPv4 source, owns
--- its key, and ends its tunnel where the packet came from
+-- one binding has the address, owns the port or whatever else is wanted, and ends its tunnel there
+pub record IsOwner (t : BindingTable) (address : ℕ) (want : Want) (end : ℕ) : Type 0 where
+  pub binding : Binding
+  pub owner : bound t.bindings (record { 0 = address }) want ≡ binding ∷ []
+  pub ends : binding.b4.0 ≡ end
+
+-- the packet is for the router's tunnel address, its inner bytes are a packet, and its source's owner is the end of the tunnel
+-- that it came through
 pub record Permits (t : BindingTable) (outer : Outer) (inner : List ℕ) : Type 0 where
   pub ours : outer.dst.0 ≡ t.softwire.aftr.0
   pub packet : Packet4
   pub read : ip4_of inner ≡ Ok packet
   pub want : Want
   pub key : upstream_key packet ≡ key.At want
-  pub binding : Binding
-  pub owner : bound t.bindings (record { 0 = packet.src }) want ≡ binding ∷ []
-  pub sender : binding.b4.0 ≡ outer.src.0
+  pub sender : IsOwner t packet.src want outer.src.0
 
--- a named rule keeps the packet although its sender may send: it is for the router itself
-pub record Forbids (t : BindingTable) (inner : List ℕ) : Type 0 where
+-- a named rule keeps the packet although its sender may send: of the lines behind those on who may send, that rule's is the
+-- first whose condition is true
+pub record Forbids (t : BindingTable) (outer : Outer) (inner : List ℕ) (why : Rule) : Type 0 where
   pub packet : Packet4
   pub read : ip4_of inner ≡ Ok packet
-  pub to_self : packet.dst ≡ t.softwire.own.0
-
--- packets of this kind are judged
-abbrev pub IsBuilt : BindingTable → Result Packet4 Ip4Bad → Type 0
-IsBuilt t (Ok p) = is_not_judged t p ≡ false
-IsBuilt t (Err refusal) = Unit {0}
+  pub told : Reply
+  pub first : verdict_in (onward_lines t outer packet) ≡ Some (verdict.Drop why told)
 
 -- the packet goes on, out or back to a subscriber
 abbrev pub IsForwarded : Verdict → Type 0
 IsForwarded (verdict.Outward mtu) = Unit {0}
 IsForwarded (verdict.Inward from to hop mtu back) = back ≡ true
-IsForwarded (verdict.Drop why reply) = ⊥
+IsForwarded (verdict.Drop why told) = ⊥
 IsForwarded verdict.Held = ⊥
 
 -- the rules by which a packet is dropped whose sender may not send
-abbrev pub IsRefusal : Rule → Type 0
-IsRefusal rule.NotOurs = Unit {0}
-IsRefusal rule.InnerMalformed = Unit {0}
-IsRefusal rule.InnerChecksum = Unit {0}
-IsRefusal rule.NoPort = Unit {0}
-IsRefusal rule.NoBinding = Unit {0}
-IsRefusal _ = ⊥
+abbrev pub is_refusal : Rule → Bool
+is_refusal rule.NotOurs = true
+is_refusal rule.InnerMalformed = true
+is_refusal rule.InnerChecksum = true
+is_refusal rule.IcmpBad = true
+is_refusal rule.NoPort = true
+is_refusal rule.NoBinding = true
+is_refusal _ = false
 
--- this holds of the item if it is a packet from a subscriber of a kind that is judged
-abbrev pub IfJudgedUp : BindingTable → Item → (Outer → List ℕ → Type 0) → Type 0
-IfJudgedUp t (item.Up outer inner) P = IsBuilt t (ip4_of inner) → P outer inner
-IfJudgedUp t _ P = Unit {0}
+-- the named rules that keep a packet whose sender may send
+abbrev pub is_forbidding : Rule → Bool
+is_forbidding rule.Ttl = true
+is_forbidding rule.HairpinOff = true
+is_forbidding rule.HairpinNoBinding = true
+is_forbidding rule.ToSelf = true
+is_forbidding rule.TooBig = true
+is_forbidding _ = false
+
+-- this holds of the item if it is a packet from a subscriber
+abbrev pub IfUp : Item → (Outer → List ℕ → Type 0) → Type 0
+IfUp (item.Up outer inner) P = P outer inner
+IfUp _ P = Unit {0}
 
 -- it goes on exactly where its sender may send and no named rule keeps it
 abbrev pub Forwards : BindingTable → Item → Verdict → Type 0
-Forwards t i v = IfJudgedUp t i (λ outer inner. IsForwarded v ↔ (Permits t outer inner × (Forbids t inner → ⊥)))
+Forwards t i v = IfUp i (λ outer inner.
+    IsForwarded v ↔ (Permits t outer inner × ((why : Rule) → Forbids t outer inner why → ⊥)))
 
--- where its sender may send and a named rule keeps it, it is dropped by that rule
+-- where its sender may send and a named rule keeps it, it is dropped by that rule, one of five
 abbrev pub Forbidden : BindingTable → Item → Verdict → Type 0
-Forbidden t i v = IfJudgedUp t i (λ outer inner. Permits t outer inner → Forbids t inner → v ≡ silent rule.ToSelf)
+Forbidden t i v = IfUp i (λ outer inner. Permits t outer inner → (why : Rule) → Forbids t outer inner why →
+    (is_forbidding why ≡ true) × ((told : Reply) × (v ≡ verdict.Drop why told)))
 
--- where its sender may not send, it is dropped by one of these rules
+-- where its sender may not send, it is dropped by one of six rules
 abbrev pub Refused : BindingTable → Item → Verdict → Type 0
-Refused t i v = IfJudgedUp t i (λ outer inner. (Permits t outer inner → ⊥) → (why : Rule) × IsRefusal why × (v ≡ silent why))
+Refused t i v = IfUp i (λ outer inner. (Permits t outer inner → ⊥) →
+    (why : Rule) × ((is_refusal why ≡ true) × ((told : Reply) × (v ≡ verdict.Drop why told))))
+
+-- the owner of the destination of the item's packet ends its tunnel there
+pub record GoesTo (t : BindingTable) (i : Item) (end : V6) : Type 0 where
+  pub packet : Packet4
+  pub carried : HasPacket i packet
+  pub want : Want
+  pub key : downstream_key packet ≡ key.At want
+  pub receiver : IsOwner t packet.dst want end.0
+
+-- what goes into a tunnel goes to the one subscriber that owns its destination
+abbrev pub Delivers : BindingTable → Item → Verdict → Type 0
+Delivers t i (verdict.Inward from to hop mtu back) = GoesTo t i to
+Delivers t i _ = Unit {0}
+
+-- the message is an error about a packet that the router sent through the tunnel of the owner of that packet's destination
+pub record RelayPermits (t : BindingTable) (src dst : V6) (message : List ℕ) : Type 0 where
+  pub ours : dst.0 ≡ t.softwire.aftr.0
+  pub error : Message6
+  pub read : icmp6_of src.0 dst.0 message ≡ Ok error
+  pub quote : TunnelQuote
+  pub quoted : quote_of error.rest ≡ Ok quote
+  pub from : quote.src6 ≡ t.softwire.aftr.0
+  pub want : Want
+  pub key : quoted_destination quote ≡ key.At want
+  pub receiver : IsOwner t quote.inner.dst want quote.dst6
+
+-- the way to the source of a quoted packet: through the tunnel of its one owner, and outside a tunnel only where no binding
+-- has the address
+abbrev pub LeadsTo : BindingTable → TunnelQuote → Path → Type 0
+LeadsTo t quote path.Plain = is_bound_address t quote.inner.src ≡ false
+LeadsTo t quote (path.Tunnel from to hop) =
+    (from ≡ t.softwire.aftr) × ((want : Want) × ((quoted_source quote ≡ key.At want) × IsOwner t quote.inner.src want to.0))
+
+-- this holds of the item if it is an ICMPv6 message
+abbrev pub IfMessage : Item → (V6 → V6 → List ℕ → Type 0) → Type 0
+IfMessage (item.Six58 src dst message) P = P src dst message
+IfMessage _ P = Unit {0}
+
+-- a relayed error is about a packet that the router sent, and leads to that packet's source
+abbrev pub IsRelayedOwn : BindingTable → V6 → V6 → List ℕ → Verdict → Type 0
+IsRelayedOwn t src dst message (verdict.Drop why (reply.Relay own code mtu way)) =
+    (permitted : RelayPermits t src dst message) × LeadsTo t permitted.quote way
+IsRelayedOwn t src dst message _ = Unit {0}
+
+abbrev pub RelaysOwn : BindingTable → Item → Verdict → Type 0
+RelaysOwn t i v = IfMessage i (λ src dst message. IsRelayedOwn t src dst message v)
+
+-- such an error is relayed, unless the source of the quoted packet is an address of the table without an owner, or no ICMP
+-- error may be sent about that packet
+abbrev pub RelaysAll : BindingTable → Item → Verdict → Type 0
+RelaysAll t i v = IfMessage i (λ src dst message. (permitted : RelayPermits t src dst message) → is_tunnel_error message ≡ true →
+    (is_bound_address t permitted.quote.inner.src ≡ true → owner_end t permitted.quote.inner.src (quoted_source permitted.quote) ≡ None → ⊥) →
+    gets_answer permitted.quote.inner ≡ true →
+    (way : Path) × (v ≡ relayed t.softwire permitted.error.kind permitted.error.word way))

@@ -63,13 +63,6 @@ Fits i (verdict.Outward mtu) = IsUp i × IsSendable i mtu
 Fits i (verdict.Inward from to hop mtu true) = IsUp i × IsSendable i (mtu - 40)
 Fits i (verdict.Inward from to hop mtu false) = IsDown i × IsSendable i (mtu - 40)
 
--- a verdict whose packets need no cutting and that asks for no ICMP message
-abbrev pub IsPlain : Item → Verdict → Type 0
-IsPlain i (verdict.Drop why told) = told ≡ reply.Silent
-IsPlain i (verdict.Outward mtu) = (p : Packet4) → HasPacket i p → packet_len p ≤ mtu
-IsPlain i (verdict.Inward from to hop mtu back) = (p : Packet4) → HasPacket i p → packet_len p + 40 ≤ mtu
-IsPlain i verdict.Held = Unit {0}
-
 -- the greatest size that the verdict names is at least what every IPv6 link (RFC 8200, section 5) or every IPv4 host
 -- (RFC 791, section 3.1) takes
 abbrev pub HasRoom : Verdict → Type 0

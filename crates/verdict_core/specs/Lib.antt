@@ -1,4 +1,6 @@
 pub mod Access
+pub mod Answers
 pub mod Bounds
 pub mod Fitting
+pub mod Lines
 pub mod Verdicts

@@ -1,39 +1,34 @@
 // The verdict on an item.
-ghost use Rattle.std.specs.Prelude.{◌≡◌, ◌==◌, ◌+◌, ◌-◌, ◌≤◌, Some, Err};
-ghost use Rattle.std.specs.List.{list_any};
-ghost use Rattle.aftr_base.specs.First.{first_true};
-ghost use Rattle.binding_rules.specs.Bindings.{bound};
-ghost use Rattle.binding_rules.specs.Tables.{BindingTable};
-ghost use Rattle.ip_codec.specs.Packet4.{ip4_of, packet4, whole4};
+ghost use Rattle.std.specs.Prelude.{◌≡◌, ℕ, ◌+◌, ◌*◌, ◌-◌, ◌≤◌, Some};
+ghost use Rattle.binding_rules.specs.Tables.{BindingTable, binding_table};
+ghost use Rattle.binding_rules.specs.declared.settings.Edition.TheVariants as edition;
 ghost use Rattle.ip_codec.specs.Seen.{seen};
-ghost use Rattle.table_words.specs.Bounds.{look_bound, group_digits};
+ghost use Rattle.ip_codec.specs.declared.items.Item.TheVariants as item;
+ghost use Rattle.table_words.specs.Bounds.{found_bound, look_bound, most_shapes};
 ghost use Rattle.table_words.specs.Layout.{IsCompiled, AreCompiled};
 ghost use Rattle.table_words.specs.Reads.{read_more};
-ghost use Rattle.verdict_core.specs.Access.{Forbidden, Forwards, Refused};
-ghost use Rattle.verdict_core.specs.Bounds.{judge_bound, judge_with_bound};
-ghost use Rattle.verdict_core.specs.Fitting.{AsksTable, Fits, HasRoom, IsPlain};
-ghost use Rattle.verdict_core.specs.Verdicts.{Judged, is_not_judged, is_not_judged_by_settings, lines, silent, up_lines, verdict_of};
+ghost use Rattle.verdict_core.specs.Access.{Delivers, Forbidden, Forwards, Refused, RelaysAll, RelaysOwn};
+ghost use Rattle.verdict_core.specs.Bounds.{IsLook, judge_bound, judge_with_bound};
+ghost use Rattle.verdict_core.specs.Fitting.{AsksTable, Fits, HasRoom};
+ghost use Rattle.verdict_core.specs.Lines.{verdict_in};
+ghost use Rattle.verdict_core.specs.Verdicts.{Judged, lines, verdict_of};
 
-use crate::verdicts::{Reply, Verdict};
-use aftr_base::V4;
-use binding_rules::{Softwire, Want};
-use ip_codec::{Ip4Bad, Ip4View, ItemView, Outer, ReadPacket, Rule};
-use port_locate::{Key, key_up};
+use crate::answers::silent;
+use crate::downstream::judge_down;
+use crate::messages::{judge_error, judge_six, message_refusal};
+use crate::upstream::{judge_unread, judge_up};
+use crate::verdicts::Verdict;
+use aftr_base::V6;
+use binding_rules::Softwire;
+use ip_codec::ItemView;
 use std::sync::ledger::Ledger;
-use table_words::{Steps, Words, has_address, look, softwire};
-
-const ICMP: u8 = 1;
-
-// With less a packet's time to live would be used up here.
-const LEAST_TTL: u8 = 2;
+use table_words::{Steps, Words, softwire};
 
 // Where the words of a table have the number of its bindings.
 const COUNT: u32 = 0;
 
 /// The verdict on an item under a table, the one that the lines allow (RFC 7596, section 6.2). The condition is that the
-/// words are compiled from a table. It takes no memory. ICMP messages, packets that could ask for an ICMP error or for
-/// cutting, packets from subscriber to subscriber or towards subscribers, and IPv6 packets without an IPv4 packet inside
-/// are not judged yet: they are dropped with `NotBuilt`.
+/// words are compiled from a table. It takes no memory.
 pub fn judge<W: Words, L: Ledger>(
     words: &mut W,
     item: &ItemView<'_>,
@@ -48,13 +43,15 @@ pub fn judge<W: Words, L: Ledger>(
 
     // What it can be.
     ensures fits { Fits (seen item.now) result }
-    ensures plain { IsPlain (seen item.now) result }
     ensures room { HasRoom result }
 
-    // Who may send.
+    // Who may send, who receives, and whom errors reach.
     ensures forwards { (t : BindingTable) → IsCompiled t (W.list words.old) → Forwards t (seen item.now) result }
     ensures forbidden { (t : BindingTable) → IsCompiled t (W.list words.old) → Forbidden t (seen item.now) result }
     ensures refused { (t : BindingTable) → IsCompiled t (W.list words.old) → Refused t (seen item.now) result }
+    ensures delivers { (t : BindingTable) → IsCompiled t (W.list words.old) → Delivers t (seen item.now) result }
+    ensures relays_own { (t : BindingTable) → IsCompiled t (W.list words.old) → RelaysOwn t (seen item.now) result }
+    ensures relays_all { (t : BindingTable) → IsCompiled t (W.list words.old) → RelaysAll t (seen item.now) result }
 
     // What it reads.
     ensures list { W.list words.new ≡ W.list words.old }
@@ -62,7 +59,9 @@ pub fn judge<W: Words, L: Ledger>(
     ensures goes { W.goes words.old words.new }
     ensures later { steps.old ≤ steps.new }
     ensures rises { AsksTable (seen item.now) → steps.old + 1 ≤ steps.new }
-    ensures bound { (t : BindingTable) → IsCompiled t (W.list words.old) → steps.new ≤ steps.old + judge_bound t.bindings }
+    ensures bound { (t : BindingTable) → IsCompiled t (W.list words.old) → steps.new ≤ steps.old + judge_bound (look_bound t.bindings) }
+    ensures one_shape { (t : BindingTable) → IsCompiled t (W.list words.old) → most_shapes t.bindings ≡ 1 → steps.new ≤ steps.old + judge_bound (found_bound t.bindings) }
+    ensures edition_one { (t : BindingTable) → IsCompiled t (W.list words.old) → t.edition ≡ edition.One → steps.new ≤ steps.old + judge_bound (found_bound t.bindings) }
 {
     let settings = softwire(words, steps);
     judge_with(words, &settings, item, steps)
@@ -86,13 +85,15 @@ pub fn judge_with<W: Words, L: Ledger>(
 
     // What it can be.
     ensures fits { Fits (seen item.now) result }
-    ensures plain { IsPlain (seen item.now) result }
     ensures room { HasRoom result }
 
-    // Who may send.
+    // Who may send, who receives, and whom errors reach.
     ensures forwards { (t : BindingTable) → IsCompiled t (W.list words.old) → Forwards t (seen item.now) result }
     ensures forbidden { (t : BindingTable) → IsCompiled t (W.list words.old) → Forbidden t (seen item.now) result }
     ensures refused { (t : BindingTable) → IsCompiled t (W.list words.old) → Refused t (seen item.now) result }
+    ensures delivers { (t : BindingTable) → IsCompiled t (W.list words.old) → Delivers t (seen item.now) result }
+    ensures relays_own { (t : BindingTable) → IsCompiled t (W.list words.old) → RelaysOwn t (seen item.now) result }
+    ensures relays_all { (t : BindingTable) → IsCompiled t (W.list words.old) → RelaysAll t (seen item.now) result }
 
     // What it reads.
     ensures list { W.list words.new ≡ W.list words.old }
@@ -100,164 +101,102 @@ pub fn judge_with<W: Words, L: Ledger>(
     ensures goes { W.goes words.old words.new }
     ensures later { steps.old ≤ steps.new }
     ensures rises { AsksTable (seen item.now) → steps.old + 1 ≤ steps.new }
-    ensures bound { (t : BindingTable) → IsCompiled t (W.list words.old) → steps.new ≤ steps.old + judge_with_bound t.bindings }
+    ensures bound { (t : BindingTable) → IsCompiled t (W.list words.old) → steps.new ≤ steps.old + judge_with_bound (look_bound t.bindings) }
+    ensures one_shape { (t : BindingTable) → IsCompiled t (W.list words.old) → most_shapes t.bindings ≡ 1 → steps.new ≤ steps.old + judge_with_bound (found_bound t.bindings) }
+    ensures edition_one { (t : BindingTable) → IsCompiled t (W.list words.old) → t.edition ≡ edition.One → steps.new ≤ steps.old + judge_with_bound (found_bound t.bindings) }
 {
+    judge_asked(words, settings, item, steps)
+}
+
+// Reads a word, and judges under these settings and the rest of the table.
+fn judge_asked<W: Words, L: Ledger>(
+    words: &mut W,
+    settings: &Softwire,
+    item: &ItemView<'_>,
+    steps: &mut Steps<L>,
+) -> Verdict
+    requires { AreCompiled (W.list words.old) }
+    ensures verdict { (t : BindingTable) → IsCompiled t (W.list words.old) →
+        verdict_in (lines (binding_table t.edition settings.now t.bindings) (seen item.now)) ≡ Some result }
+    ensures list { W.list words.new ≡ W.list words.old }
+    ensures reads { W.reads words.new ≡ read_more (W.reads words.old) (steps.new - steps.old) }
+    ensures goes { W.goes words.old words.new }
+    ensures later { steps.old ≤ steps.new }
+    ensures rises { AsksTable (seen item.now) → steps.old + 1 ≤ steps.new }
+    ensures bound { (t : BindingTable) → IsCompiled t (W.list words.old) → (n : ℕ) → IsLook t n → steps.new ≤ steps.old + judge_with_bound n }
+{
+    ask(words, item, steps);
     judge_under(words, settings, item, steps)
 }
 
-// The verdict under the table's settings and the rest of its words.
+// Reads the number of bindings: whoever is judged under a table has read one of its words.
+fn ask<W: Words, L: Ledger>(words: &mut W, item: &ItemView<'_>, steps: &mut Steps<L>)
+    requires { AreCompiled (W.list words.old) }
+    ensures list { W.list words.new ≡ W.list words.old }
+    ensures reads { W.reads words.new ≡ read_more (W.reads words.old) (steps.new - steps.old) }
+    ensures goes { W.goes words.old words.new }
+    ensures later { steps.old ≤ steps.new }
+    ensures rises { AsksTable (seen item.now) → steps.old + 1 ≤ steps.new }
+    ensures few { steps.new ≤ steps.old + 1 }
+{
+    match item {
+        ItemView::Held => {}
+        ItemView::Bad(_) => {}
+        _ => {
+            words.word(COUNT, steps);
+        }
+    }
+}
+
+// The verdict under these settings and the rest of the table, each kind of item by its own lines.
 fn judge_under<W: Words, L: Ledger>(
     words: &mut W,
     settings: &Softwire,
     item: &ItemView<'_>,
     steps: &mut Steps<L>,
 ) -> Verdict
-    requires compiled { AreCompiled (W.list words.old) }
-    requires settings { (t : BindingTable) → IsCompiled t (W.list words.old) → settings.now ≡ t.softwire }
-    ensures verdict { (t : BindingTable) → IsCompiled t (W.list words.old) → first_true (lines t (seen item.now)) ≡ Some result }
+    requires { AreCompiled (W.list words.old) }
+    ensures verdict { (t : BindingTable) → IsCompiled t (W.list words.old) →
+        verdict_in (lines (binding_table t.edition settings.now t.bindings) (seen item.now)) ≡ Some result }
     ensures list { W.list words.new ≡ W.list words.old }
     ensures reads { W.reads words.new ≡ read_more (W.reads words.old) (steps.new - steps.old) }
     ensures goes { W.goes words.old words.new }
     ensures later { steps.old ≤ steps.new }
-    ensures rises { AsksTable (seen item.now) → steps.old + 1 ≤ steps.new }
-    ensures bound { (t : BindingTable) → IsCompiled t (W.list words.old) → steps.new ≤ steps.old + look_bound t.bindings + group_digits t.bindings + 4 }
+    ensures bound { (t : BindingTable) → IsCompiled t (W.list words.old) → (n : ℕ) → IsLook t n → steps.new ≤ steps.old + 2 * n }
 {
     match item {
         ItemView::Held => Verdict::Held,
         ItemView::Bad(why) => silent(*why),
-        ItemView::Up { outer, inner } => {
-            read_count(words, steps);
-            judge_up(words, settings, outer, inner, steps)
-        }
-        ItemView::UpUnread { outer, inner } => {
-            read_count(words, steps);
-            refused(settings, outer, inner.why)
-        }
-        ItemView::Down { .. } | ItemView::Six { .. } | ItemView::Six58 { .. } => {
-            read_count(words, steps);
-            silent(Rule::NotBuilt)
+        ItemView::Down { packet } => judge_down(words, settings, &packet.view, steps),
+        ItemView::Up { outer, inner } => judge_up(words, settings, outer, &inner.view, steps),
+        ItemView::UpUnread { outer, inner } => judge_unread(settings, outer, inner.why),
+        ItemView::Six { dst } => judge_six(settings, *dst),
+        ItemView::Six58 { src, dst, message } => {
+            judge_message(words, settings, *src, *dst, message, steps)
         }
     }
 }
 
-// Reads the number of bindings: whoever is judged under a table has read one of its words.
-fn read_count<W: Words, L: Ledger>(words: &mut W, steps: &mut Steps<L>)
-    requires { AreCompiled (W.list words.old) }
-    ensures list { W.list words.new ≡ W.list words.old }
-    ensures reads { W.reads words.new ≡ read_more (W.reads words.old) 1 }
-    ensures goes { W.goes words.old words.new }
-    ensures steps { steps.new ≡ steps.old + 1 }
-{
-    words.word(COUNT, steps);
-}
-
-// The verdict on a packet from a subscriber.
-pub(crate) fn judge_up<W: Words, L: Ledger>(
+// The verdict on an ICMPv6 message.
+fn judge_message<W: Words, L: Ledger>(
     words: &mut W,
     settings: &Softwire,
-    outer: &Outer,
-    inner: &ReadPacket<'_>,
+    src: V6,
+    dst: V6,
+    message: &[u8],
     steps: &mut Steps<L>,
 ) -> Verdict
-    requires compiled { AreCompiled (W.list words.old) }
-    requires settings { (t : BindingTable) → IsCompiled t (W.list words.old) → settings.now ≡ t.softwire }
-    ensures verdict { (t : BindingTable) → IsCompiled t (W.list words.old) → first_true (up_lines t outer.now (ip4_of (whole4 (packet4 inner.now.view)))) ≡ Some result }
-    ensures list { W.list words.new ≡ W.list words.old }
-    ensures reads { W.reads words.new ≡ read_more (W.reads words.old) (steps.new - steps.old) }
-    ensures goes { W.goes words.old words.new }
-    ensures later { steps.old ≤ steps.new }
-    ensures bound { (t : BindingTable) → IsCompiled t (W.list words.old) → steps.new ≤ steps.old + look_bound t.bindings + group_digits t.bindings + 3 }
-{
-    let packet = &inner.view;
-    if is_not_judged(words, settings, packet, steps) {
-        return silent(Rule::NotBuilt);
-    }
-    if outer.dst != settings.aftr {
-        return silent(Rule::NotOurs);
-    }
-    let want = match key_up(packet) {
-        Key::At(want) => want,
-        Key::IcmpBad => return silent(Rule::IcmpBad),
-        Key::NoPort => return silent(Rule::NoPort),
-    };
-    if !is_softwire(words, outer, packet.src, want, steps) {
-        return silent(Rule::NoBinding);
-    }
-    if packet.dst == settings.own {
-        return silent(Rule::ToSelf);
-    }
-    Verdict::Outward { mtu: settings.mtu4 }
-}
-
-// The verdict where the inner bytes are no IPv4 packet.
-pub(crate) fn refused(settings: &Softwire, outer: &Outer, refusal: Ip4Bad) -> Verdict
-    ensures { (t : BindingTable) → settings.now ≡ t.softwire → first_true (up_lines t outer.now (Err refusal)) ≡ Some result }
-{
-    if outer.dst != settings.aftr {
-        return silent(Rule::NotOurs);
-    }
-    match refusal {
-        Ip4Bad::Checksum => silent(Rule::InnerChecksum),
-        _ => silent(Rule::InnerMalformed),
-    }
-}
-
-// Whether the packet is of a kind that is not judged yet.
-fn is_not_judged<W: Words, L: Ledger>(
-    words: &mut W,
-    settings: &Softwire,
-    packet: &Ip4View<'_>,
-    steps: &mut Steps<L>,
-) -> bool
-    requires compiled { AreCompiled (W.list words.old) }
-    requires settings { (t : BindingTable) → IsCompiled t (W.list words.old) → settings.now ≡ t.softwire }
-    ensures answer { (t : BindingTable) → IsCompiled t (W.list words.old) → result ≡ is_not_judged t (packet4 packet.now) }
-    ensures list { W.list words.new ≡ W.list words.old }
-    ensures reads { W.reads words.new ≡ read_more (W.reads words.old) (steps.new - steps.old) }
-    ensures goes { W.goes words.old words.new }
-    ensures later { steps.old ≤ steps.new }
-    ensures bound { (t : BindingTable) → IsCompiled t (W.list words.old) → steps.new ≤ steps.old + group_digits t.bindings + 3 }
-{
-    is_not_judged_by_settings(settings, packet) || has_address(words, packet.dst, steps)
-}
-
-// The same by the settings alone, where the packet's destination is not looked at.
-fn is_not_judged_by_settings(settings: &Softwire, packet: &Ip4View<'_>) -> bool
-    ensures { result ≡ is_not_judged_by_settings settings.now (packet4 packet.now) }
-{
-    packet.protocol == ICMP
-        || settings.errors_up
-        || settings.errors_down
-        || packet.ttl < LEAST_TTL
-        || packet.total_len() > usize::from(settings.mtu4)
-}
-
-// Whether the one binding that owns what is wanted of the address has its tunnel's end where the packet came from.
-fn is_softwire<W: Words, L: Ledger>(
-    words: &mut W,
-    outer: &Outer,
-    v4: V4,
-    want: Want,
-    steps: &mut Steps<L>,
-) -> bool
     requires { AreCompiled (W.list words.old) }
-    ensures answer { (t : BindingTable) → IsCompiled t (W.list words.old) →
-        result ≡ list_any (λ b. b.b4.0 == outer.now.src.0) (bound t.bindings v4 want) }
+    ensures verdict { (t : BindingTable) → IsCompiled t (W.list words.old) →
+        verdict_in (lines (binding_table t.edition settings.now t.bindings) (item.Six58 src dst message.now)) ≡ Some result }
     ensures list { W.list words.new ≡ W.list words.old }
     ensures reads { W.reads words.new ≡ read_more (W.reads words.old) (steps.new - steps.old) }
     ensures goes { W.goes words.old words.new }
     ensures later { steps.old ≤ steps.new }
-    ensures bound { (t : BindingTable) → IsCompiled t (W.list words.old) → steps.new ≤ steps.old + look_bound t.bindings }
+    ensures bound { (t : BindingTable) → IsCompiled t (W.list words.old) → (n : ℕ) → IsLook t n → steps.new ≤ steps.old + 2 * n }
 {
-    let end = look(words, v4, want, steps);
-    end == Some(outer.src)
-}
-
-pub(crate) fn silent(why: Rule) -> Verdict
-    ensures { result ≡ silent why }
-{
-    Verdict::Drop {
-        why,
-        reply: Reply::Silent,
+    if let Some(refused) = message_refusal(settings, dst, message) {
+        return refused;
     }
+    judge_error(words, settings, src, dst, message, steps)
 }

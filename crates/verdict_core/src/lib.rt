@@ -2,10 +2,15 @@
 //! true (RFC 7596, section 6.2).
 #![tactic(auto)]
 
+mod answers;
+mod downstream;
 mod judging;
-mod owned;
+mod laws;
+mod messages;
+mod owners;
+mod upstream;
 mod verdicts;
 
 pub use judging::{judge, judge_with};
-pub use owned::judge_owned;
+pub use laws::access;
 pub use verdicts::{Path, Reply, Verdict};

@@ -1,0 +1,186 @@
+-- Errors about tunnel packets: whom they reach, and which are passed on.
+use Rattle.std.proofs.Common.{◌≡◌, ℕ, ◌==◌, ◌&&◌, ◌⊎◌, inl, inr, if◌then◌else◌, Bool, not, true, false, List, [], ◌∷◌, ◌++◌, Option, Some, None, Result, Ok, Err, refl, ap, sym, ◌∙◌, subst}
+use Rattle.std.proofs.lemmas.Bool.{and_parts, eqb-true, eq-eqb, not-false, not_from_true}
+use Rattle.aftr_base.specs.declared.numbers.V6.{V6}
+use Rattle.binding_rules.specs.Tables.{BindingTable, IsLawful}
+use Rattle.icmp_codec.specs.Message6.{Message6, icmp6_of}
+use Rattle.icmp_codec.specs.declared.message4.IcmpBad.{IcmpBad}
+use Rattle.icmp_errors.specs.Answers.{gets_answer}
+use Rattle.icmp_relay.specs.Quotes.{TunnelQuote, quote_of}
+use Rattle.icmp_relay.specs.declared.quotes.QuoteBad.{QuoteBad}
+use Rattle.ip_codec.specs.declared.items.Item.{Item}
+use Rattle.ip_codec.specs.declared.items.Item.TheVariants as item
+use Rattle.ip_codec.specs.declared.rules.Rule.{Rule}
+use Rattle.ip_codec.specs.declared.rules.Rule.TheVariants as rule
+use Rattle.verdict_core.specs.Access.{Delivers, IsRelayedOwn, LeadsTo, RelayPermits, RelaysAll}
+use Rattle.verdict_core.specs.Answers.{ends_at, is_missing, relayed, relayed_code, silent}
+use Rattle.verdict_core.specs.Fitting.{Fits, HasRoom, QuotesTunnel}
+use Rattle.verdict_core.specs.Lines.{Line, forbids, passes, verdict_in}
+use Rattle.verdict_core.specs.Verdicts.{error_lines, is_bound_address, is_tunnel_error, lines, message_refusals, owner_end, quote_lines, quote_refusals, quoted_destination, quoted_source, receiver_lines, relay_lines}
+use Rattle.verdict_core.specs.declared.verdicts.Path.{Path}
+use Rattle.verdict_core.specs.declared.verdicts.Path.TheVariants as path
+use Rattle.verdict_core.specs.declared.verdicts.Verdict.{Verdict}
+use Rattle.verdict_core.specs.declared.verdicts.Verdict.TheVariants as verdict
+use Rattle.verdict_core.proofs.Firsts.{EachAnswer, Parts, all_missed, decided_behind, each_decides, none_decides, parted}
+use Rattle.verdict_core.proofs.Owned.{owner_ends, owner_known, owner_of}
+
+-- what an answer about a message has to be: it fits the message, and is relayed only to the quoted packet's source
+pub record IsOwn (t : BindingTable) (src dst : V6) (message : List ℕ) (v : Verdict) : Type 0 where
+  pub fits : Fits (item.Six58 src dst message) v
+  pub room : HasRoom v
+  pub delivers : Delivers t (item.Six58 src dst message) v
+  pub relays : IsRelayedOwn t src dst message v
+
+not_both : (b : Bool) → (b && true) ≡ false → b ≡ false
+not_both true none = absurd cc
+not_both false none = refl
+
+-- the code is one of the two
+one_code : (kind : ℕ) → (relayed_code kind ≡ 1) ⊎ (relayed_code kind ≡ 4)
+one_code kind = by_kind (kind == 2)
+  where
+    by_kind : (b : Bool) → (◌≡◌ {A = ℕ} (if b then 4 else 1) 1) ⊎ (◌≡◌ {A = ℕ} (if b then 4 else 1) 4)
+    by_kind true = inr refl
+    by_kind false = inl refl
+
+module _ (t : BindingTable) (lawful : IsLawful t) (src dst : V6) (message : List ℕ) where
+  abbrev P : Verdict → Type 0
+  P v = IsOwn t src dst message v
+
+  own_silent : (why : Rule) → P (silent why)
+  own_silent why = record { fits = tt; room = tt; delivers = tt; relays = tt }
+
+  module _ (ours : dst.0 ≡ t.softwire.aftr.0) (error : Message6) (read : icmp6_of src.0 dst.0 message ≡ Ok error) (quote : TunnelQuote)
+      (quoted : quote_of error.rest ≡ Ok quote) where
+    quotes : QuotesTunnel src dst message
+    quotes = record { message = error; read = read; quote = quote; quoted = quoted }
+
+    module _ (from : quote.src6 ≡ t.softwire.aftr.0) (sent_to : ends_at (owner_end t quote.inner.dst (quoted_destination quote)) quote.dst6 ≡ true) where
+      abbrev permitted : RelayPermits t src dst message
+      permitted =
+          let owned = owner_of t quote.inner.dst (quoted_destination quote) quote.dst6 lawful sent_to in
+          record {
+            ours = ours;
+            error = error;
+            read = read;
+            quote = quote;
+            quoted = quoted;
+            from = from;
+            want = owned.want;
+            key = owned.key;
+            receiver = owned.owner;
+          }
+
+      own_relayed : (way : Path) → LeadsTo t quote way → P (relayed t.softwire error.kind error.word way)
+      own_relayed way leads = record { fits = (quotes, one_code error.kind); room = tt; delivers = tt; relays = (permitted, leads) }
+
+      relay_own : (end : Option V6) → owner_end t quote.inner.src (quoted_source quote) ≡ end →
+          EachAnswer P (relay_lines t.softwire error.kind error.word quote (is_bound_address t quote.inner.src) end)
+      relay_own None is =
+          (λ _. own_silent rule.RelayNoBinding, λ found. (λ _. own_silent rule.RelayMute, λ _. (λ _. own_relayed path.Plain (outside found), λ _. tt)))
+        where
+          outside : (is_bound_address t quote.inner.src && true) ≡ false → is_bound_address t quote.inner.src ≡ false
+          outside found = not_both (is_bound_address t quote.inner.src) found
+      relay_own (Some to) is =
+          (λ _. own_silent rule.RelayNoBinding, λ _. (λ _. own_silent rule.RelayMute, λ _. (λ _. own_relayed (path.Tunnel t.softwire.aftr to t.softwire.hop_limit) inside, λ never. absurd cc)))
+        where
+          inside : LeadsTo t quote (path.Tunnel t.softwire.aftr to t.softwire.hop_limit)
+          inside =
+              let owned = owner_known t quote.inner.src (quoted_source quote) to lawful is in
+              (refl, (owned.want, (owned.key, owned.owner)))
+
+    abbrev after : List Line
+    after = relay_lines t.softwire error.kind error.word quote (is_bound_address t quote.inner.src) (owner_end t quote.inner.src (quoted_source quote))
+
+    abbrev receivers : List Line
+    receivers = receiver_lines quote (owner_end t quote.inner.dst (quoted_destination quote))
+
+    by_receiver : (v : Verdict) → quote.src6 ≡ t.softwire.aftr.0 → Parts receivers after v → P v
+    by_receiver v from (inl first) = each_decides P receivers v (λ _. own_silent rule.RelayNoBinding, λ _. tt) first
+    by_receiver v from (inr rest) =
+        each_decides P after v
+        (relay_own from (not-false _ (all_missed receivers rest.0).0) (owner_end t quote.inner.src (quoted_source quote)) refl) rest.1
+
+    by_quote : (v : Verdict) → Parts (quote_refusals t.softwire quote) (receivers ++ after) v → P v
+    by_quote v (inl first) = each_decides P (quote_refusals t.softwire quote) v (λ _. own_silent rule.RelayBad, λ _. tt) first
+    by_quote v (inr rest) =
+        by_receiver v (eqb-true _ _ (not-false _ (all_missed (quote_refusals t.softwire quote) rest.0).0)) (parted receivers after v rest.1)
+
+    quote_own : (v : Verdict) → verdict_in (quote_lines t error.kind error.word (Ok quote)) ≡ Some v → P v
+    quote_own v is = by_quote v (parted (quote_refusals t.softwire quote) (receivers ++ after) v is)
+
+  error_own : dst.0 ≡ t.softwire.aftr.0 → (v : Verdict) → verdict_in (error_lines t (icmp6_of src.0 dst.0 message)) ≡ Some v → P v
+  error_own ours v is = by_message (icmp6_of src.0 dst.0 message) refl is
+    where
+      by_quoted : (m : Message6) → icmp6_of src.0 dst.0 message ≡ Ok m → (r : Result TunnelQuote QuoteBad) → quote_of m.rest ≡ r →
+          verdict_in (quote_lines t m.kind m.word r) ≡ Some v → P v
+      by_quoted m read (Ok quote) quoted first = quote_own ours m read quote quoted v first
+      by_quoted m read (Err refusal) quoted first = each_decides P (quote_lines t m.kind m.word (Err refusal)) v (λ _. own_silent rule.RelayBad, λ _. tt) first
+
+      by_message : (r : Result Message6 IcmpBad) → icmp6_of src.0 dst.0 message ≡ r → verdict_in (error_lines t r) ≡ Some v → P v
+      by_message (Ok m) read first = by_quoted m read (quote_of m.rest) refl first
+      by_message (Err refusal) read first = each_decides P (error_lines t (Err refusal)) v (λ _. own_silent rule.RelayBad, λ _. tt) first
+
+  message_by : (v : Verdict) → Parts (message_refusals t.softwire dst message) (error_lines t (icmp6_of src.0 dst.0 message)) v → P v
+  message_by v (inl first) =
+      each_decides P (message_refusals t.softwire dst message) v
+      (λ _. own_silent rule.NotOurs, λ _. (λ _. own_silent rule.NotSoftwire, λ _. tt)) first
+  message_by v (inr rest) =
+      error_own (eqb-true _ _ (not-false _ (all_missed (message_refusals t.softwire dst message) rest.0).0)) v rest.1
+
+  pub message_own : (v : Verdict) → verdict_in (lines t (item.Six58 src dst message)) ≡ Some v → P v
+  message_own v is = message_by v (parted (message_refusals t.softwire dst message) (error_lines t (icmp6_of src.0 dst.0 message)) v is)
+
+-- what the lines behind the receiver's answer where none of the first two is true
+relay_decides : (t : BindingTable) (kind word : ℕ) (quote : TunnelQuote) (is_ours : Bool) (end : Option V6) →
+    (is_ours ≡ true → end ≡ None → ⊥) → gets_answer quote.inner ≡ true →
+    (way : Path) × (verdict_in (relay_lines t.softwire kind word quote is_ours end) ≡ Some (relayed t.softwire kind word way))
+relay_decides t kind word quote true None found loud = absurd (found refl refl)
+relay_decides t kind word quote false None found loud =
+    (path.Plain, ap (λ (b : Bool). verdict_in (forbids (not b) (silent rule.RelayMute) ∷ passes (relayed t.softwire kind word path.Plain) ∷ [])) loud)
+relay_decides t kind word quote is_ours (Some to) found loud =
+    (way, by_ours is_ours ∙ ap (λ (b : Bool). verdict_in (forbids (not b) (silent rule.RelayMute) ∷ rest)) loud)
+  where
+    way : Path
+    way = path.Tunnel t.softwire.aftr to t.softwire.hop_limit
+
+    rest : List Line
+    rest = passes (relayed t.softwire kind word way) ∷ passes (relayed t.softwire kind word path.Plain) ∷ []
+
+    by_ours : (b : Bool) → verdict_in (relay_lines t.softwire kind word quote b (Some to))
+        ≡ verdict_in (forbids (not (gets_answer quote.inner)) (silent rule.RelayMute) ∷ rest)
+    by_ours true = refl
+    by_ours false = refl
+
+pub relays_all : (t : BindingTable) (i : Item) (v : Verdict) → verdict_in (lines t i) ≡ Some v → RelaysAll t i v
+relays_all t (item.Six58 src dst message) v is = λ permitted error found loud.
+    let quote = permitted.quote in
+    let kind = permitted.error.kind in
+    let word = permitted.error.word in
+    let after = relay_lines t.softwire kind word quote (is_bound_address t quote.inner.src) (owner_end t quote.inner.src (quoted_source quote)) in
+    let receivers = receiver_lines quote (owner_end t quote.inner.dst (quoted_destination quote)) in
+    let decided = relay_decides t kind word quote (is_bound_address t quote.inner.src) (owner_end t quote.inner.src (quoted_source quote)) found loud in
+    let at_message : verdict_in (lines t (item.Six58 src dst message)) ≡ verdict_in (error_lines t (icmp6_of src.0 dst.0 message)) =
+    decided_behind (message_refusals t.softwire dst message) (error_lines t (icmp6_of src.0 dst.0 message))
+    (none_decides (message_refusals t.softwire dst message)
+    (not_from_true (dst.0 == t.softwire.aftr.0) (eq-eqb dst.0 t.softwire.aftr.0 permitted.ours), (not_from_true (is_tunnel_error message) error, tt))) in
+    let at_quote : verdict_in (error_lines t (icmp6_of src.0 dst.0 message)) ≡ verdict_in (quote_lines t kind word (Ok quote)) =
+    ap (λ r. verdict_in (error_lines t r)) permitted.read ∙ ap (λ r. verdict_in (quote_lines t kind word r)) permitted.quoted in
+    let at_receiver : verdict_in (quote_lines t kind word (Ok quote)) ≡ verdict_in (receivers ++ after) =
+    decided_behind (quote_refusals t.softwire quote) (receivers ++ after)
+    (none_decides (quote_refusals t.softwire quote) (not_from_true (quote.src6 == t.softwire.aftr.0) (eq-eqb quote.src6 t.softwire.aftr.0 permitted.from), tt)) in
+    let at_relay : verdict_in (receivers ++ after) ≡ verdict_in after =
+    decided_behind receivers after
+    (none_decides receivers (
+      not_from_true (ends_at (owner_end t quote.inner.dst (quoted_destination quote)) quote.dst6)
+          (owner_ends t quote.inner.dst (quoted_destination quote) permitted.want quote.dst6 permitted.key permitted.receiver),
+      tt,
+    )) in
+    let both : ◌≡◌ {A = Option Verdict} (Some v) (Some (relayed t.softwire kind word decided.0)) = sym is ∙ (at_message ∙ (at_quote ∙ (at_receiver ∙ (at_relay ∙ decided.1)))) in
+    let same : v ≡ relayed t.softwire kind word decided.0 = cc in
+    (decided.0, same)
+relays_all t (item.Up outer inner) v is = tt
+relays_all t (item.Down packet) v is = tt
+relays_all t (item.Six dst) v is = tt
+relays_all t item.Held v is = tt
+relays_all t (item.Bad why) v is = tt

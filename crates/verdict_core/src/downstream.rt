@@ -1,0 +1,87 @@
+// The verdict on a packet from the IPv4 network.
+ghost use Rattle.std.specs.Prelude.{◌≡◌, ℕ, ◌+◌, ◌-◌, ◌==◌, ◌≤◌, not, ◌&&◌, Some, Ok};
+ghost use Rattle.binding_rules.specs.Tables.{BindingTable, binding_table};
+ghost use Rattle.ip_codec.specs.Packet4.{packet4};
+ghost use Rattle.table_words.specs.Layout.{IsCompiled, AreCompiled};
+ghost use Rattle.table_words.specs.Reads.{read_more};
+ghost use Rattle.verdict_core.specs.Bounds.{IsLook};
+ghost use Rattle.verdict_core.specs.Lines.{verdict_in};
+ghost use Rattle.verdict_core.specs.Verdicts.{down_lines, down_refusals, down_ways};
+
+use crate::answers::{
+    inward, inward_room, is_too_large, is_used_up, no_owner, silent, too_large, used_up,
+};
+use crate::owners::owner_end;
+use crate::verdicts::{Path, Verdict};
+use aftr_base::V6;
+use binding_rules::Softwire;
+use ip_codec::{Ip4View, Rule};
+use port_locate::{Key, key_down};
+use std::sync::ledger::Ledger;
+use table_words::{Steps, Words};
+
+const ICMP: u8 = 1;
+
+pub fn judge_down<W: Words, L: Ledger>(
+    words: &mut W,
+    settings: &Softwire,
+    packet: &Ip4View<'_>,
+    steps: &mut Steps<L>,
+) -> Verdict
+    requires { AreCompiled (W.list words.old) }
+    ensures verdict { (t : BindingTable) → IsCompiled t (W.list words.old) →
+        verdict_in (down_lines (binding_table t.edition settings.now t.bindings) (Ok (packet4 packet.now))) ≡ Some result }
+    ensures list { W.list words.new ≡ W.list words.old }
+    ensures reads { W.reads words.new ≡ read_more (W.reads words.old) (steps.new - steps.old) }
+    ensures goes { W.goes words.old words.new }
+    ensures later { steps.old ≤ steps.new }
+    ensures bound { (t : BindingTable) → IsCompiled t (W.list words.old) → (n : ℕ) → IsLook t n → steps.new ≤ steps.old + n }
+{
+    let key = key_down(packet);
+    if let Some(refused) = down_refusal(settings, packet, key) {
+        return refused;
+    }
+    let end = owner_end(words, packet.dst, key, steps);
+    down_way(settings, packet, end)
+}
+
+// What needs no search.
+fn down_refusal(settings: &Softwire, packet: &Ip4View<'_>, key: Key) -> Option<Verdict>
+    ensures { verdict_in (down_refusals settings.now (packet4 packet.now) key) ≡ result }
+{
+    if packet.dst == settings.own {
+        return Some(silent(Rule::ToSelf));
+    }
+    if is_kept_out(settings, packet) {
+        return Some(silent(Rule::IcmpOff));
+    }
+    match key {
+        Key::IcmpBad => Some(silent(Rule::IcmpBad)),
+        Key::NoPort => Some(silent(Rule::NoPort)),
+        Key::At(_) => None,
+    }
+}
+
+// ICMP that the table lets not in.
+fn is_kept_out(settings: &Softwire, packet: &Ip4View<'_>) -> bool
+    ensures { result ≡ ((packet.now.protocol == 1) && not settings.now.icmp_in) }
+{
+    packet.protocol == ICMP && !settings.icmp_in
+}
+
+// By the tunnel's end of the destination's owner.
+fn down_way(settings: &Softwire, packet: &Ip4View<'_>, end: Option<V6>) -> Verdict
+    ensures { verdict_in (down_ways settings.now (packet4 packet.now) end) ≡ Some result }
+{
+    let Some(to) = end else {
+        return no_owner(settings, Rule::NoBinding, Path::Plain, packet);
+    };
+    if is_used_up(packet) {
+        return used_up(settings, Path::Plain, packet);
+    }
+    let room = inward_room(settings);
+    if is_too_large(room, packet) {
+        return too_large(settings, room, Path::Plain, packet);
+    }
+    inward(settings, false, to)
+}

@@ -1,0 +1,162 @@
+// The verdict on a packet from a subscriber.
+ghost use Rattle.std.specs.Prelude.{◌≡◌, ℕ, ◌+◌, ◌*◌, ◌-◌, ◌≤◌, true, Some, None, Ok, Err};
+ghost use Rattle.binding_rules.specs.Tables.{BindingTable, binding_table};
+ghost use Rattle.ip_codec.specs.Packet4.{packet4};
+ghost use Rattle.table_words.specs.Answers.{has_binding, tunnel_of};
+ghost use Rattle.table_words.specs.Layout.{IsCompiled, AreCompiled};
+ghost use Rattle.table_words.specs.Reads.{read_more};
+ghost use Rattle.verdict_core.specs.Bounds.{IsLook};
+ghost use Rattle.verdict_core.specs.Lines.{verdict_in};
+ghost use Rattle.verdict_core.specs.Verdicts.{hairpin_lines, outward_lines, sender_lines, ttl_lines, up_lines, up_refusals};
+
+use crate::answers::{
+    ends_at, inward, inward_room, is_too_large, is_used_up, no_owner, not_sender, silent,
+    too_large, used_up, way_back,
+};
+use crate::owners::{owner_at, owner_end};
+use crate::verdicts::Verdict;
+use aftr_base::V6;
+use binding_rules::Softwire;
+use ip_codec::{Ip4Bad, Ip4View, Outer, Rule};
+use port_locate::{Key, key_down, key_up};
+use std::sync::ledger::Ledger;
+use table_words::{Destination, Steps, Words};
+
+pub fn judge_up<W: Words, L: Ledger>(
+    words: &mut W,
+    settings: &Softwire,
+    outer: &Outer,
+    packet: &Ip4View<'_>,
+    steps: &mut Steps<L>,
+) -> Verdict
+    requires { AreCompiled (W.list words.old) }
+    ensures verdict { (t : BindingTable) → IsCompiled t (W.list words.old) →
+        verdict_in (up_lines (binding_table t.edition settings.now t.bindings) outer.now (Ok (packet4 packet.now))) ≡ Some result }
+    ensures list { W.list words.new ≡ W.list words.old }
+    ensures reads { W.reads words.new ≡ read_more (W.reads words.old) (steps.new - steps.old) }
+    ensures goes { W.goes words.old words.new }
+    ensures later { steps.old ≤ steps.new }
+    ensures bound { (t : BindingTable) → IsCompiled t (W.list words.old) → (n : ℕ) → IsLook t n → steps.new ≤ steps.old + 2 * n }
+{
+    let key = key_up(packet);
+    if let Some(refused) = up_refusal(settings, outer, key) {
+        return refused;
+    }
+    let end = owner_end(words, packet.src, key, steps);
+    if let Some(refused) = sender_refusal(settings, outer, end) {
+        return refused;
+    }
+    if let Some(dropped) = ttl_refusal(settings, outer, packet) {
+        return dropped;
+    }
+    let asked = key_down(packet);
+    let destination = owner_at(words, packet.dst, asked, steps);
+    if let Some(turned) = hairpin(settings, outer, packet, destination) {
+        return turned;
+    }
+    outward(settings, outer, packet)
+}
+
+// The verdict where the inner bytes are no IPv4 packet.
+pub fn judge_unread(settings: &Softwire, outer: &Outer, refusal: Ip4Bad) -> Verdict
+    ensures { (t : BindingTable) → verdict_in (up_lines (binding_table t.edition settings.now t.bindings) outer.now (Err refusal)) ≡ Some result }
+{
+    if outer.dst != settings.aftr {
+        return silent(Rule::NotOurs);
+    }
+    match refusal {
+        Ip4Bad::Checksum => silent(Rule::InnerChecksum),
+        _ => silent(Rule::InnerMalformed),
+    }
+}
+
+// What needs no search.
+fn up_refusal(settings: &Softwire, outer: &Outer, key: Key) -> Option<Verdict>
+    ensures { verdict_in (up_refusals settings.now outer.now key) ≡ result }
+{
+    if outer.dst != settings.aftr {
+        return Some(silent(Rule::NotOurs));
+    }
+    match key {
+        Key::IcmpBad => Some(silent(Rule::IcmpBad)),
+        Key::NoPort => Some(silent(Rule::NoPort)),
+        Key::At(_) => None,
+    }
+}
+
+// By the tunnel's end of the source's owner.
+fn sender_refusal(settings: &Softwire, outer: &Outer, end: Option<V6>) -> Option<Verdict>
+    ensures { verdict_in (sender_lines settings.now outer.now end) ≡ result }
+{
+    if ends_at(end, outer.src) {
+        None
+    } else {
+        Some(not_sender(settings, outer))
+    }
+}
+
+fn ttl_refusal(settings: &Softwire, outer: &Outer, packet: &Ip4View<'_>) -> Option<Verdict>
+    ensures { verdict_in (ttl_lines settings.now outer.now (packet4 packet.now)) ≡ result }
+{
+    if is_used_up(packet) {
+        Some(used_up(settings, way_back(settings, outer), packet))
+    } else {
+        None
+    }
+}
+
+// From subscriber to subscriber, by what the table has of the destination.
+fn hairpin(
+    settings: &Softwire,
+    outer: &Outer,
+    packet: &Ip4View<'_>,
+    destination: Destination,
+) -> Option<Verdict>
+    ensures { verdict_in (hairpin_lines settings.now outer.now (packet4 packet.now) (has_binding destination) (tunnel_of destination)) ≡ result }
+{
+    match destination {
+        Destination::Unbound => None,
+        Destination::Unowned => Some(turned_to_nobody(settings, outer, packet)),
+        Destination::Owned(to) => Some(turned(settings, outer, packet, to)),
+    }
+}
+
+fn turned_to_nobody(settings: &Softwire, outer: &Outer, packet: &Ip4View<'_>) -> Verdict
+    ensures { verdict_in (hairpin_lines settings.now outer.now (packet4 packet.now) true None) ≡ Some result }
+{
+    if !settings.hairpin {
+        return silent(Rule::HairpinOff);
+    }
+    no_owner(
+        settings,
+        Rule::HairpinNoBinding,
+        way_back(settings, outer),
+        packet,
+    )
+}
+
+fn turned(settings: &Softwire, outer: &Outer, packet: &Ip4View<'_>, to: V6) -> Verdict
+    ensures { verdict_in (hairpin_lines settings.now outer.now (packet4 packet.now) true (Some to)) ≡ Some result }
+{
+    if !settings.hairpin {
+        return silent(Rule::HairpinOff);
+    }
+    let room = inward_room(settings);
+    if is_too_large(room, packet) {
+        return too_large(settings, room, way_back(settings, outer), packet);
+    }
+    inward(settings, true, to)
+}
+
+// Out to the IPv4 network.
+fn outward(settings: &Softwire, outer: &Outer, packet: &Ip4View<'_>) -> Verdict
+    ensures { verdict_in (outward_lines settings.now outer.now (packet4 packet.now)) ≡ Some result }
+{
+    if packet.dst == settings.own {
+        return silent(Rule::ToSelf);
+    }
+    if is_too_large(settings.mtu4, packet) {
+        return too_large(settings, settings.mtu4, way_back(settings, outer), packet);
+    }
+    Verdict::Outward { mtu: settings.mtu4 }
+}
