@@ -4,9 +4,13 @@
 #![tactic(auto)]
 
 #[cfg(test)]
+mod down_verdicts;
+#[cfg(test)]
 mod keys;
 #[cfg(test)]
 mod lines;
+#[cfg(test)]
+mod message_verdicts;
 #[cfg(test)]
 mod passing;
 #[cfg(test)]
@@ -17,5 +21,9 @@ mod replying;
 mod sending;
 #[cfg(test)]
 mod stages;
+#[cfg(test)]
+mod turned_verdicts;
+#[cfg(test)]
+mod under_tables;
 #[cfg(test)]
 mod verdicts;

@@ -1,4 +1,4 @@
-use Rattle.packet_cases.proofs.verdicts.judged.Given as goal
+use Rattle.packet_cases.proofs.under_tables.judged.Given as goal
 
 abbrev pub ghosts-judged_in : goal.ghosts-judged_in
 ghosts-judged_in a = record { name = a.blank.name; parts = a.blank.parts }

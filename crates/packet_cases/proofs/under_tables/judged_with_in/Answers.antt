@@ -1,7 +1,7 @@
 -- The settings are those of the table whose words they were read from.
 use Rattle.std.proofs.Common.{ℕ, List, subst}
 use Rattle.table_words.specs.Layout.{IsCompiled}
-use Rattle.packet_cases.proofs.verdicts.judged_with_in.Goals as goal
+use Rattle.packet_cases.proofs.under_tables.judged_with_in.Goals as goal
 
 pub judge_with-requires-clause-settings : goal.judge_with-requires-clause-settings
 judge_with-requires-clause-settings g c = λ t h.
