@@ -160,7 +160,7 @@ pub fn down(packet: &[u8]) -> ItemView<'_> {
 pub fn padded(alloc: Global, start: &[u8], len: usize) -> Result<Vec<u8>, OutOfMemory> {
     let mut bytes = Vec::new(alloc);
     bytes.extend_from_slice(start)?;
-    while bytes.len() < len {
+    for _ in start.len()..len {
         bytes.push(0)?;
     }
     Ok(bytes)
