@@ -1,0 +1,57 @@
+// Items that are all alike, and what becomes of them.
+use case_data::{AFTR, SUBSCRIBER};
+use ip_codec::{ItemView, Outer, Rule};
+use item_stage::RoundItems;
+use verdict_core::{Reply, Verdict};
+use worker_gate::Outcome;
+
+/// So many records with one item.
+pub struct Alike<'a> {
+    pub item: ItemView<'a>,
+    pub count: usize,
+}
+
+impl<'a> RoundItems for Alike<'a> {
+    ghost use Rattle.std.specs.Prelude.{replicate};
+    ghost use Rattle.ip_codec.specs.Seen.{seen};
+
+    ghost items = { λ s. replicate s.count (seen s.item) };
+
+    fn len(&self) -> usize {
+        self.count
+    }
+
+    fn item(&self, _index: usize) -> ItemView<'_> {
+        self.item
+    }
+}
+
+/// The header of the tunnel in which the subscriber sends.
+pub const OUTER: Outer = Outer {
+    word: 0x6000_0000,
+    hop: 64,
+    src: SUBSCRIBER,
+    dst: AFTR,
+};
+
+/// Whether this is the outcome of the subscriber's packet with this number: below `second` it goes out under the first table, and
+/// from there on it is dropped under the second.
+pub fn is_judged(outcome: &Outcome, number: u32, second: u32) -> bool {
+    let expected = if number < second {
+        Outcome {
+            number,
+            version: 0,
+            verdict: Verdict::Outward { mtu: 1500 },
+        }
+    } else {
+        Outcome {
+            number,
+            version: 1,
+            verdict: Verdict::Drop {
+                why: Rule::NoBinding,
+                reply: Reply::Silent,
+            },
+        }
+    };
+    *outcome == expected
+}

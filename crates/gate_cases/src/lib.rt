@@ -1,0 +1,14 @@
+//! Tests of workers that judge beside a reloader (worker_gate), by public calls: single workers, reloads, and rounds. Nothing
+//! stands on this crate.
+#![tactic(auto)]
+
+#[cfg(test)]
+mod items;
+#[cfg(test)]
+mod plans;
+#[cfg(test)]
+mod reloads;
+#[cfg(test)]
+mod rounds;
+#[cfg(test)]
+mod workers;

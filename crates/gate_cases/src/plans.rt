@@ -1,0 +1,70 @@
+// Plans of tables.
+ghost use Rattle.std.specs.Prelude.{◌≡◌, ◌≤◌, All, IfOk, replicate};
+ghost use Rattle.table_words.specs.Layout.{AreCompiled};
+
+use aftr_base::{OutOfMemory, WordList};
+use binding_rules::{Binding, Edition, TableError, table_of};
+use case_data::{SETTINGS, SHARED, SUBSCRIBER};
+use std::alloc::Global;
+use swap_core::{Plan, Window};
+use table_words::compile;
+
+/// The words of a table in which the subscriber owns the ports of this identifier.
+pub fn words_of(alloc: Global, psid: u16) -> Result<WordList, TableError>
+    ensures compiled { IfOk result (λ words. AreCompiled words) }
+{
+    let mut bindings = Vec::new(alloc);
+    let binding = Binding {
+        b4: SUBSCRIBER,
+        v4: SHARED,
+        offset: 6,
+        length: 8,
+        psid,
+    };
+    if bindings.push(binding).is_err() {
+        return Err(TableError::OutOfMemory);
+    }
+    let table = table_of(alloc, Edition::One, SETTINGS, bindings)?;
+    match compile(alloc, &table) {
+        Ok(words) => Ok(words),
+        Err(_) => Err(TableError::OutOfMemory),
+    }
+}
+
+/// A plan of two tables: the subscriber owns port 1232 in the first alone. The second comes in this window.
+pub fn two_tables(alloc: Global, window: Window) -> Result<Plan, TableError>
+    requires { (window.earliest ≤ window.latest) × (window.latest ≤ 2147483648) }
+    ensures { IfOk result (λ plan. All AreCompiled plan.tables) }
+{
+    let with = words_of(alloc, 52)?;
+    let without = words_of(alloc, 53)?;
+    if with.as_slice().len() > 1 << 24 || without.as_slice().len() > 1 << 24 {
+        return Err(TableError::OutOfMemory);
+    }
+    let Ok(mut plan) = Plan::of(alloc, with) else {
+        return Err(TableError::OutOfMemory);
+    };
+    if plan.add(window, without).is_err() {
+        return Err(TableError::OutOfMemory);
+    }
+    Ok(plan)
+}
+
+/// The second table comes behind so many records.
+pub fn behind(first: u32) -> Window
+    ensures { (result.earliest ≡ first) × (result.latest ≡ first) }
+{
+    Window {
+        earliest: first,
+        latest: first,
+    }
+}
+
+/// A table of so many words, each of them the same.
+pub fn table(alloc: Global, count: usize, word: u64) -> Result<WordList, OutOfMemory>
+    ensures { IfOk result (λ words. words ≡ replicate count word) }
+{
+    let mut list = Vec::new(alloc);
+    list.resize(count, word)?;
+    Ok(WordList::of(list))
+}

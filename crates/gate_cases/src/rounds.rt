@@ -1,0 +1,272 @@
+// Rounds of a crew, beside a desk that puts tables into force.
+ghost use Rattle.std.specs.Prelude.{◌≡◌, ◌+◌, ◌<◌, ◌≤◌, length};
+
+use crate::items::{Alike, OUTER, is_judged};
+use crate::plans::{behind, two_tables, words_of};
+use area_swap::prepare;
+use binding_rules::TableError;
+use case_data::UP;
+use ip_codec::{ItemView, Rule, read_packet};
+use std::alloc::Global;
+use std::sync::Wait;
+use std::sync::atomic::AtomicUsize;
+use std::sync::atomic::Ordering::SeqCst;
+use std::test::Fail;
+use std::thread::{Threads, yield_now};
+use swap_core::{Plan, Window};
+use worker_gate::{Crew, Gate, OpenGate, Outcomes, round};
+
+// Whether these are the outcomes of the numbers from `start` on, in order.
+fn are_judged(outcomes: &Outcomes<'_>, start: u32, second: u32) -> bool {
+    let mut number = start;
+    for index in 0..outcomes.len() {
+        if !is_judged(outcomes.get(index), number, second) {
+            return false;
+        }
+        number = number.wrapping_add(1);
+    }
+    true
+}
+
+// Whether the numbers are those from 0 on, in order, and the versions never fall.
+fn are_in_order(outcomes: &Outcomes<'_>) -> bool {
+    let mut number = 0;
+    let mut version = 0;
+    for index in 0..outcomes.len() {
+        let outcome = outcomes.get(index);
+        if outcome.number != number || outcome.version < version {
+            return false;
+        }
+        number = number.wrapping_add(1);
+        version = outcome.version;
+    }
+    true
+}
+
+#[test]
+fn rounds_put_each_outcome_at_its_number(rt: HostRuntime) -> Result<(), Fail> {
+    let alloc = rt.alloc();
+    let (areas, mut seat, mut desk) = prepare(alloc, two_tables(alloc, behind(7))?)?;
+    let mut crew = Crew::with(alloc, 2, 5)?;
+    let Ok(inner) = read_packet(UP) else {
+        panic!(rt; "no packet")
+    };
+    let item = ItemView::Up {
+        outer: OUTER,
+        inner,
+    };
+    let five = Alike { item, count: 5 };
+    let four = Alike { item, count: 4 };
+    let none = Alike { item, count: 0 };
+    round(
+        &rt, &areas, &mut seat, &mut desk, &mut crew, &five, 0, 5, &OpenGate,
+    );
+    assert_eq!(rt; crew.outcomes().len(), 5);
+    assert!(rt; are_judged(&crew.outcomes(), 0, 7));
+    round(
+        &rt, &areas, &mut seat, &mut desk, &mut crew, &four, 5, 9, &OpenGate,
+    );
+    assert_eq!(rt; crew.outcomes().len(), 4);
+    assert!(rt; are_judged(&crew.outcomes(), 5, 7));
+    round(
+        &rt, &areas, &mut seat, &mut desk, &mut crew, &none, 9, 9, &OpenGate,
+    );
+    assert_eq!(rt; crew.outcomes().len(), 0);
+    let history = areas.close(seat, desk);
+    assert_eq!(rt; (history.points(), history.records()), ([7].as_slice(), 9));
+    Ok(())
+}
+
+// Holds record 1 until record 2 has passed, for so many turns, and notes where they ran out.
+struct OneBehindTwo {
+    passed: AtomicUsize,
+    late: AtomicUsize,
+}
+
+impl Gate for OneBehindTwo {
+    fn pass(&self, number: u32, _version: u32) {
+        if number == 2 {
+            self.passed.store(1, SeqCst);
+        }
+        if number == 1 {
+            for _ in 0..100_000_000u32 {
+                if self.passed.load(SeqCst) == 1 {
+                    return;
+                }
+                yield_now();
+            }
+            self.late.store(1, SeqCst);
+        }
+    }
+}
+
+#[test]
+fn four_records_run_beside_one_another(rt: HostRuntime) -> Result<(), Fail> {
+    let alloc = rt.alloc();
+    let (areas, mut seat, mut desk) = prepare(alloc, two_tables(alloc, behind(9))?)?;
+    let mut crew = Crew::with(alloc, 2, 4)?;
+    let items = Alike {
+        item: ItemView::Bad(Rule::FrameShort),
+        count: 4,
+    };
+    let gate = OneBehindTwo {
+        passed: AtomicUsize::new(0),
+        late: AtomicUsize::new(0),
+    };
+    round(
+        &rt, &areas, &mut seat, &mut desk, &mut crew, &items, 0, 4, &gate,
+    );
+    assert_eq!(rt; gate.late.load(SeqCst), 0);
+    assert!(rt; are_in_order(&crew.outcomes()));
+    Ok(())
+}
+
+#[test]
+fn sixteen_workers_serve_under_two_tables(rt: HostRuntime) -> Result<(), Fail> {
+    let alloc = rt.alloc();
+    let window = Window {
+        earliest: 100,
+        latest: 900,
+    };
+    let (areas, mut seat, mut desk) = prepare(alloc, two_tables(alloc, window)?)?;
+    let mut crew = Crew::with(alloc, 16, 1_000)?;
+    let items = Alike {
+        item: ItemView::Bad(Rule::FrameShort),
+        count: 1_000,
+    };
+    round(
+        &rt, &areas, &mut seat, &mut desk, &mut crew, &items, 0, 1_000, &OpenGate,
+    );
+    assert_eq!(rt; crew.outcomes().len(), 1_000);
+    assert!(rt; are_in_order(&crew.outcomes()));
+    assert_eq!(rt; areas.tally(&mut seat), 1_000);
+    assert_eq!(rt; desk.points().len(), 1);
+    Ok(())
+}
+
+// Holds each record of version 0, but record 0, until a record of version 1 has passed, for so many turns.
+struct UntilTheNext {
+    passed: AtomicUsize,
+}
+
+impl Gate for UntilTheNext {
+    fn pass(&self, number: u32, version: u32) {
+        if version != 0 {
+            self.passed.store(1, SeqCst);
+            return;
+        }
+        if number == 0 {
+            return;
+        }
+        for _ in 0..1_000_000u32 {
+            if self.passed.load(SeqCst) == 1 {
+                return;
+            }
+            yield_now();
+        }
+    }
+}
+
+// The point of a table that may come with any record but the first of 64, over two workers that wait for it.
+fn point_beside_workers<R: Threads + Wait + Sync>(
+    rt: &R,
+    alloc: Global,
+) -> Result<u32, TableError> {
+    let window = Window {
+        earliest: 1,
+        latest: 64,
+    };
+    let Ok((areas, mut seat, mut desk)) = prepare(alloc, two_tables(alloc, window)?) else {
+        return Err(TableError::OutOfMemory);
+    };
+    let Ok(mut crew) = Crew::with(alloc, 2, 64) else {
+        return Err(TableError::OutOfMemory);
+    };
+    let items = Alike {
+        item: ItemView::Bad(Rule::FrameShort),
+        count: 64,
+    };
+    let gate = UntilTheNext {
+        passed: AtomicUsize::new(0),
+    };
+    round(
+        rt, &areas, &mut seat, &mut desk, &mut crew, &items, 0, 64, &gate,
+    );
+    let points = desk.points();
+    Ok(if points.len() == 1 { points[0] } else { 64 })
+}
+
+#[test]
+fn a_table_comes_while_workers_run(rt: HostRuntime) -> Result<(), Fail> {
+    for _ in 0..20 {
+        if point_beside_workers(&rt, rt.alloc())? < 64 {
+            return Ok(());
+        }
+    }
+    panic!(rt; "no table came before the last record")
+}
+
+// Holds record 0 until record 5 has passed, for so many turns, and notes where they ran out.
+struct FirstBehindFifth {
+    passed: AtomicUsize,
+    late: AtomicUsize,
+}
+
+impl Gate for FirstBehindFifth {
+    fn pass(&self, number: u32, _version: u32) {
+        if number == 5 {
+            self.passed.store(1, SeqCst);
+        }
+        if number == 0 {
+            for _ in 0..100_000_000u32 {
+                if self.passed.load(SeqCst) == 1 {
+                    return;
+                }
+                yield_now();
+            }
+            self.late.store(1, SeqCst);
+        }
+    }
+}
+
+// A plan of four tables, of which the later three come with records 1 to 9.
+fn four_tables(alloc: Global) -> Result<Plan, TableError> {
+    let window = Window {
+        earliest: 1,
+        latest: 9,
+    };
+    let mut plan = two_tables(alloc, window)?;
+    for _ in 0..2 {
+        let words = words_of(alloc, 52)?;
+        if words.as_slice().len() > 1 << 24 || plan.add(window, words).is_err() {
+            return Err(TableError::OutOfMemory);
+        }
+    }
+    Ok(plan)
+}
+
+#[test]
+fn a_held_area_is_not_written(rt: HostRuntime) -> Result<(), Fail> {
+    let alloc = rt.alloc();
+    let (areas, mut seat, mut desk) = prepare(alloc, four_tables(alloc)?)?;
+    let mut crew = Crew::with(alloc, 2, 10)?;
+    let items = Alike {
+        item: ItemView::Bad(Rule::FrameShort),
+        count: 10,
+    };
+    let gate = FirstBehindFifth {
+        passed: AtomicUsize::new(0),
+        late: AtomicUsize::new(0),
+    };
+    round(
+        &rt, &areas, &mut seat, &mut desk, &mut crew, &items, 0, 10, &gate,
+    );
+    assert_eq!(rt; gate.late.load(SeqCst), 0);
+    assert!(rt; are_in_order(&crew.outcomes()));
+    let [first, second, third] = *desk.points() else {
+        panic!(rt; "not three points")
+    };
+    assert!(rt; 1 <= first && first <= second && second <= third && third <= 9);
+    assert!(rt; 6 <= second);
+    Ok(())
+}

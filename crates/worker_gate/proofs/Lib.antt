@@ -1,0 +1,9 @@
+pub mod Counts
+pub mod Ending
+pub mod Gathered
+pub mod Hands
+pub mod Hired
+pub mod InForce
+pub mod Points
+pub mod Served
+pub mod Trying

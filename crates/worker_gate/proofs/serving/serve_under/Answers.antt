@@ -1,0 +1,54 @@
+use Rattle.std.proofs.Common.{◌+◌}
+use Rattle.worker_gate.proofs.Served.{nothing_served, nothing_work, run_served, run_work, served_none, served_on}
+use Rattle.worker_gate.proofs.serving.serve_under.Goals as goal
+
+pub turns-init : goal.turns-init
+turns-init g c =
+    record {
+      work = c.requires.work;
+      holding = c.requires.holding;
+      served = served_none c.args.areas.now.plan (g.S.RoundItems.items c.args.items.now) c.args.start c.args.worker.now;
+    }
+
+pub put_run-requires-clause-holding : goal.put_run-requires-clause-holding
+put_run-requires-clause-holding g c = c.take_run.ensures.goes_on_holding c.args.version c.args.settings.now c.turns.invariant.holding
+
+pub turns-preserved-in-Run : goal.turns-preserved-in-Run
+turns-preserved-in-Run g c =
+    let p = c.args.areas.now.plan in
+    let items = g.S.RoundItems.items c.args.items.now in
+    let v = c.turns.worker in
+    let s = c.take_run.new.seat in
+    let w = c.put_run.new.worker in
+    let first = c.in-Run.first in
+    let count = c.in-Run.count in
+    record {
+      work =
+          run_work p items c.args.areas.now c.args.start c.args.end first count c.args.version v w s c.turns.invariant.work c.in-Run.ensures.turned
+          c.put_run.ensures.holding.its_areas c.put_run.ensures.down;
+      holding = c.put_run.ensures.holding;
+      served =
+          served_on p items c.args.start c.args.worker.now v (record w { next = first + count }) c.turns.invariant.served
+          (run_served p items c.args.areas.now c.args.start c.args.end first count c.args.version v w s c.turns.invariant.work c.in-Run.ensures.turned
+          c.take_run.ensures.holding.share c.turns.invariant.holding.held c.put_run.ensures.down);
+    }
+
+pub turns-preserved : goal.turns-preserved
+turns-preserved g c =
+    let p = c.args.areas.now.plan in
+    let items = g.S.RoundItems.items c.args.items.now in
+    let v = c.turns.worker in
+    let s = c.take_run.new.seat in
+    record {
+      work = nothing_work c.args.areas.now c.args.start c.args.end v s c.take_run.ensures.areas c.in-Lost.ensures.turned c.turns.invariant.work;
+      holding = c.take_run.ensures.goes_on_holding c.args.version c.args.settings.now c.turns.invariant.holding;
+      served =
+          served_on p items c.args.start c.args.worker.now v (record v { seat = s }) c.turns.invariant.served
+          (nothing_served p items c.args.start v s c.in-Lost.ensures.turned);
+    }
+
+pub returns-in-Moved-clause-holding : goal.returns-in-Moved-clause-holding
+returns-in-Moved-clause-holding g c = c.take_run.ensures.goes_on_holding c.args.version c.args.settings.now c.turns.invariant.holding
+
+pub returns-in-Stop-clause-holding : goal.returns-in-Stop-clause-holding
+returns-in-Stop-clause-holding g c = c.take_run.ensures.goes_on_holding c.args.version c.args.settings.now c.turns.invariant.holding

@@ -1,0 +1,9 @@
+pub mod Crews
+pub mod Failures
+pub mod Gathering
+pub mod Laws
+pub mod Outcomes
+pub mod Reloading
+pub mod Rounds
+pub mod Serving
+pub mod Turns

@@ -1,0 +1,67 @@
+-- What the reloader leaves of the desk, and when what is due is in force. All of it is ours.
+use Rattle.std.specs.Prelude.{◌≡◌, ℕ, ◌+◌, ◌<◌, ◌≤◌, ◌⊎◌, List, ◌++◌, All, length}
+use Rattle.swap_core.specs.Plans.{window}
+use Rattle.area_swap.specs.declared.board.View.{View}
+use Rattle.area_swap.specs.Rule.{IsDrawnBy}
+use Rattle.area_swap.specs.Values.{HasWholeShare, IsReady, IsResting}
+
+-- the desk has so many points more, behind those that it had
+pub record HasMorePoints (count : ℕ) (before after : View) : Type 0 where
+  pub news : List ℕ
+  pub points : after.points ≡ before.points ++ news
+  pub many : length news ≡ count
+  pub same_plan : after.plan ≡ before.plan
+
+-- the desk's points begin with those that it had
+pub record KeepsPoints (before after : View) : Type 0 where
+  pub news : List ℕ
+  pub points : after.points ≡ before.points ++ news
+  pub same_plan : after.plan ≡ before.plan
+
+-- no table came into force, and the desk looked and counted as often, or more often
+pub record HasTurns (before after : View) : Type 0 where
+  pub points : after.points ≡ before.points
+  pub same_plan : after.plan ≡ before.plan
+  pub looks : before.looks ≤ after.looks
+  pub counts : before.counts ≤ after.counts
+
+abbrev pub NoneIsLeft : View → Type 0
+NoneIsLeft v = length v.plan.tables ≤ length v.points + 1
+
+-- there is a next table, and it waits for more records than these
+abbrev pub WaitsFor : View → ℕ → Type 0
+WaitsFor v records =
+    (length v.points + 1 < length v.plan.tables) × (records < (window v.plan (length v.points + 1)).earliest)
+
+-- The four ends of a reloader: no table is left; the end is reached before the next table's window; it looked for a million turns
+-- in a row, and the window was not reached; it counted for a million turns in a row, and somebody claimed the spare area.
+pub record HasNoneLeft (v : View) : Type 0 where
+  pub none : NoneIsLeft v
+  pub rests : IsResting v
+
+pub record HasReachedEnd (end : ℕ) (before v : View) : Type 0 where
+  pub rests : IsResting v
+  pub looked : before.looks < v.looks
+  pub reached : end ≤ v.seen.records
+  pub waits : WaitsFor v v.seen.records
+
+pub record HasLookedLong (before v : View) : Type 0 where
+  pub rests : IsResting v
+  pub looked : before.looks + 1000000 ≤ v.looks
+  pub waits : WaitsFor v v.seen.records
+
+pub record HasCountedLong (before v : View) : Type 0 where
+  pub ready : IsReady v
+  pub claimed : 1 ≤ v.counted
+  pub counted : before.counts + 1000000 ≤ v.counts
+
+abbrev pub IsReloaded : ℕ → View → View → Type 0
+IsReloaded end before v = HasNoneLeft v ⊎ (HasReachedEnd end before v ⊎ (HasLookedLong before v ⊎ HasCountedLong before v))
+
+-- What is due is in force, by the last reading of the seat, which is later than all its draws.
+pub record IsSettled (seat desk : View) : Type 0 where
+  pub rests : IsResting desk
+  pub drawn : All (IsDrawnBy seat.seen) seat.actor.draws
+  pub version : seat.seen.version ≡ length desk.points
+  pub none_due : NoneIsLeft desk ⊎ WaitsFor desk seat.seen.records
+  pub all_drawn : HasWholeShare seat → length seat.actor.draws ≡ seat.seen.records

@@ -1,0 +1,108 @@
+// The next tables are put into force, as long as they are due.
+ghost use Rattle.std.specs.Prelude.{◌≡◌, ◌+◌, ◌<◌, ◌≤◌, ◌⊎◌};
+ghost use Rattle.std.specs.Bool.{MatchBool};
+ghost use Rattle.area_swap.specs.Values.{IsClear, IsDesk, IsOf, IsReady, IsResting};
+ghost use Rattle.worker_gate.specs.Reloading.{HasCountedLong, HasMorePoints, HasTurns, IsReloaded, KeepsPoints};
+
+use area_swap::{Areas, Desk, Due, Quiet};
+use std::thread::yield_now;
+
+// So many turns in a row with nothing to do end a reload.
+const TURNS: u32 = 1_000_000;
+
+// Whether the spare area came free for a table that is due.
+fn comes_free(areas: &Areas, desk: &mut Desk) -> bool
+    requires areas { IsOf areas.now desk.old }
+    requires ready { IsReady desk.old.known }
+    requires desk { IsDesk desk.old.known }
+    ensures areas { IsOf areas.now desk.new }
+    ensures desk { IsDesk desk.new.known }
+    ensures turns { HasTurns desk.old.known desk.new.known }
+    ensures free { MatchBool result (IsClear desk.new.known) (HasCountedLong desk.old.known desk.new.known) }
+{
+    'turns: for _ in 0..TURNS {
+        if let Quiet::Free = areas.quiet(desk) {
+            return true;
+        }
+        yield_now();
+    }
+    false
+}
+
+// Writes the next table and puts it into force.
+fn put_in_force(areas: &Areas, desk: &mut Desk)
+    requires areas { IsOf areas.now desk.old }
+    requires clear { IsClear desk.old.known }
+    ensures areas { IsOf areas.now desk.new }
+    ensures desk { IsDesk desk.new.known }
+    ensures resting { IsResting desk.new.known }
+    ensures points { HasMorePoints 1 desk.old.known desk.new.known }
+    ensures turns { (desk.new.known.looks ≡ desk.old.known.looks) × (desk.new.known.counts ≡ desk.old.known.counts) }
+{
+    areas.write(desk);
+    areas.publish(desk);
+}
+
+// One table more, or one of the ends.
+fn put_next(areas: &Areas, desk: &mut Desk, end: u32) -> bool
+    requires areas { IsOf areas.now desk.old }
+    requires phase { IsResting desk.old.known ⊎ IsReady desk.old.known }
+    ensures areas { IsOf areas.now desk.new }
+    ensures phase { IsResting desk.new.known ⊎ IsReady desk.new.known }
+    ensures desk { IsDesk desk.new.known }
+    ensures looks { (desk.old.known.looks ≤ desk.new.known.looks) × (desk.old.known.counts ≤ desk.new.known.counts) }
+    ensures next { MatchBool result (HasMorePoints 1 desk.old.known desk.new.known) (HasMorePoints 0 desk.old.known desk.new.known × IsReloaded end desk.old.known desk.new.known) }
+{
+    'turns: for _ in 0..TURNS {
+        match areas.due(desk) {
+            Due::None => return false,
+            Due::Later { records, .. } => {
+                if records >= end {
+                    return false;
+                }
+                yield_now();
+            }
+            Due::Now => {
+                let is_free = comes_free(areas, desk);
+                if is_free {
+                    put_in_force(areas, desk);
+                }
+                return is_free;
+            }
+        }
+    }
+    false
+}
+
+/// Puts the next tables into force, each as soon as it is due and nobody claims its area. It ends where no table is left, where
+/// at least `end` records were drawn before the next table's window, or after a million turns in a row in which it only looked,
+/// or only counted claims. It yields in each of these. The answer is how many tables it put into force.
+pub fn reload(areas: &Areas, desk: &mut Desk, end: u32) -> u32
+    requires areas { IsOf areas.now desk.old }
+    requires phase { IsResting desk.old.known ⊎ IsReady desk.old.known }
+    ensures areas { IsOf areas.now desk.new }
+    ensures phase { IsResting desk.new.known ⊎ IsReady desk.new.known }
+    ensures desk { IsDesk desk.new.known }
+    ensures points { HasMorePoints result desk.old.known desk.new.known }
+    ensures ended { IsReloaded end desk.old.known desk.new.known }
+{
+    let mut published = 0;
+    'tables: while put_next(areas, desk, end) {
+        published += 1;
+    }
+    published
+}
+
+/// Puts the next table into force as `reload` does, and then those that are due by then. So it does not go on looking where all
+/// workers have stopped: they stop below `end` only where the next table is due.
+pub(crate) fn reload_beside(areas: &Areas, desk: &mut Desk, end: u32)
+    requires areas { IsOf areas.now desk.old }
+    requires phase { IsResting desk.old.known ⊎ IsReady desk.old.known }
+    ensures areas { IsOf areas.now desk.new }
+    ensures phase { IsResting desk.new.known ⊎ IsReady desk.new.known }
+    ensures points { KeepsPoints desk.old.known desk.new.known }
+{
+    if put_next(areas, desk, end) {
+        reload(areas, desk, 0);
+    }
+}

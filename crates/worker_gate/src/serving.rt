@@ -1,0 +1,226 @@
+// A worker's way through the records: it holds a table, draws, judges, and puts down what came of it.
+ghost use Rattle.std.specs.Prelude.{◌≡◌, ◌+◌, ◌-◌, ◌<◌, ◌≤◌, All, IfSome, length, vec_capacity};
+ghost use Rattle.table_words.specs.Layout.{AreCompiled};
+ghost use Rattle.area_swap.specs.Values.{HoldsOne, IsIdle};
+ghost use Rattle.area_swap.specs.Views.{held_table, held_version};
+ghost use Rattle.worker_gate.specs.Serving.{ArePutDown, HasEnded, HasServed, CanServe, IsHolding, IsPutDown};
+
+use crate::claims::{Turn, give_up, take_run, try_claim};
+use crate::gate::Gate;
+use crate::judging::{held_settings, judge_held};
+use crate::outcomes::{Outcome, Stop};
+use crate::worker::Worker;
+use area_swap::Areas;
+use binding_rules::Softwire;
+use item_stage::RoundItems;
+use std::marker::Brand;
+use std::sync::Wait;
+use std::sync::ledger::{Blank, Ledger};
+use table_words::Steps;
+
+// Judges the item of a record under the held table, and puts its outcome down.
+fn put_down<S: RoundItems, L: Ledger>(
+    worker: &mut Worker,
+    areas: &Areas,
+    items: &S,
+    start: u32,
+    settings: &Softwire,
+    number: u32,
+    version: u32,
+    steps: &mut Steps<L>,
+)
+    requires holding { IsHolding areas.now version settings.now worker.old.seat }
+    requires from { start ≤ number }
+    requires inside { number < start + length (S.items items.now) }
+    requires room { length worker.old.outcomes.items < vec_capacity worker.old.outcomes }
+    ensures holding { IsHolding areas.now version settings.now worker.new.seat }
+    ensures down { IsPutDown areas.now.plan (S.items items.now) start number version worker.old worker.new }
+{
+    let item = items.item((number - start) as usize);
+    let verdict = judge_held(areas, &mut worker.seat, settings, &item, steps);
+    worker.outcomes.push_reserved(Outcome {
+        number,
+        version,
+        verdict,
+    });
+}
+
+// The same for the records of a draw.
+fn put_run<S: RoundItems, G: Gate, L: Ledger>(
+    worker: &mut Worker,
+    areas: &Areas,
+    items: &S,
+    start: u32,
+    settings: &Softwire,
+    first: u32,
+    count: u32,
+    version: u32,
+    gate: &G,
+    steps: &mut Steps<L>,
+)
+    requires holding { IsHolding areas.now version settings.now worker.old.seat }
+    requires from { start ≤ first }
+    requires inside { first + count ≤ start + length (S.items items.now) }
+    requires small { first + count < 4294967296 }
+    requires room { length worker.old.outcomes.items + count ≤ vec_capacity worker.old.outcomes }
+    ensures holding { IsHolding areas.now version settings.now worker.new.seat }
+    ensures down { ArePutDown areas.now.plan (S.items items.now) start first count version worker.old worker.new }
+{
+    'numbers: for i in 0..count {
+        gate.pass(first + i, version);
+        put_down(
+            worker,
+            areas,
+            items,
+            start,
+            settings,
+            first + i,
+            version,
+            steps,
+        );
+    }
+}
+
+// Draws and judges under the held table, until another is in force or there is a reason to stop.
+fn serve_under<R: Wait, S: RoundItems, G: Gate, L: Ledger>(
+    rt: &R,
+    worker: &mut Worker,
+    areas: &Areas,
+    items: &S,
+    start: u32,
+    end: u32,
+    most: u32,
+    version: u32,
+    settings: &Softwire,
+    gate: &G,
+    steps: &mut Steps<L>,
+) -> Option<Stop>
+    requires work { CanServe areas.now start end worker.old }
+    requires holding { IsHolding areas.now version settings.now worker.old.seat }
+    requires inside { end ≤ start + length (S.items items.now) }
+    requires some_one { 1 ≤ most }
+    ensures work { CanServe areas.now start end worker.new }
+    ensures holding { IsHolding areas.now version settings.now worker.new.seat }
+    ensures served { HasServed areas.now.plan (S.items items.now) start worker.old worker.new }
+    ensures ended { IfSome result (λ stop. HasEnded stop end worker.new.seat.known) }
+{
+    'turns: for _ in rt.forever() {
+        match take_run(areas, &mut worker.seat, end, most) {
+            Turn::Run { first, count } => {
+                put_run(
+                    worker, areas, items, start, settings, first, count, version, gate, steps,
+                );
+                worker.next = first + count;
+            }
+            Turn::Lost => {}
+            Turn::Moved => return None,
+            Turn::Stop(stop) => return Some(stop),
+        }
+    }
+    unreachable!()
+}
+
+// The same, with the settings of the held table, which are read once.
+fn serve_held<R: Wait, S: RoundItems, G: Gate, L: Ledger>(
+    rt: &R,
+    worker: &mut Worker,
+    areas: &Areas,
+    items: &S,
+    start: u32,
+    end: u32,
+    most: u32,
+    version: u32,
+    gate: &G,
+    steps: &mut Steps<L>,
+) -> Option<Stop>
+    requires work { CanServe areas.now start end worker.old }
+    requires holding { HoldsOne worker.old.seat.known }
+    requires version { held_version worker.old.seat.known ≡ version }
+    requires compiled { AreCompiled (held_table worker.old.seat.known) }
+    requires inside { end ≤ start + length (S.items items.now) }
+    requires some_one { 1 ≤ most }
+    ensures work { CanServe areas.now start end worker.new }
+    ensures holding { HoldsOne worker.new.seat.known }
+    ensures served { HasServed areas.now.plan (S.items items.now) start worker.old worker.new }
+    ensures ended { IfSome result (λ stop. HasEnded stop end worker.new.seat.known) }
+{
+    let settings = held_settings(areas, &mut worker.seat, steps);
+    serve_under(
+        rt, worker, areas, items, start, end, most, version, &settings, gate, steps,
+    )
+}
+
+fn serve_in<R: Wait, S: RoundItems, G: Gate, L: Ledger>(
+    rt: &R,
+    worker: &mut Worker,
+    areas: &Areas,
+    items: &S,
+    start: u32,
+    end: u32,
+    most: u32,
+    gate: &G,
+    blank: Blank,
+) -> Stop
+    requires work { CanServe areas.now start end worker.old }
+    requires idle { IsIdle worker.old.seat.known }
+    requires compiled { All AreCompiled areas.now.plan.tables }
+    requires inside { end ≤ start + length (S.items items.now) }
+    requires some_one { 1 ≤ most }
+    requires name { blank.name ≡ L.name }
+    requires parts { blank.parts ≡ L.parts }
+    requires some { 0 < blank.parts }
+    ensures work { CanServe areas.now start end worker.new }
+    ensures idle { IsIdle worker.new.seat.known }
+    ensures served { HasServed areas.now.plan (S.items items.now) start worker.old worker.new }
+    ensures ended { HasEnded result end worker.new.seat.known }
+{
+    let mut steps = Steps::<L>::start(blank);
+    'claims: for _ in rt.forever() {
+        if let Some(version) = try_claim(areas, &mut worker.seat) {
+            let ended = serve_held(
+                rt, worker, areas, items, start, end, most, version, gate, &mut steps,
+            );
+            give_up(areas, &mut worker.seat);
+            if let Some(stop) = ended {
+                return stop;
+            }
+        }
+    }
+    unreachable!()
+}
+
+/// Draws records with numbers below `end`, up to `most` at once, and judges the item of each under the table that was in force
+/// at its draw, until all are drawn or the version in force allows no record more. The first of the items is that of the record
+/// with the number `start`. `Gate::pass` is called for each record before it is judged. It may wait, and takes no memory.
+pub fn serve<R: Wait, S: RoundItems, G: Gate>(
+    rt: &R,
+    worker: &mut Worker,
+    areas: &Areas,
+    items: &S,
+    start: u32,
+    end: u32,
+    most: u32,
+    gate: &G,
+) -> Stop
+    requires work { CanServe areas.now start end worker.old }
+    requires idle { IsIdle worker.old.seat.known }
+    requires compiled { All AreCompiled areas.now.plan.tables }
+    requires inside { end ≤ start + length (S.items items.now) }
+    requires some_one { 1 ≤ most }
+    ensures work { CanServe areas.now start end worker.new }
+    ensures idle { IsIdle worker.new.seat.known }
+    ensures served { HasServed areas.now.plan (S.items items.now) start worker.old worker.new }
+    ensures ended { HasEnded result end worker.new.seat.known }
+{
+    serve_in::<R, S, G, Brand>(
+        rt,
+        worker,
+        areas,
+        items,
+        start,
+        end,
+        most,
+        gate,
+        Blank::new(1),
+    )
+}
