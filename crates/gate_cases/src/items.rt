@@ -6,6 +6,7 @@ use verdict_core::{Reply, Verdict};
 use worker_gate::Outcome;
 
 /// So many records with one item.
+#[derive(Drop)]
 pub struct Alike<'a> {
     pub item: ItemView<'a>,
     pub count: usize,

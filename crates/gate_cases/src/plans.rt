@@ -1,5 +1,6 @@
 // Plans of tables.
 ghost use Rattle.std.specs.Prelude.{◌≡◌, ◌≤◌, All, IfOk, replicate};
+ghost use Rattle.swap_core.specs.Plans.{IsTableSize};
 ghost use Rattle.table_words.specs.Layout.{AreCompiled};
 
 use aftr_base::{OutOfMemory, WordList};
@@ -10,8 +11,9 @@ use swap_core::{Plan, Window};
 use table_words::compile;
 
 /// The words of a table in which the subscriber owns the ports of this identifier.
-pub fn words_of(alloc: Global, psid: u16) -> Result<WordList, TableError>
+fn words_of(alloc: Global, psid: u16) -> Result<WordList, TableError>
     ensures compiled { IfOk result (λ words. AreCompiled words) }
+    ensures size { IfOk result (λ words. IsTableSize words) }
 {
     let mut bindings = Vec::new(alloc);
     let binding = Binding {
@@ -25,10 +27,14 @@ pub fn words_of(alloc: Global, psid: u16) -> Result<WordList, TableError>
         return Err(TableError::OutOfMemory);
     }
     let table = table_of(alloc, Edition::One, SETTINGS, bindings)?;
-    match compile(alloc, &table) {
-        Ok(words) => Ok(words),
-        Err(_) => Err(TableError::OutOfMemory),
+    let Ok(words) = compile(alloc, &table) else {
+        return Err(TableError::OutOfMemory);
+    };
+    let size = words.as_slice().len();
+    if size == 0 || size > 1 << 24 {
+        return Err(TableError::OutOfMemory);
     }
+    Ok(words)
 }
 
 /// A plan of two tables: the subscriber owns port 1232 in the first alone. The second comes in this window.
@@ -38,13 +44,38 @@ pub fn two_tables(alloc: Global, window: Window) -> Result<Plan, TableError>
 {
     let with = words_of(alloc, 52)?;
     let without = words_of(alloc, 53)?;
-    if with.as_slice().len() > 1 << 24 || without.as_slice().len() > 1 << 24 {
-        return Err(TableError::OutOfMemory);
-    }
     let Ok(mut plan) = Plan::of(alloc, with) else {
         return Err(TableError::OutOfMemory);
     };
     if plan.add(window, without).is_err() {
+        return Err(TableError::OutOfMemory);
+    }
+    Ok(plan)
+}
+
+const FROM_THE_SECOND: Window = Window {
+    earliest: 1,
+    latest: 9,
+};
+
+/// A plan of four tables, of which the later three come with records 1 to 9.
+pub fn four_tables(alloc: Global) -> Result<Plan, TableError>
+    ensures { IfOk result (λ plan. All AreCompiled plan.tables) }
+{
+    let first = words_of(alloc, 52)?;
+    let second = words_of(alloc, 53)?;
+    let third = words_of(alloc, 52)?;
+    let fourth = words_of(alloc, 53)?;
+    let Ok(mut plan) = Plan::of(alloc, first) else {
+        return Err(TableError::OutOfMemory);
+    };
+    if plan.add(FROM_THE_SECOND, second).is_err() {
+        return Err(TableError::OutOfMemory);
+    }
+    if plan.add(FROM_THE_SECOND, third).is_err() {
+        return Err(TableError::OutOfMemory);
+    }
+    if plan.add(FROM_THE_SECOND, fourth).is_err() {
         return Err(TableError::OutOfMemory);
     }
     Ok(plan)

@@ -1,8 +1,9 @@
 // Rounds of a crew, beside a desk that puts tables into force.
 ghost use Rattle.std.specs.Prelude.{◌≡◌, ◌+◌, ◌<◌, ◌≤◌, length};
 
+use crate::gates::{Behind, UntilTheNext};
 use crate::items::{Alike, OUTER, is_judged};
-use crate::plans::{behind, two_tables, words_of};
+use crate::plans::{behind, four_tables, two_tables};
 use area_swap::prepare;
 use binding_rules::TableError;
 use case_data::UP;
@@ -12,9 +13,9 @@ use std::sync::Wait;
 use std::sync::atomic::AtomicUsize;
 use std::sync::atomic::Ordering::SeqCst;
 use std::test::Fail;
-use std::thread::{Threads, yield_now};
-use swap_core::{Plan, Window};
-use worker_gate::{Crew, Gate, OpenGate, Outcomes, round};
+use std::thread::Threads;
+use swap_core::Window;
+use worker_gate::{Crew, OpenGate, Outcomes, round};
 
 // Whether these are the outcomes of the numbers from `start` on, in order.
 fn are_judged(outcomes: &Outcomes<'_>, start: u32, second: u32) -> bool {
@@ -77,29 +78,6 @@ fn rounds_put_each_outcome_at_its_number(rt: HostRuntime) -> Result<(), Fail> {
     Ok(())
 }
 
-// Holds record 1 until record 2 has passed, for so many turns, and notes where they ran out.
-struct OneBehindTwo {
-    passed: AtomicUsize,
-    late: AtomicUsize,
-}
-
-impl Gate for OneBehindTwo {
-    fn pass(&self, number: u32, _version: u32) {
-        if number == 2 {
-            self.passed.store(1, SeqCst);
-        }
-        if number == 1 {
-            for _ in 0..100_000_000u32 {
-                if self.passed.load(SeqCst) == 1 {
-                    return;
-                }
-                yield_now();
-            }
-            self.late.store(1, SeqCst);
-        }
-    }
-}
-
 #[test]
 fn four_records_run_beside_one_another(rt: HostRuntime) -> Result<(), Fail> {
     let alloc = rt.alloc();
@@ -109,14 +87,11 @@ fn four_records_run_beside_one_another(rt: HostRuntime) -> Result<(), Fail> {
         item: ItemView::Bad(Rule::FrameShort),
         count: 4,
     };
-    let gate = OneBehindTwo {
-        passed: AtomicUsize::new(0),
-        late: AtomicUsize::new(0),
-    };
+    let gate = Behind::of(1, 2);
     round(
         &rt, &areas, &mut seat, &mut desk, &mut crew, &items, 0, 4, &gate,
     );
-    assert_eq!(rt; gate.late.load(SeqCst), 0);
+    assert!(rt; !gate.was_late());
     assert!(rt; are_in_order(&crew.outcomes()));
     Ok(())
 }
@@ -144,29 +119,6 @@ fn sixteen_workers_serve_under_two_tables(rt: HostRuntime) -> Result<(), Fail> {
     Ok(())
 }
 
-// Holds each record of version 0, but record 0, until a record of version 1 has passed, for so many turns.
-struct UntilTheNext {
-    passed: AtomicUsize,
-}
-
-impl Gate for UntilTheNext {
-    fn pass(&self, number: u32, version: u32) {
-        if version != 0 {
-            self.passed.store(1, SeqCst);
-            return;
-        }
-        if number == 0 {
-            return;
-        }
-        for _ in 0..1_000_000u32 {
-            if self.passed.load(SeqCst) == 1 {
-                return;
-            }
-            yield_now();
-        }
-    }
-}
-
 // The point of a table that may come with any record but the first of 64, over two workers that wait for it.
 fn point_beside_workers<R: Threads + Wait + Sync>(
     rt: &R,
@@ -186,9 +138,7 @@ fn point_beside_workers<R: Threads + Wait + Sync>(
         item: ItemView::Bad(Rule::FrameShort),
         count: 64,
     };
-    let gate = UntilTheNext {
-        passed: AtomicUsize::new(0),
-    };
+    let gate = UntilTheNext::new();
     round(
         rt, &areas, &mut seat, &mut desk, &mut crew, &items, 0, 64, &gate,
     );
@@ -206,45 +156,6 @@ fn a_table_comes_while_workers_run(rt: HostRuntime) -> Result<(), Fail> {
     panic!(rt; "no table came before the last record")
 }
 
-// Holds record 0 until record 5 has passed, for so many turns, and notes where they ran out.
-struct FirstBehindFifth {
-    passed: AtomicUsize,
-    late: AtomicUsize,
-}
-
-impl Gate for FirstBehindFifth {
-    fn pass(&self, number: u32, _version: u32) {
-        if number == 5 {
-            self.passed.store(1, SeqCst);
-        }
-        if number == 0 {
-            for _ in 0..100_000_000u32 {
-                if self.passed.load(SeqCst) == 1 {
-                    return;
-                }
-                yield_now();
-            }
-            self.late.store(1, SeqCst);
-        }
-    }
-}
-
-// A plan of four tables, of which the later three come with records 1 to 9.
-fn four_tables(alloc: Global) -> Result<Plan, TableError> {
-    let window = Window {
-        earliest: 1,
-        latest: 9,
-    };
-    let mut plan = two_tables(alloc, window)?;
-    for _ in 0..2 {
-        let words = words_of(alloc, 52)?;
-        if words.as_slice().len() > 1 << 24 || plan.add(window, words).is_err() {
-            return Err(TableError::OutOfMemory);
-        }
-    }
-    Ok(plan)
-}
-
 #[test]
 fn a_held_area_is_not_written(rt: HostRuntime) -> Result<(), Fail> {
     let alloc = rt.alloc();
@@ -254,14 +165,11 @@ fn a_held_area_is_not_written(rt: HostRuntime) -> Result<(), Fail> {
         item: ItemView::Bad(Rule::FrameShort),
         count: 10,
     };
-    let gate = FirstBehindFifth {
-        passed: AtomicUsize::new(0),
-        late: AtomicUsize::new(0),
-    };
+    let gate = Behind::of(0, 5);
     round(
         &rt, &areas, &mut seat, &mut desk, &mut crew, &items, 0, 10, &gate,
     );
-    assert_eq!(rt; gate.late.load(SeqCst), 0);
+    assert!(rt; !gate.was_late());
     assert!(rt; are_in_order(&crew.outcomes()));
     let [first, second, third] = *desk.points() else {
         panic!(rt; "not three points")

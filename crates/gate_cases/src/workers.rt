@@ -4,6 +4,7 @@ ghost use Rattle.area_swap.specs.Values.{IsIdle};
 ghost use Rattle.table_words.specs.Layout.{AreCompiled};
 ghost use Rattle.worker_gate.specs.Serving.{CanServe};
 
+use crate::gates::Behind;
 use crate::items::{Alike, OUTER, is_judged};
 use crate::plans::{behind, two_tables};
 use area_swap::{Areas, prepare};
@@ -14,7 +15,7 @@ use std::sync::Wait;
 use std::sync::atomic::AtomicUsize;
 use std::sync::atomic::Ordering::SeqCst;
 use std::test::Fail;
-use std::thread::{Threads, join_mut, yield_now};
+use std::thread::{Threads, join_mut};
 use worker_gate::{Gate, OpenGate, Outcome, Stop, Worker, serve, settle};
 
 // Whether these are the outcomes of the numbers from 0 on, in order.
@@ -60,29 +61,6 @@ fn a_worker_judges_under_the_table_of_each_draw(rt: HostRuntime) -> Result<(), F
     let history = areas.close(seat, desk);
     assert_eq!(rt; (history.points(), history.records()), ([3].as_slice(), 8));
     Ok(())
-}
-
-// Holds record 1 until record 2 has passed, for so many turns, and notes where they ran out.
-struct OneBehindTwo {
-    passed: AtomicUsize,
-    late: AtomicUsize,
-}
-
-impl Gate for OneBehindTwo {
-    fn pass(&self, number: u32, _version: u32) {
-        if number == 2 {
-            self.passed.store(1, SeqCst);
-        }
-        if number == 1 {
-            for _ in 0..100_000_000u32 {
-                if self.passed.load(SeqCst) == 1 {
-                    return;
-                }
-                yield_now();
-            }
-            self.late.store(1, SeqCst);
-        }
-    }
 }
 
 // Two workers serve beside one another, one number at a time.
@@ -135,12 +113,9 @@ fn two_workers_run_beside_one_another(rt: HostRuntime) -> Result<(), Fail> {
         item: ItemView::Bad(Rule::FrameShort),
         count: 4,
     };
-    let gate = OneBehindTwo {
-        passed: AtomicUsize::new(0),
-        late: AtomicUsize::new(0),
-    };
+    let gate = Behind::of(1, 2);
     serve_by_two(&rt, &areas, &mut one, &mut two, &items, 4, &gate);
-    assert_eq!(rt; gate.late.load(SeqCst), 0);
+    assert!(rt; !gate.was_late());
     let (part, outcomes) = one.part();
     areas.join(&mut seat, part);
     let (part, others) = two.part();

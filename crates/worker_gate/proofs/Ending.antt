@@ -1,5 +1,5 @@
 -- All numbers of a round are found.
-use Rattle.std.proofs.Common.{◌≡◌, ◌≢◌, ℕ, ◌+◌, ◌-◌, ◌<◌, ◌≤◌, ◌⊎◌, inl, inr, ◌==◌, List, [], ◌∷◌, ◌++◌, All, length, map, get_or, count_by, ap, subst, refl, sym, ◌∙◌, arith, length-append}
+use Rattle.std.proofs.Common.{◌≡◌, ℕ, ◌+◌, ◌-◌, ◌<◌, ◌≤◌, ◌⊎◌, inl, inr, List, ◌++◌, All, length, map, get_or, count_by, ap, subst, sym, ◌∙◌, arith}
 use Rattle.std.specs.List.{range_with_len, Contains}
 use Rattle.std.proofs.lemmas.Bool.{cases_lt}
 use Rattle.std.proofs.lemmas.Grind.{same_number_lists}
@@ -18,7 +18,7 @@ use Rattle.worker_gate.specs.declared.crew.Place.{Place}
 use Rattle.worker_gate.specs.declared.crew.Sheet.{Sheet}
 use Rattle.worker_gate.specs.declared.outcomes.Outcome.{Outcome}
 use Rattle.worker_gate.specs.Crews.{IsPlaced, outcome_at, outcomes_at}
-use Rattle.worker_gate.specs.Outcomes.{draw_of, IsJudged, asking}
+use Rattle.worker_gate.specs.Outcomes.{draw_of, IsJudged}
 use Rattle.worker_gate.specs.Gathering.{Gathered, IsFound}
 use Rattle.worker_gate.specs.Rounds.{IsRound}
 use Rattle.worker_gate.specs.Turns.{DrawsNothing}

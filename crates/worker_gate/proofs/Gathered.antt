@@ -1,7 +1,7 @@
 -- The outcomes of workers, one after another, at the places of their numbers.
-use Rattle.std.proofs.Common.{◌≡◌, ◌≢◌, ℕ, ◌+◌, ◌<◌, ◌≤◌, ◌⊎◌, inl, inr, ◌==◌, Bool, true, false, cond, List, [], ◌∷◌, ◌++◌, All, length, map, get_or, count_by, vec_capacity, ap, subst, refl, sym, ◌∙◌, arith, length-append}
+use Rattle.std.proofs.Common.{◌≡◌, ◌≢◌, ℕ, ◌+◌, ◌<◌, ◌≤◌, ◌⊎◌, inl, inr, List, [], ◌∷◌, ◌++◌, All, length, map, get_or, count_by, ap, subst, refl, sym, ◌∙◌, arith, length-append}
 use Rattle.std.specs.List.{Contains}
-use Rattle.std.proofs.lemmas.List.{append-nil, append_assoc, map-append, length-map, get_or-map, get_or_append_left, get_or-append-add, get_or_push}
+use Rattle.std.proofs.lemmas.List.{append-nil, append_assoc, map-append, length-map, get_or-map, get_or_append_left, get_or_push}
 use Rattle.std.proofs.lemmas.List.Elements.{All-nil, All-append, All-cons, All-map, Contains-append_left, Contains-append_right}
 use Rattle.ip_codec.specs.declared.items.Item.{Item}
 use Rattle.swap_core.specs.Plans.{Tables}
@@ -13,7 +13,7 @@ use Rattle.worker_gate.specs.declared.crew.Place.{Place}
 use Rattle.worker_gate.specs.declared.crew.Sheet.{Sheet}
 use Rattle.worker_gate.specs.declared.outcomes.Outcome.{Outcome}
 use Rattle.worker_gate.specs.declared.worker.Worker.{Worker}
-use Rattle.worker_gate.specs.Crews.{IsPlaced, list_of, no_outcome, outcome_at, sheet_at}
+use Rattle.worker_gate.specs.Crews.{list_of, no_outcome, outcome_at, sheet_at}
 use Rattle.worker_gate.specs.Outcomes.{draw_of, Ascends, IsJudged, asking}
 use Rattle.worker_gate.specs.Gathering.{AreNoted, Gathered, HasJudged, IsAtHand, IsFound}
 use Rattle.worker_gate.proofs.Counts.{drawn_as, count_on, count_no_outcome}

@@ -1,11 +1,10 @@
 -- Workers hired from one seat.
-use Rattle.std.proofs.Common.{◌≡◌, ℕ, suc, ◌+◌, ◌-◌, ◌*◌, ◌/◌, ◌%◌, ◌^◌, ◌<◌, ◌≤◌, List, [], ◌∷◌, ◌++◌, All, length, map, vec_capacity, sum_by, ap, subst, refl, sym, ◌∙◌, add-one, arith}
+use Rattle.std.proofs.Common.{◌≡◌, ℕ, ◌+◌, ◌-◌, ◌*◌, ◌/◌, ◌%◌, ◌^◌, ◌<◌, ◌≤◌, List, [], ◌∷◌, ◌++◌, All, length, map, vec_capacity, ap, subst, sym, ◌∙◌, add-one, arith}
 use Rattle.std.proofs.Math.Nat.{pow-succ'}
 use Rattle.std.proofs.lemmas.List.Elements.{All-nil}
 use Rattle.std.proofs.lemmas.List.Sums.{sum_by_push}
 use Rattle.ip_codec.specs.declared.items.Item.{Item}
 use Rattle.swap_core.specs.Plans.{Tables}
-use Rattle.swap_core.specs.declared.actors.ActorState.TheVariants.{Idle}
 use Rattle.area_swap.specs.declared.board.View.{View}
 use Rattle.area_swap.specs.Values.{AreasValue, IsOf}
 use Rattle.area_swap.specs.Views.{kept_half, new_half}
@@ -13,7 +12,6 @@ use Rattle.worker_gate.specs.declared.outcomes.Outcome.{Outcome}
 use Rattle.worker_gate.specs.declared.worker.Worker.{Worker}
 use Rattle.worker_gate.specs.Outcomes.{draw_of, Ascends, IsJudged, asking}
 use Rattle.worker_gate.specs.Gathering.{HasJudged, IsAtHand, shares}
-use Rattle.worker_gate.specs.Serving.{CanServe}
 
 -- Half of what is left, sixteen times.
 

@@ -1,5 +1,5 @@
 -- Where the outcomes of a round stand. All of it is ours.
-use Rattle.std.specs.Prelude.{◌≡◌, ℕ, ◌<◌, ◌≤◌, List, [], All, length, map, get_or, vec_capacity}
+use Rattle.std.specs.Prelude.{ℕ, ◌<◌, ◌≤◌, List, [], All, length, map, get_or, vec_capacity}
 use Rattle.verdict_core.specs.declared.verdicts.Verdict.TheVariants as verdict
 use Rattle.worker_gate.specs.declared.crew.Place.{Place}
 use Rattle.worker_gate.specs.declared.crew.Sheet.{Sheet}

@@ -1,5 +1,5 @@
 -- Workers between the passes of a round, and how their outcomes come to the places of their numbers. All of it is ours.
-use Rattle.std.specs.Prelude.{◌≡◌, ◌≢◌, ℕ, ◌+◌, ◌<◌, ◌≤◌, ◌⊎◌, ◌==◌, List, ◌∷◌, ◌++◌, All, length, map, get_or, vec_capacity, sum_by, count_by}
+use Rattle.std.specs.Prelude.{◌≡◌, ◌≢◌, ℕ, ◌+◌, ◌<◌, ◌≤◌, ◌⊎◌, ◌==◌, List, ◌++◌, All, length, map, get_or, vec_capacity, sum_by, count_by}
 use Rattle.std.specs.List.{Contains}
 use Rattle.ip_codec.specs.declared.items.Item.{Item}
 use Rattle.swap_core.specs.Plans.{Tables}

@@ -1,13 +1,11 @@
-use Rattle.std.proofs.Common.{rules, ◌≡◌, ℕ, ◌+◌, ◌-◌, ◌<◌, ◌≤◌, List, [], ◌∷◌, ◌++◌, All, length, vec_capacity, ap, subst, refl, sym, ◌∙◌, arith, Some}
+use Rattle.std.proofs.Common.{◌≡◌, ℕ, ◌+◌, ◌<◌, ◌≤◌, List, [], ◌∷◌, ◌++◌, All, length, vec_capacity, ap, subst, refl, sym, ◌∙◌, arith, Some}
 use Rattle.std.proofs.lemmas.List.Elements.{All-pop, All-push}
-use Rattle.ip_codec.specs.declared.items.Item.{Item}
 use Rattle.area_swap.specs.declared.board.View.{View}
-use Rattle.worker_gate.specs.declared.crew.Place.{Place}
 use Rattle.worker_gate.specs.declared.crew.Sheet.{Sheet}
 use Rattle.worker_gate.specs.declared.outcomes.Outcome.{Outcome}
 use Rattle.worker_gate.specs.declared.worker.Worker.{Worker}
 use Rattle.worker_gate.specs.Gathering.{AreNoted, Gathered, HasJudged, HasRoom, IsAtHand, shares}
-use Rattle.worker_gate.proofs.Gathered.{few_outcomes, gathered_more, gathered_none, numbers_inside}
+use Rattle.worker_gate.proofs.Gathered.{few_outcomes, gathered_more, numbers_inside}
 use Rattle.worker_gate.proofs.Hands.{one_longer}
 use Rattle.worker_gate.proofs.Hired.{shares_more}
 use Rattle.worker_gate.proofs.gathering.gather.Goals as goal

@@ -1,6 +1,5 @@
-use Rattle.std.proofs.Common.{rules, ◌≡◌, ℕ, ◌+◌, ◌-◌, ◌/◌, ◌%◌, ◌^◌, ◌<◌, ◌≤◌, List, [], ◌∷◌, ◌++◌, All, length, vec_capacity, ap, subst, refl, sym, ◌∙◌, arith, Some}
+use Rattle.std.proofs.Common.{◌≡◌, ℕ, ◌+◌, ◌-◌, ◌/◌, ◌%◌, ◌^◌, ◌<◌, ◌≤◌, List, [], ◌∷◌, ◌++◌, All, length, vec_capacity, ap, subst, sym, ◌∙◌, arith, Some}
 use Rattle.std.proofs.lemmas.List.Elements.{All-pop, All-push}
-use Rattle.ip_codec.specs.declared.items.Item.{Item}
 use Rattle.area_swap.specs.declared.board.View.{View}
 use Rattle.area_swap.specs.Values.{IsOf, SeatValue}
 use Rattle.area_swap.specs.Views.{new_half}

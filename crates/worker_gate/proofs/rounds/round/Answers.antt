@@ -1,4 +1,4 @@
-use Rattle.std.proofs.Common.{◌≡◌, ap, ◌∙◌, arith}
+use Rattle.std.proofs.Common.{ap, ◌∙◌, arith}
 use Rattle.worker_gate.specs.Crews.{CrewValue}
 use Rattle.worker_gate.proofs.Ending.{versions_known}
 use Rattle.worker_gate.proofs.rounds.round.Goals as goal

@@ -1,7 +1,6 @@
-use Rattle.std.proofs.Common.{◌≡◌, ℕ, ◌+◌, ◌≤◌, List, All, length, map, ap, sym, ◌∙◌, arith}
+use Rattle.std.proofs.Common.{◌≡◌, ℕ, ◌≤◌, ap, sym, ◌∙◌, arith}
 use Rattle.swap_core.specs.Sound.{once_below, times}
-use Rattle.area_swap.specs.declared.board.View.{View}
-use Rattle.worker_gate.specs.Gathering.{Gathered, shares}
+use Rattle.worker_gate.specs.Gathering.{Gathered}
 use Rattle.worker_gate.specs.Turns.{DrawsNothing}
 use Rattle.worker_gate.proofs.Ending.{KeepsDraws, begun, read_again, round_is, round_placed}
 use Rattle.worker_gate.proofs.Hands.{rooms_same, shares_same}

@@ -1,0 +1,26 @@
+#!/usr/bin/env bash
+# Times rounds of 1, 2 and 4 workers over upstream packets that are looked up among 65,536 bindings: builds the program in a
+# temporary repository, which proves it first, and runs it.
+#     bench/gate_rounds/run.sh
+set -e
+here="$(cd "$(dirname "$0")" && pwd)"
+top="$(cd "$here/../.." && pwd)"
+work=/tmp/gate_rounds_bench
+repository="$work/repository"
+bench="$repository/crates/gate_bench"
+mkdir -p "$bench"
+cp "$top/HANDLES" "$repository/"
+below="aftr_base port_set ip_codec icmp_codec capture_io binding_rules swap_core area_swap table_words icmp_errors port_locate icmp_relay verdict_core item_stage worker_gate"
+: > "$repository/crates.txt"
+for name in $below; do
+    rm -rf "$repository/crates/$name"
+    cp -r "$top/crates/$name" "$repository/crates/"
+    grep "^$name:" "$top/crates.txt" >> "$repository/crates.txt"
+done
+echo "gate_bench: aftr_base ip_codec binding_rules swap_core area_swap table_words item_stage worker_gate" >> "$repository/crates.txt"
+rm -rf "$bench/src" "$bench/proofs"
+cp "$here/program/main.rt.txt" "$bench/src/main.rt"
+cp "$here/program/judge_all.antt.txt" "$bench/proofs/judge_all/Invariants.antt"
+(cd "$bench" && ${RT:-rt} run > "$work/build.txt" 2>&1) || true
+[ -x "$bench/out/gate_bench" ] || { tail "$work/build.txt"; exit 1; }
+"$bench/out/gate_bench"

@@ -1,0 +1,80 @@
+// Gates that hold workers.
+use std::sync::atomic::AtomicUsize;
+use std::sync::atomic::Ordering::SeqCst;
+use std::thread::yield_now;
+use worker_gate::Gate;
+
+/// Holds one record until another has passed, for so many turns, and notes where they ran out.
+#[derive(Drop)]
+pub struct Behind {
+    held: u32,
+    until: u32,
+    passed: AtomicUsize,
+    late: AtomicUsize,
+}
+
+impl Behind {
+    /// Holds the record with the number `held` until that with the number `until` has passed.
+    pub fn of(held: u32, until: u32) -> Behind {
+        Behind {
+            held,
+            until,
+            passed: AtomicUsize::new(0),
+            late: AtomicUsize::new(0),
+        }
+    }
+
+    /// Whether the turns ran out.
+    pub fn was_late(&self) -> bool {
+        self.late.load(SeqCst) != 0
+    }
+}
+
+impl Gate for Behind {
+    fn pass(&self, number: u32, _version: u32) {
+        if number == self.until {
+            self.passed.store(1, SeqCst);
+        }
+        if number == self.held {
+            for _ in 0..100_000_000u32 {
+                if self.passed.load(SeqCst) == 1 {
+                    return;
+                }
+                yield_now();
+            }
+            self.late.store(1, SeqCst);
+        }
+    }
+}
+
+/// Holds each record of version 0, but record 0, until a record of version 1 has passed, for so many turns.
+#[derive(Drop)]
+pub struct UntilTheNext {
+    passed: AtomicUsize,
+}
+
+impl UntilTheNext {
+    pub fn new() -> UntilTheNext {
+        UntilTheNext {
+            passed: AtomicUsize::new(0),
+        }
+    }
+}
+
+impl Gate for UntilTheNext {
+    fn pass(&self, number: u32, version: u32) {
+        if version != 0 {
+            self.passed.store(1, SeqCst);
+            return;
+        }
+        if number == 0 {
+            return;
+        }
+        for _ in 0..1_000_000u32 {
+            if self.passed.load(SeqCst) == 1 {
+                return;
+            }
+            yield_now();
+        }
+    }
+}
