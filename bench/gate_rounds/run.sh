@@ -19,6 +19,7 @@ for name in $below; do
 done
 echo "gate_bench: aftr_base ip_codec binding_rules swap_core area_swap table_words item_stage worker_gate" >> "$repository/crates.txt"
 rm -rf "$bench/src" "$bench/proofs"
+mkdir -p "$bench/src" "$bench/proofs/judge_all"
 cp "$here/program/main.rt.txt" "$bench/src/main.rt"
 cp "$here/program/judge_all.antt.txt" "$bench/proofs/judge_all/Invariants.antt"
 (cd "$bench" && ${RT:-rt} run > "$work/build.txt" 2>&1) || true

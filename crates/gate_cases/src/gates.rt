@@ -4,6 +4,19 @@ use std::sync::atomic::Ordering::SeqCst;
 use std::thread::yield_now;
 use worker_gate::Gate;
 
+// Whether the note is made within so many turns. The time slice is given up now and then.
+fn comes(note: &AtomicUsize, turns: u32) -> bool {
+    for turn in 0..turns {
+        if note.load(SeqCst) == 1 {
+            return true;
+        }
+        if turn % 4_096 == 0 {
+            yield_now();
+        }
+    }
+    false
+}
+
 /// Holds one record until another has passed, for so many turns, and notes where they ran out.
 #[derive(Drop)]
 pub struct Behind {
@@ -36,13 +49,9 @@ impl Gate for Behind {
             self.passed.store(1, SeqCst);
         }
         if number == self.held {
-            for _ in 0..100_000_000u32 {
-                if self.passed.load(SeqCst) == 1 {
-                    return;
-                }
-                yield_now();
+            if !comes(&self.passed, 100_000_000) {
+                self.late.store(1, SeqCst);
             }
-            self.late.store(1, SeqCst);
         }
     }
 }
@@ -70,11 +79,6 @@ impl Gate for UntilTheNext {
         if number == 0 {
             return;
         }
-        for _ in 0..1_000_000u32 {
-            if self.passed.load(SeqCst) == 1 {
-                return;
-            }
-            yield_now();
-        }
+        let _came = comes(&self.passed, 1_000_000);
     }
 }

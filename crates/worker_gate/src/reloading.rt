@@ -10,6 +10,10 @@ use std::thread::yield_now;
 // So many turns in a row with nothing to do end a reload.
 const TURNS: u32 = 1_000_000;
 
+// So often claims are counted before the time slice is given up: a claim lasts for the records of one draw, and where more threads
+// want to run than there are processors, a time slice given up is one of milliseconds.
+const COUNTS_BETWEEN: u32 = 1_024;
+
 // Whether the spare area came free for a table that is due.
 fn comes_free(areas: &Areas, desk: &mut Desk) -> bool
     requires areas { IsOf areas.now desk.old }
@@ -20,11 +24,13 @@ fn comes_free(areas: &Areas, desk: &mut Desk) -> bool
     ensures turns { HasTurns desk.old.known desk.new.known }
     ensures free { MatchBool result (IsClear desk.new.known) (HasCountedLong desk.old.known desk.new.known) }
 {
-    'turns: for _ in 0..TURNS {
+    'turns: for turn in 0..TURNS {
         if let Quiet::Free = areas.quiet(desk) {
             return true;
         }
-        yield_now();
+        if turn % COUNTS_BETWEEN == 0 {
+            yield_now();
+        }
     }
     false
 }
@@ -76,7 +82,7 @@ fn put_next(areas: &Areas, desk: &mut Desk, end: u32) -> bool
 
 /// Puts the next tables into force, each as soon as it is due and nobody claims its area. It ends where no table is left, where
 /// at least `end` records were drawn before the next table's window, or after a million turns in a row in which it only looked,
-/// or only counted claims. It yields in each of these. The answer is how many tables it put into force.
+/// or only counted claims. It yields after each look and every so many counts. The answer is how many tables it put into force.
 pub fn reload(areas: &Areas, desk: &mut Desk, end: u32) -> u32
     requires areas { IsOf areas.now desk.old }
     requires phase { IsResting desk.old.known ⊎ IsReady desk.old.known }

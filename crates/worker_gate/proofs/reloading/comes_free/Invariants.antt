@@ -10,6 +10,6 @@ invariant-turns l =
       ready : IsReady l.desk.known;
       desk : IsDesk l.desk.known;
       turns : HasTurns l.initial.desk.known l.desk.known;
-      counts : l.initial.desk.known.counts + l.counter ≤ l.desk.known.counts;
-      claimed : 0 < l.counter → 1 ≤ l.desk.known.counted;
+      counts : l.initial.desk.known.counts + l.turn ≤ l.desk.known.counts;
+      claimed : 0 < l.turn → 1 ≤ l.desk.known.counted;
     }

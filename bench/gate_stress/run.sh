@@ -1,0 +1,28 @@
+#!/usr/bin/env bash
+# Rounds by 4 and by 16 workers beside a desk that puts 255 tables into force: builds the program in a
+# temporary repository, which proves it first, and runs it.
+#     bench/gate_stress/run.sh
+set -e
+here="$(cd "$(dirname "$0")" && pwd)"
+top="$(cd "$here/../.." && pwd)"
+work=/tmp/gate_stress_bench
+repository="$work/repository"
+bench="$repository/crates/stress_bench"
+mkdir -p "$bench"
+cp "$top/HANDLES" "$repository/"
+below="aftr_base port_set ip_codec icmp_codec capture_io binding_rules swap_core area_swap table_words icmp_errors port_locate icmp_relay verdict_core item_stage worker_gate"
+: > "$repository/crates.txt"
+for name in $below; do
+    rm -rf "$repository/crates/$name"
+    cp -r "$top/crates/$name" "$repository/crates/"
+    grep "^$name:" "$top/crates.txt" >> "$repository/crates.txt"
+done
+echo "stress_bench: aftr_base ip_codec verdict_core binding_rules swap_core area_swap table_words item_stage worker_gate" >> "$repository/crates.txt"
+rm -rf "$bench/src" "$bench/proofs"
+mkdir -p "$bench/src" "$bench/proofs/run_rounds" "$bench/proofs/plan_of"
+cp "$here/program/main.rt.txt" "$bench/src/main.rt"
+cp "$here/program/run_rounds.antt.txt" "$bench/proofs/run_rounds/Invariants.antt"
+cp "$here/program/plan_of.antt.txt" "$bench/proofs/plan_of/Invariants.antt"
+(cd "$bench" && ${RT:-rt} run > "$work/build.txt" 2>&1) || true
+[ -x "$bench/out/stress_bench" ] || { tail "$work/build.txt"; exit 1; }
+"$bench/out/stress_bench"
