@@ -1,1 +1,6 @@
-mod RoundLemmas
+mod HeadLemmas
+mod MarkLemmas
+mod OrderLemmas
+mod RowLemmas
+mod RunLemmas
+mod StepLemmas

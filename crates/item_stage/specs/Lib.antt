@@ -1,2 +1,11 @@
+pub mod Alone
+pub mod Fragments
+pub mod Heads
 pub mod Items
+pub mod Marks
+pub mod Ordered
+pub mod Rejoined
+pub mod Shown
 pub mod Stages
+pub mod Turns
+pub mod Waiting

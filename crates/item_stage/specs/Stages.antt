@@ -2,6 +2,8 @@
 use Rattle.std.specs.Prelude.{◌≡◌, ℕ, Bool, true, false, List, length}
 use Rattle.capture_io.specs.declared.forms.Form.{Form}
 use Rattle.capture_io.specs.declared.forms.Rec.{Rec}
+use Rattle.item_stage.specs.Items.{rows_of}
+use Rattle.item_stage.specs.declared.rows.Rows.{Rows}
 
 pub record Staged : Type 0 where
   -- that of the capture whose records are taken
@@ -10,11 +12,14 @@ pub record Staged : Type 0 where
   pub number : ℕ
   -- whether memory was wanted while records were taken
   pub failed : Bool
+  -- the fragments that wait
+  pub rows : Rows
 
 -- the stage has taken these records, all of them, and what it keeps is what they leave
 pub record Stands (stage : Staged) (taken : List Rec) : Type 0 where
   pub sound : stage.failed ≡ false
   pub number : stage.number ≡ length taken
+  pub rows : stage.rows ≡ rows_of stage.form taken
 
 -- the stage takes no more records
 abbrev pub HasFailed : Staged → Type 0

@@ -1,14 +1,21 @@
 //! From records to items: what a record of the capture carries is found frame by frame and header by header, before any
-//! table is asked. Each record has one entry, its item and the datagrams that end with it unfinished.
+//! table is asked, and fragments are put together. Each record has one entry, its item and the datagrams that end with it
+//! unfinished.
 #![tactic(auto)]
 
+mod alone;
 mod entries;
-mod owned;
+mod joining;
+mod keys;
+mod marks;
 mod reading;
 mod rounds;
+mod row;
+mod rows;
 mod stage;
+mod turns;
 
-pub use entries::{Entries, Entry};
+pub use entries::Entry;
 pub use reading::read_item;
 pub use rounds::{Items, RoundItems};
 pub use stage::Stage;

@@ -3,6 +3,7 @@ ghost use Rattle.std.specs.Prelude.{◌≡◌, ◌<◌, ℕ, List, Some, length,
 ghost use Rattle.ip_codec.specs.Seen.{seen};
 ghost use Rattle.ip_codec.specs.declared.items.Item.{Item as Whole};
 
+use crate::marks::Slot;
 use crate::reading::read_item;
 use capture_io::{Form, Records};
 use ip_codec::ItemView;
@@ -23,33 +24,42 @@ pub trait RoundItems {
         ensures { slice_get (items self.now) index ≡ Some (seen result) };
 }
 
-/// The entries of the records that a stage was given, seen as their list.
+/// The entries of the records that a stage was given, seen as their list. Items are views of the records' bytes; the
+/// datagrams that were put together own theirs here.
 #[derive(Drop)]
 pub struct Items<'a> {
     form: Form,
     records: &'a Records,
+    // What came of the records of which a lane took a fragment, one for each record.
+    marks: Vec<Slot>,
 }
 
 impl<'a> Model for Items<'a> {
-    ghost use Rattle.std.specs.Prelude.{List};
-    ghost use Rattle.item_stage.specs.Items.{entries_of};
+    ghost use Rattle.std.specs.Prelude.{◌≡◌, List, length};
+    ghost use Rattle.item_stage.specs.Marks.{entries_by};
     ghost use Rattle.item_stage.specs.declared.entries.Entry.{Entry};
 
     ghost Value = { List Entry };
 
-    ghost view = { λ s. entries_of s.form s.records.now };
+    ghost view = { λ s. entries_by s.form s.records.now s.marks.items };
+
+    ghost invariant = { λ s. length s.marks.items ≡ length s.records.now };
 }
 
 impl<'a> Items<'a> {
-    ghost use Rattle.std.specs.Prelude.{[]};
     ghost use Rattle.std.specs.Option.{option_map};
-    ghost use Rattle.item_stage.specs.Items.{entries_of};
+    ghost use Rattle.item_stage.specs.Marks.{entries_by};
 
-    /// The entries of these records, in a capture of this form.
-    pub(crate) fn of(form: Form, records: &'a Records) -> Self
-        ensures { result ≡ entries_of form records.now }
+    /// The entries of these records, in a capture of this form, by their marks.
+    pub(crate) fn of(form: Form, records: &'a Records, marks: Vec<Slot>) -> Self
+        requires { length marks.items ≡ length records.now }
+        ensures { result ≡ entries_by form records.now marks.items }
     {
-        Items { form, records }
+        Items {
+            form,
+            records,
+            marks,
+        }
     }
 
     /// The first record's number of each datagram whose time is up with the record at this index, ascending.
@@ -57,9 +67,10 @@ impl<'a> Items<'a> {
         requires { index < length self.now }
         ensures { option_map (λ entry. entry.ended) (slice_get self.now index) ≡ Some result.now }
     {
-        // No datagram is kept yet, so none ends, whatever the form of the capture is.
-        let _form = self.form;
-        &[]
+        match self.marks[index].get() {
+            Some(mark) => mark.ended.as_slice(),
+            None => &[],
+        }
     }
 }
 
@@ -73,6 +84,9 @@ impl<'a> RoundItems for Items<'a> {
     }
 
     fn item(&self, index: usize) -> ItemView<'_> {
-        read_item(self.form, self.records.get(index).bytes)
+        match self.marks[index].get() {
+            Some(mark) => mark.became.item(),
+            None => read_item(self.form, self.records.get(index).bytes),
+        }
     }
 }

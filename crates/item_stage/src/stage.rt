@@ -2,31 +2,44 @@
 ghost use Rattle.std.specs.Prelude.{◌≡◌, ◌+◌, ◌^◌, ◌≤◌, ◌↔◌, List, [], ◌++◌, length, IfOk, IfErr, IsErr};
 ghost use Rattle.capture_io.specs.declared.forms.Rec.{Rec as Record};
 ghost use Rattle.item_stage.specs.Items.{entries_of, unfinished_of};
+ghost use Rattle.item_stage.specs.Marks.{entries_by, entry_by, turning};
 ghost use Rattle.item_stage.specs.Stages.{HasFailed, Stands};
+ghost use Rattle.capture_io.specs.Records.{seen};
+ghost use Rattle.item_stage.specs.Alone.{item_of};
+ghost use Rattle.item_stage.specs.Heads.{HaveHeaders};
+ghost use Rattle.item_stage.specs.Turns.{entries_from, rows_after, turn};
 
-use crate::Entries;
-use crate::owned::owned_entries;
+use crate::alone::read_alone;
+use crate::marks::Slot;
 use crate::rounds::Items;
+use crate::rows::Rows;
+use crate::turns::{Moment, take};
 use aftr_base::{Numbers, OutOfMemory};
-use capture_io::{Form, Rec, Records};
+use capture_io::{Form, RecordView, Records, time_of};
 use std::alloc::Global;
 use std::marker::Model;
 
-/// What takes the records of one capture, in their order, and says what each becomes.
+/// What takes the records of one capture, in their order, and says what each becomes. Fragments wait in it for the rest of
+/// their datagrams, from one call to the next.
 #[derive(Debug, Drop)]
 pub struct Stage {
     form: Form,
     // How many records were taken.
     number: u32,
     failed: bool,
+    rows: Rows,
 }
 
 impl Model for Stage {
+    ghost use Rattle.std.specs.Prelude.{◌≡◌, false};
+    ghost use Rattle.item_stage.specs.Heads.{HaveHeaders};
     ghost use Rattle.item_stage.specs.Stages.{Staged};
 
     ghost Value = { Staged };
 
-    ghost view = { λ s. record { form = s.form; number = s.number; failed = s.failed } };
+    ghost view = { λ s. record { form = s.form; number = s.number; failed = s.failed; rows = s.rows } };
+
+    ghost invariant = { λ s. s.failed ≡ false → HaveHeaders s.rows };
 }
 
 impl Stage {
@@ -40,15 +53,16 @@ impl Stage {
             form,
             number: 0,
             failed: false,
+            rows: Rows::new(alloc)?,
         })
     }
 
     /// Takes the next records, and gives an entry for each. The first of them has the number `start`, which is how many were
-    /// taken before; all numbers are below 2^31. After `OutOfMemory` the stage has failed, and answers that to every later
-    /// call.
+    /// taken before; all numbers are below 2^31. After
+    /// `OutOfMemory` the stage has failed, and answers that to every later call.
     pub fn items<'a>(
         &mut self,
-        _alloc: Global,
+        alloc: Global,
         records: &'a Records,
         start: u32,
     ) -> Result<Items<'a>, OutOfMemory>
@@ -64,34 +78,16 @@ impl Stage {
         ensures failed { HasFailed self.old → IsErr result }
     {
         self.still_takes()?;
-        self.number = number_behind(start, records.len());
-        Ok(Items::of(self.form, records))
-    }
-
-    /// The same of records that own their bytes, with items that do.
-    pub fn owned_items(
-        &mut self,
-        alloc: Global,
-        records: &[Rec],
-        start: u32,
-    ) -> Result<Entries, OutOfMemory>
-        requires start { start ≡ self.old.number }
-        requires few { start + length records.now ≤ 2 ^ 31 }
-        ensures entries { IfOk result (λ entries. (taken : List Record) → Stands self.old taken →
-            entries_of self.old.form (taken ++ records.now) ≡ entries_of self.old.form taken ++ entries) }
-        ensures stands { IfOk result (λ _. (taken : List Record) → Stands self.old taken → Stands self.new (taken ++ records.now)) }
-        ensures count { IfOk result (λ entries. length entries ≡ length records.now) }
-        ensures form { self.new.form ≡ self.old.form }
-        ensures number { IfOk result (λ _. self.new.number ≡ self.old.number + length records.now) }
-        ensures fails { IfErr result (λ _. HasFailed self.new) }
-        ensures failed { HasFailed self.old → IsErr result }
-    {
-        self.still_takes()?;
-        let read = owned_entries(alloc, self.form, records);
-        self.failed = read.is_err();
-        let entries = Entries::of(read?);
-        self.number = number_behind(start, records.len());
-        Ok(entries)
+        match take_all(alloc, self.form, &mut self.rows, records, start) {
+            Ok(marks) => {
+                self.number = number_behind(start, records.len());
+                Ok(Items::of(self.form, records, marks))
+            }
+            Err(why) => {
+                self.failed = true;
+                Err(why)
+            }
+        }
     }
 
     /// The first record's number of each datagram of which some fragments came and others are missing, ascending.
@@ -101,7 +97,7 @@ impl Stage {
         ensures failed { HasFailed self.now → IsErr result }
     {
         self.still_takes()?;
-        Ok(Numbers::of(Vec::new(alloc)))
+        Ok(self.rows.unfinished(alloc)?)
     }
 
     /// `OutOfMemory` from a stage that has failed.
@@ -121,4 +117,52 @@ fn number_behind(start: u32, count: usize) -> u32
     ensures { result ≡ start + count }
 {
     start + count as u32
+}
+
+// Gives records to the lanes, one after the other, the first of which has this number.
+fn take_all(
+    alloc: Global,
+    form: Form,
+    rows: &mut Rows,
+    records: &Records,
+    start: u32,
+) -> Result<Vec<Slot>, OutOfMemory>
+    requires few { start + length records.now ≤ 2 ^ 31 }
+    requires headers { HaveHeaders rows.old }
+    ensures headers { IfOk result (λ _. HaveHeaders rows.new) }
+    ensures marks { IfOk result (λ marks. entries_by form records.now marks.items ≡ entries_from form rows.old start records.now) }
+    ensures count { IfOk result (λ marks. length marks.items ≡ length records.now) }
+    ensures rows { IfOk result (λ _. rows.new ≡ rows_after form rows.old start records.now) }
+{
+    let mut marks = Vec::with_capacity(alloc, records.len())?;
+    let mut index = 0;
+    'records: while index < records.len() {
+        let number = number_behind(start, index);
+        marks.push(take_one(alloc, form, rows, number, records.get(index))?)?;
+        index += 1;
+    }
+    Ok(marks)
+}
+
+// Gives one record to the lanes.
+fn take_one(
+    alloc: Global,
+    form: Form,
+    rows: &mut Rows,
+    number: u32,
+    view: RecordView<'_>,
+) -> Result<Slot, OutOfMemory>
+    requires { HaveHeaders rows.old }
+    ensures headers { IfOk result (λ _. HaveHeaders rows.new) }
+    ensures turn { IfOk result (λ slot. turning rows.new (entry_by (item_of form (seen view.entry).bytes) slot) ≡ turn form rows.old number (seen view.entry)) }
+{
+    let at = Moment {
+        time: time_of(form, view.seconds, view.fraction),
+        number,
+    };
+    let alone = read_alone(form, view.bytes);
+    match take(alloc, rows, at, &alone)? {
+        Some(mark) => Ok(Slot::of(alloc, mark)?),
+        None => Ok(Slot::empty()),
+    }
 }

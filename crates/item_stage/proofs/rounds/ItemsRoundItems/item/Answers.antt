@@ -1,12 +1,35 @@
-use Rattle.std.proofs.Common.{Some, sym, ◌∙◌, ap, slice_get}
+use Rattle.std.proofs.Common.{◌∙◌, ap, arith, sym}
+use Rattle.std.specs.Option.{option_map}
 use Rattle.capture_io.specs.Records as records
-use Rattle.item_stage.specs.Items.{items_in}
-use Rattle.item_stage.proofs.RoundLemmas.{item-there}
+use Rattle.item_stage.proofs.MarkLemmas.{item_alone_there, item_by_mark, within_items, within_marks, within_records}
 use Rattle.item_stage.proofs.rounds.ItemsRoundItems.item.Goals as goal
 
-pub returns : goal.returns
-returns c =
+pub index-requires : goal.index-requires
+index-requires c =
     let inside = c.self.inside in
-    ap (λ es. slice_get (items_in es) c.args.index) (sym c.self.view_is)
-    ∙ (item-there inside.form inside.records.now c.args.index (records.seen c.get.result) c.get.ensures
-    ∙ ap Some (sym c.read_item.ensures))
+    omega (
+      arith,
+      inside.marks.ok.0,
+      within_marks inside.form inside.records.now inside.marks.items c.args.self.now c.self.view_is c.self.invariant c.args.index
+          (within_items inside.form inside.records.now inside.marks.items c.args.self.now c.self.view_is c.self.invariant c.args.index c.requires),
+    )
+
+pub get-requires-in-None : goal.get-requires-in-None
+get-requires-in-None c =
+    let inside = c.self.inside in
+    within_records inside.form inside.records.now inside.marks.items c.args.self.now c.self.view_is c.self.invariant c.args.index
+    (within_items inside.form inside.records.now inside.marks.items c.args.self.now c.self.view_is c.self.invariant c.args.index c.requires)
+
+pub returns-in-Some : goal.returns-in-Some
+returns-in-Some c =
+    let inside = c.self.inside in
+    item_by_mark inside.form inside.records.now inside.marks.items c.args.self.now c.self.view_is c.self.invariant c.args.index c.index.result.now c.in-Some.mark.now _
+    (within_items inside.form inside.records.now inside.marks.items c.args.self.now c.self.view_is c.self.invariant c.args.index c.requires)
+    c.index.ensures (sym (ap (λ o. option_map (λ mark. mark.now) o) c.in-Some.is) ∙ c.get.ensures) c.item.ensures
+
+pub returns-in-None : goal.returns-in-None
+returns-in-None c =
+    let inside = c.self.inside in
+    item_alone_there inside.form inside.records.now inside.marks.items c.args.self.now c.self.view_is c.self.invariant c.args.index c.index.result.now (records.seen c.get-in-None.result) _
+    (within_items inside.form inside.records.now inside.marks.items c.args.self.now c.self.view_is c.self.invariant c.args.index c.requires)
+    c.index.ensures (sym (ap (λ o. option_map (λ mark. mark.now) o) c.in-None.is) ∙ c.get.ensures) c.get-in-None.ensures c.read_item.ensures

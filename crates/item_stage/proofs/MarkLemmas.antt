@@ -1,0 +1,121 @@
+-- The entries of records by their marks.
+use Rattle.std.proofs.Common.{◌≡◌, ℕ, zero, suc, ◌<◌, List, [], ◌∷◌, ◌++◌, length, drop, Option, Some, None, refl, sym, ◌∙◌, ap, arith, slice_get, get_or}
+use Rattle.std.specs.Option.{option_map}
+use Rattle.std.proofs.lemmas.List.{length-map}
+use Rattle.std.proofs.lemmas.Option.{slice_get-get_or, slice_get-map}
+use Rattle.capture_io.specs.declared.forms.Form.{Form}
+use Rattle.capture_io.specs.declared.forms.Rec.{Rec}
+use Rattle.ip_codec.specs.declared.items.Item.{Item}
+use Rattle.item_stage.specs.Alone.{item_of}
+use Rattle.item_stage.specs.Items.{items_in}
+use Rattle.item_stage.specs.Marks.{entries_by, entry_by, item_became}
+use Rattle.item_stage.specs.declared.entries.Entry.{Entry}
+use Rattle.item_stage.specs.declared.marks.Mark.{Mark}
+
+abbrev blank : Rec
+blank = record { seconds = 0; fraction = 0; bytes = []; next_at = 0 }
+
+pub entries_none : (form : Form) (records : List Rec) → entries_by form records [] ≡ []
+entries_none form [] = refl
+entries_none form (r ∷ records) = refl
+
+-- one mark more
+pub entries_more : (form : Form) (records : List Rec) (marks : List (Option Mark)) (mark : Option Mark) (r : Rec) → slice_get records (length marks) ≡ Some r →
+    entries_by form records (marks ++ mark ∷ []) ≡ entries_by form records marks ++ entry_by (item_of form r.bytes) mark ∷ []
+entries_more form [] marks mark r there = cc
+entries_more form (s ∷ records) [] mark r there =
+    let same : s ≡ r = cc in
+    ap (λ (l : List Entry). entry_by (item_of form s.bytes) mark ∷ l) (entries_none form records)
+    ∙ ap (λ (x : Rec). entry_by (item_of form x.bytes) mark ∷ []) same
+entries_more form (s ∷ records) (m ∷ marks) mark r there =
+    ap (λ (l : List Entry). entry_by (item_of form s.bytes) m ∷ l) (entries_more form records marks mark r there)
+
+pub entries_length : (form : Form) (records : List Rec) (marks : List (Option Mark)) → length marks ≡ length records →
+    length (entries_by form records marks) ≡ length records
+entries_length form [] marks same = refl
+entries_length form (r ∷ records) [] same = absurd (omega (arith, same))
+entries_length form (r ∷ records) (m ∷ marks) same = ap suc (entries_length form records marks (omega (arith, same)))
+
+-- what stands at an index
+pub entry_at : (form : Form) (records : List Rec) (marks : List (Option Mark)) (index : ℕ) (r : Rec) (mark : Option Mark) → slice_get records index ≡ Some r →
+    slice_get marks index ≡ Some mark → slice_get (entries_by form records marks) index ≡ Some (entry_by (item_of form r.bytes) mark)
+entry_at form [] marks index r mark there here = cc
+entry_at form (s ∷ records) [] index r mark there here = cc
+entry_at form (s ∷ records) (m ∷ marks) zero r mark there here =
+    let same : s ≡ r = cc in
+    let also : m ≡ mark = cc in
+    ap (λ (x : Rec). Some (entry_by (item_of form x.bytes) m)) same ∙ ap (λ (x : Option Mark). Some (entry_by (item_of form r.bytes) x)) also
+entry_at form (s ∷ records) (m ∷ marks) (suc index) r mark there here = entry_at form records marks index r mark there here
+
+-- what is left from an index on
+pub left_from : (records : List Rec) (index : ℕ) (r : Rec) → slice_get records index ≡ Some r → drop index records ≡ r ∷ drop (suc index) records
+left_from [] index r there = cc
+left_from (s ∷ records) zero r there = let same : s ≡ r = cc in ap (λ (x : Rec). x ∷ records) same
+left_from (s ∷ records) (suc index) r there = left_from records index r there
+
+-- ---- as the calls read them
+pub items_length : (form : Form) (records : List Rec) (marks : List (Option Mark)) (es : List Entry) → entries_by form records marks ≡ es →
+    length marks ≡ length records → length records ≡ length (items_in es)
+items_length form records marks es is same =
+    let size : length (items_in es) ≡ length es = length-map es (λ (entry : Entry). entry.item) in
+    let seen : length (entries_by form records marks) ≡ length es = ap (λ (l : List Entry). length l) is in
+    omega (arith, size, seen, entries_length form records marks same)
+
+module _ (form : Form) (records : List Rec) (marks : List (Option Mark)) (es : List Entry) (is : entries_by form records marks ≡ es) (same : length marks ≡ length records) (index : ℕ) where
+  pub within_marks : index < length es → index < length marks
+  within_marks l =
+      let seen : length (entries_by form records marks) ≡ length es = ap (λ (l : List Entry). length l) is in
+      omega (arith, seen, l, same, entries_length form records marks same)
+
+  pub within_records : index < length es → index < length records
+  within_records l = omega (arith, within_marks l, same)
+
+  pub within_items : index < length (items_in es) → index < length es
+  within_items l = omega (arith, l, length-map es (λ (entry : Entry). entry.item))
+
+  -- the entry of the record at the index, by its mark
+  entry_there : (mark : Option Mark) → index < length es → mark ≡ get_or marks index mark →
+      slice_get es index ≡ Some (entry_by (item_of form (get_or records index blank).bytes) mark)
+  entry_there mark l read =
+      sym (ap (λ (x : List Entry). slice_get x index) is)
+      ∙ entry_at form records marks index (get_or records index blank) mark (slice_get-get_or records index blank (within_records l))
+      (slice_get-get_or marks index mark (within_marks l) ∙ ap (λ (x : Option Mark). Some x) (sym read))
+
+  pub ended_by_mark : (slot : Option Mark) (mark : Mark) (ended : List ℕ) → index < length es → slot ≡ get_or marks index slot → Some mark ≡ slot → ended ≡ mark.ended →
+      option_map (λ (entry : Entry). entry.ended) (slice_get es index) ≡ Some ended
+  ended_by_mark slot mark ended l read is_mark told =
+      let there = entry_there slot l read in
+      ap (λ (o : Option Entry). option_map (λ (entry : Entry). entry.ended) o) there
+      ∙ (ap (λ (m : Option Mark). Some (entry_by (item_of form (get_or records index blank).bytes) m).ended) (sym is_mark)
+      ∙ ap (λ (n : List ℕ). Some n) (sym told))
+
+  pub none_ended : (slot : Option Mark) → index < length es → slot ≡ get_or marks index slot → None ≡ slot →
+      option_map (λ (entry : Entry). entry.ended) (slice_get es index) ≡ Some []
+  none_ended slot l read is_none =
+      ap (λ (o : Option Entry). option_map (λ (entry : Entry). entry.ended) o) (entry_there slot l read)
+      ∙ ap (λ (m : Option Mark). Some (entry_by (item_of form (get_or records index blank).bytes) m).ended) (sym is_none)
+
+  item_there : (slot : Option Mark) → index < length es → slot ≡ get_or marks index slot →
+      slice_get (items_in es) index ≡ Some (entry_by (item_of form (get_or records index blank).bytes) slot).item
+  item_there slot l read =
+      slice_get-map (λ (entry : Entry). entry.item) es index ∙ ap (λ (o : Option Entry). option_map (λ (entry : Entry). entry.item) o) (entry_there slot l read)
+
+  pub item_by_mark : (slot : Option Mark) (mark : Mark) (told : Item) → index < length es → slot ≡ get_or marks index slot → Some mark ≡ slot → told ≡ item_became mark.became →
+      slice_get (items_in es) index ≡ Some told
+  item_by_mark slot mark told l read is_mark said =
+      item_there slot l read
+      ∙ (ap (λ (m : Option Mark). Some (entry_by (item_of form (get_or records index blank).bytes) m).item) (sym is_mark)
+      ∙ ap (λ (x : Item). Some x) (sym said))
+
+  pub item_alone_there : (slot : Option Mark) (r : Rec) (told : Item) → index < length es → slot ≡ get_or marks index slot → None ≡ slot → slice_get records index ≡ Some r →
+      told ≡ item_of form r.bytes → slice_get (items_in es) index ≡ Some told
+  item_alone_there slot r told l read is_none there said =
+      let same : get_or records index blank ≡ r =
+      some_same (get_or records index blank) r (sym (slice_get-get_or records index blank (within_records l)) ∙ there) in
+      item_there slot l read
+      ∙ (ap (λ (m : Option Mark). Some (entry_by (item_of form (get_or records index blank).bytes) m).item) (sym is_none)
+      ∙ (ap (λ (x : Rec). Some (item_of form x.bytes)) same
+      ∙ ap (λ (x : Item). Some x) (sym said)))
+    where
+      some_same : (a b : Rec) → Some a ≡ Some b → a ≡ b
+      some_same a b e = cc

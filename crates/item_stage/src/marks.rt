@@ -1,0 +1,128 @@
+// What is kept of the records of which a lane took a fragment.
+ghost use Rattle.std.specs.Prelude.{◌≡◌};
+ghost use Rattle.ip_codec.specs.Seen.{seen};
+ghost use Rattle.ip_codec.specs.declared.items.Item.TheVariants as item;
+ghost use Rattle.item_stage.specs.Alone.{told_item};
+ghost use Rattle.item_stage.specs.Marks.{item_became};
+ghost use Rattle.item_stage.specs.Shown.{shown_inside};
+
+use crate::alone::{Inside, behind_fragment};
+use crate::joining::Datagram;
+use aftr_base::{Bytes, Numbers, OutOfMemory};
+use ip_codec::{ItemView, Outer, Rule, read_packet};
+use std::alloc::Global;
+use std::marker::Model;
+
+/// What became of such a record.
+#[derive(Debug, Drop)]
+pub(crate) enum Became {
+    /// Its fragment waits.
+    Held,
+    /// Its fragment was refused.
+    Bad(Rule),
+    /// A datagram from outside is whole with it.
+    Down(Datagram),
+    /// A datagram in the tunnel is whole with it.
+    Up { outer: Outer, packet: Datagram },
+    /// A tunnel packet is whole with it: what stands behind the Fragment header, of which the first header has the number
+    /// `next`. No fragment of an IPv4 datagram does.
+    Carries { outer: Outer, next: u8, body: Bytes },
+}
+
+/// What is kept of such a record.
+#[derive(Debug, Drop)]
+pub(crate) struct Mark {
+    /// The first record's number of each datagram whose time was up with it, ascending.
+    pub(crate) ended: Numbers,
+    pub(crate) became: Became,
+}
+
+/// The place of a record's mark, in one word: seen as the mark, if there is one.
+#[derive(Debug, Drop)]
+pub(crate) struct Slot {
+    mark: Option<Box<Mark>>,
+}
+
+impl Model for Slot {
+    ghost use Rattle.std.specs.Prelude.{Option};
+    ghost use Rattle.std.specs.Option.{option_map};
+    ghost use Rattle.item_stage.specs.declared.marks.Mark.{Mark as Marked};
+
+    ghost Value = { Option Marked };
+
+    ghost view = { λ s. option_map (λ mark. mark.value) s.mark };
+}
+
+impl Slot {
+    ghost use Rattle.std.specs.Prelude.{IfOk, None, Some};
+    ghost use Rattle.std.specs.Option.{option_map};
+
+    /// No mark.
+    pub(crate) fn empty() -> Self
+        ensures { result ≡ None }
+    {
+        Slot { mark: None }
+    }
+
+    pub(crate) fn of(alloc: Global, mark: Mark) -> Result<Self, OutOfMemory>
+        ensures { IfOk result (λ slot. slot ≡ Some mark) }
+    {
+        Ok(Slot {
+            mark: Some(Box::new(alloc, mark)?),
+        })
+    }
+
+    pub(crate) fn get(&self) -> Option<&Mark>
+        ensures { option_map (λ mark. mark.now) result ≡ self.now }
+    {
+        match &self.mark {
+            Some(mark) => Some(mark),
+            None => None,
+        }
+    }
+}
+
+impl Became {
+    /// The item.
+    pub(crate) fn item(&self) -> ItemView<'_>
+        ensures { seen result ≡ item_became self.now }
+    {
+        match self {
+            Became::Held => ItemView::Held,
+            Became::Bad(why) => ItemView::Bad(*why),
+            Became::Down(datagram) => down_view(datagram),
+            Became::Up { outer, packet } => up_view(*outer, packet),
+            Became::Carries { outer, next, body } => {
+                told_view(behind_fragment(*outer, *next, body.as_slice()))
+            }
+        }
+    }
+}
+
+fn down_view(datagram: &Datagram) -> ItemView<'_>
+    ensures { seen result ≡ item.Down datagram.now.bytes }
+{
+    match read_packet(datagram.bytes.as_slice()) {
+        Ok(packet) => ItemView::Down { packet },
+        Err(_) => ItemView::Bad(Rule::Ip4Malformed),
+    }
+}
+
+fn up_view(outer: Outer, datagram: &Datagram) -> ItemView<'_>
+    ensures { seen result ≡ item.Up outer datagram.now.bytes }
+{
+    match read_packet(datagram.bytes.as_slice()) {
+        Ok(inner) => ItemView::Up { outer, inner },
+        Err(inner) => ItemView::UpUnread { outer, inner },
+    }
+}
+
+/// The item of what an IPv6 packet carries, where each fragment waits.
+pub(crate) fn told_view<'a>(inside: Inside<'a>) -> ItemView<'a>
+    ensures { seen result ≡ told_item (shown_inside inside.entry) }
+{
+    match inside {
+        Inside::Told(item) => item,
+        Inside::Fragment { .. } => ItemView::Held,
+    }
+}
