@@ -1,10 +1,10 @@
 // Frames and packets made by hand; the changed header checksums are computed by another program.
 ghost use Rattle.std.specs.Prelude.{◌≡◌, length, IfOk};
 
-use aftr_base::{Bytes, OutOfMemory};
-use capture_io::{Form, Place, Rec, Records};
+use aftr_base::OutOfMemory;
+use capture_io::{Form, Place, Records};
 use case_data::{AFTR, SUBSCRIBER, UP, UP_TUNNEL};
-use ip_codec::{Ip4Bad, Item, ItemView, Outer, Rule};
+use ip_codec::{Ip4Bad, ItemView, Outer, Rule};
 use item_stage::{RoundItems, Stage, read_item};
 use std::alloc::Global;
 use std::test::Fail;
@@ -101,9 +101,8 @@ fn packets_in_the_tunnel_go_up(rt: HostRuntime) -> Result<(), Fail> {
 
 #[test]
 fn other_records_are_bad(rt: HostRuntime) -> Result<(), Fail> {
-    let behind = b"\x04\xd0\0\x35\0\x0c\0\0test";
     let arp = b"\xff\xff\xff\xff\xff\xff\x02\0\0\0\0\x01\x08\x06\0\x01\x08\0\x06\x04\0\x01";
-    let cases: [(u32, [&[u8]; 3], Rule); 8] = [
+    let cases: [(u32, [&[u8]; 3], Rule); 4] = [
         (PLAIN, [b"", b"", b""], Rule::FrameShort),
         (
             ETHERNET,
@@ -111,20 +110,33 @@ fn other_records_are_bad(rt: HostRuntime) -> Result<(), Fail> {
             Rule::FrameShort,
         ),
         (ETHERNET, [arp, b"", b""], Rule::FrameType),
-        (PLAIN, [UP, b"", b""], Rule::NotBuilt),
         (PLAIN, [UP_TUNNEL, &UP[..31], b""], Rule::Ip6Malformed),
-        (PLAIN, [UP_TUNNEL, FIRST_FRAGMENT, behind], Rule::NotBuilt),
-        (PLAIN, [UP_TUNNEL, LATER_FRAGMENT, behind], Rule::NotBuilt),
-        (PLAIN, [UP_TUNNEL, ICMP, behind], Rule::NotBuilt),
     ];
     for (link, pieces, rule) in cases {
         let bytes = joined(rt.alloc(), &pieces)?;
         assert!(rt; is_bad(&read_item(form(link), &bytes), rule));
     }
-    let mut carries_tcp = *UP_TUNNEL;
-    carries_tcp[6] = 6;
-    let bytes = joined(rt.alloc(), &[&carries_tcp, UP])?;
-    assert!(rt; is_bad(&read_item(form(PLAIN), &bytes), Rule::NotBuilt));
+    Ok(())
+}
+
+fn waits(item: &ItemView<'_>) -> bool {
+    match item {
+        ItemView::Held => true,
+        _ => false,
+    }
+}
+
+#[test]
+fn fragments_wait_and_messages_do_not(rt: HostRuntime) -> Result<(), Fail> {
+    let alloc = rt.alloc();
+    let behind = b"\x04\xd0\0\x35\0\x0c\0\0test";
+    let first = joined(alloc, &[UP_TUNNEL, FIRST_FRAGMENT, behind])?;
+    assert!(rt; waits(&read_item(form(PLAIN), &first)));
+    let later = joined(alloc, &[UP_TUNNEL, LATER_FRAGMENT, behind])?;
+    assert!(rt; waits(&read_item(form(PLAIN), &later)));
+    let message = joined(alloc, &[ICMP, behind])?;
+    let bytes = joined(alloc, &[UP_TUNNEL, &message])?;
+    assert!(rt; goes_up(&read_item(form(PLAIN), &bytes), &message));
     Ok(())
 }
 
@@ -171,27 +183,5 @@ fn a_stage_takes_records_in_rounds(rt: HostRuntime) -> Result<(), Fail> {
     let count = first.len() as u32;
     assert_eq!(rt; stage.items(alloc, &none, count)?.len(), 0);
     assert_eq!(rt; stage.unfinished(alloc)?.as_slice().len(), 0);
-    Ok(())
-}
-
-#[test]
-fn records_that_own_their_bytes_have_items_that_do(rt: HostRuntime) -> Result<(), Fail> {
-    let alloc = rt.alloc();
-    let records = [Rec {
-        seconds: 1,
-        fraction: 0,
-        bytes: Bytes::of(joined(alloc, &[UP_TUNNEL, UP])?),
-        next_at: 24,
-    }];
-    let mut stage = Stage::new(alloc, form(PLAIN))?;
-    let entries = stage.owned_items(alloc, &records, 0)?;
-    let is_up = match entries.as_slice() {
-        [entry] => match &entry.item {
-            Item::Up { outer, inner } => *outer == of_tunnel() && inner.as_slice() == UP.as_slice(),
-            _ => false,
-        },
-        _ => false,
-    };
-    assert!(rt; is_up);
     Ok(())
 }
