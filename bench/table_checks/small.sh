@@ -1,0 +1,26 @@
+#!/usr/bin/env bash
+# Builds the command `check` alone over the crates of this repository, or of the one that is named, in a temporary repository, which
+# proves it first, and prints the name of the program. So two states of the crates of tables can be compared without the proofs of
+# all that stands above them.
+#     bench/table_checks/small.sh [REPOSITORY]
+set -e
+here="$(cd "$(dirname "$0")" && pwd)"
+top="$(cd "${1:-$here/../..}" && pwd)"
+work="/tmp/table_checks_small$(echo "$top" | tr / _)"
+repository="$work/repository"
+mkdir -p "$repository/crates"
+cp "$top/HANDLES" "$repository/"
+names="aftr_base addr_text port_set binding_rules binding_file"
+for crate in $names; do
+    (cd "$top/crates" && tar --exclude="$crate/out" --exclude="$crate/must-fail" -cf - "$crate") | tar -C "$repository/crates" -xf -
+done
+for crate in $names; do
+    grep "^$crate:" "$top/crates.txt"
+done > "$repository/crates.txt"
+echo 'check_alone: aftr_base binding_rules binding_file' >> "$repository/crates.txt"
+mkdir -p "$repository/crates/check_alone/src"
+cp "$here/program/main.rt.txt" "$repository/crates/check_alone/src/main.rt"
+(cd "$repository/crates/check_alone" && rt run > "$work/build.txt" 2>&1) || true
+program="$repository/crates/check_alone/out/check_alone"
+[ -x "$program" ] || { tail "$work/build.txt" >&2; exit 1; }
+echo "$program"
