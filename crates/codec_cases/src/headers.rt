@@ -201,7 +201,6 @@ fn rules_have_numbers_and_names(rt: HostRuntime) -> Result<(), Fail> {
         (Rule::RelayBad, 26, "relay-bad"),
         (Rule::RelayNoBinding, 27, "relay-no-binding"),
         (Rule::RelayMute, 28, "relay-mute"),
-        (Rule::NotBuilt, 0, "not-built"),
     ];
     for (rule, number, name) in cases {
         assert_eq!(rt; rule.number(), number);

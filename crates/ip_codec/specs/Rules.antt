@@ -1,7 +1,7 @@
 -- The numbers and printed names of the rules.
 use Rattle.std.specs.Prelude.{ℕ, List, codes}
 use Rattle.ip_codec.specs.declared.rules.Rule.{Rule}
-use Rattle.ip_codec.specs.declared.rules.Rule.TheVariants.{FrameShort, FrameType, Ip4Malformed, Ip4Checksum, Ip6Malformed, Ip6Chain, FragOdd, FragLong, FragOverlap, FragMany, FragFull, NotOurs, NotSoftwire, InnerMalformed, InnerChecksum, ToSelf, IcmpOff, IcmpBad, NoPort, NoBinding, Ttl, TooBig, HairpinOff, HairpinNoBinding, Relayed, RelayBad, RelayNoBinding, RelayMute, NotBuilt}
+use Rattle.ip_codec.specs.declared.rules.Rule.TheVariants.{FrameShort, FrameType, Ip4Malformed, Ip4Checksum, Ip6Malformed, Ip6Chain, FragOdd, FragLong, FragOverlap, FragMany, FragFull, NotOurs, NotSoftwire, InnerMalformed, InnerChecksum, ToSelf, IcmpOff, IcmpBad, NoPort, NoBinding, Ttl, TooBig, HairpinOff, HairpinNoBinding, Relayed, RelayBad, RelayNoBinding, RelayMute}
 
 abbrev pub rule_number : Rule → ℕ
 rule_number FrameShort = 1
@@ -32,7 +32,6 @@ rule_number Relayed = 25
 rule_number RelayBad = 26
 rule_number RelayNoBinding = 27
 rule_number RelayMute = 28
-rule_number NotBuilt = 0
 
 abbrev pub name_of : Rule → List ℕ
 name_of FrameShort = codes "frame-short"
@@ -63,4 +62,3 @@ name_of Relayed = codes "relayed"
 name_of RelayBad = codes "relay-bad"
 name_of RelayNoBinding = codes "relay-no-binding"
 name_of RelayMute = codes "relay-mute"
-name_of NotBuilt = codes "not-built"

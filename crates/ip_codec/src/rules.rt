@@ -63,12 +63,10 @@ pub enum Rule {
     RelayNoBinding,
     /// An ICMPv6 error about a tunnel packet whose inner packet gets no ICMP error (RFC 1122, section 3.2.2).
     RelayMute,
-    /// No rule: this kind of packet is not judged yet.
-    NotBuilt,
 }
 
 impl Rule {
-    /// The rule's number, from 1 to 28; 0 for `NotBuilt`.
+    /// The rule's number, from 1 to 28.
     pub fn number(&self) -> u8
         ensures { result ≡ rule_number self.now }
     {
@@ -101,7 +99,6 @@ impl Rule {
             Rule::RelayBad => 26,
             Rule::RelayNoBinding => 27,
             Rule::RelayMute => 28,
-            Rule::NotBuilt => 0,
         }
     }
 
@@ -138,7 +135,6 @@ impl Rule {
             Rule::RelayBad => "relay-bad",
             Rule::RelayNoBinding => "relay-no-binding",
             Rule::RelayMute => "relay-mute",
-            Rule::NotBuilt => "not-built",
         }
     }
 }
