@@ -1,0 +1,11 @@
+mod CellLemmas
+mod CountLemmas
+mod CourseLemmas
+mod JoinLemmas
+mod LateLemmas
+mod LimitLemmas
+mod MarkLemmas
+mod PartLemmas
+mod RoundLemmas
+mod SomeLemmas
+mod VersionLemmas

@@ -1,0 +1,21 @@
+//! All that a run writes: the packets sent, the lines of records and of tables, and the totals, as definitions over a whole run
+//! and as calls that make them round by round.
+#![tactic(auto)]
+
+mod counting;
+mod laws;
+mod limits;
+mod lines;
+mod parts;
+mod rendering;
+mod versions;
+
+pub use laws::{
+    counts_are_totals, late_is_not_reached, limits_are_some, limits_begin, load_lines_join,
+    rounds_join,
+};
+pub use limits::new_limit;
+pub use lines::push_ended_lines;
+pub use parts::{Part, Rendered};
+pub use rendering::render_round;
+pub use versions::{push_last_versions, push_new_versions};

@@ -1,0 +1,42 @@
+// The lines of records and of datagrams.
+ghost use Rattle.std.specs.Prelude.{◌≡◌, ◌++◌, IfOk, flat_map, string_bytes};
+ghost use Rattle.aftr_text.specs.Lines.{ended_text};
+ghost use Rattle.run_output.specs.Outputs.{record_text};
+
+use aftr_base::OutOfMemory;
+use aftr_text::{push_ended_line, push_limited_line, push_verdict_line};
+use verdict_core::Verdict;
+
+/// Puts the lines of datagrams that ended unfinished behind others: those whose time was up, or those that the capture's
+/// end left. After an error a part of them may stand there.
+pub fn push_ended_lines(
+    lines: &mut String,
+    expired: bool,
+    numbers: &[u32],
+) -> Result<(), OutOfMemory>
+    ensures { IfOk result (λ _. string_bytes lines.new ≡ string_bytes lines.old ++ flat_map (ended_text expired) numbers.now) }
+{
+    'numbers: for number in numbers {
+        push_ended_line(lines, expired, *number)?;
+    }
+    Ok(())
+}
+
+/// Puts the line of a record behind others, by whether its error is kept back.
+pub(crate) fn push_record_line(
+    lines: &mut String,
+    limited: bool,
+    number: u32,
+    version: u32,
+    verdict: Verdict,
+    packets: u32,
+) -> Result<(), OutOfMemory>
+    ensures { IfOk result (λ _. string_bytes lines.new ≡ string_bytes lines.old ++ record_text limited number version verdict packets) }
+{
+    if limited {
+        if let Verdict::Drop { why, .. } = verdict {
+            return push_limited_line(lines, number, version, why);
+        }
+    }
+    push_verdict_line(lines, number, version, verdict, packets)
+}

@@ -1,0 +1,104 @@
+// The room of a round.
+ghost use Rattle.std.specs.Prelude.{◌≡◌, ◌<◌, ◌≤◌, [], IfOk, length, string_bytes};
+ghost use Rattle.run_output.specs.Counting.{no_totals};
+
+use aftr_base::OutOfMemory;
+use aftr_text::Totals;
+use std::alloc::Global;
+use std::marker::Model;
+
+/// What neighbouring records write. Its room is kept when it is cleared.
+#[derive(Drop)]
+pub struct Part {
+    /// The packets sent, as the capture that is written records them.
+    pub packets: Vec<u8>,
+    /// The lines of the records.
+    pub lines: String,
+    /// What was counted of them.
+    pub(crate) counted: Totals,
+    /// Memory was wanted, so that not all was written.
+    pub(crate) failed: bool,
+}
+
+impl Part {
+    /// Nothing, and no room yet.
+    fn new(alloc: Global) -> Part {
+        Part {
+            packets: Vec::new(alloc),
+            lines: String::new(alloc),
+            counted: Totals {
+                records: 0,
+                held: 0,
+                forwarded: 0,
+                dropped: 0,
+                packets: 0,
+                version: 0,
+            },
+            failed: false,
+        }
+    }
+
+    /// Lets go what was written, and keeps the room.
+    pub(crate) fn clear(&mut self)
+        ensures packets { self.new.packets.items ≡ [] }
+        ensures lines { string_bytes self.new.lines ≡ [] }
+        ensures counted { self.new.counted ≡ no_totals }
+    {
+        self.packets.clear();
+        self.lines.clear();
+        self.counted = Totals {
+            records: 0,
+            held: 0,
+            forwarded: 0,
+            dropped: 0,
+            packets: 0,
+            version: 0,
+        };
+        self.failed = false;
+    }
+}
+
+/// What the records of a round write, in parts that follow one another. A contract sees it as the list of the parts. Its room is
+/// kept from round to round, so that a round takes memory only where it writes more than those before it.
+#[derive(Drop)]
+pub struct Rendered {
+    pub(crate) parts: Vec<Part>,
+    /// Which of the round's records have an error that is kept back.
+    pub(crate) limited: Vec<bool>,
+}
+
+impl Model for Rendered {
+    ghost use Rattle.std.specs.Prelude.{◌<◌, ◌≤◌, List, length};
+    ghost use Rattle.run_output.specs.declared.parts.Part.{Part};
+
+    ghost Value = { List Part };
+
+    ghost view = { λ r. r.parts.items };
+
+    ghost invariant = { λ r. (0 < length r.parts.items) × (length r.parts.items ≤ 16) };
+}
+
+impl Rendered {
+    /// Room for a round whose records are rendered by so many threads, from 1 to 16: one part a thread, with nothing in it.
+    pub fn new(alloc: Global, threads: u32) -> Result<Rendered, OutOfMemory>
+        requires some { 1 ≤ threads }
+        requires most { threads ≤ 16 }
+        ensures { IfOk result (λ rendered. length rendered ≡ threads) }
+    {
+        let mut parts = Vec::with_capacity(alloc, threads as usize)?;
+        for _ in 0..threads {
+            parts.push(Part::new(alloc))?;
+        }
+        Ok(Rendered {
+            parts,
+            limited: Vec::new(alloc),
+        })
+    }
+
+    /// The parts, in the order of the records.
+    pub fn parts(&self) -> &[Part]
+        ensures { result.now ≡ self.now }
+    {
+        self.parts.as_slice()
+    }
+}

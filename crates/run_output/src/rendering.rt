@@ -1,0 +1,275 @@
+// What a round of records writes.
+ghost use Rattle.std.specs.Prelude.{◌≡◌, ◌≤◌, ◌<◌, ◌+◌, ◌-◌, ◌*◌, ◌++◌, ◌^◌, ℕ, List, [], IfOk, IfErr, false, flat_map, drop, length, string_bytes, take};
+ghost use Rattle.std.specs.Thread.{IsSync};
+ghost use Rattle.capture_io.specs.declared.forms.Rec.{Rec as Record};
+ghost use Rattle.capture_io.specs.Packets.{packet_bytes};
+ghost use Rattle.ip_codec.specs.Seen.{seen};
+ghost use Rattle.item_stage.specs.declared.entries.Entry.{Entry};
+ghost use Rattle.aftr_text.specs.Lines.{ended_text};
+ghost use Rattle.run_output.specs.Cells.{ArePartsUnless, AreReady, IsMore, IsPart, IsPartUnless, cells, chunk, counted, shown};
+ghost use Rattle.run_output.specs.Counting.{IsWithin, with_record};
+ghost use Rattle.run_output.specs.Limiting.{HasAsked, IsLimited, rate_of};
+ghost use Rattle.run_output.specs.Outputs.{Course, record_text, sent_unless};
+ghost use Rattle.run_output.specs.Rendering.{AreFitting, IsCourseOf, IsRendered};
+ghost use Rattle.verdict_core.specs.Fitting.{Fits, HasRoom};
+
+use crate::counting::{count_parts, count_record};
+use crate::limits::mark_limited;
+use crate::lines::{push_ended_lines, push_record_line};
+use crate::parts::{Part, Rendered};
+use aftr_base::OutOfMemory;
+use aftr_text::Totals;
+use capture_io::{Form, RecordView, Records, Written};
+use error_limit::{Limiter, one_marking};
+use ip_codec::ItemView;
+use item_stage::{Items, RoundItems};
+use packet_render::push_packets;
+use std::thread;
+use std::thread::Threads;
+use verdict_core::Verdict;
+use worker_gate::{Outcome, Outcomes};
+
+/// Renders the records of a round, of which the first has the number `start`, by their outcomes: asks the limit about their
+/// errors, in the order of the records, and then writes packets and lines in as many parts as `rendered` has, each by a thread of
+/// its own where there are several. What is written takes the place of what stood in `rendered`, and the records are counted. After
+/// an error `rendered` and the limit say nothing, and the totals are as they were.
+pub fn render_round<R: Threads + Sync>(
+    rt: &R,
+    form: Form,
+    written: Written,
+    start: u32,
+    records: &Records,
+    items: &Items<'_>,
+    outcomes: &Outcomes<'_>,
+    limit: &mut Option<Limiter>,
+    totals: &mut Totals,
+    rendered: &mut Rendered,
+) -> Result<(), OutOfMemory>
+    requires same { length items.now ≡ length records.now }
+    requires few { start + length records.now ≤ 2 ^ 31 }
+    requires fitting { AreFitting items.now outcomes.now }
+    requires within { IsWithin totals.old start }
+    ensures rendered { IfOk result (λ _. (c : Course) (taken : List Record) (before : List Entry) → length taken ≡ start →
+        IsCourseOf c form taken records.now before items.now outcomes.now limit.old →
+        IsLimited (rate_of limit.old) form (taken ++ records.now) (before ++ items.now) c →
+        IsRendered c written start records.now items.now totals.old totals.new rendered.new) }
+    ensures asked { IfOk result (λ _. (c : Course) (taken : List Record) (before : List Entry) → length taken ≡ start →
+        IsCourseOf c form taken records.now before items.now outcomes.now limit.old →
+        HasAsked form (taken ++ records.now) (before ++ items.now) c limit.new) }
+    ensures rate { IfOk result (λ _. rate_of limit.new ≡ rate_of limit.old) }
+    ensures within { IfOk result (λ _. IsWithin totals.new (start + length records.now)) }
+    ensures parts { length rendered.new ≡ length rendered.old }
+    ensures failed { IfErr result (λ _. totals.new ≡ totals.old) }
+{
+    one_marking();
+    let Rendered { parts, limited } = rendered;
+    mark_limited(form, records, outcomes, limit, limited)?;
+    let size = records.len().div_ceil(parts.len());
+    render_parts(
+        rt, written, start, records, items, outcomes, limited, size, parts,
+    );
+    count_parts(parts, totals)?;
+    Ok(())
+}
+
+// Renders all parts.
+fn render_parts<R: Threads + Sync>(
+    rt: &R,
+    written: Written,
+    start: u32,
+    records: &Records,
+    items: &Items<'_>,
+    outcomes: &Outcomes<'_>,
+    limited: &[bool],
+    size: usize,
+    parts: &mut Vec<Part>,
+)
+    requires ready { AreReady start records.now items.now outcomes.now limited.now }
+    requires size { size ≤ 2 ^ 31 }
+    requires some { 0 < length parts.old.items }
+    requires few { length parts.old.items ≤ 16 }
+    ensures parts { ArePartsUnless written size (cells start records.now items.now outcomes.now limited.now) parts.new.items }
+    ensures count { length parts.new.items ≡ length parts.old.items }
+{
+    render_each(
+        rt,
+        written,
+        start,
+        records,
+        items,
+        outcomes,
+        limited,
+        size,
+        parts.as_mut_slice(),
+    );
+}
+
+// Renders each part by a thread of its own.
+fn render_each<R: Threads + Sync>(
+    rt: &R,
+    written: Written,
+    start: u32,
+    records: &Records,
+    items: &Items<'_>,
+    outcomes: &Outcomes<'_>,
+    limited: &[bool],
+    size: usize,
+    parts: &mut [Part],
+)
+    requires ready { AreReady start records.now items.now outcomes.now limited.now }
+    requires size { size ≤ 2 ^ 31 }
+    requires some { 0 < length parts.old }
+    requires few { length parts.old ≤ 16 }
+    ensures parts { ArePartsUnless written size (cells start records.now items.now outcomes.now limited.now) parts.new }
+    ensures count { length parts.new ≡ length parts.old }
+{
+    let threads = parts.len();
+    thread::for_each_mut(
+        rt,
+        parts,
+        threads,
+        &|place, part: &mut Part|
+            requires { (place < 16) × ((size ≤ 2 ^ 31) × AreReady start records.now items.now outcomes.now limited.now) }
+            ensures { IsPartUnless written (chunk size place (cells start records.entry.now items.entry.now outcomes.entry.now limited.entry.now)) part.new }
+        {
+            render_part(
+                written, start, records, items, outcomes, limited, size, place, part,
+            )
+        },
+    );
+}
+
+// Renders the records of one part, which has `size` of them where so many are left.
+fn render_part(
+    written: Written,
+    start: u32,
+    records: &Records,
+    items: &Items<'_>,
+    outcomes: &Outcomes<'_>,
+    limited: &[bool],
+    size: usize,
+    place: usize,
+    part: &mut Part,
+)
+    requires ready { AreReady start records.now items.now outcomes.now limited.now }
+    requires size { size ≤ 2 ^ 31 }
+    requires place { place < 16 }
+    ensures { IsPartUnless written (chunk size place (cells start records.now items.now outcomes.now limited.now)) part.new }
+{
+    part.clear();
+    let from = (place * size).min(records.len());
+    let to = (from + size).min(records.len());
+    let done = render_records(
+        written, start, records, items, outcomes, limited, from, to, part,
+    );
+    part.failed = done.is_err();
+}
+
+// Renders the records from a place on and before another, behind nothing.
+fn render_records(
+    written: Written,
+    start: u32,
+    records: &Records,
+    items: &Items<'_>,
+    outcomes: &Outcomes<'_>,
+    limited: &[bool],
+    from: usize,
+    to: usize,
+    part: &mut Part,
+) -> Result<(), OutOfMemory>
+    requires ready { AreReady start records.now items.now outcomes.now limited.now }
+    requires order { from ≤ to }
+    requires inside { to ≤ length records.now }
+    requires empty { IsPart written [] part.old }
+    ensures { IfOk result (λ _. IsPart written (take (to - from) (drop from (cells start records.now items.now outcomes.now limited.now))) part.new) }
+{
+    let mut i = from;
+    'records: while i < to {
+        let record = records.get(i);
+        let item = items.item(i);
+        let outcome = *outcomes.get(i);
+        render_record(
+            written,
+            start + i as u32,
+            &record,
+            &item,
+            items.ended(i),
+            outcome,
+            limited[i],
+            part,
+        )?;
+        i += 1;
+    }
+    Ok(())
+}
+
+// Puts what one record writes behind what a part holds, and counts it.
+fn render_record(
+    written: Written,
+    number: u32,
+    rec: &RecordView<'_>,
+    item: &ItemView<'_>,
+    ended: &[u32],
+    outcome: Outcome,
+    limited: bool,
+    part: &mut Part,
+) -> Result<(), OutOfMemory>
+    requires fits { Fits (seen item.now) outcome.verdict }
+    requires room { HasRoom outcome.verdict }
+    requires within { IsWithin part.old.counted part.old.counted.records }
+    requires few { part.old.counted.records < 2 ^ 31 }
+    ensures more { IfOk result (λ _. IsMore written (shown number rec.now (seen item.now) ended.now outcome limited) part.old part.new) }
+    ensures within { IfOk result (λ _. IsWithin part.new.counted part.new.counted.records) }
+{
+    let count = push_sent(
+        &mut part.packets,
+        written,
+        number,
+        rec,
+        item,
+        outcome.verdict,
+        limited,
+    )?;
+    push_ended_lines(&mut part.lines, true, ended)?;
+    push_record_line(
+        &mut part.lines,
+        limited,
+        number,
+        outcome.version,
+        outcome.verdict,
+        count,
+    )?;
+    count_record(&mut part.counted, outcome.verdict, u64::from(count));
+    Ok(())
+}
+
+// Puts the packets of one record behind others: none where its error is kept back.
+fn push_sent(
+    packets: &mut Vec<u8>,
+    written: Written,
+    number: u32,
+    rec: &RecordView<'_>,
+    item: &ItemView<'_>,
+    verdict: Verdict,
+    limited: bool,
+) -> Result<u32, OutOfMemory>
+    requires fits { Fits (seen item.now) verdict }
+    requires room { HasRoom verdict }
+    ensures bytes { IfOk result (λ _. packets.new.items ≡ packets.old.items
+        ++ flat_map (packet_bytes written rec.now.seconds rec.now.fraction) (sent_unless limited (seen item.now) verdict number)) }
+    ensures count { IfOk result (λ count. count ≡ length (sent_unless limited (seen item.now) verdict number)) }
+    ensures few { IfOk result (λ count. count ≤ 128) }
+{
+    if limited {
+        return Ok(0);
+    }
+    push_packets(
+        packets,
+        written,
+        item,
+        &verdict,
+        number,
+        rec.seconds,
+        rec.fraction,
+    )
+}
