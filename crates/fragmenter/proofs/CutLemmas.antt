@@ -3,7 +3,7 @@ use Rattle.std.proofs.Common.{◌≡◌, ◌≢◌, ℕ, zero, suc, ◌+◌, ◌
 use Rattle.std.specs.Prelude.{if◌then◌else◌}
 use Rattle.std.specs.List.{concat}
 use Rattle.std.proofs.lemmas.List.{length-drop, length-append, length-take-le, take-append-drop, take_all, drop-drop}
-use Rattle.std.proofs.lemmas.Bool.{le-ltb, ltb-false, ltb-true, lt-ltb}
+use Rattle.std.proofs.lemmas.Bool.{ltb-false, ltb-true, lt-ltb}
 use Rattle.std.proofs.lemmas.Bool.Decides.{nat_tests}
 use Rattle.std.proofs.Math.Seq.{take-append_seam, drop-append_seam, drop-length}
 use Rattle.fragmenter.specs.Cutting.{Room, IsPart, AreParts, are_there, packets_of, AreCut, parts_within, pieces_of, part_len}
@@ -257,10 +257,3 @@ some-bytes room made before (x ∷ xs) some = omega arith
 -- one more list behind those that were appended
 pub appended : (out l old new b : List ℕ) → old ≡ out ++ l → new ≡ old ++ b → new ≡ out ++ (l ++ b)
 appended out l old new b first second = second ∙ ap (λ x. x ++ b) first ∙ append_assoc out l b
-
--- a header that is made elsewhere and then appended
-pub header-appended : (out fixed options empty first both sealed now : List ℕ) (seal : List ℕ → List ℕ) → empty ≡ [] → first ≡ empty ++ fixed →
-    both ≡ first ++ options → sealed ≡ seal both → now ≡ out ++ sealed → now ≡ out ++ seal (fixed ++ options)
-header-appended out fixed options empty first both sealed now seal a b c d e =
-    let first_is : first ≡ fixed = b ∙ ap (λ l. l ++ fixed) a in
-    e ∙ ap (λ l. out ++ l) (d ∙ ap seal (c ∙ ap (λ l. l ++ options) first_is))

@@ -1,12 +1,12 @@
 -- Lemmas on the pieces of packets: each packet has one list of them, and it is short.
-use Rattle.std.proofs.Common.{◌≡◌, ℕ, ◌+◌, ◌-◌, ◌*◌, ◌/◌, ◌%◌, ◌<◌, ◌≤◌, ◌==◌, Bool, true, false, List, [], ◌∷◌, ◌++◌, length, drop, nat_lt, Ok, refl, sym, ◌∙◌, ap, subst, arith, append_assoc}
+use Rattle.std.proofs.Common.{◌≡◌, ℕ, ◌+◌, ◌%◌, ◌<◌, ◌≤◌, ◌==◌, Bool, true, false, List, [], ◌∷◌, ◌++◌, length, drop, nat_lt, Ok, refl, ◌∙◌, ap, subst, arith, append_assoc}
 use Rattle.std.specs.Prelude.{if◌then◌else◌, ◌↔◌}
 use Rattle.std.proofs.lemmas.List.{length-drop, length-append}
 use Rattle.std.proofs.lemmas.Bool.{ltb-false, ltb-true, lt-ltb, le-ltb}
 use Rattle.ip_codec.specs.declared.packet4.Head4.{Head4}
 use Rattle.ip_codec.specs.Packet4.{Packet4, packet_len, ip4_of, header4}
 use Rattle.ip_codec.specs.Packet6.{Packet6, ip6_of}
-use Rattle.fragmenter.specs.Cutting.{AreCut, parts_within}
+use Rattle.fragmenter.specs.Cutting.{parts_within}
 use Rattle.fragmenter.specs.Pieces4.{room4, piece4, Pieces4, pieces4, fragments4, options_at, piece_head}
 use Rattle.fragmenter.specs.Pieces6.{room6, piece6, Pieces6, pieces6, fragments6}
 use Rattle.fragmenter.specs.Kept.{copied_of}
@@ -118,10 +118,10 @@ pub length-piece4 : (packet : Packet4) (before : ℕ) (more : Bool) (part : List
     length (piece4 packet before more part) ≡ 20 + length (options_at packet before) + length part
 length-piece4 packet before more part = omega (arith, length-append (options_at packet before) part)
 
--- a header that was made and then appended, and the part behind it
-pub piece4-written : (out header given part wanted first second : List ℕ) (packet : Packet4) (before : ℕ) (more : Bool) (head : Head4) →
-    header ≡ header4 head given (length part) → head ≡ piece_head packet before more → given ≡ options_at packet before → part ≡ wanted →
-    first ≡ out ++ header → second ≡ first ++ part → second ≡ out ++ piece4 packet before more wanted
-piece4-written out header given part wanted first second packet before more head header_is head_is given_is part_is a b =
-    b ∙ ap (λ l. l ++ part) (a ∙ ap (λ l. out ++ l) header_is) ∙ append_assoc out (header4 head given (length part)) part
+-- a header that was appended, and the part behind it
+pub piece4-written : (out given part wanted first second : List ℕ) (packet : Packet4) (before : ℕ) (more : Bool) (head : Head4) →
+    head ≡ piece_head packet before more → given ≡ options_at packet before → part ≡ wanted →
+    first ≡ out ++ header4 head given (length part) → second ≡ first ++ part → second ≡ out ++ piece4 packet before more wanted
+piece4-written out given part wanted first second packet before more head head_is given_is part_is a b =
+    b ∙ ap (λ l. l ++ part) a ∙ append_assoc out (header4 head given (length part)) part
     ∙ (λ i. out ++ (header4 (head_is i) (given_is i) (length (part_is i)) ++ part_is i))

@@ -1,5 +1,5 @@
 -- The options that all pieces of a packet carry (RFC 791, section 3.1, "Options").
-use Rattle.std.specs.Prelude.{ℕ, zero, suc, ◌+◌, ◌-◌, ◌%◌, ◌==◌, nat_lt, Bool, ◌||◌, if◌then◌else◌, List, [], ◌∷◌, ◌++◌, length, take, drop, slice_index}
+use Rattle.std.specs.Prelude.{ℕ, zero, suc, ◌-◌, ◌%◌, ◌==◌, nat_lt, Bool, ◌||◌, if◌then◌else◌, List, [], ◌∷◌, ◌++◌, length, take, drop, slice_index}
 
 -- how many bytes the first option has: No Operation (1) is one byte, and any other says it in its second byte
 abbrev pub option_len : List ℕ → ℕ

@@ -1,6 +1,6 @@
 -- Tunnel packets cut into fragments (RFC 8200, section 4.5).
 use Rattle.std.specs.Prelude.{◌≡◌, ℕ, ◌+◌, ◌-◌, ◌*◌, ◌/◌, ◌<◌, ◌≤◌, nat_lt, Bool, if◌then◌else◌, List, [], ◌∷◌, ◌++◌, length, drop}
-use Rattle.std.specs.Int.{w32, w128, to_be_bytes}
+use Rattle.std.specs.Int.{w32, to_be_bytes}
 use Rattle.aftr_base.specs.Numbers.{word_bytes}
 use Rattle.ip_codec.specs.declared.packet6.Head6.{Head6}
 use Rattle.ip_codec.specs.Packet4.{flag_worth}
@@ -26,13 +26,6 @@ fragment_head packet = record {
 abbrev pub fragment_bytes : ℕ → ℕ → Bool → ℕ → List ℕ
 fragment_bytes next before more id =
     next ∷ 0 ∷ [] ++ word_bytes (before / 8 * 8 + flag_worth more 1) ++ to_be_bytes w32 id
-
--- the parts of such a header: the first eight bytes, and the two addresses
-abbrev pub front6 : Packet6 → ℕ → List ℕ
-front6 packet payload_len = to_be_bytes w32 packet.word ++ word_bytes payload_len ++ 44 ∷ packet.hop ∷ []
-
-abbrev pub addresses6 : Packet6 → List ℕ
-addresses6 packet = to_be_bytes w128 packet.src ++ to_be_bytes w128 packet.dst
 
 -- the fragment that carries a part of the packet's body
 abbrev pub piece6 : Packet6 → ℕ → ℕ → Bool → List ℕ → List ℕ

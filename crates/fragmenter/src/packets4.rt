@@ -4,11 +4,10 @@ ghost use Rattle.ip_codec.specs.Packet4.{packet4, ip4_of, packet_len, is_fragmen
 ghost use Rattle.fragmenter.specs.Kept.{copied_of};
 ghost use Rattle.fragmenter.specs.Pieces4.{Pieces4, pieces4, fragments4, options_at, piece_head, room4};
 
-use crate::headers::make_head4;
 use crate::options::copied;
 use crate::single::only;
 use aftr_base::{Bytes, OutOfMemory, Packets};
-use ip_codec::{Head4, Ip4View, ip4};
+use ip_codec::{Head4, Ip4View, ip4, push_head4};
 use std::alloc::Global;
 
 /// The most pieces that `cut4` and `Cuts4` give: a payload of 65,515 bytes or less on a link that takes 576, behind headers of
@@ -24,8 +23,6 @@ pub struct Cuts4<'a> {
     packet: Ip4View<'a>,
     // The options of every piece but the first.
     copied: Vec<u8>,
-    // Where the header of a piece is made.
-    header: Vec<u8>,
     mtu: u16,
     // How many bytes of the payload the pieces that were written carry.
     before: usize,
@@ -56,7 +53,6 @@ impl<'a> Cuts4<'a> {
         Ok(Cuts4 {
             packet: *packet,
             copied: copied(alloc, &packet.header[HEADER..])?,
-            header: Vec::new(alloc),
             mtu,
             before: 0,
         })
@@ -89,8 +85,7 @@ impl<'a> Cuts4<'a> {
         let part = &self.packet.payload[self.before..end];
         let head = head_of(&self.packet, self.before, more);
         let options = options_of(&self.packet.header[HEADER..], &self.copied, self.before);
-        make_head4(&mut self.header, &head, options, part.len())?;
-        out.extend_from_slice(&self.header)?;
+        push_head4(out, &head, options, part.len())?;
         out.extend_from_slice(part)?;
         self.before = end;
         Ok(())

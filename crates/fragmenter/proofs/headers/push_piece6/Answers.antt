@@ -1,7 +1,7 @@
--- Four appends, one behind the other, are the append of the fragment.
-use Rattle.std.proofs.Common.{◌≡◌, ◌+◌, ◌++◌, length, ◌∙◌, ap, arith}
-use Rattle.ip_codec.specs.Packet6.{packet6}
-use Rattle.fragmenter.specs.Pieces6.{front6, addresses6, fragment_bytes}
+-- Three appends, one behind the other, are the append of the fragment.
+use Rattle.std.proofs.Common.{◌≡◌, ◌+◌, ◌++◌, length, ◌∙◌, arith}
+use Rattle.ip_codec.specs.Packet6.{header6, packet6}
+use Rattle.fragmenter.specs.Pieces6.{fragment_bytes, fragment_head}
 use Rattle.fragmenter.proofs.CutLemmas.{appended}
 use Rattle.fragmenter.proofs.headers.push_piece6.Goals as goal
 
@@ -11,11 +11,8 @@ returns c =
     let out = c.args.out.now.items in
     let part = c.args.part.now in
     let fragment = fragment_bytes packet.next c.args.before c.args.more c.args.id in
+    let head_is = c.fragment_head-head.ensures in
     let len_is : 8 + length part ≡ length (fragment ++ part) = omega arith in
-    let front = front6 packet (length (fragment ++ part)) in
-    let addresses = addresses6 packet in
-    appended out (front ++ addresses ++ fragment) _ _ part
-    (appended out (front ++ addresses) _ _ fragment
-    (appended out front _ _ addresses (c.in_ok-push_front6.ensures ∙ ap (λ n. out ++ front6 packet n) len_is) c.in_ok-push_addresses.ensures)
-    c.in_ok-push_fragment_header.ensures)
-    c.in_ok-extend_from_slice.ensures.items
+    appended out (header6 (fragment_head packet) (length (fragment ++ part))) _ _ (fragment ++ part)
+    (c.in_ok-push_head6.ensures ∙ (λ i. out ++ header6 (head_is i) (len_is i)))
+    (appended c.push_head6.new.out.items fragment _ _ part c.in_ok-push_fragment_header.ensures c.in_ok-extend_from_slice.ensures.items)

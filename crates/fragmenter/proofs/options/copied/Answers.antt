@@ -1,5 +1,5 @@
 -- What was kept, and what is still to be kept.
-use Rattle.std.proofs.Common.{◌≡◌, ◌+◌, ◌-◌, ◌≤◌, ◌++◌, length, take, drop, false, refl, sym, ◌∙◌, ap, arith}
+use Rattle.std.proofs.Common.{◌≡◌, ◌+◌, ◌-◌, ◌≤◌, length, take, drop, sym, ◌∙◌, ap, arith}
 use Rattle.std.proofs.lemmas.List.{take_rest, length-drop, length-take-le}
 use Rattle.fragmenter.specs.Kept.{ends, option_len}
 use Rattle.fragmenter.proofs.KeptLemmas.{kept-on, kept-no-more}

@@ -1,5 +1,5 @@
 -- The first of the pieces that were left is written.
-use Rattle.std.proofs.Common.{◌≡◌, ◌+◌, ◌-◌, ◌<◌, ◌==◌, ◌++◌, length, take, drop, nat_lt, refl, ◌∙◌, ap, arith}
+use Rattle.std.proofs.Common.{◌≡◌, ◌+◌, ◌-◌, ◌<◌, ◌==◌, length, take, drop, nat_lt, refl, ◌∙◌, ap, arith}
 use Rattle.std.proofs.lemmas.List.{length-drop, take_rest}
 use Rattle.ip_codec.specs.Packet4.{packet4}
 use Rattle.fragmenter.specs.Pieces4.{piece4, room4}
@@ -25,8 +25,7 @@ returns-clause-written c =
     record {
       first = piece4 packet before more (take len (drop before body));
       is = first-piece (room4 packet cuts.mtu) (rooms4 packet cuts.mtu cuts.least_mtu cuts.most_header cuts.header_words) (piece4 packet) body before len more inside c.part_len.ensures.part refl;
-      written = piece4-written out c.make_head4.new.header.items c.options_of-options.result.now (take (before + len - before) (drop before body))
-          (take len (drop before body)) c.extend_from_slice.new.self.items c.extend_from_slice-2.new.self.items packet before more c.head_of-head.result
-          c.in_ok-make_head4.ensures c.head_of-head.ensures options_is part
-          (c.in_ok-extend_from_slice.ensures.items ∙ ap (λ l. out ++ l) c.deref-2.ensures.value) c.in_ok-extend_from_slice-2.ensures.items;
+      written = piece4-written out c.options_of-options.result.now (take (before + len - before) (drop before body))
+          (take len (drop before body)) c.push_head4.new.out.items c.extend_from_slice.new.self.items packet before more c.head_of-head.result
+          c.head_of-head.ensures options_is part c.in_ok-push_head4.ensures c.in_ok-extend_from_slice.ensures.items;
     }

@@ -1,5 +1,5 @@
 -- The first of the fragments that are left.
-use Rattle.std.proofs.Common.{◌+◌, ◌<◌, length, take, drop, nat_lt, refl, ◌∙◌, arith}
+use Rattle.std.proofs.Common.{◌+◌, ◌<◌, length, take, drop, nat_lt, refl, arith}
 use Rattle.std.proofs.lemmas.List.{length-take-le, length-drop}
 use Rattle.ip_codec.specs.Packet6.{packet6}
 use Rattle.fragmenter.specs.Pieces6.{piece6, room6, fragments6}
