@@ -1,5 +1,5 @@
 -- Lemmas on the pieces of packets: each packet has one list of them, and it is short.
-use Rattle.std.proofs.Common.{◌≡◌, ℕ, ◌+◌, ◌%◌, ◌<◌, ◌≤◌, ◌==◌, Bool, true, false, List, [], ◌∷◌, ◌++◌, length, drop, nat_lt, Ok, refl, ◌∙◌, ap, subst, arith, append_assoc}
+use Rattle.std.proofs.Common.{◌≡◌, ℕ, ◌+◌, ◌%◌, ◌<◌, ◌≤◌, ◌==◌, Bool, true, false, List, [], ◌∷◌, ◌++◌, length, drop, nat_lt, Ok, refl, ◌∙◌, ap, subst, arith, append_assoc, append-nil}
 use Rattle.std.specs.Prelude.{if◌then◌else◌, ◌↔◌}
 use Rattle.std.proofs.lemmas.List.{length-drop, length-append}
 use Rattle.std.proofs.lemmas.Bool.{ltb-false, ltb-true, lt-ltb, le-ltb}
@@ -8,7 +8,7 @@ use Rattle.ip_codec.specs.Packet4.{Packet4, packet_len, ip4_of, header4}
 use Rattle.ip_codec.specs.Packet6.{Packet6, ip6_of}
 use Rattle.fragmenter.specs.Cutting.{parts_within}
 use Rattle.fragmenter.specs.Pieces4.{room4, piece4, Pieces4, pieces4, fragments4, options_at, piece_head}
-use Rattle.fragmenter.specs.Pieces6.{room6, piece6, Pieces6, pieces6, fragments6}
+use Rattle.fragmenter.specs.Pieces6.{room6, piece6, Pieces6, pieces6, fragments6, with_rest}
 use Rattle.fragmenter.specs.Kept.{copied_of}
 use Rattle.fragmenter.proofs.KeptLemmas.{padded}
 use Rattle.fragmenter.proofs.CutLemmas.{AreRooms, one-cut, is-cut, few-parts, length-packets}
@@ -109,11 +109,6 @@ cut-read4 bytes view p mtu list rooms read also long is =
       cut = λ h. is-cut (room4 view mtu) rooms (piece4 view) view.payload list is;
     })
 
--- the options that a piece is given are its own
-pub options-are : (test : Bool) (given all copied options : List ℕ) → given ≡ (if test then all else copied) → all ≡ options →
-    copied ≡ copied_of options → given ≡ (if test then options else copied_of options)
-options-are test given all copied options is a b = is ∙ (λ i. if test then a i else b i)
-
 pub length-piece4 : (packet : Packet4) (before : ℕ) (more : Bool) (part : List ℕ) →
     length (piece4 packet before more part) ≡ 20 + length (options_at packet before) + length part
 length-piece4 packet before more part = omega (arith, length-append (options_at packet before) part)
@@ -125,3 +120,7 @@ pub piece4-written : (out given part wanted first second : List ℕ) (packet : P
 piece4-written out given part wanted first second packet before more head head_is given_is part_is a b =
     b ∙ ap (λ l. l ++ part) a ∙ append_assoc out (header4 head given (length part)) part
     ∙ (λ i. out ++ (header4 (head_is i) (given_is i) (length (part_is i)) ++ part_is i))
+
+-- nothing stands behind the body
+pub fragments-alone : (packet : Packet6) (mtu id : ℕ) → fragments6 (with_rest packet []) mtu id 0 ≡ fragments6 packet mtu id 0
+fragments-alone packet mtu id = ap (λ (body : List ℕ). fragments6 (record packet { body = body }) mtu id 0) (append-nil packet.body)

@@ -31,6 +31,10 @@ fragment_bytes next before more id =
 abbrev pub piece6 : Packet6 → ℕ → ℕ → Bool → List ℕ → List ℕ
 piece6 packet id before more part = bytes6 (fragment_head packet) (fragment_bytes packet.next before more id ++ part)
 
+-- a packet with more bytes behind its body
+abbrev pub with_rest : Packet6 → List ℕ → Packet6
+with_rest packet rest = record packet { body = packet.body ++ rest }
+
 -- what a packet becomes on a link: itself where it fits, and else fragments that carry its body
 pub record Pieces6 (bytes : List ℕ) (packet : Packet6) (mtu id : ℕ) (list : List (List ℕ)) : Type 0 where
   pub fits : length bytes ≤ mtu → list ≡ bytes ∷ []

@@ -1,5 +1,5 @@
 // The headers of fragments, appended to what is written.
-ghost use Rattle.std.specs.Prelude.{◌≡◌, ◌≤◌, ◌++◌, length, IfOk};
+ghost use Rattle.std.specs.Prelude.{◌≡◌, ◌+◌, ◌≤◌, ◌++◌, length, IfOk};
 ghost use Rattle.ip_codec.specs.Packet4.{flag_worth};
 ghost use Rattle.ip_codec.specs.Packet6.{packet6};
 ghost use Rattle.fragmenter.specs.Pieces6.{piece6, fragment_bytes, fragment_head};
@@ -12,23 +12,34 @@ const FRAGMENT: u8 = 44;
 
 const FRAGMENT_LEN: usize = 8;
 
-// Appends the fragment that carries a part of a tunnel packet's body.
+// Appends the fragment that carries a part of a tunnel packet's body. The part comes in two, one behind the other.
 pub(crate) fn push_piece6(
     out: &mut Vec<u8>,
     packet: &Ip6View<'_>,
     id: u32,
     before: usize,
     more: bool,
-    part: &[u8],
+    first: &[u8],
+    second: &[u8],
 ) -> Result<(), OutOfMemory>
     requires place { before ≤ 65535 }
-    requires most { length part.now ≤ 65527 }
-    ensures { IfOk result (λ _. out.new.items ≡ out.old.items ++ piece6 (packet6 packet.now) id before more part.now) }
+    requires most { length first.now + length second.now ≤ 65527 }
+    ensures { IfOk result (λ _. out.new.items ≡ out.old.items ++ piece6 (packet6 packet.now) id before more (first.now ++ second.now)) }
 {
     let head = fragment_head(packet);
-    push_head6(out, &head, (FRAGMENT_LEN + part.len()) as u16)?;
+    let len = first.len() + second.len();
+    push_head6(out, &head, (FRAGMENT_LEN + len) as u16)?;
     push_fragment_header(out, packet.next, before, more, id)?;
-    out.extend_from_slice(part)?;
+    push_part(out, first, second)?;
+    Ok(())
+}
+
+// Appends two lists.
+fn push_part(out: &mut Vec<u8>, first: &[u8], second: &[u8]) -> Result<(), OutOfMemory>
+    ensures { IfOk result (λ _. out.new.items ≡ out.old.items ++ (first.now ++ second.now)) }
+{
+    out.extend_from_slice(first)?;
+    out.extend_from_slice(second)?;
     Ok(())
 }
 

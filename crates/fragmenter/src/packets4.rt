@@ -4,7 +4,7 @@ ghost use Rattle.ip_codec.specs.Packet4.{packet4, ip4_of, packet_len, is_fragmen
 ghost use Rattle.fragmenter.specs.Kept.{copied_of};
 ghost use Rattle.fragmenter.specs.Pieces4.{Pieces4, pieces4, fragments4, options_at, piece_head, room4};
 
-use crate::options::copied;
+use crate::options::{Options, copied};
 use crate::single::only;
 use aftr_base::{Bytes, OutOfMemory, Packets};
 use ip_codec::{Head4, Ip4View, ip4, push_head4};
@@ -22,13 +22,13 @@ const HEADER: usize = 20;
 pub struct Cuts4<'a> {
     packet: Ip4View<'a>,
     // The options of every piece but the first.
-    copied: Vec<u8>,
+    copied: Options,
     mtu: u16,
     // How many bytes of the payload the pieces that were written carry.
     before: usize,
-    ghost options: { copied.items ≡ copied_of (drop 20 packet.header.now) },
-    ghost whole_words: { length copied.items % 4 ≡ 0 },
-    ghost no_more: { length copied.items ≤ 40 },
+    ghost options: { copied ≡ copied_of (drop 20 packet.header.now) },
+    ghost whole_words: { length copied % 4 ≡ 0 },
+    ghost no_more: { length copied ≤ 40 },
     ghost least_mtu: { 576 ≤ mtu },
     ghost header_words: { length packet.header.now % 4 ≡ 0 },
     ghost least_header: { 20 ≤ length packet.header.now },
@@ -43,19 +43,19 @@ impl<'a> Cuts4<'a> {
 
     /// The pieces of a packet that does not fit a link, for links that take 576 bytes or more. `packet` is one that `ip4`
     /// reads, and no fragment; of its header nothing but the options is taken from the bytes, so its time to live may be
-    /// lowered in the field alone. Takes memory for the options of later pieces.
-    pub fn of(alloc: Global, packet: &Ip4View<'a>, mtu: u16) -> Result<Self, OutOfMemory>
+    /// lowered in the field alone. Takes no memory.
+    pub fn of(packet: &Ip4View<'a>, mtu: u16) -> Self
         requires bounded { IsBounded4 (packet4 packet.now) }
         requires least_mtu { 576 ≤ mtu }
-        ensures left { IfOk result (λ cuts. left4 cuts ≡ fragments4 (packet4 packet.now) mtu 0) }
-        ensures few { IfOk result (λ cuts. length (left4 cuts) ≤ MOST_PIECES4) }
+        ensures left { left4 result ≡ fragments4 (packet4 packet.now) mtu 0 }
+        ensures few { length (left4 result) ≤ MOST_PIECES4 }
     {
-        Ok(Cuts4 {
+        Cuts4 {
             packet: *packet,
-            copied: copied(alloc, &packet.header[HEADER..])?,
+            copied: copied(&packet.header[HEADER..]),
             mtu,
             before: 0,
-        })
+        }
     }
 
     /// How many bytes the next piece has; none where all are written.
@@ -66,11 +66,7 @@ impl<'a> Cuts4<'a> {
         if self.before == self.packet.payload.len() {
             None
         } else {
-            Some(
-                HEADER
-                    + options_of(&self.packet.header[HEADER..], &self.copied, self.before).len()
-                    + self.part_len(),
-            )
+            Some(HEADER + self.options().len() + self.part_len())
         }
     }
 
@@ -84,11 +80,23 @@ impl<'a> Cuts4<'a> {
         let more = end < self.packet.payload.len();
         let part = &self.packet.payload[self.before..end];
         let head = head_of(&self.packet, self.before, more);
-        let options = options_of(&self.packet.header[HEADER..], &self.copied, self.before);
+        let options = self.options();
         push_head4(out, &head, options, part.len())?;
         out.extend_from_slice(part)?;
         self.before = end;
         Ok(())
+    }
+
+    // The options of the next piece.
+    fn options(&self) -> &[u8]
+        ensures are { result.now ≡ options_at (packet4 self.now.packet) self.now.before }
+        ensures few { length result.now ≤ 40 }
+    {
+        if self.before == 0 {
+            &self.packet.header[HEADER..]
+        } else {
+            self.copied.as_slice()
+        }
     }
 
     // How many bytes of the payload the next piece carries.
@@ -98,18 +106,10 @@ impl<'a> Cuts4<'a> {
         ensures within { self.now.before + result ≤ length self.now.packet.payload.now }
         ensures small { result + 20 + length (options_at (packet4 self.now.packet) self.now.before) ≤ 65535 }
     {
-        let room = usize::from(self.mtu)
-            - (HEADER + options_of(&self.packet.header[HEADER..], &self.copied, self.before).len());
+        let room = usize::from(self.mtu) - (HEADER + self.options().len());
         let left = self.packet.payload.len() - self.before;
         if room < left { room / 8 * 8 } else { left }
     }
-}
-
-// The options of the piece at a place of the payload.
-fn options_of<'o>(all: &'o [u8], copied: &'o [u8], before: usize) -> &'o [u8]
-    ensures { result.now ≡ (if before == 0 then all.now else copied.now) }
-{
-    if before == 0 { all } else { copied }
 }
 
 // The fields of a piece.
@@ -161,7 +161,7 @@ fn cut_view(alloc: Global, packet: &Ip4View<'_>, mtu: u16) -> Result<Packets, Ou
     ensures { IfOk result (λ list. list ≡ fragments4 (packet4 packet.now) mtu 0) }
 {
     let mut list = Vec::new(alloc);
-    let mut cuts = Cuts4::of(alloc, packet, mtu)?;
+    let mut cuts = Cuts4::of(packet, mtu);
     'pieces: while let Some(len) = cuts.next_len() {
         let mut piece = Vec::with_capacity(alloc, len)?;
         cuts.push_next(&mut piece)?;

@@ -1,5 +1,6 @@
 -- Three appends, one behind the other, are the append of the fragment.
 use Rattle.std.proofs.Common.{◌≡◌, ◌+◌, ◌++◌, length, ◌∙◌, arith}
+use Rattle.std.proofs.lemmas.List.{length-append}
 use Rattle.ip_codec.specs.Packet6.{header6, packet6}
 use Rattle.fragmenter.specs.Pieces6.{fragment_bytes, fragment_head}
 use Rattle.fragmenter.proofs.CutLemmas.{appended}
@@ -9,10 +10,11 @@ pub returns : goal.returns
 returns c =
     let packet = packet6 c.args.packet.now in
     let out = c.args.out.now.items in
-    let part = c.args.part.now in
+    let part = c.args.first.now ++ c.args.second.now in
     let fragment = fragment_bytes packet.next c.args.before c.args.more c.args.id in
     let head_is = c.fragment_head-head.ensures in
-    let len_is : 8 + length part ≡ length (fragment ++ part) = omega arith in
+    let len_is : 8 + (length c.args.first.now + length c.args.second.now) ≡ length (fragment ++ part) =
+    omega (arith, length-append c.args.first.now c.args.second.now) in
     appended out (header6 (fragment_head packet) (length (fragment ++ part))) _ _ (fragment ++ part)
     (c.in_ok-push_head6.ensures ∙ (λ i. out ++ header6 (head_is i) (len_is i)))
-    (appended c.push_head6.new.out.items fragment _ _ part c.in_ok-push_fragment_header.ensures c.in_ok-extend_from_slice.ensures.items)
+    (appended c.push_head6.new.out.items fragment _ _ part c.in_ok-push_fragment_header.ensures c.in_ok-push_part.ensures)

@@ -5,9 +5,9 @@ use Rattle.fragmenter.proofs.options.copied.Given as goal
 
 abbrev pub invariant-options : goal.invariant-options
 invariant-options l = record {
-  kept : l.list.items ++ kept (drop l.at l.options) ≡ kept l.options;
+  kept : l.list ++ kept (drop l.at l.options) ≡ kept l.options;
   inside : l.at ≤ length l.options;
-  no_more : length l.list.items ≤ l.at;
+  no_more : length l.list ≤ l.at;
 }
 
 abbrev pub decreases-options : goal.decreases-options
