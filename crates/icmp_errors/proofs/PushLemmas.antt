@@ -1,6 +1,9 @@
 -- Lemmas on packets that are appended in parts.
-use Rattle.std.proofs.Common.{◌≡◌, ℕ, zero, suc, ◌+◌, ◌-◌, List, [], ◌∷◌, ◌++◌, length, take, if◌then◌else◌, is_ok, IsOk, IfOk, Result, Ok, Err, refl, sym, ◌∙◌, ap, arith, append_assoc}
-use Rattle.std.proofs.Math.Seq.{take-append-add}
+use Rattle.std.proofs.Common.{◌≡◌, ℕ, zero, suc, ◌+◌, ◌-◌, ◌≤◌, List, [], ◌∷◌, ◌++◌, length, take, if◌then◌else◌, is_ok, IsOk, IfOk, Result, Ok, Err, refl, sym, ◌∙◌, ap, arith, append_assoc}
+use Rattle.std.proofs.lemmas.List.{length-append, take_all}
+use Rattle.std.proofs.Math.Seq.{take-append-add, take-append_seam}
+use borrow.Rule.Slice.PartMut.{put_mid}
+use Rattle.aftr_base.proofs.PieceLemmas.{front_over}
 use Rattle.aftr_base.specs.declared.numbers.V4.{V4}
 use Rattle.aftr_base.specs.declared.numbers.V6.{V6}
 use Rattle.icmp_codec.specs.Message4.{icmp4_bytes}
@@ -57,6 +60,17 @@ tunnel_front head body more more_is =
     ∙ ap (λ n. take (n + 1192) (header ++ body)) (header6-length head (length body))
     ∙ ap (λ l. take 1232 l) (header6-bytes6 head body)
 
+-- the same of a body in two parts, of which the first is quoted whole
+pub tunnel_fronts : (head : Head6) (first second more tunnel quote : List ℕ) → length first ≤ 1192 →
+    tunnel ≡ header6_bytes head (length first + length second) → quote ≡ tunnel ++ first → more ≡ take (1192 - length first) second →
+    quote ++ more ≡ take 1232 (bytes6 head (first ++ second))
+tunnel_fronts head first second more tunnel quote short tunnel_is quote_is more_is =
+    ap (λ l. l ++ more) quote_is
+    ∙ append_assoc tunnel first more
+    ∙ ap (λ l. l ++ (first ++ more)) (tunnel_is ∙ ap (λ n. header6_bytes head n) (sym (length-append first second)))
+    ∙ tunnel_front head (first ++ second) (first ++ more)
+    (front_of_both 1192 first second first more (sym (take_all 1192 first short)) more_is)
+
 pub policy6-parts : (from to : V6) (hop n : ℕ) (outer : Outer) (inner quote : List ℕ) → n ≡ 8 + length quote →
     quote ≡ take 1232 (bytes6 (quoted_head outer) inner) →
     header6_bytes (policy_head from to hop) n ++ icmp6_bytes from.0 to.0 1 5 0 quote ≡ policy6 from to hop outer inner
@@ -74,3 +88,17 @@ on_success (Err e) holds = tt
 pub then_on_success : {A E P Q : Type 0} (r : Result A E) → (P → Q) → IfOk r (λ _. P) → IfOk r (λ _. Q)
 then_on_success (Ok x) follows holds = follows holds
 then_on_success (Err e) follows holds = tt
+
+-- what a call appended where it succeeded
+pub appended_ok : {A E : Type 0} (r : Result A E) (x : A) (new old more : List ℕ) → r ≡ Ok x →
+    new ≡ (if is_ok r then old ++ more else old) → new ≡ old ++ more
+appended_ok (Ok y) x new old more is new_is = new_is
+appended_ok (Err e) x new old more is new_is = absurd cc
+
+-- a list in front of an array, and another one put behind it
+pub put_behind : (n m k : ℕ) (first rest part front behind : List ℕ) → length first ≡ n → length part ≡ m → first ≡ front → part ≡ behind →
+    take (n + m) (put_mid n k (first ++ rest) part) ≡ front ++ behind
+put_behind n m k first rest part front behind first_len part_len first_is part_is =
+    front_over n k m (first ++ rest) part (omega (arith, length-append first rest, first_len)) (omega (arith, part_len))
+    ∙ (λ i. take (sym first_len i) (first ++ rest) ++ take (sym part_len i) part)
+    ∙ ((λ i. take-append_seam first rest i ++ take_all (length part) part (omega arith) i) ∙ (λ i. first_is i ++ part_is i))

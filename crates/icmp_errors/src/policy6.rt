@@ -1,5 +1,5 @@
 // The ICMPv6 error to a subscriber whose packets no binding covers.
-ghost use Rattle.std.specs.Prelude.{◌≡◌, ◌+◌, ◌^◌, ◌<◌, ◌≤◌, ◌++◌, min, length, if◌then◌else◌, is_ok, IfOk};
+ghost use Rattle.std.specs.Prelude.{◌≡◌, ◌+◌, ◌^◌, ◌<◌, ◌≤◌, ◌++◌, min, take, length, if◌then◌else◌, is_ok, IfOk};
 ghost use Rattle.icmp_errors.specs.Policy6.{TellsPolicy, header6_bytes, most_quoted6, policy6, quoted_head};
 
 use crate::fronts::front;
@@ -48,23 +48,27 @@ pub fn source_policy6(
     ensures told { IfOk result (λ packet. TellsPolicy from to hop outer.now inner.now packet) }
 {
     let mut list = Vec::new(alloc);
-    push_source_policy6(&mut list, from, to, hop, outer, inner)?;
+    push_source_policy6(&mut list, from, to, hop, outer, &[], inner)?;
     Ok(Bytes::of(list))
 }
 
-/// Appends what `source_policy6` writes. Where there is no memory, the list stays as it was.
+/// Appends what `source_policy6` writes, of an inner packet whose header and payload stand one behind the other. Where there
+/// is no memory, the list stays as it was.
 pub fn push_source_policy6(
     list: &mut Vec<u8>,
     from: V6,
     to: V6,
     hop: u8,
     outer: &Outer,
-    inner: &[u8],
+    header: &[u8],
+    payload: &[u8],
 ) -> Result<(), OutOfMemory>
-    requires { length inner.now ≤ 65535 }
-    ensures bytes { list.new.items ≡ (if is_ok result then list.old.items ++ policy6 from to hop outer.now inner.now else list.old.items) }
-    ensures size { length (policy6 from to hop outer.now inner.now) ≡ 48 + min most_quoted6 (40 + length inner.now) }
-    ensures told { IfOk result (λ _. TellsPolicy from to hop outer.now inner.now (policy6 from to hop outer.now inner.now)) }
+    requires header { length header.now ≤ 60 }
+    requires most { length header.now + length payload.now ≤ 65535 }
+    ensures bytes { list.new.items ≡ (if is_ok result then list.old.items ++ policy6 from to hop outer.now (header.now ++ payload.now) else list.old.items) }
+    ensures size { length (policy6 from to hop outer.now (header.now ++ payload.now)) ≡ 48 + min most_quoted6 (40 + (length header.now + length payload.now)) }
+    ensures told { IfOk result (λ _.
+        TellsPolicy from to hop outer.now (header.now ++ payload.now) (policy6 from to hop outer.now (header.now ++ payload.now))) }
 {
     let head = Head6 {
         word: FIRST_WORD,
@@ -73,12 +77,25 @@ pub fn push_source_policy6(
         src: from,
         dst: to,
     };
-    let tunnel = tunnel_header(outer, inner.len() as u16);
-    let more = front(inner, MOST_INNER);
-    let message_len = MESSAGE_HEAD_LEN + HEADER_LEN + more.len();
+    let tunnel = tunnel_header(outer, (header.len() + payload.len()) as u16);
+    let headers = joined(&tunnel, header);
+    let quote = front(&headers, HEADER_LEN + header.len());
+    let more = front(payload, MOST_INNER - header.len());
+    let message_len = MESSAGE_HEAD_LEN + HEADER_LEN + header.len() + more.len();
     list.reserve(HEADER_LEN + message_len)?;
     list.extend_from_slice(&header6(head, message_len as u16))?;
-    push_icmp6(list, from, to, SOURCE_POLICY, &tunnel, more)
+    push_icmp6(list, from, to, SOURCE_POLICY, quote, more)
+}
+
+// The header of a tunnel, and the inner packet's header behind it.
+fn joined(tunnel: &[u8; 40], header: &[u8]) -> [u8; 100]
+    requires { length header.now ≤ 60 }
+    ensures { take (40 + length header.now) result ≡ tunnel.now ++ header.now }
+{
+    let mut bytes = [0; 100];
+    bytes[..HEADER_LEN].copy_from_slice(tunnel);
+    bytes[HEADER_LEN..HEADER_LEN + header.len()].copy_from_slice(header);
+    bytes
 }
 
 // The header of the tunnel packet that came, with IPv4 behind it and this payload length.
