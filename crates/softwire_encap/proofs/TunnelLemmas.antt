@@ -1,7 +1,12 @@
 -- Lemmas on the tunnel's header and the packet behind it.
-use Rattle.std.proofs.Common.{◌≡◌, ℕ, List, ◌++◌, length, refl, sym, ◌∙◌, ap, append_assoc}
+use Rattle.std.proofs.Common.{◌≡◌, ℕ, ◌+◌, ◌≤◌, List, [], ◌∷◌, ◌++◌, length, take, refl, sym, ◌∙◌, ap, append_assoc, arith}
+use Rattle.std.proofs.Math.Seq.{take-append_seam}
+use Rattle.std.proofs.lemmas.List.{length-append, take_all}
+use borrow.Rule.Slice.PartMut.{put_mid}
+use Rattle.aftr_base.proofs.PieceLemmas.{front_over}
 use Rattle.aftr_base.specs.declared.numbers.V6.{V6}
-use Rattle.softwire_encap.specs.Tunnel.{tos_of, tunnel_front, wrapped}
+use Rattle.ip_codec.specs.Packet6.{Packet6}
+use Rattle.softwire_encap.specs.Tunnel.{tos_of, tunnel_front, tunnelled, with_body, wrapped}
 
 pub front_of_wrapped : (from to : V6) (hop : ℕ) (inner : List ℕ) →
     tunnel_front from to hop (tos_of inner) (length inner) ++ inner ≡ wrapped from to hop inner
@@ -16,3 +21,18 @@ wrapped-pushed from to hop tos len out out1 out2 inner tos_is len_is is1 is2 =
     ∙ ap (λ n. out ++ tunnel_front from to hop (tos_of inner) n) (sym len_is))
     ∙ append_assoc out (tunnel_front from to hop (tos_of inner) (length inner)) inner
     ∙ ap (λ l. out ++ l) (front_of_wrapped from to hop inner)
+
+-- what stands behind the inner bytes makes the body longer, and changes nothing else
+pub longer_body : (from to : V6) (hop : ℕ) (inner rest : List ℕ) → 2 ≤ length inner →
+    with_body (tunnelled from to hop inner) (inner ++ rest) ≡ tunnelled from to hop (inner ++ rest)
+longer_body from to hop [] rest some = absurd (omega arith)
+longer_body from to hop (a ∷ []) rest some = absurd (omega arith)
+longer_body from to hop (a ∷ b ∷ inner) rest some = refl
+
+-- a list in front of an array, and another one put behind it
+pub put_behind : (n m k : ℕ) (first rest part front behind : List ℕ) → length first ≡ n → length part ≡ m → first ≡ front → part ≡ behind →
+    take (n + m) (put_mid n k (first ++ rest) part) ≡ front ++ behind
+put_behind n m k first rest part front behind first_len part_len first_is part_is =
+    front_over n k m (first ++ rest) part (omega (arith, length-append first rest, first_len)) (omega (arith, part_len))
+    ∙ (λ i. take (sym first_len i) (first ++ rest) ++ take (sym part_len i) part)
+    ∙ ((λ i. take-append_seam first rest i ++ take_all (length part) part (omega arith) i) ∙ (λ i. first_is i ++ part_is i))

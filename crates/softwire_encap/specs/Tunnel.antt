@@ -43,3 +43,7 @@ tunnel_front from to hop tos len =
 -- what the tunnel packet is read as
 abbrev pub tunnelled : V6 → V6 → ℕ → List ℕ → Packet6
 tunnelled from to hop inner = made6 (tunnel_head from to hop inner) inner
+
+-- a packet with another body
+abbrev pub with_body : Packet6 → List ℕ → Packet6
+with_body packet body = record packet { body = body }

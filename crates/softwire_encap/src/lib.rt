@@ -5,5 +5,5 @@
 mod passing;
 mod tunnel;
 
-pub use passing::{lower, push_lowered};
+pub use passing::{lower, lowered_header, push_lowered};
 pub use tunnel::{encap, push_tunnel_head, push_tunnelled, tunnel_view};

@@ -1,5 +1,5 @@
 // Packets that are passed on.
-ghost use Rattle.std.specs.Prelude.{◌≡◌, ◌≤◌, ◌++◌, drop, length, IfOk, Ok};
+ghost use Rattle.std.specs.Prelude.{◌≡◌, ◌+◌, ◌≤◌, ◌++◌, drop, length, take, IfOk, Ok};
 ghost use Rattle.ip_codec.specs.Packet4.{ip4_of, packet4, packet_len};
 ghost use Rattle.softwire_encap.specs.Passing.{lowered, lowered_header, passed};
 
@@ -11,6 +11,9 @@ use std::alloc::Global;
 const CHECKSUM: usize = 10;
 
 const ADDRESSES: usize = 12;
+
+// The most bytes of a header (RFC 791, section 3.1).
+const MOST_HEADER: usize = 60;
 
 /// The packet as a router passes it on, in memory of its own final size: the time to live is one less, and the header's
 /// checksum is the one that belongs to it (RFC 791, section 3.2; RFC 1812, section 5.3.1). `p` is a packet as `ip4` reads
@@ -39,6 +42,30 @@ pub fn push_lowered(out: &mut Vec<u8>, p: &Ip4View<'_>) -> Result<(), OutOfMemor
     out.extend_from_slice(&p.header[ADDRESSES..])?;
     out.extend_from_slice(p.payload)?;
     Ok(())
+}
+
+/// The header of the packet that `lower` makes, in front of 60 bytes; it has as many as that of `p`. So a packet that is not put
+/// together can be cut.
+pub fn lowered_header(p: &Ip4View<'_>) -> [u8; 60]
+    requires whole { ip4_of (p.now.header.now ++ p.now.payload.now) ≡ Ok (packet4 p.now) }
+    requires alive { 1 ≤ p.now.ttl }
+    requires least { 20 ≤ length p.now.header.now }
+    requires most { length p.now.header.now ≤ 60 }
+    ensures { take (length p.now.header.now) result ≡ lowered_header (packet4 p.now) }
+{
+    let mut bytes = [0; MOST_HEADER];
+    put_parts(&mut bytes, &lowered_front(p), &p.header[ADDRESSES..]);
+    bytes
+}
+
+// Puts two lists into the front of one.
+fn put_parts(bytes: &mut [u8; 60], first: &[u8], second: &[u8])
+    requires first { length first.now ≡ 12 }
+    requires second { length second.now ≤ 48 }
+    ensures { take (12 + length second.now) bytes.new ≡ first.now ++ second.now }
+{
+    bytes[..ADDRESSES].copy_from_slice(first);
+    bytes[ADDRESSES..ADDRESSES + second.len()].copy_from_slice(second);
 }
 
 // What stands before the addresses, with the time to live one less. The checksum is patched for the word that has it, which

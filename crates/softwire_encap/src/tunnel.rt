@@ -1,9 +1,9 @@
 // IPv4 packets in IPv6 packets.
-ghost use Rattle.std.specs.Prelude.{◌≡◌, ◌+◌, ◌*◌, ◌≤◌, ◌++◌, length, IfOk, Ok};
+ghost use Rattle.std.specs.Prelude.{◌≡◌, ℕ, ◌+◌, ◌*◌, ◌≤◌, ◌++◌, List, length, IfOk, Ok};
 ghost use Rattle.ip_codec.specs.Packet4.{ip4_of, packet4, packet_len};
 ghost use Rattle.ip_codec.specs.Packet6.{Packet6, ip6_of, packet6};
 ghost use Rattle.softwire_encap.specs.Passing.{lowered};
-ghost use Rattle.softwire_encap.specs.Tunnel.{IsFirstWord, tos_of, tunnel_front, wrapped, tunnelled};
+ghost use Rattle.softwire_encap.specs.Tunnel.{IsFirstWord, tos_of, tunnel_front, with_body, wrapped, tunnelled};
 
 use crate::passing::push_lowered;
 use aftr_base::{Bytes, OutOfMemory, V6};
@@ -47,10 +47,12 @@ fn first_word(tos: u8) -> u32
     VERSION + u32::from(tos) * CLASS
 }
 
-/// The tunnel packet that `encap` makes of `inner`, as a view of it. `inner` has 20 bytes or more.
+/// The tunnel packet that `encap` makes of `inner`, as a view of it. `inner` has 20 bytes or more; with more bytes behind it, the
+/// tunnel packet differs in nothing but its body.
 pub fn tunnel_view<'a>(from: V6, to: V6, hop: u8, inner: &'a [u8]) -> Ip6View<'a>
     requires { 20 ≤ length inner.now }
-    ensures { packet6 result ≡ tunnelled from to hop inner.now }
+    ensures is { packet6 result ≡ tunnelled from to hop inner.now }
+    ensures longer { (rest : List ℕ) → with_body (packet6 result) (inner.now ++ rest) ≡ tunnelled from to hop (inner.now ++ rest) }
 {
     Ip6View {
         word: first_word(inner[1]),
