@@ -1,17 +1,18 @@
 -- Lemmas on the packets of a verdict: which they are where a packet fits, and where it is cut.
-use Rattle.std.proofs.Common.{◌≡◌, ℕ, ◌+◌, ◌<◌, ◌≤◌, ◌==◌, Bool, List, [], ◌∷◌, ◌++◌, length, drop, Ok, ◌∙◌, ap, arith}
+use Rattle.std.proofs.Common.{◌≡◌, ℕ, ◌+◌, ◌<◌, ◌≤◌, ◌==◌, Bool, List, [], ◌∷◌, ◌++◌, length, drop, Ok, sym, ◌∙◌, ap, arith}
 use Rattle.std.specs.Prelude.{if◌then◌else◌}
 use Rattle.std.proofs.lemmas.Bool.{le-ltb, lt-ltb}
 use Rattle.aftr_base.specs.declared.numbers.V6.{V6}
 use Rattle.fragmenter.specs.Cutting.{pieces_of}
 use Rattle.fragmenter.specs.Kept.{copied_of}
 use Rattle.fragmenter.specs.Pieces4.{fragments4, piece_head, room_beside}
-use Rattle.fragmenter.specs.Pieces6.{fragments6}
+use Rattle.fragmenter.specs.Pieces6.{fragments6, with_rest}
 use Rattle.ip_codec.specs.Packet4.{Packet4, header4, ip4_of, packet_len}
 use Rattle.packet_render.specs.Pushed.{one_hop_on}
 use Rattle.packet_render.specs.Sent.{inward, outward}
 use Rattle.softwire_encap.specs.Passing.{lowered, passed}
-use Rattle.softwire_encap.specs.Tunnel.{tunnelled, wrapped}
+use Rattle.ip_codec.specs.Packet6.{Packet6}
+use Rattle.softwire_encap.specs.Tunnel.{tunnelled, with_body, wrapped}
 use Rattle.softwire_encap.proofs.Laws.{like_old}
 
 module _ (p : Packet4) (mtu : ℕ) (is : ip4_of (p.header ++ p.payload) ≡ Ok p) where
@@ -49,3 +50,10 @@ module _ (p : Packet4) (mtu : ℕ) (is : ip4_of (p.header ++ p.payload) ≡ Ok p
     inward-cut long =
         ap (λ (test : Bool). if test then fragments6 (tunnelled from to hop (lowered p)) mtu number 0 else wrapped from to hop (lowered p) ∷ [])
         (lt-ltb mtu (length (wrapped from to hop (lowered p))) (omega (arith, wrapped-len)))
+
+-- the tunnel packet whose inner packet stands in two parts
+pub tunnelled-parts : (from to : V6) (hop : ℕ) (view : Packet6) {first header : List ℕ} → view ≡ tunnelled from to hop first →
+    ((rest : List ℕ) → with_body view (first ++ rest) ≡ tunnelled from to hop (first ++ rest)) → first ≡ header → (payload : List ℕ) →
+    tunnelled from to hop (header ++ payload) ≡ with_rest view payload
+tunnelled-parts from to hop view {first = first} {header = header} is longer header_is payload =
+    sym (ap (λ (packet : Packet6). with_body view (packet.body ++ payload)) is ∙ (longer payload ∙ ap (λ (l : List ℕ). tunnelled from to hop (l ++ payload)) header_is))

@@ -15,7 +15,7 @@ use crate::pieces::{push_pieces4, push_pieces6};
 use crate::stamps::Stamp;
 use aftr_base::{OutOfMemory, V6};
 use ip_codec::{Ip4View, ItemView, ReadPacket};
-use softwire_encap::{push_lowered, push_tunnelled, tunnel_view};
+use softwire_encap::{lowered_header, push_lowered, push_tunnelled, tunnel_view};
 
 // How many bytes the tunnel's header has (RFC 8200, section 3).
 pub(crate) const TUNNEL: usize = 40;
@@ -140,7 +140,7 @@ fn push_whole_inward(
     Ok(1)
 }
 
-// The packet is made in a list of its own, since a fragment takes a part of its header and of its payload in one.
+// The packet's header is made apart, and its payload is cut where it stands.
 fn push_cut_inward(
     out: &mut Vec<u8>,
     stamp: Stamp,
@@ -155,10 +155,9 @@ fn push_cut_inward(
         (fragments6 (tunnelled tunnel.from tunnel.to tunnel.hop (lowered (packet4 packet.now.view))) mtu number 0) out.old.items out.new.items count) }
     ensures few { IfOk result (λ count. count ≤ 54) }
 {
-    let alloc = *out.allocator();
-    let mut inner = Vec::with_capacity(alloc, packet.view.total_len())?;
-    push_lowered(&mut inner, &packet.view)?;
-    let view = tunnel_view(tunnel.from, tunnel.to, tunnel.hop, &inner);
-    let count = push_pieces6(out, stamp, &view, mtu, number)?;
+    let lowered = lowered_header(&packet.view);
+    let header = &lowered[..packet.view.header.len()];
+    let view = tunnel_view(tunnel.from, tunnel.to, tunnel.hop, header);
+    let count = push_pieces6(out, stamp, &view, packet.view.payload, mtu, number)?;
     Ok(count)
 }

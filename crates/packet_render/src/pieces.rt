@@ -1,8 +1,8 @@
 // Packets that do not fit, in pieces.
-ghost use Rattle.std.specs.Prelude.{◌≡◌, ◌≤◌, length, IfOk};
+ghost use Rattle.std.specs.Prelude.{◌≡◌, ◌+◌, ◌≤◌, length, IfOk};
 ghost use Rattle.capture_io.specs.Packets.{packet_bytes};
 ghost use Rattle.fragmenter.specs.Pieces4.{fragments4};
-ghost use Rattle.fragmenter.specs.Pieces6.{fragments6};
+ghost use Rattle.fragmenter.specs.Pieces6.{fragments6, with_rest};
 ghost use Rattle.ip_codec.specs.Packet4.{packet4, IsBounded4};
 ghost use Rattle.ip_codec.specs.Packet6.{packet6};
 ghost use Rattle.packet_render.specs.Pushed.{ArePushed};
@@ -25,8 +25,7 @@ pub(crate) fn push_pieces4(
         (fragments4 (packet4 packet.now) mtu 0) out.old.items out.new.items count) }
     ensures few { IfOk result (λ count. count ≤ 128) }
 {
-    let alloc = *out.allocator();
-    let mut cuts = Cuts4::of(alloc, packet, mtu)?;
+    let mut cuts = Cuts4::of(packet, mtu);
     let mut count = 0;
     'pieces: while let Some(len) = cuts.next_len() {
         stamp.push_head(out, len)?;
@@ -37,21 +36,22 @@ pub(crate) fn push_pieces4(
     Ok(count)
 }
 
-// Puts the fragments of a tunnel packet that does not fit there.
+// Puts the fragments of a tunnel packet that does not fit there. What its body has behind that of the view stands in `rest`.
 pub(crate) fn push_pieces6(
     out: &mut Vec<u8>,
     stamp: Stamp,
     packet: &Ip6View<'_>,
+    rest: &[u8],
     mtu: u16,
     id: u32,
 ) -> Result<u32, OutOfMemory>
     requires least_mtu { 1280 ≤ mtu }
-    requires most { length packet.now.body.now ≤ 65535 }
+    requires most { length packet.now.body.now + length rest.now ≤ 65535 }
     ensures pushed { IfOk result (λ count. ArePushed (packet_bytes stamp.form stamp.seconds stamp.fraction)
-        (fragments6 (packet6 packet.now) mtu id 0) out.old.items out.new.items count) }
+        (fragments6 (with_rest (packet6 packet.now) rest.now) mtu id 0) out.old.items out.new.items count) }
     ensures few { IfOk result (λ count. count ≤ 54) }
 {
-    let mut cuts = Cuts6::of(packet, mtu, id);
+    let mut cuts = Cuts6::of(packet, rest, mtu, id);
     let mut count = 0;
     'pieces: while let Some(len) = cuts.next_len() {
         stamp.push_head(out, len)?;

@@ -246,7 +246,6 @@ fn push_policy(
     }
 }
 
-// The inner packet is joined in a list of its own, since the error quotes it in one part.
 fn push_policy_about(
     out: &mut Vec<u8>,
     stamp: Stamp,
@@ -258,13 +257,17 @@ fn push_policy_about(
         (policy6 tunnel.from tunnel.to tunnel.hop outer.now (whole4 (packet4 inner.now.view)) ∷ []) out.old.items out.new.items count) }
     ensures few { IfOk result (λ count. count ≤ 1) }
 {
-    let alloc = *out.allocator();
-    let mut quoted = Vec::with_capacity(alloc, inner.view.total_len())?;
-    quoted.extend_from_slice(inner.view.header)?;
-    quoted.extend_from_slice(inner.view.payload)?;
-    let len = BEFORE_QUOTE6 + MOST_QUOTED6.min(TUNNEL + quoted.len());
+    let len = BEFORE_QUOTE6 + MOST_QUOTED6.min(TUNNEL + inner.view.total_len());
     stamp.push_head(out, len)?;
-    push_source_policy6(out, tunnel.from, tunnel.to, tunnel.hop, outer, &quoted)?;
+    push_source_policy6(
+        out,
+        tunnel.from,
+        tunnel.to,
+        tunnel.hop,
+        outer,
+        inner.view.header,
+        inner.view.payload,
+    )?;
     stamp.push_tail(out, len)?;
     Ok(1)
 }
