@@ -1,121 +1,96 @@
 // Many fragments, of one datagram and of many.
-use crate::lines::{form, taken};
-use crate::records::Packet;
-use crate::words::bytes_of;
-use item_stage::Stage;
+use crate::lines::goes;
 use std::alloc::Global;
 use std::test::Fail;
 
 const PLAIN: u32 = 101;
 
-/// A tunnel packet with a Fragment header and eight bytes of what was cut.
-const PIECE: &str = "6000000000102c40 S A 0400000000000000 4500002000010000";
+/// A line of a tunnel packet that was not cut, and its item.
+const WHOLE: &str = "1 6000000000200440 S A I = up 60000000 40 S A I\n";
 
-/// A tunnel packet that was not cut.
-const PACKET: &str = "6000000000200440 S A I";
+/// The bytes behind the first eight of the datagram in `WHOLE`, as a last piece at second 1, and its item.
+const LAST: &str = "\
+    1 6000000000202c40 S A 0400000800000007 40111490cb007101c633640704d00035000c000074657374 = up 60000000 40 S A I\n";
 
-/// A Fragment header in `PIECE`, behind the fixed header: the offset with M, and the identification.
-const OFFSET: usize = 42;
-
-const ID: usize = 44;
-
-/// The piece at an offset, with more to follow.
-fn piece(alloc: Global, seconds: u32, offset: u16, id: u32) -> Result<Packet, Fail> {
-    let mut bytes = bytes_of(alloc, PIECE)?;
-    put(
-        &mut bytes,
-        OFFSET,
-        &offset.wrapping_mul(8).wrapping_add(1).to_be_bytes(),
-    );
-    put(&mut bytes, ID, &id.to_be_bytes());
-    Ok(Packet {
-        seconds,
-        micros: 0,
-        bytes,
-    })
+/// Pushes the line of a tunnel packet with a Fragment header and eight bytes of what was cut, with more to follow: its second,
+/// its offset in units of eight bytes, its identification, and what it becomes.
+fn push_piece(
+    text: &mut String,
+    second: u32,
+    offset: u16,
+    id: u32,
+    item: &str,
+) -> Result<(), Fail> {
+    let field = offset.wrapping_mul(8).wrapping_add(1);
+    write!(
+        text,
+        "{second} 6000000000102c40 S A 0400{field:04x}{id:08x} 4500002000010000 = {item}\n"
+    )?;
+    Ok(())
 }
 
-/// Puts bytes at a place, where there are so many.
-fn put(bytes: &mut [u8], at: usize, new: &[u8]) {
-    for (index, byte) in new.iter().enumerate() {
-        if let Some(place) = bytes.get_mut(at.wrapping_add(index)) {
-            *place = *byte;
-        }
+/// 257 pieces of one datagram, and the last is refused.
+fn pieces_of_one(alloc: Global) -> Result<String, Fail> {
+    let mut text = String::new(alloc);
+    for offset in 0..256u16 {
+        push_piece(&mut text, 1, offset, 1, "held")?;
     }
+    push_piece(&mut text, 1, 256, 1, "bad frag-many")?;
+    text.push_str("unfinished 0")?;
+    Ok(text)
 }
 
-#[test]
-fn a_datagram_of_257_pieces(rt: HostRuntime) -> Result<(), Fail> {
-    let alloc = rt.alloc();
-    let mut packets = Vec::new(alloc);
-    let mut wanted = Vec::new(alloc);
-    for offset in 0..257u16 {
-        packets.push(piece(alloc, 1, offset, 1)?)?;
-        wanted.push(if offset < 256 {
-            "held"
-        } else {
-            "bad frag-many"
-        })?;
+/// Pushes the lines of pieces that begin a datagram each, in one lane.
+fn push_first_pieces(text: &mut String, from: u32, to: u32, item: &str) -> Result<(), Fail> {
+    for index in from..to {
+        push_piece(text, 1, 0, index.wrapping_mul(16), item)?;
     }
-    let mut stage = Stage::new(alloc, form(PLAIN))?;
-    let _number = taken(alloc, &mut stage, 0, &packets, &wanted)?;
-    assert_eq!(rt; stage.unfinished(alloc)?.as_slice(), [0].as_slice());
     Ok(())
 }
 
 /// 300 datagrams begin in one lane at second 1, and one more at second 62.
-#[test]
-fn more_datagrams_than_a_lane_keeps(rt: HostRuntime) -> Result<(), Fail> {
-    let alloc = rt.alloc();
-    let mut packets = Vec::new(alloc);
-    let mut wanted = Vec::new(alloc);
-    for index in 0..300u32 {
-        packets.push(piece(alloc, 1, 0, index.wrapping_mul(16))?)?;
-        wanted.push(if index < 256 { "held" } else { "bad frag-full" })?;
-    }
-    let mut stage = Stage::new(alloc, form(PLAIN))?;
-    let number = taken(alloc, &mut stage, 0, &packets, &wanted)?;
-    let mut ended = String::new(alloc);
-    ended.push_str("held /")?;
+fn datagrams_of_one_lane(alloc: Global) -> Result<String, Fail> {
+    let mut text = String::new(alloc);
+    push_first_pieces(&mut text, 0, 256, "held")?;
+    push_first_pieces(&mut text, 256, 300, "bad frag-full")?;
+    text.push_str("|\n62 6000000000102c40 S A 04000001000012c0 4500002000010000 = held /")?;
     for number in 0..256u32 {
-        ended.push_str(" ")?;
-        write!(ended, "{number}")?;
+        write!(text, " {number}")?;
     }
-    let mut late = Vec::new(alloc);
-    late.push(piece(alloc, 62, 0, 4800)?)?;
-    let _number = taken(alloc, &mut stage, number, &late, &[ended.as_str()])?;
-    assert_eq!(rt; stage.unfinished(alloc)?.as_slice(), [300].as_slice());
-    Ok(())
+    text.push_str("\nunfinished 300")?;
+    Ok(text)
 }
 
 /// A fragment waits from the last record of one call to the first of the next, among packets that wait for nothing.
+fn packets_and_two_pieces(alloc: Global) -> Result<String, Fail> {
+    let mut text = String::new(alloc);
+    for _ in 0..2000 {
+        text.push_str(WHOLE)?;
+    }
+    push_piece(&mut text, 1, 0, 7, "held")?;
+    text.push_str("|\n")?;
+    text.push_str(LAST)?;
+    text.push_str("unfinished")?;
+    Ok(text)
+}
+
+#[test]
+fn a_datagram_of_257_pieces(rt: HostRuntime) -> Result<(), Fail> {
+    let case = pieces_of_one(rt.alloc())?;
+    assert!(rt; goes(rt.alloc(), PLAIN, &case)?);
+    Ok(())
+}
+
+#[test]
+fn more_datagrams_than_a_lane_keeps(rt: HostRuntime) -> Result<(), Fail> {
+    let case = datagrams_of_one_lane(rt.alloc())?;
+    assert!(rt; goes(rt.alloc(), PLAIN, &case)?);
+    Ok(())
+}
+
 #[test]
 fn a_fragment_in_two_rounds_of_many_records(rt: HostRuntime) -> Result<(), Fail> {
-    let alloc = rt.alloc();
-    let whole = "up 60000000 40 S A I";
-    let mut packets = Vec::new(alloc);
-    let mut wanted = Vec::new(alloc);
-    for _ in 0..2000 {
-        packets.push(Packet {
-            seconds: 1,
-            micros: 0,
-            bytes: bytes_of(alloc, PACKET)?,
-        })?;
-        wanted.push(whole)?;
-    }
-    packets.push(piece(alloc, 1, 0, 7)?)?;
-    wanted.push("held")?;
-    let mut stage = Stage::new(alloc, form(PLAIN))?;
-    let number = taken(alloc, &mut stage, 0, &packets, &wanted)?;
-    let mut rest = Vec::new(alloc);
-    let text =
-        "6000000000202c40 S A 0400000800000007 40111490cb007101c633640704d00035000c000074657374";
-    rest.push(Packet {
-        seconds: 1,
-        micros: 0,
-        bytes: bytes_of(alloc, text)?,
-    })?;
-    let _number = taken(alloc, &mut stage, number, &rest, &[whole])?;
-    assert_eq!(rt; stage.unfinished(alloc)?.as_slice().len(), 0);
+    let case = packets_and_two_pieces(rt.alloc())?;
+    assert!(rt; goes(rt.alloc(), PLAIN, &case)?);
     Ok(())
 }

@@ -8,6 +8,8 @@ mod floods;
 #[cfg(test)]
 mod fragments;
 #[cfg(test)]
+mod items;
+#[cfg(test)]
 mod lines;
 #[cfg(test)]
 mod records;

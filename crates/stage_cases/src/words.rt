@@ -1,6 +1,5 @@
 // Bytes as words of hexadecimal digits.
 use std::alloc::Global;
-use std::str::SplitWhitespace;
 use std::test::Fail;
 
 /// What a word stands for: the addresses of two subscribers, of the router's end of the tunnel and of a host that is none of
@@ -42,15 +41,6 @@ fn push_bytes(out: &mut Vec<u8>, word: &str) -> Result<(), Fail> {
 pub fn bytes_of(alloc: Global, text: &str) -> Result<Vec<u8>, Fail> {
     let mut out = Vec::new(alloc);
     for word in text.split_whitespace() {
-        push_bytes(&mut out, word)?;
-    }
-    Ok(out)
-}
-
-/// The bytes of all words that are left.
-pub fn bytes_in(alloc: Global, words: SplitWhitespace<'_>) -> Result<Vec<u8>, Fail> {
-    let mut out = Vec::new(alloc);
-    for word in words {
         push_bytes(&mut out, word)?;
     }
     Ok(out)

@@ -1,5 +1,5 @@
 use Rattle.std.proofs.Common.{◌≡◌}
 use Rattle.stage_cases.proofs.lines.goes.Given as goal
 
-abbrev pub invariant-lines : goal.invariant-lines
-invariant-lines l = l.stage.number ≡ l.number
+abbrev pub invariant-rounds : goal.invariant-rounds
+invariant-rounds l = l.stage.number ≡ l.number
