@@ -115,6 +115,7 @@ fn run_round<F: Files, R: CaptureReader>(
         &mut rendered,
         Blank::new(1),
     )?;
+    drop(items);
     write_round(alloc, files, job, &rendered)?;
     progress.number = round.number;
     Ok(Turn {
