@@ -10,7 +10,7 @@ repository="$work/repository"
 bench="$repository/crates/stress_bench"
 mkdir -p "$bench"
 cp "$top/HANDLES" "$repository/"
-below="aftr_base port_set ip_codec icmp_codec capture_io binding_rules swap_core area_swap table_words icmp_errors port_locate icmp_relay verdict_core item_stage worker_gate"
+below="aftr_base port_set ip_codec icmp_codec capture_io binding_rules swap_core area_swap table_words icmp_errors port_locate icmp_relay verdict_core ipv6_chain reassembly_lane item_stage worker_gate"
 : > "$repository/crates.txt"
 for name in $below; do
     rm -rf "$repository/crates/$name"
