@@ -23,6 +23,6 @@ for file in "$here"/program/*.antt.txt; do
     cp "$file" "$bench/proofs/$name/Invariants.antt"
 done
 printf 'aftr_base:\nswap_core: aftr_base\narea_swap: aftr_base swap_core atomic_table\nstress_bench: aftr_base swap_core area_swap\n' > "$repository/crates.txt"
-(cd "$bench" && rt run > "$work/build.txt" 2>&1) || true
+(cd "$bench" && ${RT:-rt} run > "$work/build.txt" 2>&1) || true
 [ -x "$bench/out/stress_bench" ] || { tail "$work/build.txt"; exit 1; }
 "$bench/out/stress_bench"
