@@ -1,39 +1,77 @@
 #!/usr/bin/env bash
-# Times reading a capture of 1,000,000 records of 80 bytes by the real files, in rounds and one by one: builds the program in
-# a temporary repository, runs it three times, and counts its system calls where strace is there.
-#     bench/capture_records/run.sh
+# Times reading captures of 1,000,000 records, of 80 and of 390 bytes, classic and of blocks, by the real files, in rounds and
+# one by one: builds the program in a temporary repository, runs each five times, and counts its system calls and allocations
+# where strace and valgrind are there.
+#     bench/capture_records/run.sh [REPOSITORY]
 set -e
 here="$(cd "$(dirname "$0")" && pwd)"
-top="$(cd "$here/../.." && pwd)"
+top="$(cd "${1:-$here/../..}" && pwd)"
 work=/tmp/capture_records_bench
 repository="$work/repository"
-mkdir -p "$repository/crates/records_bench"
+crate="$repository/crates/records_bench"
+mkdir -p "$crate"
 cp "$top/HANDLES" "$repository/"
-rm -rf "$repository/crates/aftr_base" "$repository/crates/capture_io" "$repository/crates/records_bench/src" "$repository/crates/records_bench/proofs"
-cp -r "$top/crates/aftr_base" "$top/crates/capture_io" "$repository/crates/"
-mkdir -p "$repository/crates/records_bench/src"
-cp "$here/program/main.rt.txt" "$repository/crates/records_bench/src/main.rt"
-mkdir -p "$repository/crates/records_bench/proofs/count_records"
-cp "$here/program/Invariants.antt.txt" "$repository/crates/records_bench/proofs/count_records/Invariants.antt"
-mkdir -p "$repository/crates/records_bench/proofs/count_rounds"
-cp "$here/program/RoundsInvariants.antt.txt" "$repository/crates/records_bench/proofs/count_rounds/Invariants.antt"
-printf 'aftr_base:\ncapture_io: aftr_base thiserror\nrecords_bench: aftr_base capture_io\n' > "$repository/crates.txt"
-[ -f "$work/records.pcap" ] || python3 - "$work/records.pcap" <<'P'
-import struct, sys
-with open(sys.argv[1], "wb") as out:
-    out.write(struct.pack("<IHHiIII", 0xa1b2c3d4, 2, 4, 0, 0, 262144, 101))
-    for number in range(1_000_000):
-        out.write(struct.pack("<IIII", number // 1000, number % 1000, 80, 80) + bytes(80))
+rm -rf "$crate/src" "$crate/proofs"
+for name in aftr_base capture_io pcapng_io; do
+    rm -rf "$repository/crates/$name"
+    cp -r "$top/crates/$name" "$repository/crates/"
+    grep "^$name:" "$top/crates.txt"
+done > "$repository/crates.txt"
+echo "records_bench: aftr_base capture_io pcapng_io" >> "$repository/crates.txt"
+mkdir -p "$crate/src" "$crate"/proofs/count_{records,packets,rounds}
+cp "$here/program/main.rt.txt" "$crate/src/main.rt"
+cp "$here/program/Invariants.antt.txt" "$crate/proofs/count_records/Invariants.antt"
+cp "$here/program/PacketsInvariants.antt.txt" "$crate/proofs/count_packets/Invariants.antt"
+cp "$here/program/RoundsInvariants.antt.txt" "$crate/proofs/count_rounds/Invariants.antt"
+python3 - "$work" <<'P'
+import os, struct, sys
+
+
+def block(kind, body):
+    total = struct.pack("<I", 12 + len(body))
+    return struct.pack("<I", kind) + total + body + total
+
+
+for size in 80, 390:
+    path = os.path.join(sys.argv[1], f"records_{size}")
+    if os.path.exists(path + ".pcapng"):
+        continue
+    with open(path + ".pcap", "wb") as out:
+        out.write(struct.pack("<IHHiIII", 0xa1b2c3d4, 2, 4, 0, 0, 262144, 101))
+        for number in range(1_000_000):
+            out.write(struct.pack("<IIII", 1_700_000_000 + number // 1000, number % 1000, size, size) + bytes(size))
+    padded = bytes((size + 3) // 4 * 4)
+    with open(path + ".pcapng", "wb") as out:
+        out.write(block(0x0A0D0D0A, struct.pack("<IHHq", 0x1A2B3C4D, 1, 0, -1)) + block(1, struct.pack("<HHI", 101, 0, 262144)))
+        for number in range(1_000_000):
+            ticks = (1_700_000_000 + number // 1000) * 1_000_000 + number % 1000
+            out.write(block(6, struct.pack("<IIIII", 0, ticks >> 32, ticks & 0xFFFFFFFF, size, size) + padded))
 P
-cat "$work/records.pcap" > /dev/null
-(cd "$repository/crates/records_bench" && rt run > "$work/build.txt" 2>&1) || true
-[ -x "$repository/crates/records_bench/out/records_bench" ] || { tail "$work/build.txt"; exit 1; }
-program="$repository/crates/records_bench/out/records_bench"
+rm -f "$crate/out/records_bench"
+(cd "$crate" && rt run > "$work/build.txt" 2>&1) || true
+program="$crate/out/records_bench"
+[ -x "$program" ] || { tail "$work/build.txt"; exit 1; }
 cd "$work"
-for turn in 1 2 3; do
-    "$program"
+for size in 80 390; do
+    for form in pcap pcapng; do
+        file="records_$size.$form"
+        cat "$file" > /dev/null
+        for way in "" records; do
+            for turn in 1 2 3 4 5; do
+                "$program" "$file" $way
+            done | sort -t, -k2.2n | sed -n "1s/^/$file, ${way:-rounds}, least of five: /p"
+            if command -v strace > /dev/null; then
+                strace -f -c -o calls.txt "$program" "$file" $way > /dev/null
+                echo "    $(awk '$NF == "read" || $NF == "pread64" { n += $4 } END { print n }' calls.txt) reads of the system"
+            fi
+            if [ "$size" = 80 ] && command -v valgrind > /dev/null; then
+                valgrind "$program" "$file" $way 2>&1 | sed -n 's/.*total heap usage: \([0-9,]*\) allocs.*/    \1 allocations/p'
+            fi
+        done
+        for turn in 1 2 3 4 5; do
+            start="$(date +%s%N)"
+            cat "$file" > /dev/null
+            echo "$(($(date +%s%N) - start))"
+        done | sort -n | sed -n "1s/^/$file, cat, least of five: /p"
+    done
 done
-if command -v strace > /dev/null; then
-    strace -f -c -o "$work/calls.txt" "$program"
-    head -12 "$work/calls.txt"
-fi

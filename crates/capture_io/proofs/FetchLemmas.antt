@@ -9,7 +9,7 @@ use Rattle.std.proofs.lemmas.List.{append-nil}
 use Rattle.aftr_base.specs.Contents.{Contents, content, Told}
 use Rattle.capture_io.specs.Fronts.{IsFront, IsStart, front_in, is_more}
 
-start_more : (left before part after : List ℕ) (got count : ℕ) → got ≤ length before → count ≤ length part →
+pub start_more : (left before part after : List ℕ) (got count : ℕ) → got ≤ length before → count ≤ length part →
     take (got + count) after ≡ take got before ++ take count part → take count part ≡ take count (drop got left) →
     IsStart (take got before) left → IsStart (take (got + count) after) left
 start_more left before part after got count in_before in_part joined behind s =
@@ -38,7 +38,7 @@ pub same_front : (got k : ℕ) (into part : List ℕ) → got ≤ length into �
 same_front got k into part in_into = take-put_mid_below got k into part got (omega arith) in_into
 
 -- nothing stands behind
-whole_start : (first left : List ℕ) → IsStart first left → drop (length first) left ≡ [] → left ≡ first
+pub whole_start : (first left : List ℕ) → IsStart first left → drop (length first) left ≡ [] → left ≡ first
 whole_start first left s none =
     sym (take-append-drop (length first) left) ∙ ((λ i. s i ++ none i) ∙ append-nil first)
 

@@ -2,6 +2,7 @@ pub mod AnswerLemmas
 pub mod FetchLemmas
 pub mod FrontLemmas
 pub mod GrammarLemmas
+pub mod LawLemmas
 pub mod RecordLemmas
 pub mod RoundLemmas
 pub mod SpellingLemmas

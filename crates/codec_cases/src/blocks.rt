@@ -10,11 +10,11 @@ use std::alloc::Global;
 use std::test::Fail;
 
 /// A section header, as the format's section 4.1 has it.
-const SECTION: &[u8; 28] =
+pub(crate) const SECTION: &[u8; 28] =
     b"\x0a\x0d\x0d\x0a\x1c\0\0\0\x4d\x3c\x2b\x1a\x01\0\0\0\xff\xff\xff\xff\xff\xff\xff\xff\x1c\0\0\0";
 
 /// An interface of plain IP, with a snapshot length of 262,144 and no options.
-const INTERFACE: &[u8; 20] = b"\x01\0\0\0\x14\0\0\0\x65\0\0\0\0\0\x04\0\x14\0\0\0";
+pub(crate) const INTERFACE: &[u8; 20] = b"\x01\0\0\0\x14\0\0\0\x65\0\0\0\0\0\x04\0\x14\0\0\0";
 
 /// The same of Ethernet.
 const ETHERNET: &[u8; 20] = b"\x01\0\0\0\x14\0\0\0\x01\0\0\0\0\0\x04\0\x14\0\0\0";
@@ -24,25 +24,26 @@ const IN_NANOS: &[u8; 32] =
     b"\x01\0\0\0\x20\0\0\0\x65\0\0\0\0\0\x04\0\x09\0\x01\0\x09\0\0\0\0\0\0\0\x20\0\0\0";
 
 /// What stands before and behind a packet of 72 bytes at tick 1,000,000 of interface 0.
-const HEAD: &[u8; 28] = b"\x06\0\0\0\x68\0\0\0\0\0\0\0\0\0\0\0\x40\x42\x0f\0\x48\0\0\0\x48\0\0\0";
+pub(crate) const HEAD: &[u8; 28] =
+    b"\x06\0\0\0\x68\0\0\0\0\0\0\0\0\0\0\0\x40\x42\x0f\0\x48\0\0\0\x48\0\0\0";
 
-const TAIL: &[u8; 4] = b"\x68\0\0\0";
+pub(crate) const TAIL: &[u8; 4] = b"\x68\0\0\0";
 
 /// A block of a type that says nothing of packets.
-const OTHER: &[u8; 12] = b"\x05\0\0\0\x0c\0\0\0\x0c\0\0\0";
+pub(crate) const OTHER: &[u8; 12] = b"\x05\0\0\0\x0c\0\0\0\x0c\0\0\0";
 
-const BIG_SECTION: &[u8; 28] =
+pub(crate) const BIG_SECTION: &[u8; 28] =
     b"\x0a\x0d\x0d\x0a\0\0\0\x1c\x1a\x2b\x3c\x4d\0\x01\0\0\xff\xff\xff\xff\xff\xff\xff\xff\0\0\0\x1c";
 
 /// With a snapshot length of 80.
-const BIG_INTERFACE: &[u8; 20] = b"\0\0\0\x01\0\0\0\x14\0\x65\0\0\0\0\0\x50\0\0\0\x14";
+pub(crate) const BIG_INTERFACE: &[u8; 20] = b"\0\0\0\x01\0\0\0\x14\0\x65\0\0\0\0\0\x50\0\0\0\x14";
 
 /// What stands before and behind a simple packet of 100 bytes, of which 80 were captured.
-const SIMPLE_HEAD: &[u8; 12] = b"\0\0\0\x03\0\0\0\x60\0\0\0\x64";
+pub(crate) const SIMPLE_HEAD: &[u8; 12] = b"\0\0\0\x03\0\0\0\x60\0\0\0\x64";
 
-const SIMPLE_TAIL: &[u8; 4] = b"\0\0\0\x60";
+pub(crate) const SIMPLE_TAIL: &[u8; 4] = b"\0\0\0\x60";
 
-fn joined(alloc: Global, parts: &[&[u8]]) -> Result<Vec<u8>, Fail> {
+pub(crate) fn joined(alloc: Global, parts: &[&[u8]]) -> Result<Vec<u8>, Fail> {
     let mut bytes = Vec::new(alloc);
     for part in parts {
         bytes.extend_from_slice(part)?;

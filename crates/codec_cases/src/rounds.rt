@@ -8,7 +8,7 @@ use std::alloc::Global;
 use std::test::Fail;
 
 /// More captured bytes than any of these rounds has, and fewer than the least buffer.
-const MOST: usize = 500_000;
+pub(crate) const MOST: usize = 500_000;
 
 /// A record of three bytes, cut from nine, at 2 seconds and 5 microseconds.
 const SECOND: [u8; 19] = [
@@ -23,9 +23,9 @@ const TOO_LONG: [u8; 16] = [3, 0, 0, 0, 6, 0, 0, 0, 1, 0, 4, 0, 1, 0, 4, 0];
 
 /// Files that read at most so many bytes at a time.
 #[derive(Drop)]
-struct Sparing {
-    files: MemFiles,
-    most: usize,
+pub(crate) struct Sparing {
+    pub files: MemFiles,
+    pub most: usize,
 }
 
 impl Files for Sparing {
@@ -83,10 +83,10 @@ fn text_of_ending(alloc: Global, ending: Ending) -> Result<String, Fail> {
 }
 
 // What is told of a capture, and the room that its rounds had.
-type Told = (String, Records);
+pub(crate) type Told = (String, Records);
 
 // The records of nine rounds at most, a bar behind each, and the ending.
-fn tell_rounds<R: CaptureReader>(
+pub(crate) fn tell_rounds<R: CaptureReader>(
     alloc: Global,
     reader: &mut R,
     files: &mut Sparing,

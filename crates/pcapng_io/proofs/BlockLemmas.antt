@@ -97,7 +97,7 @@ framed big left at frame e = by_end (length left == 0) refl e
         let more : framed_in big left at ≡ (frame_in big left at >>= (λ f. Ok (Some f))) = rw n refl in
         record { some_left = n; framed_is = some_by (frame_in big left at) frame (sym more ∙ e) }
 
-near : (at : ℕ) → at ≤ 2 ^ 62 → nat_lt (2 ^ 62) at ≡ false
+pub near : (at : ℕ) → at ≤ 2 ^ 62 → nat_lt (2 ^ 62) at ≡ false
 near at h = grind (arith, nat_tests)
 
 block_of_frame : (seen : Seen) (left : List ℕ) (number : ℕ) (frame : Frame) → seen.known.at ≤ 2 ^ 62 → (length left == 0) ≡ false → frame_in seen.known.big left seen.known.at ≡ Ok frame →
@@ -166,7 +166,7 @@ whole_told (Some m) name big at frame e =
     omega (arith, is.whole, is.some, length-drop at (content m name))
 
 -- a place in the frame, and in the body, is before the block's end
-block_frame : (seen : Seen) (left : List ℕ) (number : ℕ) (b : Block) (place : ℕ) → seen.known.at ≤ 2 ^ 62 → ((frame : Frame) → frame_in seen.known.big left seen.known.at ≡ Ok frame → place < seen.known.at + frame.total) →
+pub block_frame : (seen : Seen) (left : List ℕ) (number : ℕ) (b : Block) (place : ℕ) → seen.known.at ≤ 2 ^ 62 → ((frame : Frame) → frame_in seen.known.big left seen.known.at ≡ Ok frame → place < seen.known.at + frame.total) →
     block_in seen left number ≡ Ok b → IsBefore place seen.known.at b
 block_frame seen left number b place n within e = by_end (length left == 0) refl
   where

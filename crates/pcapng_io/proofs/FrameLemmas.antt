@@ -1,5 +1,5 @@
 -- A frame from the first twelve bytes of a block and its last four.
-use Rattle.std.proofs.Common.{◌≡◌, ℕ, ◌-◌, ◌≤◌, ◌%◌, ◌==◌, nat_lt, Bool, true, false, not, ◌&&◌, ◌||◌, if◌then◌else◌, List, [], ◌∷◌, length, drop, take, Result, Ok, Err, refl, sym, ◌∙◌, subst, arith}
+use Rattle.std.proofs.Common.{◌≡◌, ℕ, ◌-◌, ◌≤◌, ◌%◌, ◌==◌, nat_lt, Bool, true, false, not, ◌&&◌, ◌||◌, if◌then◌else◌, List, [], ◌∷◌, length, drop, take, Result, Ok, Err, refl, sym, ◌∙◌, ap, subst, arith}
 use Rattle.std.proofs.lemmas.List.{length-drop, length-take}
 use Rattle.std.proofs.lemmas.Bool.Decides.{nat_tests}
 use Rattle.aftr_base.specs.First.{first_true}
@@ -104,6 +104,18 @@ or_right : (a b : Bool) → (a || b) ≡ false → b ≡ false
 or_right true b e = absurd (cc)
 or_right false b e = e
 
+-- what is known of a frame by the first twelve bytes alone
+pub record IsHead (left : List ℕ) (frame : Frame) : Type 0 where
+  pub least : least_total frame.kind ≤ frame.total
+  pub some : 12 ≤ frame.total
+  pub there : 12 ≤ length left
+
+head_passed_by : (cut order size : Bool) (at : ℕ) (frame other : Frame) → head_by cut order size at frame ≡ Ok other → (size ≡ false) × (cut ≡ false)
+head_passed_by true order size at frame other e = absurd (cc)
+head_passed_by false true size at frame other e = absurd (cc)
+head_passed_by false false true at frame other e = absurd (cc)
+head_passed_by false false false at frame other e = (refl, refl)
+
 frame_sizes : (frame : Frame) → is_no_total frame ≡ false → least_total frame.kind ≤ frame.total
 frame_sizes frame e =
     let size : nat_lt frame.total (least_total frame.kind) ≡ false = or_right (not (frame.total % 4 == 0)) (nat_lt frame.total (least_total frame.kind)) e in
@@ -117,3 +129,27 @@ frame_is big left at frame e =
     let less : nat_lt (length left) frame.total ≡ false = subst (λ (f : Frame). nat_lt (length left) f.total ≡ false) passed.passed_is passed.passed_less in
     let least : least_total frame.kind ≤ frame.total = frame_sizes frame size in
     record { is = passed.passed_is; least = least; some = omega (arith, least_some frame.kind); whole = grind (arith, nat_tests) }
+
+pub head_sound : (big : Bool) (left : List ℕ) (at : ℕ) (frame : Frame) → head_in big left at ≡ Ok frame → IsHead left frame
+head_sound big left at frame e =
+    let passed = head_passed_by (nat_lt (length left) 12) (begins_section left && has_no_order left) (is_no_total (frame_at big left)) at (frame_at big left) frame e in
+    let size : is_no_total frame ≡ false = subst (λ (f : Frame). is_no_total f ≡ false) (head_is big left at frame e) passed.0 in
+    let cut : nat_lt (length left) 12 ≡ false = passed.1 in
+    let least : least_total frame.kind ≤ frame.total = frame_sizes frame size in
+    record { least = least; some = omega (arith, least, least_some frame.kind); there = grind (arith, nat_tests) }
+
+-- a frame that is not refused is that of its first twelve bytes
+pub frame_head : (big : Bool) (left : List ℕ) (at : ℕ) (frame : Frame) → frame_in big left at ≡ Ok frame → head_in big left at ≡ Ok frame
+frame_head big left at frame e = by_head (head_in big left at) refl
+  where
+    by_head : (r : Result Frame CaptureBad) → head_in big left at ≡ r → head_in big left at ≡ Ok frame
+    by_head (Err refusal) h = let none : frame_in big left at ≡ Err refusal = head_refused big left at refusal h in absurd (cc)
+    by_head (Ok other) h = h ∙ ap Ok (sym (head_is big left at other h) ∙ (frame_is big left at frame e).is)
+
+-- the same frame, by the test of its last four bytes where they stand
+pub tail_tests : (big : Bool) (left : List ℕ) (at : ℕ) (frame : Frame) → head_in big left at ≡ Ok frame →
+    frame_in big left at ≡ unless (first_true ((nat_lt (length left) frame.total, ng.Cut at) ∷ (not (word_at frame.big left (frame.total - 4) == frame.total), ng.Length at) ∷ [])) (Ok frame)
+tail_tests big left at frame e =
+    let P : Frame → Type 0 = λ f. frame_in big left at ≡ tail_by (nat_lt (length left) f.total) (not (word_at f.big left (f.total - 4) == f.total)) at f in
+    subst P (head_is big left at frame e) (tail_is_by (nat_lt (length left) 12) (begins_section left && has_no_order left) (is_no_total (frame_at big left)) (nat_lt (length left) (frame_at big left).total)
+    (not (word_at (frame_at big left).big left ((frame_at big left).total - 4) == (frame_at big left).total)) at (frame_at big left) frame e)

@@ -7,7 +7,10 @@ pub mod InterfaceLemmas
 pub mod KindLemmas
 pub mod OpenLemmas
 pub mod OptionLemmas
+pub mod PieceLemmas
 pub mod RoundLemmas
+pub mod SpelledLemmas
 pub mod SplitLemmas
-pub mod TakenLemmas
+pub mod StartLemmas
 pub mod WalkLemmas
+pub mod WindowLemmas

@@ -15,7 +15,7 @@ use Rattle.capture_io.specs.declared.forms.CaptureError.TheVariants as error
 use Rattle.capture_io.specs.Answers.{Agrees}
 use Rattle.pcapng_io.specs.declared.frame.Frame.{Frame}
 use Rattle.pcapng_io.specs.declared.interface.OptionHead.{OptionHead}
-use Rattle.pcapng_io.specs.Interfaces.{BlockOption, first_of, first_resolution, is_bad_resolution, option_at, option_bytes, options_in, options_within, padded, resolution_of, value_in, with_first}
+use Rattle.pcapng_io.specs.Interfaces.{BlockOption, first_of, first_resolution, is_bad_resolution, option_at, option_bytes, options_in, options_within, padded, resolution_of, rest_from, value_in, with_first}
 use Rattle.pcapng_io.proofs.FrontLemmas.{span_front}
 
 abbrev half_of : Bool → List ℕ → ℕ
@@ -148,10 +148,6 @@ one_option at found o later = by_code (o.code == 9) refl
         let value : value_in at found o ≡ Ok found = rw c refl in
         subst (Reads at found o later) (sym value)
         (ap (with_found found) (passed_option at o later fine ∙ ap (λ x. with_found x (resolution_of at later)) gives) ∙ found_none found (resolution_of at later))
-
--- the options from a place on, of a block whose options end at another
-abbrev pub rest_from : List ℕ → ℕ → ℕ → List ℕ
-rest_from bytes place end = span bytes place (end - place)
 
 rest_length : (bytes : List ℕ) (place end : ℕ) → end ≤ length bytes → length (rest_from bytes place end) ≡ end - place
 rest_length bytes place end within = omega (arith, length-take (end - place) (drop place bytes), length-drop place bytes)
@@ -313,3 +309,22 @@ pub value_there : (held : Option Contents) (name : List ℕ) (at total place cou
     Told held (λ m. place + count ≤ length (content m name))
 value_there None name at total place count end whole e within = tt
 value_there (Some m) name at total place count end whole e within = omega (arith, whole)
+
+-- before the first option nothing was found
+pub none_first : (big : Bool) (bytes : List ℕ) (at place end : ℕ) → resolution_of at (options_in big (rest_from bytes place end)) ≡ all_from big bytes at place end None
+none_first big bytes at place end = by_all (resolution_of at (options_in big (rest_from bytes place end)))
+  where
+    by_all : (r : Result (Option ℕ) CaptureBad) → r ≡ with_found None r
+    by_all (Ok later) = refl
+    by_all (Err refusal) = refl
+
+-- the head and the value of an option, as they are cut out of bytes
+pub head_cut : (big : Bool) (bytes : List ℕ) (place : ℕ) (o : OptionHead) → o ≡ option_at big (take (place + 4 - place) (drop place bytes)) → o ≡ option_at big (span bytes place 4)
+head_cut big bytes place o is = let four : place + 4 - place ≡ 4 = omega arith in is ∙ ap (λ n. option_at big (take n (drop place bytes))) four
+
+pub value_cut : (at : ℕ) (found : Option ℕ) (o : OptionHead) (bytes : List ℕ) (place behind : ℕ) (read said : Result (Option ℕ) CaptureBad) → behind ≡ place + o.count →
+    read ≡ value_in at found (record { code = o.code; value = take (behind - place) (drop place bytes) }) → read ≡ said → value_in at found (option_of o bytes place) ≡ said
+value_cut at found o bytes place behind read said is e s =
+    let size : o.count ≡ behind - place = omega (arith, is) in
+    let cut : ℕ → BlockOption = λ n. record { code = o.code; value = take n (drop place bytes) } in
+    ap (λ n. value_in at found (cut n)) size ∙ (sym e ∙ s)

@@ -51,7 +51,7 @@ pub record_end : (seen : Seen) (left : List ℕ) (number : ℕ) (r : Rec) (behin
 record_end seen left number r behind e = end_within (suc (length left)) number seen left r behind e
 
 -- the file from the packet's end on is what is left behind it
-split_on : (old now : Seen) (bytes : List ℕ) (number : ℕ) (r : Rec) → next_in old (drop old.known.at bytes) number ≡ Ok (Gives r now) → (rs : List Rec) (ending : Option CaptureBad) →
+pub split_on : (old now : Seen) (bytes : List ℕ) (number : ℕ) (r : Rec) → next_in old (drop old.known.at bytes) number ≡ Ok (Gives r now) → (rs : List Rec) (ending : Option CaptureBad) →
     Splits now (drop now.known.at bytes) (number + 1) rs ending → Splits old (drop old.known.at bytes) number (r ∷ rs) ending
 split_on old now bytes number r e rs ending splits =
     let far : old.known.at + 12 ≤ r.next_at = next_behind old (drop old.known.at bytes) number r now e in

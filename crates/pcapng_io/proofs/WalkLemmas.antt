@@ -148,7 +148,7 @@ pub next_behind : (seen : Seen) (left : List ℕ) (number : ℕ) (r : Rec) (behi
 next_behind seen left number r behind e = behind_within (suc (length left)) number seen left r behind e
 
 -- a place in a block is before the end of the next packet
-block_before : (seen : Seen) (left : List ℕ) (number place : ℕ) (r : Rec) (behind : Seen) → ((b : Block) → block_in seen left number ≡ Ok b → IsBefore place seen.known.at b) →
+pub block_before : (seen : Seen) (left : List ℕ) (number place : ℕ) (r : Rec) (behind : Seen) → ((b : Block) → block_in seen left number ≡ Ok b → IsBefore place seen.known.at b) →
     next_in seen left number ≡ Ok (Gives r behind) → place < r.next_at
 block_before seen left number place r behind within e = by_block (block_in seen left number) refl
   where
@@ -211,14 +211,14 @@ counted_after interfaces (passed.Interface interface link total) counted each =
     All-append (λ (i : Interface). 0 < i.ticks) interfaces (interface ∷ []) each (All-cons (λ (i : Interface). 0 < i.ticks) interface [] counted (All-nil (λ (i : Interface). 0 < i.ticks)))
 counted_after interfaces (passed.Other total) counted each = each
 
-sound_after : (known : Known) (interfaces : List Interface) (p : Passed) → IsCounted p → IsSoundSeen (seen_by known interfaces) → IsSoundSeen (seen_after (seen_by known interfaces) p)
+pub sound_after : (known : Known) (interfaces : List Interface) (p : Passed) → IsCounted p → IsSoundSeen (seen_by known interfaces) → IsSoundSeen (seen_after (seen_by known interfaces) p)
 sound_after known interfaces p counted sound = record {
   time = omega (arith, sound.time, keeps_nanos known p);
   counted = counted_after interfaces p counted sound.counted;
   linked = subst IsSome (sym (keeps_link known p sound.linked)) sound.linked;
 }
 
-pass_at : (seen : Seen) (bytes : List ℕ) (number : ℕ) (p : Passed) → block_in seen (drop seen.known.at bytes) number ≡ Ok (block.Passed p) →
+pub pass_at : (seen : Seen) (bytes : List ℕ) (number : ℕ) (p : Passed) → block_in seen (drop seen.known.at bytes) number ≡ Ok (block.Passed p) →
     next_in seen (drop seen.known.at bytes) number ≡ next_in (seen_after seen p) (drop (known_after seen.known p).at bytes) number
 pass_at seen bytes number p e =
     next_passed seen (drop seen.known.at bytes) number p e

@@ -115,6 +115,10 @@ interface_refusals seen left frame =
     ∷ (is_other_link seen.known.link (link_at frame left), ng.MixedLinks seen.known.at)
     ∷ []
 
+-- the bytes from a place up to another
+abbrev pub rest_from : List ℕ → ℕ → ℕ → List ℕ
+rest_from bytes place end = span bytes place (end - place)
+
 -- the bytes of the options: those between the fixed fields and the last length
 abbrev pub option_bytes : Frame → List ℕ → List ℕ
 option_bytes frame left = span left 16 (frame.total - 20)

@@ -3,8 +3,13 @@ pub mod Blocks
 pub mod Captures
 pub mod Files
 pub mod Frames
+pub mod Fronts
 pub mod Interfaces
 pub mod Packets
+pub mod Pieces
 pub mod Results
 pub mod Rounds
 pub mod Seen
+pub mod Spelled
+pub mod Standing
+pub mod Windows

@@ -18,7 +18,7 @@ use capture_io::{CaptureBad, CaptureError, NgBad};
 use std::alloc::Global;
 
 /// The last place of a block that is read, so that the places behind it have a number (ours).
-const FARTHEST: u64 = 0x4000_0000_0000_0000;
+pub const FARTHEST: u64 = 0x4000_0000_0000_0000;
 
 /// What the blocks in front of a place say, but for the section's interfaces.
 #[derive(Clone, Copy, Debug)]

@@ -22,7 +22,7 @@ pub const ENHANCED_PACKET: u32 = 6;
 
 const ORDER_MAGIC: u32 = 0x1a2b3c4d;
 
-const HEAD_LEN: usize = 12;
+pub const HEAD_LEN: usize = 12;
 
 /// A block's type, its length with everything, and the order of its numbers.
 #[derive(Clone, Copy)]
@@ -70,7 +70,7 @@ pub fn read_frame<F: Files>(
 }
 
 /// What the first bytes of a block say, as many of 12 as are there.
-fn head_of(big: bool, head: &[u8], at: u64) -> Result<Frame, CaptureBad>
+pub fn head_of(big: bool, head: &[u8], at: u64) -> Result<Frame, CaptureBad>
     ensures says { result ≡ head_in big head.now at }
     ensures least { IfOk result (λ frame. least_total frame.kind ≤ frame.total) }
     ensures some { IfOk result (λ frame. 12 ≤ frame.total) }

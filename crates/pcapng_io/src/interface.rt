@@ -5,7 +5,7 @@ ghost use Rattle.aftr_base.specs.Numbers.{span};
 ghost use Rattle.aftr_base.specs.Outside.{OnlyReads};
 ghost use Rattle.capture_io.specs.Answers.{Agrees, is_read_fault};
 ghost use Rattle.pcapng_io.specs.Files.{IsFault, IsInside, IsSound, IsWhole, left_at};
-ghost use Rattle.pcapng_io.specs.Interfaces.{block_by, interface_in, interface_of, is_other_link, option_at, option_bytes, options_in, padded, resolution_of, resolution_or_default, start_in, value_in};
+ghost use Rattle.pcapng_io.specs.Interfaces.{block_by, interface_in, interface_of, is_other_link, option_at, option_bytes, options_in, padded, resolution_of, rest_from, resolution_or_default, start_in, value_in};
 ghost use Rattle.pcapng_io.specs.Seen.{seen_by};
 
 use crate::block::{Block, Known, Passed};
@@ -212,6 +212,81 @@ fn read_resolution<F: Files>(
         place += 4 + padded_len(option.count);
     }
     Ok(found)
+}
+
+/// The interface block of a frame that is all there.
+pub fn interface_of_front(
+    known: Known,
+    interfaces: &[Interface],
+    first: &[u8],
+    frame: Frame,
+) -> Result<Block, CaptureBad>
+    requires least { 20 ≤ frame.total }
+    requires whole { frame.total ≤ length first.now }
+    ensures says { result ≡ interface_in (seen_by known interfaces.now) first.now frame }
+    ensures sound { IfOk result (λ block. (number : ℕ) → IsSound number block) }
+{
+    let start = match start_of(known, interfaces, first, frame) {
+        Ok(start) => start,
+        Err(refusal) => return Err(refusal),
+    };
+    let end = frame.total as usize - 4;
+    let found = match resolution_in(first, end, known.at, frame.big) {
+        Ok(found) => found,
+        Err(refusal) => return Err(refusal),
+    };
+    block_of(known.at, start, found, frame)
+}
+
+/// The resolution that the options of a block at the front give, which end at a place of it.
+fn resolution_in(first: &[u8], end: usize, at: u64, big: bool) -> Result<Option<u8>, CaptureBad>
+    requires least { 16 ≤ end }
+    requires whole { end ≤ length first.now }
+    requires most { end < 2 ^ 32 }
+    ensures { result ≡ resolution_of at (options_in big (rest_from first.now 16 end)) }
+{
+    let mut place = 16;
+    let mut found = None;
+    'options: while place + 4 <= end {
+        let option = option_of_front(&first[place..place + 4], big);
+        if option.code == END_OF_OPTIONS {
+            return Ok(found);
+        }
+        let value = place + 4;
+        let behind = value + usize::from(option.count);
+        if behind > end {
+            return Err(CaptureBad::Ng(NgBad::Options { at }));
+        }
+        found = match value_of(at, option.code, &first[value..behind], found) {
+            Ok(found) => found,
+            Err(refusal) => return Err(refusal),
+        };
+        place += 4 + padded_len(option.count) as usize;
+    }
+    Ok(found)
+}
+
+fn option_of_front(four: &[u8], big: bool) -> OptionHead
+    requires { 4 ≤ length four.now }
+    ensures { result ≡ option_at big four.now }
+{
+    OptionHead {
+        code: half(big, four, 0),
+        count: half(big, four, 2),
+    }
+}
+
+/// The resolution after an option, where `found` was it before.
+fn value_of(at: u64, code: u16, value: &[u8], found: Option<u8>) -> Result<Option<u8>, CaptureBad>
+    ensures { result ≡ value_in at found (record { code = code; value = value.now }) }
+{
+    if code != RESOLUTION {
+        return Ok(found);
+    }
+    if value.len() != 1 {
+        return Err(CaptureBad::Ng(NgBad::Options { at }));
+    }
+    Ok(Some(found.unwrap_or(value[0])))
 }
 
 /// What an option begins with: its code, and how many bytes its value has.

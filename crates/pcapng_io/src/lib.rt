@@ -6,14 +6,18 @@
 mod block;
 mod fields;
 mod frame;
+mod fronts;
 mod interface;
+mod laws;
 mod packets;
+mod pieces;
 mod reader;
 mod record;
 mod rounds;
-mod taken;
 mod walk;
+mod window;
 mod written;
 
+pub use laws::blocks_are_read;
 pub use reader::{NgReader, is_ng};
 pub use written::{put_enhanced, put_section};

@@ -21,6 +21,9 @@ const MOST_PACKETS: u32 = 0x8000_0000;
 
 const BILLION: u64 = 1_000_000_000;
 
+// Most captures count their times in these or in billionths of a second, and a division by a constant costs less.
+const MILLION: u64 = 1_000_000;
+
 /// The section header of a frame.
 pub fn read_section<F: Files>(
     alloc: Global,
@@ -45,7 +48,7 @@ pub fn read_section<F: Files>(
     }
 }
 
-fn section_of(at: u64, front: &[u8], frame: Frame) -> Result<Block, CaptureBad>
+pub fn section_of(at: u64, front: &[u8], frame: Frame) -> Result<Block, CaptureBad>
     requires long { 14 ≤ length front.now }
     requires least { 28 ≤ frame.total }
     ensures says { result ≡ section_in at front.now frame }
@@ -89,7 +92,7 @@ pub fn read_enhanced<F: Files>(
     }
 }
 
-fn enhanced_of(
+pub fn enhanced_of(
     known: Known,
     interfaces: &[Interface],
     front: &[u8],
@@ -120,13 +123,13 @@ fn enhanced_of(
         return Err(CaptureBad::Ng(NgBad::Captured { at }));
     }
     let ticks = ticks_of(word(frame.big, front, 12), word(frame.big, front, 16));
-    let seconds = whole_seconds(interface, ticks);
-    if seconds > u64::from(u32::MAX) {
+    let time = time_of(interface, ticks);
+    if time.seconds > u64::from(u32::MAX) {
         return Err(CaptureBad::Ng(NgBad::Time { at }));
     }
     Ok(Block::Packet(Packet {
-        seconds: seconds as u32,
-        nanos: rest_in_nanos(interface, ticks),
+        seconds: time.seconds as u32,
+        nanos: time.nanos,
         start: 28,
         count,
         total: frame.total,
@@ -139,24 +142,61 @@ fn ticks_of(high: u32, low: u32) -> u64
     u64::from(high) * 0x1_0000_0000 + u64::from(low)
 }
 
-fn whole_seconds(interface: Interface, ticks: u64) -> u64
-    requires { 0 < interface.ticks }
-    ensures { result ≡ seconds_of interface ticks }
-{
-    ticks / interface.ticks
+/// Whole seconds, and what is left behind them in nanoseconds, rounded down.
+#[derive(Clone, Copy)]
+struct Time {
+    seconds: u64,
+    nanos: u32,
 }
 
-/// What is left of a time behind its whole seconds, in nanoseconds, rounded down.
-fn rest_in_nanos(interface: Interface, ticks: u64) -> u32
+fn time_of(interface: Interface, ticks: u64) -> Time
     requires { 0 < interface.ticks }
-    ensures is { result ≡ nanos_of interface ticks }
+    ensures is { result ≡ record { seconds = seconds_of interface ticks; nanos = nanos_of interface ticks } }
+    ensures few { result.nanos < 1000000000 }
+{
+    match interface.ticks {
+        MILLION => time_of_millionths(ticks),
+        BILLION => time_of_billionths(ticks),
+        number => Time {
+            seconds: ticks / number,
+            nanos: part_in_nanos(ticks % number, number),
+        },
+    }
+}
+
+// These two stand apart, so that each divides by its constant.
+#[inline(never)]
+fn time_of_millionths(ticks: u64) -> Time
+    ensures is { result ≡ record { seconds = ticks / 1000000; nanos = ticks % 1000000 * 1000 } }
+    ensures few { result.nanos < 1000000000 }
+{
+    Time {
+        seconds: ticks / MILLION,
+        nanos: (ticks % MILLION * 1_000) as u32,
+    }
+}
+
+#[inline(never)]
+fn time_of_billionths(ticks: u64) -> Time
+    ensures is { result ≡ record { seconds = ticks / 1000000000; nanos = ticks % 1000000000 } }
+    ensures few { result.nanos < 1000000000 }
+{
+    Time {
+        seconds: ticks / BILLION,
+        nanos: (ticks % BILLION) as u32,
+    }
+}
+
+/// A part of a second that has so many ticks.
+fn part_in_nanos(part: u64, ticks: u64) -> u32
+    requires { part < ticks }
+    ensures is { result ≡ part * 1000000000 / ticks }
     ensures few { result < 1000000000 }
 {
-    let rest = ticks % interface.ticks;
-    if interface.ticks <= BILLION {
-        return (rest * BILLION / interface.ticks) as u32;
+    if ticks <= BILLION {
+        return (part * BILLION / ticks) as u32;
     }
-    (u128::from(rest) * u128::from(BILLION) / u128::from(interface.ticks)) as u32
+    (u128::from(part) * u128::from(BILLION) / u128::from(ticks)) as u32
 }
 
 /// The simple packet block of a frame, for a packet of this number.
@@ -188,7 +228,7 @@ pub fn read_simple<F: Files>(
     }
 }
 
-fn simple_of(
+pub fn simple_of(
     known: Known,
     interfaces: &[Interface],
     front: &[u8],

@@ -5,9 +5,10 @@ ghost use Rattle.aftr_base.specs.Outside.{OnlyReads};
 ghost use Rattle.capture_io.specs.Answers.{Agrees, is_read_fault};
 ghost use Rattle.capture_io.specs.declared.forms.CaptureError.TheVariants as error;
 ghost use Rattle.pcapng_io.specs.Answers.{Continues, IsBeforePacket, IsBounded, IsInHeader, IsKept, IsNext};
-ghost use Rattle.pcapng_io.specs.Captures.{as_plain, form_of, header_in, is_pcapng, next_in};
+ghost use Rattle.pcapng_io.specs.Captures.{as_plain, form_of, is_pcapng, next_in};
 ghost use Rattle.pcapng_io.specs.Files.{IsFault, left_at};
 ghost use Rattle.pcapng_io.specs.Seen.{IsSoundSeen, seen_by};
+ghost use Rattle.pcapng_io.specs.Standing.{Opens, stands_in};
 
 use crate::block::{Block, Known, Passed, read_block};
 use crate::frame::SECTION;
@@ -50,19 +51,22 @@ fn begins_section(bytes: &[u8]) -> bool
 }
 
 /// A reader of a pcapng file, which stands between two of its packets. It is seen as its place, the order and the interfaces
-/// of its section, the first interface's link type and the time of the last packet.
+/// of its section, the first interface's link type and the time of the last packet, and the bytes that it read ahead.
 #[derive(Drop)]
 pub struct NgReader {
-    known: Known,
-    interfaces: Vec<Interface>,
+    pub(crate) known: Known,
+    pub(crate) interfaces: Vec<Interface>,
+    // what was read already of the bytes from the place on
+    pub(crate) ahead: Vec<u8>,
 }
 
 impl Model for NgReader {
-    ghost use Rattle.pcapng_io.specs.Seen.{IsSoundSeen, Seen, seen_by};
+    ghost use Rattle.pcapng_io.specs.Seen.{IsSoundSeen, seen_by};
+    ghost use Rattle.pcapng_io.specs.Standing.{Standing};
 
-    ghost Value = { Seen };
+    ghost Value = { Standing };
 
-    ghost view = { λ r. seen_by r.known r.interfaces.items };
+    ghost view = { λ r. record { seen = seen_by r.known r.interfaces.items; ahead = r.ahead.items } };
 
     ghost invariant = { λ r. IsSoundSeen (seen_by r.known r.interfaces.items) };
 }
@@ -75,7 +79,7 @@ impl NgReader {
         files: &mut F,
         name: &str,
     ) -> Result<NgReader, CaptureError>
-        ensures told { Told (F.outside files.old).held (λ m. Agrees result (header_in (content m name.now))) }
+        ensures told { Told (F.outside files.old).held (λ m. Opens result (content m name.now)) }
         ensures reads { OnlyReads (is_read_fault result) name.now (IsInHeader (F.outside files.old).held name.now)
             (F.outside files.old) (F.outside files.new) }
     {
@@ -97,7 +101,7 @@ impl NgReader {
 
     fn without_interfaces(alloc: Global, known: Known) -> NgReader
         requires { known.nanos < 1000000000 }
-        ensures { result ≡ as_plain (seen_by known []) }
+        ensures { result ≡ record { seen = as_plain (seen_by known []); ahead = [] } }
     {
         NgReader {
             known: Known {
@@ -105,6 +109,7 @@ impl NgReader {
                 ..known
             },
             interfaces: Vec::new(alloc),
+            ahead: Vec::new(alloc),
         }
     }
 
@@ -116,12 +121,16 @@ impl NgReader {
         requires time { known.nanos < 1000000000 }
         requires counted { 0 < interface.ticks }
         requires linked { IsSome known.link }
-        ensures is { IfOk result (λ reader. reader ≡ seen_by known (interface ∷ [])) }
+        ensures is { IfOk result (λ reader. reader ≡ record { seen = seen_by known (interface ∷ []); ahead = [] }) }
         ensures memory { IfErr result (λ e. e ≡ error.OutOfMemory) }
     {
         let mut interfaces = Vec::new(alloc);
         match interfaces.push(interface) {
-            Ok(()) => Ok(NgReader { known, interfaces }),
+            Ok(()) => Ok(NgReader {
+                known,
+                interfaces,
+                ahead: Vec::new(alloc),
+            }),
             Err(_) => Err(CaptureError::OutOfMemory),
         }
     }
@@ -129,7 +138,7 @@ impl NgReader {
     /// What is said of all records: numbers least significant byte first, times in nanoseconds, and the link type of the
     /// first interface, or 101 where there is none.
     pub fn form(&self) -> Form
-        ensures { result ≡ form_of self.now.known }
+        ensures { result ≡ form_of self.now.seen.known }
     {
         Form {
             big: false,
@@ -151,18 +160,20 @@ impl NgReader {
     ) -> Result<Next, CaptureError>
         requires { number ≤ 2 ^ 31 }
         ensures told { Told (F.outside files.old).held
-            (λ m. IsNext result self.new (next_in self.old (left_at m name.now self.old.known.at) number)) }
-        ensures step { Told (F.outside files.old).held (λ m. Continues result self.old self.new (content m name.now) number) }
-        ensures kept { IsKept result self.old self.new }
-        ensures bounded { IsBounded result self.old self.new number }
+            (λ m. IsNext result self.new.seen (next_in self.old.seen (left_at m name.now self.old.seen.known.at) number)) }
+        ensures step { Told (F.outside files.old).held (λ m. Continues result self.old.seen self.new.seen (content m name.now) number) }
+        ensures kept { IsKept result self.old.seen self.new.seen }
+        ensures stands { Told (F.outside files.old).held (λ m. stands_in self.old (content m name.now) → stands_in self.new (content m name.now)) }
+        ensures bounded { IsBounded result self.old.seen self.new.seen number }
         ensures reads { OnlyReads (is_read_fault result) name.now
-            (IsBeforePacket (F.outside files.old).held name.now self.old number) (F.outside files.old) (F.outside files.new) }
+            (IsBeforePacket (F.outside files.old).held name.now self.old.seen number) (F.outside files.old) (F.outside files.new) }
     {
         let kept = self.interfaces.len();
         match find_record(alloc, files, name, self.known, &mut self.interfaces, number) {
             Ok(Some(found)) => {
                 drop_front(&mut self.interfaces, found.first);
                 self.known = found.known;
+                self.ahead.clear();
                 Ok(Next::Rec(found.record))
             }
             Ok(None) => {

@@ -1,26 +1,34 @@
 // A pcapng file, read in rounds.
-ghost use Rattle.std.specs.Prelude.{◌≡◌};
+ghost use Rattle.std.specs.Prelude.{◌≡◌, ◌+◌, ◌^◌, ◌<◌, ◌≤◌, [], None, All, IfOk, IsErr, IsTrue, IsFalse, drop, length, take};
+ghost use Rattle.capture_io.specs.Fronts.{IsStart};
+ghost use Rattle.capture_io.specs.Records.{IsWithin};
+ghost use Rattle.capture_io.specs.Rounds.{is_cut, IsCount, IsPlaced};
 ghost use Rattle.pcapng_io.specs.Captures.{form_of};
+ghost use Rattle.pcapng_io.specs.Pieces.{FindReads, IsFound, round_of};
 ghost use Rattle.pcapng_io.specs.Rounds.{left_of};
+ghost use Rattle.pcapng_io.specs.Seen.{IsSoundSeen, seen_by};
+ghost use Rattle.pcapng_io.specs.Standing.{stands_in};
 
 use crate::NgReader;
-use crate::taken::Taken;
-use aftr_base::{Files, OutOfMemory};
-use capture_io::{CaptureError, CaptureReader, Ending, Form, Next, Records, Round};
+use crate::block::Known;
+use crate::interface::Interface;
+use crate::pieces::{MOST_RECORDS, Taken, take_blocks};
+use crate::window::Window;
+use aftr_base::{Fault, Files, OutOfMemory};
+use capture_io::{CaptureReader, Ending, Form, Place, Records, Round};
 use std::alloc::Global;
 
-/// The reader looks at each place of the file as it comes to it, and reads nothing ahead. It reads the end of a block before
-/// its middle, so a file that is a pipe is read as far as `RealFiles` keeps what it read.
+/// The reader reads the file in order and each place once, and a block that is longer than a piece into a longer buffer.
 impl CaptureReader for NgReader {
-    ghost stands = { λ reader bytes. Unit {0} };
+    ghost stands = { stands_in };
 
-    ghost left = { λ reader bytes number rs ending. left_of reader bytes number rs ending };
+    ghost left = { λ reader bytes number rs ending. left_of reader.seen bytes number rs ending };
 
-    ghost at = { λ reader. reader.known.at };
+    ghost at = { λ reader. reader.seen.known.at };
 
     ghost ready = { λ reader number. Unit {0} };
 
-    ghost form = { λ reader. form_of reader.known };
+    ghost form = { λ reader. form_of reader.seen.known };
 
     fn form(&self) -> Form {
         NgReader::form(self)
@@ -35,22 +43,115 @@ impl CaptureReader for NgReader {
         most_bytes: usize,
         room: Records,
     ) -> Result<Round, OutOfMemory> {
-        let mut taken = Taken::new(room, number);
-        'records: while taken.has_room(most_bytes) {
-            match self.next(alloc, files, name, taken.number()) {
-                Ok(Next::Rec(record)) => taken.push(record)?,
-                Ok(Next::End) => return Ok(taken.ended(Some(Ending::End))),
-                Err(CaptureError::Bad(refusal)) => {
-                    return Ok(taken.ended(Some(Ending::Bad(refusal))));
-                }
-                Err(CaptureError::ReadFault) => return Ok(taken.ended(Some(Ending::ReadFault))),
-                Err(CaptureError::OutOfMemory) => return Err(OutOfMemory),
-            }
-        }
-        Ok(taken.ended(None))
+        let (buffer, mut places) = room.into_parts();
+        places.clear();
+        places.reserve(MOST_RECORDS)?;
+        let mut window = Window::of(buffer, &self.ahead)?;
+        let taken = find_packets(
+            alloc,
+            files,
+            name,
+            self.known,
+            &mut self.interfaces,
+            number,
+            most_bytes,
+            &mut window,
+            &mut places,
+        )?;
+        keep_rest(
+            &mut self.ahead,
+            &window.as_slice()[taken.used..],
+            taken.ending,
+        )?;
+        self.known = taken.known;
+        Ok(Round {
+            records: window.into_records(places),
+            number: taken.number,
+            ending: taken.ending,
+        })
     }
 
     fn one_left() {}
 
     fn some_left() {}
+}
+
+// Takes the next packets off the bytes that were read, and reads until there are some, or they have ended. Blocks without
+// packets are let go.
+fn find_packets<F: Files>(
+    alloc: Global,
+    files: &mut F,
+    name: &str,
+    known: Known,
+    interfaces: &mut Vec<Interface>,
+    number: u32,
+    most_bytes: usize,
+    window: &mut Window,
+    places: &mut Vec<Place>,
+) -> Result<Taken, OutOfMemory>
+    requires none { places.old.items ≡ [] }
+    requires number { number ≤ 2 ^ 31 }
+    requires some { 1 ≤ most_bytes }
+    requires most { most_bytes ≤ 67108864 }
+    requires sound { IsSoundSeen (seen_by known interfaces.old.items) }
+    requires begins { IsFalse window.old.last }
+    ensures told { IfOk result (λ taken. IsFound (F.outside files.old).held name.now (seen_by known interfaces.old.items)
+        (seen_by taken.known interfaces.new.items) window.old.bytes window.new.bytes places.new.items number taken) }
+    ensures count { IfOk result (λ taken. IsCount number most_bytes (round_of window.new.bytes places.new.items taken)) }
+    ensures placed { IfOk result (λ taken. IsPlaced known.at taken.known.at (round_of window.new.bytes places.new.items taken)) }
+    ensures within { IfOk result (λ _. All (IsWithin window.new.bytes) places.new.items) }
+    ensures used { IfOk result (λ taken. taken.used ≤ length window.new.bytes) }
+    ensures link { IfOk result (λ taken. taken.known.link ≡ known.link) }
+    ensures sound { IfOk result (λ taken. IsSoundSeen (seen_by taken.known interfaces.new.items)) }
+    ensures counted { All (λ interface. 0 < interface.ticks) interfaces.new.items }
+    ensures reads { FindReads result name.now (seen_by known interfaces.old.items) interfaces.new.items window.old.bytes
+        (F.outside files.old) (F.outside files.new) }
+{
+    let mut here = known;
+    'reads: loop {
+        let taken = take_blocks(
+            here,
+            interfaces,
+            window.as_slice(),
+            window.is_last(),
+            number,
+            most_bytes,
+            places,
+        )?;
+        if is_done(taken.ending, places) {
+            return Ok(taken);
+        }
+        window.pass(taken.used);
+        here = taken.known;
+        match window.read_more(alloc, files, name, here.at) {
+            Ok(()) => {}
+            Err(Fault::Failed) => return Ok(Taken {
+                used: 0,
+                known: here,
+                number,
+                ending: Some(Ending::ReadFault),
+            }),
+            Err(Fault::OutOfMemory) => return Err(OutOfMemory),
+        }
+    }
+}
+
+// There are some packets, or they have ended.
+fn is_done(ending: Option<Ending>, places: &[Place]) -> bool
+    ensures done { IsTrue result → ending ≡ None → 0 < length places.now }
+    ensures unsaid { IsFalse result → (ending ≡ None) × (places.now ≡ []) }
+{
+    ending.is_some() || !places.is_empty()
+}
+
+// Keeps bytes for the next round; where the packets have ended none, so that no memory is asked for.
+fn keep_rest(ahead: &mut Vec<u8>, rest: &[u8], ending: Option<Ending>) -> Result<(), OutOfMemory>
+    ensures kept { IfOk result (λ _. IsStart ahead.new.items rest.now) }
+    ensures well { IsErr result → IsFalse (is_cut ending) }
+{
+    ahead.clear();
+    if ending.is_none() {
+        ahead.extend_from_slice(rest)?;
+    }
+    Ok(())
 }

@@ -1,8 +1,9 @@
-use Rattle.std.proofs.Common.{◌≡◌, List, drop, Ok, sym, subst}
+use Rattle.std.proofs.Common.{◌≡◌, List, drop, Ok, sym, ap, subst}
 use Rattle.aftr_base.specs.Contents.{content, Told}
 use Rattle.capture_io.specs.declared.forms.Next.TheVariants as next
 use Rattle.pcapng_io.specs.declared.interface.Interface.{Interface}
 use Rattle.pcapng_io.specs.Seen.{Seen, seen_by}
+use Rattle.pcapng_io.specs.Standing.{Standing}
 use Rattle.pcapng_io.specs.Captures.{Gives, next_in}
 use Rattle.pcapng_io.specs.Files.{left_at}
 use Rattle.pcapng_io.specs.Answers.{Continues}
@@ -16,5 +17,5 @@ returns-in-Ok-Some-clause-step g c =
     rw c.in-Ok-Some.field-0-is at c.in-Ok-Some.ensures.told in
     let told : Told (g.F.Files.outside c.args.files.now).held (λ m. next_in seen (left_at m c.args.name.now seen.known.at) c.args.number ≡ Ok (Gives c.in-Ok-Some.found.record (seen_by c.in-Ok-Some.found.known c.drop_front.new.interfaces.items))) =
     subst (λ (l : List Interface). Told (g.F.Files.outside c.args.files.now).held (λ m. next_in seen (left_at m c.args.name.now seen.known.at) c.args.number ≡ Ok (Gives c.in-Ok-Some.found.record (seen_by c.in-Ok-Some.found.known l)))) (sym c.drop_front.ensures) found in
-    subst (λ (old : Seen). Told (g.F.Files.outside c.args.files.now).held (λ m. Continues (Ok (next.Rec c.in-Ok-Some.found.record)) old (seen_by c.in-Ok-Some.found.known c.drop_front.new.interfaces.items) (content m c.args.name.now) c.args.number)) c.self.view_is
+    subst (λ (old : Seen). Told (g.F.Files.outside c.args.files.now).held (λ m. Continues (Ok (next.Rec c.in-Ok-Some.found.record)) old (seen_by c.in-Ok-Some.found.known c.drop_front.new.interfaces.items) (content m c.args.name.now) c.args.number)) (ap (λ (s : Standing). s.seen) c.self.view_is)
     (continued_told (g.F.Files.outside c.args.files.now).held c.args.name.now (Ok (next.Rec c.in-Ok-Some.found.record)) seen (seen_by c.in-Ok-Some.found.known c.drop_front.new.interfaces.items) c.args.number told)

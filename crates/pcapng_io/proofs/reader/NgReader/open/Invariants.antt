@@ -1,4 +1,4 @@
-use Rattle.std.proofs.Common.{◌-◌, ◌^◌, ◌≡◌, ◌<◌, None}
+use Rattle.std.proofs.Common.{◌-◌, ◌^◌, ◌≡◌, ◌<◌}
 use Rattle.pcapng_io.proofs.OpenLemmas.{OpensFrom}
 use Rattle.pcapng_io.proofs.reader.NgReader.open.Given as goal
 

@@ -1,0 +1,59 @@
+-- What the front of the rest says, and one block more.
+use Rattle.std.proofs.Common.{◌+◌, ◌<◌, ◌^◌, List, ℕ, length, map, sym, ap, subst, arith}
+use Rattle.std.proofs.lemmas.Bool.Decides.{nat_tests}
+use Rattle.std.proofs.lemmas.List.{take_rest}
+use Rattle.pcapng_io.specs.declared.fronts.Front.TheVariants as front
+use Rattle.capture_io.specs.Records.{placed}
+use Rattle.pcapng_io.specs.Fronts.{is_more}
+use Rattle.pcapng_io.specs.Pieces.{AreBlocks}
+use Rattle.pcapng_io.specs.Seen.{seen_by}
+use Rattle.pcapng_io.proofs.PieceLemmas.{ended_bad, ended_end, is_open, packet_taken, packet_within, passed_taken, said_at, sound_said}
+use Rattle.pcapng_io.proofs.pieces.take_blocks.Goals as goal
+
+pub returns-in-End-clause-ended : goal.returns-in-End-clause-ended
+returns-in-End-clause-ended c =
+    ended_end (seen_by c.args.known c.args.interfaces.now.items) (seen_by c.blocks-2.here c.blocks-2.interfaces.items) c.args.piece.now c.args.last c.args.number c.args.most_bytes
+    c.blocks-2.places.items c.blocks-2.used c.blocks-2.next c.blocks-2.bytes c.blocks-2.invariant.taken
+    (said_at c.blocks-2.here c.blocks-2.interfaces.items c.deref.result.now c.args.piece.now c.args.last c.blocks-2.used c.blocks-2.next c.front_of.result front.End c.deref.ensures.value c.front_of.ensures.says c.in-End.is)
+
+pub returns-in-Bad-clause-ended : goal.returns-in-Bad-clause-ended
+returns-in-Bad-clause-ended c =
+    ended_bad (seen_by c.args.known c.args.interfaces.now.items) (seen_by c.blocks-2.here c.blocks-2.interfaces.items) c.args.piece.now c.args.last c.args.number c.args.most_bytes
+    c.blocks-2.places.items c.blocks-2.used c.blocks-2.next c.blocks-2.bytes c.blocks-2.invariant.taken c.in-Bad.refusal
+    (said_at c.blocks-2.here c.blocks-2.interfaces.items c.deref.result.now c.args.piece.now c.args.last c.blocks-2.used c.blocks-2.next c.front_of.result (front.Bad c.in-Bad.refusal) c.deref.ensures.value c.front_of.ensures.says c.in-Bad.is)
+
+pub returns-in-More-clause-unsaid : goal.returns-in-More-clause-unsaid
+returns-in-More-clause-unsaid c = λ ending none.
+    let piece = c.args.piece.now in
+    let used = c.blocks-2.used in
+    is_open (seen_by c.args.known c.args.interfaces.now.items) (seen_by c.blocks-2.here c.blocks-2.interfaces.items) piece c.args.last c.args.number c.args.most_bytes
+    c.blocks-2.places.items used c.blocks-2.next c.blocks-2.bytes c.blocks-2.invariant.taken
+    (said_at c.blocks-2.here c.blocks-2.interfaces.items c.deref.result.now piece c.args.last used c.blocks-2.next c.front_of.result front.More c.deref.ensures.value c.front_of.ensures.says c.in-More.is)
+    (subst (λ (l : List ℕ). length l < 2 ^ 32) (take_rest piece used) (c.front_of.ensures.short (ap is_more c.in-More.is)))
+
+pub blocks-2-preserved-in-Packet : goal.blocks-2-preserved-in-Packet
+blocks-2-preserved-in-Packet c =
+    let old = seen_by c.args.known c.args.interfaces.now.items in
+    let now = seen_by c.blocks-2.here c.blocks-2.interfaces.items in
+    let p = c.in-Packet.packet in
+    let said = said_at c.blocks-2.here c.blocks-2.interfaces.items c.deref.result.now c.args.piece.now c.args.last c.blocks-2.used c.blocks-2.next c.front_of.result (front.Packet p) c.deref.ensures.value c.front_of.ensures.says c.in-Packet.is in
+    let sound = sound_said c.blocks-2.next c.front_of.result (front.Packet p) c.in-Packet.is c.front_of.ensures.sound in
+    record {
+      taken = packet_taken old now c.args.piece.now c.args.last c.args.number c.args.most_bytes c.blocks-2.places.items c.blocks-2.used c.blocks-2.next c.blocks-2.bytes c.blocks-2.invariant.taken p sound said
+          c.push.new.self.items c.place_of.result c.behind_packet-here.result c.in_ok-push-in-Packet.ensures.items c.place_of.ensures c.behind_packet-here.ensures (grind (arith, nat_tests)) (grind (arith, nat_tests));
+      within = packet_within old now c.args.piece.now c.args.last c.args.number c.args.most_bytes c.blocks-2.places.items c.blocks-2.used c.blocks-2.next c.blocks-2.bytes c.blocks-2.invariant.taken p sound said
+          c.push.new.self.items c.place_of.result c.in_ok-push-in-Packet.ensures.items c.place_of.ensures c.blocks-2.invariant.within;
+    }
+
+pub blocks-2-preserved : goal.blocks-2-preserved
+blocks-2-preserved c =
+    let old = seen_by c.args.known c.args.interfaces.now.items in
+    let now = seen_by c.blocks-2.here c.blocks-2.interfaces.items in
+    let p = c.in-Passed.passed in
+    let said = said_at c.blocks-2.here c.blocks-2.interfaces.items c.deref.result.now c.args.piece.now c.args.last c.blocks-2.used c.blocks-2.next c.front_of.result (front.Passed p) c.deref.ensures.value c.front_of.ensures.says c.in-Passed.is in
+    let sound = sound_said c.blocks-2.next c.front_of.result (front.Passed p) c.in-Passed.is c.front_of.ensures.sound in
+    let taken = passed_taken old now c.args.piece.now c.args.last c.args.number c.args.most_bytes c.blocks-2.places.items c.blocks-2.used c.blocks-2.next c.blocks-2.bytes c.blocks-2.invariant.taken p sound said
+    c.behind_passed-here.result c.pass.new.interfaces.items c.behind_passed-here.ensures c.in_ok-pass-in-Passed.ensures.after in
+    let P : ℕ → Type 0 = λ n. AreBlocks old (seen_by c.behind_passed-here.result c.pass.new.interfaces.items) c.args.piece.now c.args.last c.args.number c.args.most_bytes
+    (map (placed c.args.piece.now) c.blocks-2.places.items) n c.blocks-2.next c.blocks-2.bytes in
+    record { taken = subst P (ap (λ n. c.blocks-2.used + n) (sym c.len_of-used.ensures)) taken; within = c.blocks-2.invariant.within }

@@ -1,0 +1,16 @@
+-- What was passed, and what was read ahead.
+use Rattle.std.proofs.Common.{◌≡◌, ◌+◌, ◌-◌, ◌^◌, [], length, if◌then◌else◌}
+use Rattle.pcapng_io.specs.Seen.{seen_by}
+use Rattle.pcapng_io.proofs.WindowLemmas.{IsSearch}
+use Rattle.pcapng_io.proofs.rounds.find_packets.Given as goal
+
+abbrev pub invariant-reads : goal.invariant-reads
+invariant-reads g l = let f = g.F.Files in record {
+  outside : f.outside l.files ≡ f.outside l.initial.files;
+  search : IsSearch (f.outside l.initial.files).held l.name (seen_by l.fn.known l.initial.interfaces.items) (seen_by l.here l.interfaces.items)
+      l.initial.window.bytes l.window l.number;
+  none : l.places.items ≡ [];
+}
+
+abbrev pub decreases-reads : goal.decreases-reads
+decreases-reads g l = 2 ^ 63 + 1 - (l.here.at + length l.window.bytes + (if l.window.last then 1 else 0))

@@ -1,0 +1,7 @@
+use Rattle.std.proofs.Common.{◌-◌, take, ◌∙◌, ap}
+use Rattle.pcapng_io.proofs.WindowLemmas.{moved_front}
+use Rattle.pcapng_io.proofs.window.move_first.Goals as goal
+
+pub returns-clause-front : goal.returns-clause-front
+returns-clause-front c =
+    ap (take (c.args.end - c.args.from)) c.copy_within.ensures.after ∙ moved_front c.args.buffer.now c.args.from c.args.end c.requires.order c.requires.within

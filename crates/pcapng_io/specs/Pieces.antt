@@ -1,0 +1,64 @@
+-- The whole blocks at the front of a piece of a file, and the packets in them.
+use Rattle.std.specs.Prelude.{◌≡◌, ℕ, ◌+◌, ◌^◌, ◌<◌, ◌≤◌, Bool, false, List, length, drop, map, All, Option, Result, Ok, Err}
+use Rattle.aftr_base.specs.declared.lists.OutOfMemory.{OutOfMemory}
+use Rattle.aftr_base.specs.Contents.{Contents, content, Told}
+use Rattle.aftr_base.specs.Outside.{OnlyReads, Outside}
+use Rattle.capture_io.specs.declared.forms.Rec.{Rec}
+use Rattle.capture_io.specs.declared.records.Place.{Place}
+use Rattle.capture_io.specs.declared.rounds.Ending.{Ending}
+use Rattle.capture_io.specs.declared.rounds.Round.{Round}
+use Rattle.capture_io.specs.Fronts.{IsFront, IsStart}
+use Rattle.capture_io.specs.Records.{placed}
+use Rattle.capture_io.specs.Rounds.{GoesOn, IsEnding, IsInNext, Precedes, all_but_last, bytes_captured, is_cut}
+use Rattle.pcapng_io.specs.declared.block.Packet.{Packet}
+use Rattle.pcapng_io.specs.declared.interface.Interface.{Interface}
+use Rattle.pcapng_io.specs.declared.pieces.Taken.{Taken}
+use Rattle.pcapng_io.specs.Seen.{IsSoundSeen, Seen, seen_by}
+use Rattle.pcapng_io.specs.Captures.{Gives, next_in}
+use Rattle.pcapng_io.specs.Rounds.{left_of}
+
+-- the place in a buffer of a packet whose block begins at `from` of it
+abbrev pub place_of : Packet → ℕ → ℕ → Place
+place_of p from at = record { seconds = p.seconds; fraction = p.nanos; from = from + p.start; count = p.count; next_at = at + p.total }
+
+-- Blocks that were taken off the front of a piece, which stands where `old` is seen: the records in them, how many bytes they
+-- have, the number of the next packet, and how many bytes were captured.
+pub record AreBlocks (old now : Seen) (piece : List ℕ) (last : Bool) (number most : ℕ) (records : List Rec) (used next total : ℕ) : Type 0 where
+  pub follows : (bytes : List ℕ) → IsFront piece last (drop old.known.at bytes) → Precedes (left_of old) (left_of now) bytes number records next
+  pub numbered : next ≡ number + length records
+  pub few : next ≤ 2 ^ 31
+  pub at : now.known.at ≡ old.known.at + used
+  pub inside : used ≤ length piece
+  pub count : length records ≤ 16384
+  pub captured : total ≡ bytes_captured records
+  pub within : bytes_captured (all_but_last records) < most
+  pub placed : All (λ r. r.next_at ≤ now.known.at) records
+  pub sizes : All (λ r. length r.bytes ≤ 262144) records
+  pub link : now.known.link ≡ old.known.link
+  pub sound : IsSoundSeen now
+
+-- the packets have ended in this way
+abbrev pub Ended : Seen → Seen → List ℕ → Bool → ℕ → Option Ending → Type 0
+Ended old now piece last next ending = (bytes : List ℕ) → IsFront piece last (drop old.known.at bytes) → IsEnding (left_of now) bytes next ending
+
+-- more has to be read before the front says what stands there, and the next packet ends behind the front
+pub record IsOpen (seen : Seen) (first : List ℕ) (last : Bool) (number : ℕ) : Type 0 where
+  pub more : last ≡ false
+  pub near : seen.known.at ≤ 2 ^ 62
+  pub short : length first < 2 ^ 32
+  pub before : (left : List ℕ) (r : Rec) (behind : Seen) → IsStart first left → next_in seen left number ≡ Ok (Gives r behind) → seen.known.at + length first < r.next_at
+
+-- a round, by the bytes that its records stand in
+abbrev pub round_of : List ℕ → List Place → Taken → Round
+round_of bytes places taken = record { records = map (placed bytes) places; number = taken.number; ending = taken.ending }
+
+-- The packets of a file that were found in these bytes are the next ones, and what is behind them stands there too.
+abbrev pub IsFound : Option Contents → List ℕ → Seen → Seen → List ℕ → List ℕ → List Place → ℕ → Taken → Type 0
+IsFound held name old now ahead bytes places number taken = Told held (λ m. IsStart ahead (drop old.known.at (content m name)) →
+    GoesOn (λ all. IsStart (drop taken.used bytes) (drop now.known.at all)) (left_of old) (left_of now) (content m name) number (round_of bytes places taken))
+
+-- where a read failed, it was one of the next packet
+abbrev pub FindReads : Result Taken OutOfMemory → List ℕ → Seen → List Interface → List ℕ → Outside → Outside → Type 0
+FindReads (Ok taken) name old interfaces ahead before after = OnlyReads (is_cut taken.ending) name
+    (IsInNext name (λ all. IsStart ahead (drop old.known.at all)) (left_of (seen_by taken.known interfaces)) taken.known.at before.held taken.number) before after
+FindReads (Err _) name old interfaces ahead before after = OnlyReads false name (λ _. Unit {0}) before after

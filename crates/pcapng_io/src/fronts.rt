@@ -1,0 +1,148 @@
+// The block that stands at the front of bytes that were read.
+ghost use Rattle.std.specs.Prelude.{◌≡◌, ◌+◌, ◌-◌, ◌^◌, ◌<◌, ◌≤◌, All, IfOk, IsTrue, length};
+ghost use Rattle.pcapng_io.specs.Blocks.{block_in, body_in};
+ghost use Rattle.pcapng_io.specs.Files.{IsSound};
+ghost use Rattle.pcapng_io.specs.Frames.{frame_in, least_total};
+ghost use Rattle.pcapng_io.specs.Fronts.{front_in, is_more, is_short, needed, IsSoundFront};
+ghost use Rattle.pcapng_io.specs.Seen.{seen_by};
+
+use crate::block::{Block, FARTHEST, Known, Packet, Passed};
+use crate::frame::{
+    ENHANCED_PACKET, Frame, HEAD_LEN, INTERFACE, OLD_PACKET, SECTION, SIMPLE_PACKET, head_of,
+};
+use crate::interface::{Interface, interface_of_front};
+use crate::packets::{enhanced_of, section_of, simple_of};
+use capture_io::{CaptureBad, NgBad, word};
+
+/// What the front of what is left says.
+#[derive(Clone, Copy)]
+pub enum Front {
+    Packet(Packet),
+    /// A block that is no packet.
+    Passed(Passed),
+    /// No byte is left.
+    End,
+    /// What is left is no block.
+    Bad(CaptureBad),
+    /// The bytes that follow will say it.
+    More,
+}
+
+/// What the front says of the block that stands at the place that is known, for a packet of this number. `last` says that
+/// nothing follows.
+pub fn front_of(
+    known: Known,
+    interfaces: &[Interface],
+    first: &[u8],
+    last: bool,
+    number: u32,
+) -> Front
+    requires number { number ≤ 2 ^ 31 }
+    requires time { known.nanos < 1000000000 }
+    requires counted { All (λ interface. 0 < interface.ticks) interfaces.now }
+    ensures says { result ≡ front_in (seen_by known interfaces.now) first.now last number }
+    ensures sound { IsSoundFront number result }
+    ensures short { IsTrue (is_more result) → length first.now < 2 ^ 32 }
+{
+    if !last && is_short(known, interfaces, first) {
+        return Front::More;
+    }
+    match block_of_front(known, interfaces, first, number) {
+        Ok(Block::End) => Front::End,
+        Ok(Block::Packet(packet)) => Front::Packet(packet),
+        Ok(Block::Passed(passed)) => Front::Passed(passed),
+        Err(refusal) => Front::Bad(refusal),
+    }
+}
+
+// More has to be read before the front says something.
+fn is_short(known: Known, interfaces: &[Interface], first: &[u8]) -> bool
+    ensures short { result ≡ is_short (seen_by known interfaces.now) first.now }
+    ensures few { IsTrue result → length first.now < 2 ^ 32 }
+{
+    known.at <= FARTHEST && first.len() < bytes_needed(known.big, first, known.at)
+}
+
+// How many bytes say what stands at the front.
+fn bytes_needed(big: bool, first: &[u8], at: u64) -> usize
+    ensures needed { result ≡ needed big first.now at }
+    ensures few { result < 2 ^ 32 }
+{
+    match head_of(big, first, at) {
+        Ok(frame) => frame.total as usize,
+        Err(_) => HEAD_LEN,
+    }
+}
+
+// The block at the front, of bytes behind which nothing is asked for.
+fn block_of_front(
+    known: Known,
+    interfaces: &[Interface],
+    first: &[u8],
+    number: u32,
+) -> Result<Block, CaptureBad>
+    requires number { number ≤ 2 ^ 31 }
+    requires time { known.nanos < 1000000000 }
+    requires counted { All (λ interface. 0 < interface.ticks) interfaces.now }
+    ensures says { result ≡ block_in (seen_by known interfaces.now) first.now number }
+    ensures sound { IfOk result (λ block. IsSound number block) }
+{
+    if known.at > FARTHEST {
+        return Err(CaptureBad::Ng(NgBad::Far { at: known.at }));
+    }
+    if first.is_empty() {
+        return Ok(Block::End);
+    }
+    match frame_of_front(known.big, first, known.at) {
+        Ok(frame) => body_of_front(known, interfaces, first, frame, number),
+        Err(refusal) => Err(refusal),
+    }
+}
+
+// The frame at the front.
+fn frame_of_front(big: bool, first: &[u8], at: u64) -> Result<Frame, CaptureBad>
+    ensures says { result ≡ frame_in big first.now at }
+    ensures least { IfOk result (λ frame. least_total frame.kind ≤ frame.total) }
+    ensures some { IfOk result (λ frame. 12 ≤ frame.total) }
+    ensures whole { IfOk result (λ frame. frame.total ≤ length first.now) }
+{
+    let frame = match head_of(big, first, at) {
+        Ok(frame) => frame,
+        Err(refusal) => return Err(refusal),
+    };
+    let total = frame.total as usize;
+    if first.len() < total {
+        return Err(CaptureBad::Ng(NgBad::Cut { at }));
+    }
+    if word(frame.big, first, total - 4) != frame.total {
+        return Err(CaptureBad::Ng(NgBad::Length { at }));
+    }
+    Ok(frame)
+}
+
+// The block of a frame that is all there.
+fn body_of_front(
+    known: Known,
+    interfaces: &[Interface],
+    first: &[u8],
+    frame: Frame,
+    number: u32,
+) -> Result<Block, CaptureBad>
+    requires number { number ≤ 2 ^ 31 }
+    requires time { known.nanos < 1000000000 }
+    requires counted { All (λ interface. 0 < interface.ticks) interfaces.now }
+    requires least { least_total frame.kind ≤ frame.total }
+    requires some { 12 ≤ frame.total }
+    requires whole { frame.total ≤ length first.now }
+    ensures says { result ≡ body_in (seen_by known interfaces.now) first.now number frame }
+    ensures sound { IfOk result (λ block. IsSound number block) }
+{
+    match frame.kind {
+        SECTION => section_of(known.at, first, frame),
+        OLD_PACKET => Err(CaptureBad::Ng(NgBad::Old { at: known.at })),
+        INTERFACE => interface_of_front(known, interfaces, first, frame),
+        ENHANCED_PACKET => enhanced_of(known, interfaces, first, frame, number),
+        SIMPLE_PACKET => simple_of(known, interfaces, first, frame, number),
+        _ => Ok(Block::Passed(Passed::Other { total: frame.total })),
+    }
+}

@@ -1,0 +1,144 @@
+// The packets that stand in bytes that were read.
+ghost use Rattle.std.specs.Prelude.{◌≡◌, ◌+◌, ◌^◌, ◌<◌, ◌≤◌, [], None, All, IfErr, IfOk, IsErr, IsFalse, drop, length, map};
+ghost use Rattle.capture_io.specs.Records.{IsWithin, placed};
+ghost use Rattle.capture_io.specs.Rounds.{bytes_captured, is_cut};
+ghost use Rattle.pcapng_io.specs.Blocks.{interfaces_after, size_of};
+ghost use Rattle.pcapng_io.specs.Pieces.{AreBlocks, Ended, IsOpen, place_of};
+ghost use Rattle.pcapng_io.specs.Seen.{IsSoundSeen, seen_by};
+
+use crate::block::{Known, Packet, Passed};
+use crate::fronts::{Front, front_of};
+use crate::interface::Interface;
+use crate::walk::{behind_packet, behind_passed};
+use aftr_base::OutOfMemory;
+use capture_io::{Ending, Place};
+
+/// The most records of a round.
+pub const MOST_RECORDS: usize = 16_384;
+
+/// How far blocks were taken off the front of a piece.
+#[derive(Clone, Copy)]
+pub struct Taken {
+    /// How many bytes they have.
+    pub used: usize,
+    /// What is known behind them, but for the section's interfaces.
+    pub known: Known,
+    /// The number of the next packet.
+    pub number: u32,
+    /// How the packets ended, if these are the last.
+    pub ending: Option<Ending>,
+}
+
+/// Takes whole blocks off the front of a piece, which stands where `known` says, until the rest of it is none, or its packets are
+/// 16,384, or one of them brings their captured bytes to `most_bytes`. `interfaces` are those of the section, before and after.
+pub fn take_blocks(
+    known: Known,
+    interfaces: &mut Vec<Interface>,
+    piece: &[u8],
+    last: bool,
+    number: u32,
+    most_bytes: usize,
+    places: &mut Vec<Place>,
+) -> Result<Taken, OutOfMemory>
+    requires none { places.old.items ≡ [] }
+    requires number { number ≤ 2 ^ 31 }
+    requires some { 1 ≤ most_bytes }
+    requires most { most_bytes ≤ 67108864 }
+    requires size { length piece.now ≤ 2 ^ 63 }
+    requires sound { IsSoundSeen (seen_by known interfaces.old.items) }
+    ensures taken { IfOk result (λ taken.
+        AreBlocks (seen_by known interfaces.old.items) (seen_by taken.known interfaces.new.items) piece.now last number most_bytes
+        (map (placed piece.now) places.new.items) taken.used taken.number
+        (bytes_captured (map (placed piece.now) places.new.items))) }
+    ensures ended { IfOk result (λ taken.
+        Ended (seen_by known interfaces.old.items) (seen_by taken.known interfaces.new.items) piece.now last taken.number taken.ending) }
+    ensures unsaid { IfOk result (λ taken. taken.ending ≡ None → places.new.items ≡ [] →
+        IsOpen (seen_by taken.known interfaces.new.items) (drop taken.used piece.now) last taken.number) }
+    ensures within { IfOk result (λ _. All (IsWithin piece.now) places.new.items) }
+    ensures well { IfOk result (λ taken. IsFalse (is_cut taken.ending)) }
+    ensures counted { All (λ interface. 0 < interface.ticks) interfaces.new.items }
+{
+    let mut here = known;
+    let mut used = 0;
+    let mut next = number;
+    let mut bytes = 0;
+    'blocks: while places.len() < MOST_RECORDS && bytes < most_bytes {
+        match front_of(here, interfaces, &piece[used..], last, next) {
+            Front::Packet(packet) => {
+                places.push(place_of(packet, used, here.at))?;
+                used += packet.total as usize;
+                here = behind_packet(here, packet);
+                next += 1;
+                bytes += packet.count as usize;
+            }
+            Front::Passed(passed) => {
+                pass(interfaces, passed)?;
+                used += len_of(passed);
+                here = behind_passed(here, passed);
+            }
+            Front::End => return Ok(Taken {
+                used,
+                known: here,
+                number: next,
+                ending: Some(Ending::End),
+            }),
+            Front::Bad(refusal) => {
+                return Ok(Taken {
+                    used,
+                    known: here,
+                    number: next,
+                    ending: Some(Ending::Bad(refusal)),
+                });
+            }
+            Front::More => return Ok(Taken {
+                used,
+                known: here,
+                number: next,
+                ending: None,
+            }),
+        }
+    }
+    Ok(Taken {
+        used,
+        known: here,
+        number: next,
+        ending: None,
+    })
+}
+
+fn place_of(packet: Packet, from: usize, at: u64) -> Place
+    requires from { from ≤ 2 ^ 63 }
+    requires at { at + packet.total < 2 ^ 64 }
+    ensures { result ≡ place_of packet from at }
+{
+    Place {
+        seconds: packet.seconds,
+        fraction: packet.nanos,
+        from: from + packet.start as usize,
+        count: packet.count as usize,
+        next_at: at + u64::from(packet.total),
+    }
+}
+
+fn len_of(passed: Passed) -> usize
+    ensures { result ≡ size_of passed }
+{
+    match passed {
+        Passed::Section { total, .. } => total as usize,
+        Passed::Interface { total, .. } => total as usize,
+        Passed::Other { total } => total as usize,
+    }
+}
+
+// The section's interfaces behind a block that is no packet.
+fn pass(interfaces: &mut Vec<Interface>, passed: Passed) -> Result<(), OutOfMemory>
+    ensures after { IfOk result (λ _. interfaces.new.items ≡ interfaces_after interfaces.old.items passed) }
+    ensures kept { IsErr result → interfaces.new.items ≡ interfaces.old.items }
+{
+    match passed {
+        Passed::Section { .. } => interfaces.clear(),
+        Passed::Interface { interface, .. } => interfaces.push(interface)?,
+        Passed::Other { .. } => {}
+    }
+    Ok(())
+}

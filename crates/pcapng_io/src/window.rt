@@ -1,0 +1,203 @@
+// Bytes that were read of a file and are not used yet.
+ghost use Rattle.std.specs.Prelude.{◌≡◌, ◌+◌, ◌-◌, ◌^◌, ◌<◌, ◌≤◌, [], false, IfOk, IsErr, IsFalse, All, List, drop, length, map, take};
+ghost use Rattle.aftr_base.specs.Contents.{content, Told};
+ghost use Rattle.aftr_base.specs.Outside.{OnlyReads, has_failed};
+ghost use Rattle.capture_io.specs.Records.{IsWithin, placed};
+ghost use Rattle.pcapng_io.specs.Windows.{Ahead, IsBehind, IsMore};
+
+use aftr_base::{Fault, Files, OutOfMemory};
+use capture_io::{Place, Records};
+use std::alloc::Global;
+use std::marker::Model;
+
+// A file is read by pieces of this many bytes.
+const PIECE: usize = 524_288;
+
+/// The bytes of a file from a place on that were read and are not used yet, and whether nothing stands behind them. They stand at
+/// the front of one buffer.
+#[derive(Drop)]
+pub struct Window {
+    buffer: Vec<u8>,
+    filled: usize,
+    last: bool,
+}
+
+impl Model for Window {
+    ghost use Rattle.std.specs.Prelude.{◌≤◌, length, take};
+    ghost use Rattle.pcapng_io.specs.Windows.{Ahead};
+
+    ghost Value = { Ahead };
+
+    ghost view = { λ w. record { bytes = take w.filled w.buffer.items; last = w.last } };
+
+    ghost invariant = { λ w. w.filled ≤ length w.buffer.items };
+}
+
+impl Window {
+    /// These bytes, in the room of a buffer.
+    pub fn of(mut buffer: Vec<u8>, ahead: &[u8]) -> Result<Window, OutOfMemory>
+        ensures { IfOk result (λ window. window ≡ record { bytes = ahead.now; last = false }) }
+    {
+        let size = ahead.len().max(PIECE);
+        if buffer.len() < size {
+            buffer.resize(size, 0)?;
+        }
+        put_front(&mut buffer, ahead);
+        Ok(Window {
+            buffer,
+            filled: ahead.len(),
+            last: false,
+        })
+    }
+
+    pub fn as_slice(&self) -> &[u8]
+        ensures { result.now ≡ self.now.bytes }
+    {
+        &self.buffer[..self.filled]
+    }
+
+    pub fn is_last(&self) -> bool
+        ensures { result ≡ self.now.last }
+    {
+        self.last
+    }
+
+    /// Lets the first bytes go, so many of them.
+    pub fn pass(&mut self, count: usize)
+        requires { count ≤ length self.old.bytes }
+        ensures bytes { self.new.bytes ≡ drop count self.old.bytes }
+        ensures last { self.new.last ≡ self.old.last }
+    {
+        if count > 0 {
+            move_front(&mut self.buffer, count, self.filled);
+            self.filled -= count;
+        }
+    }
+
+    /// Reads a piece behind the bytes, of which the first stands at the place `at`. The buffer grows where it is full, to twice
+    /// its length. However long it is, no more than a piece is read behind a block, so that little is kept for the next round.
+    pub fn read_more<F: Files>(
+        &mut self,
+        alloc: Global,
+        files: &mut F,
+        name: &str,
+        at: u64,
+    ) -> Result<(), Fault>
+        requires { at + length self.old.bytes < 2 ^ 63 }
+        ensures told { IfOk result (λ _. IsMore (F.outside files.old).held name.now at self.old self.new) }
+        ensures longer { IfOk result (λ _. IsFalse self.new.last → length self.old.bytes < length self.new.bytes) }
+        ensures least { length self.old.bytes ≤ length self.new.bytes }
+        ensures kept { IsErr result → self.new ≡ self.old }
+        ensures reads { OnlyReads (has_failed result) name.now (λ place. place ≡ at + length self.old.bytes)
+            (F.outside files.old) (F.outside files.new) }
+    {
+        grow(&mut self.buffer, self.filled)?;
+        let place = at + self.filled as u64;
+        let count = read_behind(alloc, files, name, place, &mut self.buffer, self.filled)?;
+        self.filled += count;
+        self.last = count == 0;
+        Ok(())
+    }
+
+    /// The records that stand at these places of the bytes, with the room of both lists.
+    pub fn into_records(self, places: Vec<Place>) -> Records
+        requires { All (IsWithin self.bytes) places.items }
+        ensures { result ≡ map (placed self.bytes) places.items }
+    {
+        Records::of(self.buffer, places)
+    }
+}
+
+// Moves the bytes from a place up to an end to the front.
+fn move_front(buffer: &mut Vec<u8>, from: usize, end: usize)
+    requires order { from ≤ end }
+    requires within { end ≤ length buffer.old.items }
+    ensures front { take (end - from) buffer.new.items ≡ drop from (take end buffer.old.items) }
+    ensures size { length buffer.new.items ≡ length buffer.old.items }
+{
+    move_first(buffer.as_mut_slice(), from, end);
+}
+
+fn move_first(buffer: &mut [u8], from: usize, end: usize)
+    requires order { from ≤ end }
+    requires within { end ≤ length buffer.old }
+    ensures front { take (end - from) buffer.new ≡ drop from (take end buffer.old) }
+    ensures size { length buffer.new ≡ length buffer.old }
+{
+    buffer.copy_within(from..end, 0);
+}
+
+// Room behind the first bytes of a buffer.
+fn grow(buffer: &mut Vec<u8>, filled: usize) -> Result<(), OutOfMemory>
+    requires { filled ≤ length buffer.old.items }
+    ensures front { take filled buffer.new.items ≡ take filled buffer.old.items }
+    ensures room { IfOk result (λ _. filled < length buffer.new.items) }
+    ensures size { filled ≤ length buffer.new.items }
+{
+    if filled == buffer.len() {
+        let more = filled.max(PIECE);
+        buffer.resize(filled + more, 0)?;
+    }
+    Ok(())
+}
+
+// Reads behind the first bytes of a buffer, once. It answers how many bytes came.
+fn read_behind<F: Files>(
+    alloc: Global,
+    files: &mut F,
+    name: &str,
+    place: u64,
+    buffer: &mut Vec<u8>,
+    filled: usize,
+) -> Result<usize, Fault>
+    requires { filled < length buffer.old.items }
+    ensures front { take filled buffer.new.items ≡ take filled buffer.old.items }
+    ensures size { length buffer.new.items ≡ length buffer.old.items }
+    ensures within { IfOk result (λ count. filled + count ≤ length buffer.old.items) }
+    ensures behind { IfOk result (λ count. IsBehind (F.outside files.old).held name.now place buffer.new.items filled count) }
+    ensures nothing { IfOk result (λ count. Told (F.outside files.old).held
+        (λ m. count ≡ 0 → drop place (content m name.now) ≡ [])) }
+    ensures reads { OnlyReads (has_failed result) name.now (λ at. at ≡ place) (F.outside files.old) (F.outside files.new) }
+{
+    let slice = buffer.as_mut_slice();
+    let count = read_into(alloc, files, name, place, slice, filled)?;
+    Ok(count)
+}
+
+fn read_into<F: Files>(
+    alloc: Global,
+    files: &mut F,
+    name: &str,
+    place: u64,
+    buffer: &mut [u8],
+    filled: usize,
+) -> Result<usize, Fault>
+    requires { filled < length buffer.old }
+    ensures front { take filled buffer.new ≡ take filled buffer.old }
+    ensures size { length buffer.new ≡ length buffer.old }
+    ensures within { IfOk result (λ count. filled + count ≤ length buffer.old) }
+    ensures behind { IfOk result (λ count. IsBehind (F.outside files.old).held name.now place buffer.new filled count) }
+    ensures nothing { IfOk result (λ count. Told (F.outside files.old).held
+        (λ m. count ≡ 0 → drop place (content m name.now) ≡ [])) }
+    ensures reads { OnlyReads (has_failed result) name.now (λ at. at ≡ place) (F.outside files.old) (F.outside files.new) }
+{
+    let end = filled + PIECE.min(buffer.len() - filled);
+    let count = files.read(alloc, name, place, &mut buffer[filled..end])?;
+    Ok(count)
+}
+
+// Puts bytes in front.
+fn put_front(buffer: &mut Vec<u8>, ahead: &[u8])
+    requires { length ahead.now ≤ length buffer.old.items }
+    ensures front { take (length ahead.now) buffer.new.items ≡ ahead.now }
+    ensures size { length buffer.new.items ≡ length buffer.old.items }
+{
+    put_first(buffer.as_mut_slice(), ahead);
+}
+
+fn put_first(buffer: &mut [u8], ahead: &[u8])
+    requires { length ahead.now ≤ length buffer.old }
+    ensures { take (length ahead.now) buffer.new ≡ ahead.now }
+{
+    buffer[..ahead.len()].copy_from_slice(ahead);
+}
