@@ -1,4 +1,5 @@
 mod HeadLemmas
+mod LookLemmas
 mod MarkLemmas
 mod OrderLemmas
 mod RowLemmas

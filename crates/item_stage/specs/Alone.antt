@@ -1,5 +1,5 @@
 -- What a record is by itself, before any fragment waits.
-use Rattle.std.specs.Prelude.{ℕ, ◌==◌, Bool, not, ◌||◌, if◌then◌else◌, List, drop, Option, Some, None, Result, Ok, Err}
+use Rattle.std.specs.Prelude.{ℕ, ◌==◌, Bool, true, false, not, ◌||◌, if◌then◌else◌, List, drop, Option, Some, None, Result, Ok, Err}
 use Rattle.capture_io.specs.Frames.{Carried, carried}
 use Rattle.capture_io.specs.Frames.Carried.{Packet4, Packet6, TooFew, Other}
 use Rattle.capture_io.specs.declared.forms.Form.{Form}
@@ -111,6 +111,17 @@ in_frame Other = Ready (item.Bad rule.FrameType)
 -- what a record's bytes are, in a capture of this form
 abbrev pub alone_of : Form → List ℕ → Alone
 alone_of form bytes = in_frame (carried form.link bytes)
+
+-- whether a lane takes something of it
+abbrev pub is_piece : Inside → Bool
+is_piece (Told told) = false
+is_piece (Fragment outer key part) = true
+
+abbrev pub needs_lane : Alone → Bool
+needs_lane (Ready ready) = false
+needs_lane (Downstream key part) = true
+needs_lane (Outside outer key part) = true
+needs_lane (Carries inside) = is_piece inside
 
 -- the item of it alone: each fragment waits
 abbrev pub told_item : Inside → Item

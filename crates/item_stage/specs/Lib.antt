@@ -2,6 +2,7 @@ pub mod Alone
 pub mod Fragments
 pub mod Heads
 pub mod Items
+pub mod Looks
 pub mod Marks
 pub mod Ordered
 pub mod Rejoined

@@ -13,7 +13,7 @@ use ip_codec::{Ip4Bad, Ip6View, ItemView, Outer, ReadPacket, Rule, ip6, read_pac
 use ipv6_chain::{Chain, Start, walk};
 
 /// The next header of an IPv4 packet in IPv6 (RFC 2473, section 5).
-const IPV4_IN_IPV6: u8 = 4;
+pub(crate) const IPV4_IN_IPV6: u8 = 4;
 
 /// The next header of an ICMPv6 message (RFC 4443, section 1).
 const ICMPV6: u8 = 58;

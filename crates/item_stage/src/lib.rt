@@ -7,6 +7,7 @@ mod alone;
 mod entries;
 mod joining;
 mod keys;
+mod looking;
 mod marks;
 mod reading;
 mod rounds;

@@ -10,6 +10,7 @@ ghost use Rattle.item_stage.specs.Heads.{HaveHeaders};
 ghost use Rattle.item_stage.specs.Turns.{entries_from, rows_after, turn};
 
 use crate::alone::read_alone;
+use crate::looking::needs_no_lane;
 use crate::marks::Slot;
 use crate::rounds::Items;
 use crate::rows::Rows;
@@ -146,6 +147,24 @@ fn take_all(
 
 // Gives one record to the lanes.
 fn take_one(
+    alloc: Global,
+    form: Form,
+    rows: &mut Rows,
+    number: u32,
+    view: RecordView<'_>,
+) -> Result<Slot, OutOfMemory>
+    requires { HaveHeaders rows.old }
+    ensures headers { IfOk result (λ _. HaveHeaders rows.new) }
+    ensures turn { IfOk result (λ slot. turning rows.new (entry_by (item_of form (seen view.entry).bytes) slot) ≡ turn form rows.old number (seen view.entry)) }
+{
+    if needs_no_lane(form, view.bytes) {
+        return Ok(Slot::empty());
+    }
+    take_read(alloc, form, rows, number, view)
+}
+
+// Reads a record, and gives it to the lanes.
+fn take_read(
     alloc: Global,
     form: Form,
     rows: &mut Rows,

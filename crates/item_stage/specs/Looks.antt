@@ -1,0 +1,12 @@
+-- What a look at a few bytes tells.
+use Rattle.std.specs.Prelude.{ℕ, ◌%◌, ◌==◌, nat_lt, Bool, ◌||◌, List, length}
+use Rattle.ip_codec.specs.Packet4.{word}
+use Rattle.ipv6_chain.specs.Chains.{is_skipped}
+
+-- an IPv4 header without a bit of a fragment, MF or the offset, or fewer bytes than a header has (RFC 791, section 3.1)
+abbrev pub is_uncut : List ℕ → Bool
+is_uncut bytes = nat_lt (length bytes) 20 || (word bytes 6 % 16384 == 0)
+
+-- a header that a walk passes, or a Fragment header (RFC 8200, section 4.5)
+abbrev pub is_extension : ℕ → Bool
+is_extension next = is_skipped next || (next == 44)

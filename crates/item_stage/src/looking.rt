@@ -1,0 +1,66 @@
+// A look at a record, before it is read.
+ghost use Rattle.std.specs.Prelude.{◌≡◌, true, false};
+ghost use Rattle.ip_codec.specs.Packet4.{ip4_of};
+ghost use Rattle.ip_codec.specs.Packet6.{ip6_of};
+ghost use Rattle.item_stage.specs.Alone.{alone_of, from_outside, from_tunnel, needs_lane};
+ghost use Rattle.item_stage.specs.Looks.{is_extension, is_uncut};
+
+use crate::alone::IPV4_IN_IPV6;
+use aftr_base::be16;
+use capture_io::{Form, Frame, frame_of};
+
+/// How many bytes a header has at least: IPv4's without options (RFC 791, section 3.1), and IPv6's (RFC 8200, section 3).
+const HEADER4: usize = 20;
+
+const HEADER6: usize = 40;
+
+/// Whether no lane takes anything of these bytes, as far as the fragment's bits and the number of the next header tell: where
+/// they do not, the record has to be read.
+pub(crate) fn needs_no_lane(form: Form, bytes: &[u8]) -> bool
+    ensures { result ≡ true → needs_lane (alone_of form bytes.now) ≡ false }
+{
+    match frame_of(form.link, bytes) {
+        Frame::V4(packet) => is_whole(packet),
+        Frame::V6(packet) => carries_whole(packet),
+        Frame::Short => true,
+        Frame::Kind => true,
+    }
+}
+
+// An IPv4 packet from outside that is no fragment.
+fn is_whole(packet: &[u8]) -> bool
+    ensures { result ≡ true → needs_lane (from_outside (ip4_of packet.now)) ≡ false }
+{
+    is_uncut(packet)
+}
+
+// An IPv6 packet with no extension header, and no fragment in it.
+fn carries_whole(packet: &[u8]) -> bool
+    ensures { result ≡ true → needs_lane (from_tunnel (ip6_of packet.now)) ≡ false }
+{
+    if packet.len() < HEADER6 {
+        return true;
+    }
+    let next = packet[6];
+    if is_extension(next) {
+        return false;
+    }
+    if next != IPV4_IN_IPV6 {
+        return true;
+    }
+    is_uncut(&packet[HEADER6..])
+}
+
+// Whether a walk over headers goes past one with this number, or ends behind it.
+fn is_extension(next: u8) -> bool
+    ensures { result ≡ is_extension next }
+{
+    next == 0 || next == 43 || next == 60 || next == 44
+}
+
+// Whether an IPv4 header has no bit of a fragment, or there are too few bytes for one.
+fn is_uncut(bytes: &[u8]) -> bool
+    ensures { result ≡ is_uncut bytes.now }
+{
+    bytes.len() < HEADER4 || be16(bytes, 6) % 0x4000 == 0
+}
