@@ -89,7 +89,7 @@ fn read_outside(bytes: &[u8]) -> Alone<'_>
     }
 }
 
-fn rule_of_refusal(why: Ip4Bad) -> Rule
+pub(crate) fn rule_of_refusal(why: Ip4Bad) -> Rule
     ensures { refused_outside why ≡ result }
 {
     match why {
@@ -110,7 +110,7 @@ fn read_tunnel(bytes: &[u8]) -> Alone<'_>
     }
 }
 
-fn outer_fields(packet: &Ip6View<'_>) -> Outer
+pub(crate) fn outer_fields(packet: &Ip6View<'_>) -> Outer
     ensures { result ≡ outer_of (packet6 packet.now) }
 {
     Outer {
@@ -121,7 +121,7 @@ fn outer_fields(packet: &Ip6View<'_>) -> Outer
     }
 }
 
-fn read_chain(outer: Outer, next: u8, body: &[u8]) -> Alone<'_>
+pub(crate) fn read_chain(outer: Outer, next: u8, body: &[u8]) -> Alone<'_>
     ensures { shown result ≡ by_chain outer body.now (chain_of next body.now Packet) }
 {
     match walk(next, body, Start::Packet) {
