@@ -10,11 +10,25 @@ pub fn parts(line: &str) -> Option<(&str, &str, &str, &str)> {
     Some((first, second, third, rest))
 }
 
-/// The words of a line, apart by blanks; `~` is an empty word.
+/// The words of a line, apart by blanks; `~` is an empty word. An empty line has none.
 pub fn words_of<'a>(alloc: Global, line: &'a str) -> Result<Vec<&'a str>, Fail> {
     let mut words = Vec::new(alloc);
     for word in line.split(' ') {
-        words.push(if word == "~" { "" } else { word })?;
+        if word != "" {
+            words.push(if word == "~" { "" } else { word })?;
+        }
     }
     Ok(words)
+}
+
+/// A text that begins with this line, and has those that are apart by `, ` behind it, each with its end.
+pub fn lines_of(alloc: Global, first: &str, lines: &str) -> Result<String, Fail> {
+    let mut text = String::from_str(alloc, first)?;
+    for line in lines.split(", ") {
+        if line != "" {
+            text.push_str(line)?;
+            text.push('\n')?;
+        }
+    }
+    Ok(text)
 }

@@ -7,11 +7,21 @@ mod captures;
 #[cfg(test)]
 mod cases;
 #[cfg(test)]
+mod due;
+#[cfg(test)]
 mod endings;
 #[cfg(test)]
 mod faults;
 #[cfg(test)]
+mod given;
+#[cfg(test)]
 mod held_area;
+#[cfg(test)]
+mod lanes;
+#[cfg(test)]
+mod long_faults;
+#[cfg(test)]
+mod outside;
 #[cfg(test)]
 mod packets;
 #[cfg(test)]
@@ -21,6 +31,12 @@ mod rounds;
 #[cfg(test)]
 mod runs;
 #[cfg(test)]
+mod spelled;
+#[cfg(test)]
 mod statuses;
 #[cfg(test)]
-mod words;
+mod tables;
+#[cfg(test)]
+mod worked;
+#[cfg(test)]
+mod workers;

@@ -1,145 +1,152 @@
--- What a run of a classic capture leaves, in the words of the whole file.
-use Rattle.std.proofs.Common.{◌≡◌, ℕ, suc, ◌+◌, ◌<◌, ◌≤◌, nat_le, Bool, true, false, List, [], ◌∷◌, ◌++◌, filter, length, take, drop, All, Option, Some, None, Ok, inl, refl, sym, ◌∙◌, ap, subst, append-nil, arith}
-use Rattle.std.proofs.Math.Seq.{take-append_seam}
-use Rattle.std.proofs.lemmas.Bool.{le-leb, leb-true}
-use Rattle.std.proofs.lemmas.List.Elements.{filter-append}
-use Rattle.aftr_base.specs.Contents.{Contents, content, Moves, Told}
-use Rattle.binding_file.specs.Files.{TableOf}
+-- What a run leaves whose records have ended, and that is finished.
+use Rattle.std.proofs.Common.{◌≡◌, ℕ, ◌+◌, ◌<◌, ◌≤◌, List, [], ◌∷◌, ◌++◌, length, All, Option, Some, None, Ok, ◌⊎◌, inl, inr, sym, ◌∙◌, subst, arith, append-nil}
+use Rattle.aftr_base.specs.Contents.{Contents, content, Moves}
+use Rattle.area_swap.specs.Histories.{HistoryValue}
+use Rattle.area_swap.specs.Values.{HasWholeShare}
+use Rattle.area_swap.specs.declared.board.View.{View}
 use Rattle.binding_rules.specs.Tables.{BindingTable}
-use Rattle.capture_io.specs.Capture.{IsCapture, Splits}
-use Rattle.capture_io.specs.Classic.{IsOpened as IsReader, left_of, stands_in}
-use Rattle.capture_io.specs.declared.classic.ClassicReader.{ClassicReader}
+use Rattle.capture_io.specs.Rounds.{Left, Precedes}
 use Rattle.capture_io.specs.declared.forms.CaptureBad.{CaptureBad}
-use Rattle.capture_io.specs.declared.forms.Form.{Form}
 use Rattle.capture_io.specs.declared.forms.Rec.{Rec}
 use Rattle.capture_io.specs.declared.rounds.Ending.{Ending}
 use Rattle.capture_io.specs.declared.rounds.Ending.TheVariants as ending
-use Rattle.lwaftr_engine.specs.Clauses.{FilesAt}
-use Rattle.lwaftr_engine.specs.Endings.{ended_by, IsCourse, IsCutRun, IsRun, IsWholeRun}
-use Rattle.lwaftr_engine.specs.Jobs.{RunNames}
-use Rattle.lwaftr_engine.specs.Outputs.{Course, steady}
-use Rattle.lwaftr_engine.specs.Progress.{EndsAs, IsBehind, IsCutOf, IsRunOf, Whole}
-use Rattle.lwaftr_engine.specs.declared.status.Status.{Status}
-use Rattle.lwaftr_engine.specs.declared.status.Status.TheVariants as status
-use Rattle.lwaftr_engine.proofs.Laws.{RecordsRise}
-use Rattle.lwaftr_engine.proofs.Moving.{told_then}
-use Rattle.table_words.specs.Layout.{IsCompiled}
+use Rattle.item_stage.specs.Stages.{Stands}
+use Rattle.lwaftr_engine.specs.Ended.{Ends, EndsBy}
+use Rattle.lwaftr_engine.specs.Endings.{IsBehind}
+use Rattle.lwaftr_engine.specs.Finishing.{IsFinished, IsFirst}
+use Rattle.lwaftr_engine.specs.Opened.{IsOpened}
+use Rattle.lwaftr_engine.specs.Progress.{Goes, HasWritten, IsInRange, Seats, Setup, Spot, Stops, Suits, TakesOn, mark}
+use Rattle.lwaftr_engine.specs.Runs.{IsPlanOf, IsRun}
+use Rattle.lwaftr_engine.specs.declared.rounds.Progress.{Progress}
+use Rattle.run_output.specs.Outputs.{Course}
+use Rattle.swap_core.specs.Laws.{SettledPointsAreAll}
+use Rattle.swap_core.specs.Plans.{IsPlan, Tables, window}
+use Rattle.swap_core.specs.Points.{AreAllPoints, AreInWindows}
+use Rattle.swap_core.specs.declared.plan.Window.{Window}
+use Rattle.worker_gate.specs.Reloading.{IsSettled, NoneIsLeft, WaitsFor}
+use Rattle.lwaftr_engine.proofs.Apart.{AreFilesApart}
+use Rattle.lwaftr_engine.proofs.Closing.{EndLaws, HasCourse, IsClosed, bare, is_history, is_written, none_written, suits_bare, with_limit}
+use Rattle.lwaftr_engine.proofs.Moving.{moves_join}
 
-above : (a b : ℕ) (t : Bool) → nat_le a b ≡ t → b < a → t ≡ false
-above a b true e less = absurd (omega (arith, leb-true a b e))
-above a b false e less = refl
+-- the areas are closed, and each window that opened has its point
+pub record IsAtEnd (plan : Tables) (draws : List (ℕ × ℕ)) (s : Seats) (h : HistoryValue) (number : ℕ) : Type 0 where
+  pub closed : IsClosed plan draws s h
+  pub few : length s.points < length plan.tables
+  pub count : length draws ≡ number
+  pub points : AreAllPoints plan.windows s.points number
 
--- records that end at or before a place are all among those that do
-all_of : (place : ℕ) (rs : List Rec) → All (λ r. r.next_at ≤ place) rs → filter (λ r. nat_le r.next_at place) rs ≡ rs
-all_of place [] each = refl
-all_of place (r ∷ rs) each =
-    rw (le-leb r.next_at place (each 0 r (omega arith))) (ap (λ l. r ∷ l) (all_of place rs (λ k d within. each (suc k) d (omega arith))))
+settled_by : (p : Tables) (desk : View) (records : ℕ) → desk.plan ≡ p → NoneIsLeft desk ⊎ WaitsFor desk records →
+    (length p.tables ≤ length desk.points + 1) ⊎ (records < (window p (length desk.points + 1)).earliest)
+settled_by p desk records same (inl none) = let P : Tables → Type 0 = λ q. length q.tables ≤ length desk.points + 1 in inl (subst P same none)
+settled_by p desk records same (inr waits) = let P : Tables → Type 0 = λ q. records < (window q (length desk.points + 1)).earliest in inr (subst P same waits.1)
 
--- where the records begin behind a place, the first one ends behind it
-begins_behind : RecordsRise → (big : Bool) (left : List ℕ) (at number place : ℕ) (rs : List Rec) (e : Option CaptureBad) → Splits big left at number rs e → place < at → IsBehind place rs
-begins_behind rise big left at number place [] e splits less = tt
-begins_behind rise big left at number place (r ∷ rs) e splits less = omega (arith, rise big left at number r splits.0)
-
--- records of which the first ends behind a place are not among those that end at or before it
-none_of : RecordsRise → (big : Bool) (left : List ℕ) (at number place : ℕ) (rs : List Rec) (e : Option CaptureBad) → Splits big left at number rs e →
-    IsBehind place rs → filter (λ r. nat_le r.next_at place) rs ≡ []
-none_of rise big left at number place [] e splits behind = refl
-none_of rise big left at number place (r ∷ rs) e splits behind =
-    let rest : filter (λ r. nat_le r.next_at place) rs ≡ [] =
-    none_of rise big (drop (16 + length r.bytes) left) r.next_at (number + 1) place rs e splits.1
-    (begins_behind rise big (drop (16 + length r.bytes) left) r.next_at (number + 1) place rs e splits.1 behind) in
-    rw (above r.next_at place (nat_le r.next_at place) refl behind) rest
-
-none_of_rest : RecordsRise → (big : Bool) (left : List ℕ) (at number place : ℕ) (taken rest : List Rec) (e : Option CaptureBad) → Splits big left at number (taken ++ rest) e →
-    IsBehind place rest → filter (λ r. nat_le r.next_at place) rest ≡ []
-none_of_rest rise big left at number place [] rest e splits behind = none_of rise big left at number place rest e splits behind
-none_of_rest rise big left at number place (r ∷ rs) rest e splits behind =
-    none_of_rest rise big (drop (16 + length r.bytes) left) r.next_at (number + 1) place rs rest e splits.1 behind
-
--- the records that were taken are those that end at or before the place of the read that failed
-cut : RecordsRise → (big : Bool) (left : List ℕ) (at number place : ℕ) (taken rest : List Rec) (e : Option CaptureBad) → Splits big left at number (taken ++ rest) e →
-    All (λ r. r.next_at ≤ place) taken → IsBehind place rest → filter (λ r. nat_le r.next_at place) (taken ++ rest) ≡ taken
-cut rise big left at number place taken rest e splits reached behind =
-    filter-append (λ r. nat_le r.next_at place) taken rest
-    ∙ (ap (λ l. l ++ filter (λ r. nat_le r.next_at place) rest) (all_of place taken reached)
-    ∙ (ap (λ l. taken ++ l) (none_of_rest rise big left at number place taken rest e splits behind) ∙ append-nil taken))
-
-whole_run : (n : RunNames) (c : Course) (form : Form) (IsAll : Whole) (a d : Contents) (said now : Option (List ℕ)) (ended : Option CaptureBad) →
-    IsCourse n a c → ((rs : List Rec) (e : Option CaptureBad) → IsAll rs e → IsCapture (content a n.input) (Ok form) rs e) →
-    IsRunOf n IsAll c form a d said now ended → IsWholeRun n a d said now ended
-whole_run n c form IsAll a d said now ended tables all ran = record {
-  course = c;
-  tables = tables;
-  form = form;
-  records = ran.records;
-  capture = all ran.records ended ran.capture;
-  run = ran.run;
-}
-
-cut_run : RecordsRise → (n : RunNames) (c : Course) (form : Form) (IsAll : Whole) (a d : Contents) (said now : Option (List ℕ)) (last : Option (List ℕ × ℕ)) →
-    IsCourse n a c → ((rs : List Rec) (e : Option CaptureBad) → IsAll rs e → IsCapture (content a n.input) (Ok form) rs e) →
-    IsCutOf n 24 IsAll c form a d said now last → IsCutRun n a d said now last
-cut_run rise n c form IsAll a d said now last tables all ran =
-    let capture : IsCapture (content a n.input) (Ok form) (ran.taken ++ ran.rest) ran.ended = all (ran.taken ++ ran.rest) ran.ended ran.capture in
-    let P : List Rec → Type 0 = λ l. IsRun n a d said now c form l in
-    let F : List Rec → Type 0 = λ l. take (length l) (ran.taken ++ ran.rest) ≡ l in
-    let same : ran.taken ≡ ended_by ran.place (ran.taken ++ ran.rest) = sym (cut rise form.big (drop 24 (content a n.input)) 24 0 ran.place ran.taken ran.rest ran.ended capture.1 ran.reached ran.next) in
+pub at_end : SettledPointsAreAll → (plan : Tables) (seat desk : View) (s : Seats) (h : HistoryValue) (number : ℕ) → IsClosed plan seat.actor.draws s h → IsSettled seat desk → HasWholeShare seat → desk.plan ≡ plan → desk.points ≡ s.points →
+    length seat.actor.draws ≡ number → IsAtEnd plan seat.actor.draws s h number
+at_end law plan seat desk s h number closed settled whole same_plan same_points count =
+    let history = closed.history in
+    let P : Tables → Type 0 = λ p. (length s.points < length p.tables) × AreInWindows p.windows s.points number in
+    let H : List ℕ → Type 0 = λ points. (length points < length h.plan.tables) × AreInWindows h.plan.windows points number in
+    let N : ℕ → Type 0 = λ n. (length h.points < length h.plan.tables) × AreInWindows h.plan.windows h.points n in
+    let records : h.records ≡ number = sym closed.drawn.all ∙ count in
+    let here : (length s.points < length plan.tables) × AreInWindows plan.windows s.points number = subst P closed.same_plan (subst H closed.points (subst N records (history.few, history.placed))) in
+    let seen : seat.seen.records ≡ number = sym (settled.all_drawn whole) ∙ count in
+    let Q : List ℕ → Type 0 = λ points. (length plan.tables ≤ length points + 1) ⊎ (number < (window plan (length points + 1)).earliest) in
+    let D : ℕ → Type 0 = λ n. (length plan.tables ≤ length desk.points + 1) ⊎ (n < (window plan (length desk.points + 1)).earliest) in
+    let due : (length plan.tables ≤ length s.points + 1) ⊎ (number < (window plan (length s.points + 1)).earliest) =
+    subst Q same_points (subst D seen (settled_by plan desk seat.seen.records same_plan settled.none_due)) in
+    let planned = let I : Tables → Type 0 = λ p. IsPlan p in subst I closed.same_plan history.planned in
     record {
-      course = c;
-      tables = tables;
-      form = form;
-      all = ran.taken ++ ran.rest;
-      ending = ran.ended;
-      capture = capture;
-      place = ran.place;
-      last_is = ran.last_is;
-      in_records = ran.behind;
-      first_ones = subst F same (take-append_seam ran.taken ran.rest);
-      run = subst P same ran.run;
+      closed = closed;
+      few = here.0;
+      count = count;
+      points = law plan s.points number planned here.0 here.1 due;
     }
 
--- the status of a run whose records ended so
-abbrev pub status_by : Ending → Status
-status_by ending.End = status.Done
-status_by (ending.Bad refusal) = status.BadCapture refusal
-status_by ending.ReadFault = status.ReadFault
+-- whatever is left has some ending
+abbrev pub SomeLeft : Left → Type 0
+SomeLeft left = (bytes : List ℕ) (number : ℕ) → (rs : List Rec) × (ended : Option CaptureBad) × left bytes number rs ended
 
-files_by : RecordsRise → (n : RunNames) (c : Course) (form : Form) (IsAll : Whole) (stop : Ending) (a d : Contents) (said now : Option (List ℕ)) (last : Option (List ℕ × ℕ)) →
-    IsCourse n a c → ((rs : List Rec) (e : Option CaptureBad) → IsAll rs e → IsCapture (content a n.input) (Ok form) rs e) →
-    EndsAs n 24 IsAll c form stop a d said now last → FilesAt n (status_by stop) a d said now last
-files_by rise n c form IsAll ending.End a d said now last tables all ran = whole_run n c form IsAll a d said now None tables all ran
-files_by rise n c form IsAll (ending.Bad refusal) a d said now last tables all ran = inl (whole_run n c form IsAll a d said now (Some refusal) tables all ran)
-files_by rise n c form IsAll ending.ReadFault a d said now last tables all ran = inl (cut_run rise n c form IsAll a d said now last tables all ran)
+is_behind : (place : ℕ) (left : Left) (bytes : List ℕ) (number : ℕ) (rest : List Rec) (ended : Option CaptureBad) → left bytes number rest ended →
+    ((r : Rec) (rs : List Rec) (e : Option CaptureBad) → left bytes number (r ∷ rs) e → place < r.next_at) → IsBehind place rest
+is_behind place left bytes number [] ended it before = tt
+is_behind place left bytes number (r ∷ rs) ended it before = before r rs ended it
 
--- the table and the capture's header were read
-record AreRead (n : RunNames) (t : BindingTable) (reader : ClassicReader) (m : Contents) : Type 0 where
-  table : TableOf (content m n.table) (Ok t)
-  opened : IsReader reader (content m n.input)
+-- how a run ended, by how its records stopped
+ends_by : (x : Setup) (tables : ℕ → BindingTable) (windows : List Window) (a e : Contents) (said now : Option (List ℕ)) (history : Option HistoryValue) (first reader : Spot) (number : ℕ) (bytes : List ℕ) (rs : List Rec) (stop : Ending) (last : Option (List ℕ × ℕ)) →
+    bytes ≡ content a x.run.input → SomeLeft reader.left → first.at ≤ reader.at → All (λ r. r.next_at ≤ reader.at) rs → Precedes first.left reader.left bytes 0 rs number → Stops x.run.input reader bytes number (Some stop) last →
+    IsRun x.run tables windows x.slots x.form x.written rs a e said now history →
+    EndsBy x tables windows first (Ok stop) a e said now last history
+ends_by x tables windows a e said now history first reader number bytes rs ending.End last same some forward within follows stopped run =
+    let P : List Rec → Type 0 = λ l. first.left bytes 0 l None in
+    let B : List ℕ → Type 0 = λ b. first.left b 0 rs None in
+    record { records = rs; capture = subst B same (subst P (append-nil rs) (follows [] None stopped)); is_run = run }
+ends_by x tables windows a e said now history first reader number bytes rs (ending.Bad refusal) last same some forward within follows stopped run =
+    let P : List Rec → Type 0 = λ l. first.left bytes 0 l (Some refusal) in
+    let B : List ℕ → Type 0 = λ b. first.left b 0 rs (Some refusal) in
+    record { records = rs; capture = subst B same (subst P (append-nil rs) (follows [] (Some refusal) stopped)); is_run = run }
+ends_by x tables windows a e said now history first reader number bytes rs ending.ReadFault last same some forward within follows stopped run =
+    let rest = some bytes number in
+    let B : List ℕ → Type 0 = λ b. first.left b 0 (rs ++ rest.0) rest.1 in
+    record {
+      taken = rs;
+      rest = rest.0;
+      ended = rest.1;
+      capture = subst B same (follows rest.0 rest.1 rest.2);
+      place = stopped.place;
+      last_is = stopped.last_is;
+      behind = omega (arith, forward, stopped.begun);
+      reached = λ k d inside. omega (arith, within k d inside, stopped.begun);
+      next = is_behind stopped.place reader.left bytes number rest.0 rest.1 rest.2 stopped.before;
+      is_run = run;
+    }
 
-are_read : (n : RunNames) (t : BindingTable) (reader : ClassicReader) (h0 h1 : Option Contents) → h1 ≡ h0 → Told h0 (λ m. TableOf (content m n.table) (Ok t)) →
-    Told h1 (λ m. IsReader reader (content m n.input)) → Told h0 (λ m. AreRead n t reader m)
-are_read n t reader None h1 same table opened = tt
-are_read n t reader (Some m) h1 same table opened =
-    let T : Option Contents → Type 0 = λ h. Told h (λ m. IsReader reader (content m n.input)) in
-    record { table = table; opened = subst T same opened }
+-- the outputs were opened, and all rounds are done
+pub record IsHalfDone (x : Setup) (plan : Tables) (draws : List (ℕ × ℕ)) (p q : Progress) (s0 s : Seats) (first reader : Spot) (stop : Option Ending) (last : Option (List ℕ × ℕ)) (a d : Contents) : Type 0 where
+  pub middle : Contents
+  pub opened : IsOpened x.run x.written a middle
+  pub goes : Goes x plan draws (mark middle p s0 first) (mark d q s reader) stop last
 
-pub run_ended : RecordsRise → (n : RunNames) (t : BindingTable) (words : List ℕ) (reader : ClassicReader) (form : Form) (shown stop : Ending) (said now : Option (List ℕ)) (last : Option (List ℕ × ℕ)) →
-    shown ≡ stop → form ≡ reader.form → reader.at ≡ 24 → IsCompiled t words →
-    (h0 h1 h2 h3 : Option Contents) → h1 ≡ h0 → h2 ≡ h1 → Told h0 (λ m. TableOf (content m n.table) (Ok t)) → Told h1 (λ m. IsReader reader (content m n.input)) →
-    Moves h2 h3 (λ m o. (t : BindingTable) → IsCompiled t words → stands_in reader (content m n.input) →
-    EndsAs n reader.at (left_of reader (content m n.input) 0) (steady t) form shown m o said now last) →
-    Moves h0 h3 (λ m o. FilesAt n (status_by stop) m o said now last)
-run_ended rise n t words reader form shown stop said now last shown_is form_is at_is compiled h0 h1 h2 h3 same1 same2 table opened ran =
-    told_then h0 h2 h3 (λ m. AreRead n t reader m)
-    (λ m o. (t : BindingTable) → IsCompiled t words → stands_in reader (content m n.input) →
-    EndsAs n reader.at (left_of reader (content m n.input) 0) (steady t) form shown m o said now last)
-    (λ m o. FilesAt n (status_by stop) m o said now last)
-    (λ m o read step.
-    let E : ℕ → Type 0 = λ k. EndsAs n k (left_of reader (content m n.input) 0) (steady t) form shown m o said now last in
-    let S : Ending → Type 0 = λ k. EndsAs n 24 (left_of reader (content m n.input) 0) (steady t) form k m o said now last in
-    let C : Form → Type 0 = λ f. (rs : List Rec) (e : Option CaptureBad) → left_of reader (content m n.input) 0 rs e → IsCapture (content m n.input) (Ok f) rs e in
-    files_by rise n (steady t) form (left_of reader (content m n.input) 0) stop m o said now last
-    (record { bindings = t; table = read.table; course = refl })
-    (subst C (sym form_is) read.opened.all)
-    (subst S shown_is (subst E at_is (step t compiled read.opened.stands))))
-    (same2 ∙ same1) (are_read n t reader h0 h1 same1 table opened) ran
+pub same_input : (x : Setup) → AreFilesApart x.run → (a b : Contents) → IsOpened x.run x.written a b → content b x.run.input ≡ content a x.run.input
+same_input x far a b opened = opened.others x.run.input (λ e. far.output_input (sym e)) (λ e. far.verdicts_input (sym e)) (λ e. far.versions_input (sym e))
+
+module _ (laws : EndLaws) (x : Setup) (far : AreFilesApart x.run) (plan : Tables) (draws : List (ℕ × ℕ)) (s0 s : Seats) (h : HistoryValue) (p q : Progress) (first reader : Spot) (stop : Ending) (last : Option (List ℕ × ℕ)) (said now : Option (List ℕ))
+    (some : SomeLeft reader.left) (start : IsFirst x.form x.run.errors p) (no_points : s0.points ≡ []) (bounded : IsInRange x q) (end : IsAtEnd plan draws s h q.number) where
+  ended : (a d e : Contents) → IsHalfDone x plan draws p q s0 s first reader (Some stop) last a d → ((taken : List Rec) → Stands q.stage taken → IsFinished x q s.points taken d e said now) →
+      Ends x plan first (Ok stop) a e said now last (Some h)
+  ended a d e half done tables windows of stood =
+      let b : Contents = half.middle in
+      let input : content half.middle x.run.input ≡ content a x.run.input = same_input x far a half.middle half.opened in
+      let took : TakesOn x plan draws (mark half.middle p s0 first) (mark d q s reader) (Some stop) last = half.goes (let S : List ℕ → Type 0 = λ bytes. first.stood bytes in subst S (sym input) stood) in
+      let rs : List Rec = took.records in
+      let written : (c : Course) → Suits plan draws c → HasWritten x c half.middle (mark d q s reader) took.records = λ c suits. took.written c suits half.middle [] (none_written x c half.middle p s0 first start no_points) in
+      let W : List Window → Type 0 = λ w. AreAllPoints w s.points q.number in
+      let c0 = written_count took.records written windows tables of in
+      let placed : AreAllPoints windows s.points (length took.records) = let A : ℕ → Type 0 = λ n. AreAllPoints windows s.points n in subst A c0 (subst W of.same_windows end.points) in
+      let has : HasCourse x tables windows s half.middle (mark d q s reader) took.records = with_limit laws x tables windows plan draws s h of end.closed end.few half.middle (mark d q s reader) took.records bounded.rate written placed in
+      let run : IsRun x.run tables windows x.slots x.form x.written took.records a e said now (Some h) = record {
+        points = s.points;
+        course = has.course;
+        is_course = has.is_course;
+        outputs = is_written x far laws.totals tables windows s q reader a half.middle d e said now took.records half.opened has (done took.records has.written.stands);
+        is_history = is_history x tables windows plan draws s h took.records of end.closed (end.count ∙ c0) has.written.reads;
+      } in
+      let F : ℕ → Type 0 = λ n. Precedes first.left reader.left (content half.middle x.run.input) n took.records q.number in
+      ends_by x tables windows a e said now (Some h) first reader q.number (content half.middle x.run.input) took.records stop last input some took.forward took.within (subst F start.number took.follows) took.stopped run where
+        written_count : (rs : List Rec) → ((c : Course) → Suits plan draws c → HasWritten x c half.middle (mark d q s reader) rs) → (windows : List Window) (tables : ℕ → BindingTable) → IsPlanOf tables windows plan → q.number ≡ length rs
+        written_count rs written windows tables of = (written (bare tables s.points) (suits_bare tables windows plan draws s h of end.closed)).number
+
+  pub ends : (shown : Option (List ℕ × ℕ)) → shown ≡ last → (h0 h1 h2 h3 : Option Contents) →
+      Moves h0 h1 (IsOpened x.run x.written) →
+      Moves h1 h2 (λ b d. Goes x plan draws (mark b p s0 first) (mark d q s reader) (Some stop) last) →
+      Moves h2 h3 (λ d e. (taken : List Rec) → Stands q.stage taken → IsFinished x q s.points taken d e said now) →
+      Moves h0 h3 (λ a e. Ends x plan first (Ok stop) a e said now shown (Some h))
+  ends shown shown_is h0 h1 h2 h3 opening going third =
+      let half : Moves h0 h2 (λ a d. IsHalfDone x plan draws p q s0 s first reader (Some stop) last a d) =
+      moves_join h0 h1 h2 (IsOpened x.run x.written) (λ b d. Goes x plan draws (mark b p s0 first) (mark d q s reader) (Some stop) last)
+      (λ a d. IsHalfDone x plan draws p q s0 s first reader (Some stop) last a d) (λ a b d u w. record { middle = b; opened = u; goes = w }) opening going in
+      let L : Option (List ℕ × ℕ) → Type 0 = λ l. Moves h0 h3 (λ a e. Ends x plan first (Ok stop) a e said now l (Some h)) in
+      subst L (sym shown_is) (moves_join h0 h2 h3
+      (λ a d. IsHalfDone x plan draws p q s0 s first reader (Some stop) last a d)
+      (λ d e. (taken : List Rec) → Stands q.stage taken → IsFinished x q s.points taken d e said now)
+      (λ a e. Ends x plan first (Ok stop) a e said now last (Some h))
+      (λ a d e u w. ended a d e u w) half third)

@@ -1,32 +1,35 @@
--- A round: what was read, judged and written, put together; and rounds one after another.
-use Rattle.std.proofs.Common.{◌≡◌, ℕ, ◌+◌, ◌≤◌, List, [], ◌++◌, length, All, Option, Some, None, refl, sym, ◌∙◌, ap, subst, arith, append-nil, append_assoc, length-append}
-use Rattle.std.specs.Prelude.{string_bytes}
-use Rattle.std.proofs.lemmas.List.Elements.{All-append}
-use Rattle.aftr_base.specs.Contents.{Contents, content, Moves, Told}
-use Rattle.aftr_base.specs.Outside.{FailsAt}
+-- A round: what was read, judged and written, put together.
+use Rattle.std.proofs.Common.{◌≡◌, ℕ, ◌+◌, ◌-◌, ◌<◌, ◌≤◌, List, ◌++◌, length, get_or, All, take, drop, Option, Some, inl, inr, sym, ◌∙◌, ap, subst, arith, append_assoc, length-append}
+use Rattle.std.specs.List.{slice_get}
+use Rattle.std.proofs.lemmas.Bool.{cases_lt}
+use Rattle.std.proofs.lemmas.Option.{slice_get-get_or}
+use Rattle.aftr_base.specs.Contents.{Contents, content}
+use Rattle.aftr_text.specs.declared.jobs.RunJob.{RunJob}
 use Rattle.aftr_text.specs.declared.summaries.Totals.{Totals}
-use Rattle.binding_rules.specs.Tables.{BindingTable}
 use Rattle.capture_io.specs.declared.forms.Form.{Form}
 use Rattle.capture_io.specs.declared.forms.Rec.{Rec}
-use Rattle.capture_io.specs.declared.rounds.Ending.{Ending}
-use Rattle.capture_io.specs.declared.rounds.Ending.TheVariants as ending
-use Rattle.capture_io.specs.declared.rounds.Round.{Round}
-use Rattle.capture_io.specs.declared.written.Written.{Written}
-use Rattle.capture_io.specs.Rounds.{GoesOn, IsEnding, IsInNext, IsPlaced, Left, Precedes, is_cut}
+use Rattle.error_limit.specs.Limits.{Bucket}
 use Rattle.item_stage.specs.declared.entries.Entry.{Entry}
-use Rattle.item_stage.specs.Items.{entries_of}
+use Rattle.item_stage.specs.Items.{entries_of, items_in}
+use Rattle.ip_codec.specs.declared.items.Item.{Item}
 use Rattle.item_stage.specs.Stages.{Staged, Stands}
-use Rattle.lwaftr_engine.specs.Counting.{no_totals, totals_from}
-use Rattle.lwaftr_engine.specs.Jobs.{RunNames}
-use Rattle.lwaftr_engine.specs.Outputs.{Course, packets_from, lines_from, steady, written_as}
-use Rattle.lwaftr_engine.specs.Progress.{HasWritten, Stops, TakesOn, Wrote}
-use Rattle.lwaftr_engine.specs.Rendering.{IsRendered}
-use Rattle.lwaftr_engine.specs.declared.rendering.Rendered.{Rendered}
+use Rattle.lwaftr_engine.specs.Progress.{HasWritten, IsLimitedRun, Seats, Setup, Spot, Wrote, loads_of, mark}
+use Rattle.lwaftr_engine.specs.Runs.{all_asking}
 use Rattle.lwaftr_engine.specs.declared.rounds.Progress.{Progress}
-use Rattle.lwaftr_engine.proofs.Joining.{lines_join, packets_join, totals_join}
-use Rattle.lwaftr_engine.proofs.Moving.{moves_join, told_then}
-use Rattle.lwaftr_engine.proofs.Touching.{AreApart}
-use Rattle.table_words.specs.Layout.{IsCompiled}
+use Rattle.run_output.specs.Counting.{no_totals, totals_from}
+use Rattle.run_output.specs.Laws.{AreJoined, LimitsBegin, LoadLinesJoin, RoundsJoin}
+use Rattle.run_output.specs.Limiting.{HasAsked, IsLimited, rate_of}
+use Rattle.run_output.specs.Outputs.{Course, lines_from, packets_from}
+use Rattle.run_output.specs.Rendering.{HasOutcomes, IsCourseOf, IsRendered, lines_in, packets_in}
+use Rattle.run_output.specs.Versions.{NoneIsDue, between, load_lines}
+use Rattle.run_output.specs.declared.parts.Part.{Part}
+use Rattle.worker_gate.specs.declared.outcomes.Outcome.{Outcome}
+use Rattle.worker_gate.specs.Crews.{no_outcome}
+use Rattle.worker_gate.specs.Outcomes.{asks}
+use Rattle.std.specs.Prelude.{cond}
+use Rattle.std.proofs.lemmas.List.{map-append}
+use Rattle.std.proofs.lemmas.List.Sums.{sum_by-append}
+use Rattle.lwaftr_engine.proofs.Elements.{all_at}
 
 -- what the stage says of the round's records
 pub record IsStaged (before after : Staged) (records : List Rec) (es : List Entry) : Type 0 where
@@ -35,173 +38,158 @@ pub record IsStaged (before after : Staged) (records : List Rec) (es : List Entr
   pub count : length es ≡ length records
   pub form : after.form ≡ before.form
 
-entries_more : (form : Form) (before after : Staged) (records : List Rec) (es : List Entry) (taken : List Rec) → before.form ≡ form → Stands before taken →
+pub entries_more : (form : Form) (before after : Staged) (records : List Rec) (es : List Entry) (taken : List Rec) → before.form ≡ form → Stands before taken →
     IsStaged before after records es → entries_of form (taken ++ records) ≡ entries_of form taken ++ es
 entries_more form before after records es taken is stands staged =
     let P : Form → Type 0 = λ f. entries_of f (taken ++ records) ≡ entries_of f taken ++ es in subst P is (staged.entries taken stands)
 
+-- what the limit on errors and the rendering say of the round
+pub record AreRendered (x : Setup) (start : ℕ) (records : List Rec) (es : List Entry) (os : List Outcome) (limit now : Option Bucket) (before after : Totals) (parts : List Part) : Type 0 where
+  pub rendered : (c : Course) (taken : List Rec) (front : List Entry) → length taken ≡ start → IsCourseOf c x.form taken records front es os limit →
+      IsLimited (rate_of limit) x.form (taken ++ records) (front ++ es) c → IsRendered c x.written start records es before after parts
+  pub asked : (c : Course) (taken : List Rec) (front : List Entry) → length taken ≡ start → IsCourseOf c x.form taken records front es os limit →
+      HasAsked x.form (taken ++ records) (front ++ es) c now
+
+-- the new lines of tables
+pub record AreNewLines (x : Setup) (points now news : List ℕ) (from to : ℕ) (lines : List ℕ) : Type 0 where
+  pub points_are : now ≡ points ++ news
+  pub forward : from ≤ to
+  pub lines_are : (later : List ℕ) → lines ≡ load_lines (now ++ later) (between from to (loads_of x))
+  pub none_due : NoneIsDue now (drop to x.slots)
+
+-- all that is known of a round, whatever the course is
+pub record IsRoundOf (x : Setup) (p q : Progress) (s t : Seats) (news : List ℕ) (records : List Rec) (es : List Entry) (os : List Outcome) (lines : List ℕ) (parts : List Part) : Type 0 where
+  pub numbered : q.number ≡ p.number + length records
+  pub staged : IsStaged p.stage q.stage records es
+  pub outcomes_count : length os ≡ length es
+  pub versions : All (λ (o : Outcome). o.version ≤ length t.points) os
+  pub reads : s.reads + all_asking (items_in es) ≤ t.reads
+  pub rate : rate_of p.limit ≡ x.run.errors
+  pub made : AreRendered x p.number records es os p.limit q.limit p.totals q.totals parts
+  pub new_lines : AreNewLines x s.points t.points news p.printed q.printed lines
+
+pub record Joins : Type 0 where
+  pub rounds : RoundsJoin
+  pub limits : LimitsBegin
+  pub lines : LoadLinesJoin
+
 -- behind what was written, more is
-wrote_more : (n : RunNames) (a b d : Contents) (packets lines more_packets more_lines : List ℕ) → Wrote n packets lines a b → Wrote n more_packets more_lines b d →
-    Wrote n (packets ++ more_packets) (lines ++ more_lines) a d
-wrote_more n a b d packets lines more_packets more_lines first second = record {
-  output = second.output ∙ (ap (λ (l : List ℕ). l ++ more_packets) first.output ∙ append_assoc (content a n.output) packets more_packets);
-  verdicts = second.verdicts ∙ (ap (λ (l : List ℕ). l ++ more_lines) first.verdicts ∙ append_assoc (content a n.verdicts) lines more_lines);
-  others = λ name x y. second.others name x y ∙ first.others name x y;
+pub wrote_more : (run : RunJob) (a b d : Contents) (versions packets lines more_versions more_packets more_lines : List ℕ) → Wrote run versions packets lines a b → Wrote run more_versions more_packets more_lines b d →
+    Wrote run (versions ++ more_versions) (packets ++ more_packets) (lines ++ more_lines) a d
+wrote_more run a b d versions packets lines more_versions more_packets more_lines first second = record {
+  versions_is = second.versions_is ∙ (ap (λ (l : List ℕ). l ++ more_versions) first.versions_is ∙ append_assoc (content a run.versions) versions more_versions);
+  output = second.output ∙ (ap (λ (l : List ℕ). l ++ more_packets) first.output ∙ append_assoc (content a run.output) packets more_packets);
+  verdicts = second.verdicts ∙ (ap (λ (l : List ℕ). l ++ more_lines) first.verdicts ∙ append_assoc (content a run.verdicts) lines more_lines);
+  others = λ name u v w. second.others name u v w ∙ first.others name u v w;
 }
 
--- a round more is written
-pub written_more : (n : RunNames) (form : Form) (c : Course) (opened a d : Contents) (p : Progress) (records : List Rec) (next : ℕ) (es : List Entry) (stage : Staged) (totals : Totals) (r : Rendered) (taken : List Rec) →
-    next ≡ p.number + length records → IsStaged p.stage stage records es →
-    IsRendered c (written_as form) p.number records es p.totals totals r →
-    Wrote n r.packets.items (string_bytes r.lines) a d →
-    HasWritten n form c opened a p taken →
-    HasWritten n form c opened d (record { stage = stage; number = next; totals = totals }) (taken ++ records)
-written_more n form c opened a d p records next es stage totals r taken numbered staged rendered wrote h =
-    let w = written_as form in
-    let more : entries_of form (taken ++ records) ≡ entries_of form taken ++ es = entries_more form p.stage stage records es taken h.stage_form h.stands staged in
-    let here : p.number ≡ 0 + length taken = omega (arith, h.number) in
-    let behind : p.number ≡ 0 + length (entries_of form taken) = omega (arith, h.number, h.entries) in
-    let packets : packets_from c w 0 taken (entries_of form taken) ++ r.packets.items ≡ packets_from c w 0 (taken ++ records) (entries_of form (taken ++ records)) =
-    ap (λ (l : List ℕ). packets_from c w 0 taken (entries_of form taken) ++ l) rendered.packets
-    ∙ (sym (packets_join c w 0 p.number taken records (entries_of form taken) es h.entries here)
-    ∙ ap (λ (l : List Entry). packets_from c w 0 (taken ++ records) l) (sym more)) in
-    let lines : lines_from c 0 (entries_of form taken) ++ string_bytes r.lines ≡ lines_from c 0 (entries_of form (taken ++ records)) =
-    ap (λ (l : List ℕ). lines_from c 0 (entries_of form taken) ++ l) rendered.lines
-    ∙ (sym (lines_join c 0 p.number (entries_of form taken) es behind)
-    ∙ ap (λ (l : List Entry). lines_from c 0 l) (sym more)) in
-    let W : List ℕ → List ℕ → Type 0 = λ x y. Wrote n x y opened d in
-    let both : W (packets_from c w 0 taken (entries_of form taken) ++ r.packets.items) (lines_from c 0 (entries_of form taken) ++ string_bytes r.lines) =
-    wrote_more n opened a d (packets_from c w 0 taken (entries_of form taken)) (lines_from c 0 (entries_of form taken)) r.packets.items (string_bytes r.lines) h.files wrote in
-    record {
-      stands = staged.stands taken h.stands;
-      stage_form = staged.form ∙ h.stage_form;
-      number = omega (arith, numbered, h.number, length-append taken records);
-      entries = ap length more ∙ omega (arith, length-append (entries_of form taken) es, length-append taken records, h.entries, staged.count);
-      totals = rendered.totals ∙ (ap (λ (t : Totals). totals_from c t p.number es) h.totals
-          ∙ (sym (totals_join c no_totals 0 p.number (entries_of form taken) es behind) ∙ ap (λ (l : List Entry). totals_from c no_totals 0 l) (sym more)));
-      files = subst (λ (y : List ℕ). W (packets_from c w 0 (taken ++ records) (entries_of form (taken ++ records))) y) lines
-          (subst (λ (x : List ℕ). W x (lines_from c 0 (entries_of form taken) ++ string_bytes r.lines)) packets both);
-    }
+asking_append : (es more : List Entry) → all_asking (items_in (es ++ more)) ≡ all_asking (items_in es) + all_asking (items_in more)
+asking_append es more =
+    ap (λ (l : List Item). all_asking l) (map-append (λ (e : Entry). e.item) es more)
+    ∙ sum_by-append (λ (i : Item). cond (asks (Some i)) 1 0) (items_in es) (items_in more)
 
--- one round, over files that were this before it
-pub takes_on : (n : RunNames) (form : Form) (c : Course) → AreApart n → (a d : Contents) (Stood : List ℕ → Type 0) (before now : Left) (from to : ℕ) (p : Progress) (round : Round) (es : List Entry) (stage : Staged) (totals : Totals) (r : Rendered) (last : Option (List ℕ × ℕ)) →
-    round.number ≡ p.number + length round.records → IsPlaced from to round → IsStaged p.stage stage round.records es →
-    IsRendered c (written_as form) p.number round.records es p.totals totals r →
-    GoesOn Stood before now (content a n.input) p.number round → Stops n.input now to (content a n.input) round.number round.ending last →
-    Wrote n r.packets.items (string_bytes r.lines) a d →
-    TakesOn n form c a d Stood before now from to p (record { stage = stage; number = round.number; totals = totals }) round.ending last
-takes_on n form c far a d Stood before now from to p round es stage totals r last numbered placed staged rendered goes stopped wrote = record {
-  records = round.records;
-  stands = goes.stands;
-  input = wrote.others n.input (λ e. far.output_input (sym e)) (λ e. far.verdicts_input (sym e));
-  follows = goes.follows;
-  forward = placed.forward;
-  within = placed.within;
-  stopped = stopped;
-  written = λ opened taken h. written_more n form c opened a d p round.records round.number es stage totals r taken numbered staged rendered wrote h;
-}
+module _ (joins : Joins) (x : Setup) (c : Course) (p q : Progress) (s t : Seats) (news : List ℕ) (records : List Rec) (es : List Entry) (os : List Outcome) (vs : List ℕ) (parts : List Part)
+    (round : IsRoundOf x p q s t news records es os vs parts) (outcomes : HasOutcomes c p.number es os)
+    (opened a : Contents) (here : Spot) (taken : List Rec) (h : HasWritten x c opened (mark a p s here) taken) where
+  E : List Entry
+  E = entries_of x.form taken
 
-stops : (m : Contents) (name : List ℕ) (Stood : List ℕ → Type 0) (now : Left) (to number : ℕ) (stop : Option Ending) (old new : Option (List ℕ × ℕ)) → Stood (content m name) →
-    IsEnding now (content m name) number stop → FailsAt (is_cut stop) name (IsInNext name Stood now to (Some m) number) old new → Stops name now to (content m name) number stop new
-stops m name Stood now to number None old new stood ended last = tt
-stops m name Stood now to number (Some ending.End) old new stood ended last = ended
-stops m name Stood now to number (Some (ending.Bad refusal)) old new stood ended last = ended
-stops m name Stood now to number (Some ending.ReadFault) old new stood ended last = record { place = last.0; last_is = last.2; begun = last.1.0; before = last.1.1 stood }
+  pub more : entries_of x.form (taken ++ records) ≡ entries_of x.form taken ++ es
+  more = entries_more x.form p.stage q.stage records es taken h.stage_form h.stands round.staged
 
--- what was read, and how the records stopped
-record IsNext (name : List ℕ) (Standing : List ℕ → Type 0) (before now : Left) (to number : ℕ) (bytes : List ℕ) (round : Round) (last : Option (List ℕ × ℕ)) : Type 0 where
-  goes : GoesOn Standing before now bytes number round
-  stopped : Stops name now to bytes round.number round.ending last
+  course : IsCourseOf c x.form taken records (entries_of x.form taken) es os p.limit
+  course = record { counted = h.entries; outcomes_of = subst (λ (n : ℕ). HasOutcomes c n es os) h.number outcomes; asked = h.asked }
 
-next_told : (held : Option Contents) (name : List ℕ) (Stood Standing : List ℕ → Type 0) (before now : Left) (to number : ℕ) (round : Round) (old new : Option (List ℕ × ℕ)) →
-    Told held (λ m. Stood (content m name) → GoesOn Standing before now (content m name) number round) →
-    FailsAt (is_cut round.ending) name (IsInNext name Stood now to held round.number) old new →
-    Told held (λ m. Stood (content m name) → IsNext name Standing before now to number (content m name) round new)
-next_told None name Stood Standing before now to number round old new told last = tt
-next_told (Some m) name Stood Standing before now to number round old new told last = λ stood.
-    record { goes = told stood; stopped = stops m name Stood now to round.number round.ending old new stood (told stood).ended last }
+  pub asked_more : HasAsked x.form (taken ++ records) (entries_of x.form (taken ++ records)) c q.limit
+  asked_more =
+      let H : List Entry → Type 0 = λ l. HasAsked x.form (taken ++ records) l c q.limit in
+      subst H (sym more) (round.made.asked c taken (entries_of x.form taken) (sym h.number) course)
 
--- the files before and after a round
-pub went : (n : RunNames) (form : Form) (w : Written) (words : List ℕ) → AreApart n → (Stood Standing : List ℕ → Type 0) (before now : Left) (from to : ℕ) (p : Progress) (round : Round) (es : List Entry) (stage : Staged) (totals : Totals) (r : Rendered) (old last later : Option (List ℕ × ℕ)) →
-    w ≡ written_as form → round.number ≡ p.number + length round.records → IsPlaced from to round → IsStaged p.stage stage round.records es →
-    ((t : BindingTable) → IsCompiled t words → IsRendered (steady t) w p.number round.records es p.totals totals r) →
-    (h0 h1 h2 : Option Contents) → h1 ≡ h0 → Told h0 (λ m. Stood (content m n.input) → GoesOn Standing before now (content m n.input) p.number round) →
-    FailsAt (is_cut round.ending) n.input (IsInNext n.input Stood now to h0 round.number) old last → later ≡ last →
-    Moves h1 h2 (λ a d. Wrote n r.packets.items (string_bytes r.lines) a d) →
-    Moves h0 h2 (λ a d. (t : BindingTable) → IsCompiled t words → Stood (content a n.input) →
-    TakesOn n form (steady t) a d Standing before now from to p (record { stage = stage; number = round.number; totals = totals }) round.ending later)
-went n form w words far Stood Standing before now from to p round es stage totals r old last later form_is numbered placed staged rendered h0 h1 h2 same told stopped later_is wrote =
-    let q : Progress = record { stage = stage; number = round.number; totals = totals } in
-    let F : Option (List ℕ × ℕ) → Type 0 = λ l. FailsAt (is_cut round.ending) n.input (IsInNext n.input Stood now to h0 round.number) old l in
-    let next : Told h0 (λ m. Stood (content m n.input) → IsNext n.input Standing before now to p.number (content m n.input) round later) =
-    next_told h0 n.input Stood Standing before now to p.number round old later told (subst F (sym later_is) stopped) in
-    let seen : (t : BindingTable) → IsCompiled t words → IsRendered (steady t) (written_as form) p.number round.records es p.totals totals r =
-    λ t compiled. subst (λ (x : Written). IsRendered (steady t) x p.number round.records es p.totals totals r) form_is (rendered t compiled) in
-    told_then h0 h1 h2 (λ m. Stood (content m n.input) → IsNext n.input Standing before now to p.number (content m n.input) round later) (λ a d. Wrote n r.packets.items (string_bytes r.lines) a d)
-    (λ a d. (t : BindingTable) → IsCompiled t words → Stood (content a n.input) → TakesOn n form (steady t) a d Standing before now from to p q round.ending later)
-    (λ a d here done t compiled stood. takes_on n form (steady t) far a d Standing before now from to p round es stage totals r later numbered placed staged (seen t compiled) (here stood).goes (here stood).stopped done)
-    same next wrote
+  limited_behind : IsLimitedRun x c (taken ++ records) → IsLimited x.run.errors x.form (taken ++ records) (entries_of x.form taken ++ es) c
+  limited_behind limited = let L : List Entry → Type 0 = λ l. IsLimited x.run.errors x.form (taken ++ records) l c in subst L more limited
 
-no_further : (rs : List Rec) (here there : ℕ) → here ≤ there → All (λ r. r.next_at ≤ here) rs → All (λ r. r.next_at ≤ there) rs
-no_further rs here there forward each = λ k d within. omega (arith, each k d within)
+  pub limited_before : IsLimitedRun x c (taken ++ records) → IsLimitedRun x c taken
+  limited_before limited = joins.limits x.run.errors x.form taken records (entries_of x.form taken) es c h.entries (limited_behind limited)
 
-follows_more : (first middle last : Left) (bytes : List ℕ) (number next there : ℕ) (rs ss : List Rec) →
-    Precedes first middle bytes number rs next → Precedes middle last bytes next ss there → Precedes first last bytes number (rs ++ ss) there
-follows_more first middle last bytes number next there rs ss one two = λ rest e left.
-    let P : List Rec → Type 0 = λ l. first bytes number l e in
-    subst P (sym (append_assoc rs ss rest)) (one (ss ++ rest) e (two rest e left))
+  pub rendered : IsLimitedRun x c (taken ++ records) → IsRendered c x.written p.number records es p.totals q.totals parts
+  rendered limited =
+      let R : Option ℕ → Type 0 = λ r. IsLimited r x.form (taken ++ records) (entries_of x.form taken ++ es) c in
+      round.made.rendered c taken (entries_of x.form taken) (sym h.number) course (subst R (sym round.rate) (limited_behind limited))
 
--- rounds, and then more of them
-joins : (n : RunNames) (form : Form) (c : Course) (a b d : Contents) (Stood Standing : List ℕ → Type 0) (first middle now : Left) (from mid to : ℕ) (p q r : Progress) (stop : Option Ending) (old last : Option (List ℕ × ℕ)) →
-    TakesOn n form c a b Stood first middle from mid p q None old → TakesOn n form c b d Standing middle now mid to q r stop last →
-    TakesOn n form c a d Standing first now from to p r stop last
-joins n form c a b d Stood Standing first middle now from mid to p q r stop old last one two =
-    let F : List ℕ → Type 0 = λ bytes. Precedes middle now bytes q.number two.records r.number in
-    let S : List ℕ → Type 0 = λ bytes. Stops n.input now to bytes r.number stop last in
-    record {
-      records = one.records ++ two.records;
-      stands = subst Standing one.input two.stands;
-      input = two.input ∙ one.input;
-      follows = follows_more first middle now (content a n.input) p.number q.number r.number one.records two.records one.follows (subst F one.input two.follows);
-      forward = omega (arith, one.forward, two.forward);
-      within = All-append (λ x. x.next_at ≤ to) one.records two.records (no_further one.records mid to two.forward one.within) two.within;
-      stopped = subst S one.input two.stopped;
-      written = λ opened taken h.
-          let H : List Rec → Type 0 = λ l. HasWritten n form c opened d r l in
-          subst H (append_assoc taken one.records two.records) (two.written opened (taken ++ one.records) (one.written opened taken h));
-    }
+  joined : AreJoined c x.written 0 taken records (entries_of x.form taken) es
+  joined = joins.rounds c x.written 0 taken records (entries_of x.form taken) es h.entries
 
-pub rounds_join : (n : RunNames) (form : Form) (words : List ℕ) (h0 h1 h2 : Option Contents) (Started Stood Standing : List ℕ → Type 0) (first middle now : Left) (from mid to : ℕ) (p q r : Progress) (shown stop : Option Ending) (old last : Option (List ℕ × ℕ)) →
-    shown ≡ stop →
-    Moves h0 h1 (λ a b. (t : BindingTable) → IsCompiled t words → Started (content a n.input) → TakesOn n form (steady t) a b Stood first middle from mid p q None old) →
-    Moves h1 h2 (λ b d. (t : BindingTable) → IsCompiled t words → Stood (content b n.input) → TakesOn n form (steady t) b d Standing middle now mid to q r shown last) →
-    Moves h0 h2 (λ a d. (t : BindingTable) → IsCompiled t words → Started (content a n.input) → TakesOn n form (steady t) a d Standing first now from to p r stop last)
-rounds_join n form words h0 h1 h2 Started Stood Standing first middle now from mid to p q r shown stop old last is one two =
-    let T : Option Ending → Type 0 = λ k. Moves h1 h2 (λ b d. (t : BindingTable) → IsCompiled t words → Stood (content b n.input) → TakesOn n form (steady t) b d Standing middle now mid to q r k last) in
-    moves_join h0 h1 h2
-    (λ a b. (t : BindingTable) → IsCompiled t words → Started (content a n.input) → TakesOn n form (steady t) a b Stood first middle from mid p q None old)
-    (λ b d. (t : BindingTable) → IsCompiled t words → Stood (content b n.input) → TakesOn n form (steady t) b d Standing middle now mid to q r stop last)
-    (λ a d. (t : BindingTable) → IsCompiled t words → Started (content a n.input) → TakesOn n form (steady t) a d Standing first now from to p r stop last)
-    (λ a b d x y t compiled started.
-    let left = x t compiled started in
-    joins n form (steady t) a b d Stood Standing first middle now from mid to p q r stop old last left (y t compiled (subst Stood (sym left.input) left.stands)))
-    one (subst T is two)
+  start : 0 + length taken ≡ p.number
+  start = omega (arith, h.number)
 
--- before the first round
-begins : (n : RunNames) (form : Form) (c : Course) (m : Contents) (Stood : List ℕ → Type 0) (left : Left) (at : ℕ) (p : Progress) (last : Option (List ℕ × ℕ)) →
-    Stood (content m n.input) → TakesOn n form c m m Stood left left at at p p None last
-begins n form c m Stood left at p last stood = record {
-  records = [];
-  stands = stood;
-  input = refl;
-  follows = λ rs e x. x;
-  forward = omega arith;
-  within = λ k d within. absurd (omega arith);
-  stopped = tt;
-  written = λ opened taken h. let H : List Rec → Type 0 = λ l. HasWritten n form c opened m p l in subst H (sym (append-nil taken)) h;
-}
+  pub packets_are : IsLimitedRun x c (taken ++ records) → packets_from c x.written 0 taken (entries_of x.form taken) ++ packets_in parts ≡ packets_from c x.written 0 (taken ++ records) (entries_of x.form (taken ++ records))
+  packets_are limited =
+      ap (λ (l : List ℕ). packets_from c x.written 0 taken (entries_of x.form taken) ++ l) ((rendered limited).packets ∙ ap (λ (n : ℕ). packets_from c x.written n records es) (sym start))
+      ∙ (sym joined.packets ∙ ap (λ (l : List Entry). packets_from c x.written 0 (taken ++ records) l) (sym more))
 
-pub rounds_begin : (n : RunNames) (form : Form) (words : List ℕ) (h : Option Contents) (Stood : List ℕ → Type 0) (left : Left) (at : ℕ) (p : Progress) (last : Option (List ℕ × ℕ)) →
-    Moves h h (λ a d. (t : BindingTable) → IsCompiled t words → Stood (content a n.input) → TakesOn n form (steady t) a d Stood left left at at p p None last)
-rounds_begin n form words None Stood left at p last = tt
-rounds_begin n form words (Some m) Stood left at p last = λ t compiled stood. begins n form (steady t) m Stood left at p last stood
+  pub lines_are : IsLimitedRun x c (taken ++ records) → lines_from c 0 (entries_of x.form taken) ++ lines_in parts ≡ lines_from c 0 (entries_of x.form (taken ++ records))
+  lines_are limited =
+      ap (λ (l : List ℕ). lines_from c 0 (entries_of x.form taken) ++ l) ((rendered limited).lines ∙ ap (λ (n : ℕ). lines_from c n es) (sym start))
+      ∙ (sym joined.lines ∙ ap (λ (l : List Entry). lines_from c 0 l) (sym more))
+
+  pub versions_are : (later : List ℕ) → load_lines (s.points ++ (news ++ later)) (take p.printed (loads_of x)) ++ vs ≡ load_lines (t.points ++ later) (take q.printed (loads_of x))
+  versions_are later =
+      let all : s.points ++ (news ++ later) ≡ t.points ++ later = sym (append_assoc s.points news later) ∙ ap (λ (l : List ℕ). l ++ later) (sym round.new_lines.points_are) in
+      ap (λ (l : List ℕ). load_lines l (take p.printed (loads_of x)) ++ vs) all
+      ∙ (ap (λ (l : List ℕ). load_lines (t.points ++ later) (take p.printed (loads_of x)) ++ l) (round.new_lines.lines_are later)
+      ∙ joins.lines (t.points ++ later) (loads_of x) p.printed q.printed round.new_lines.forward)
+
+  pub totals_more : IsLimitedRun x c (taken ++ records) → q.totals ≡ totals_from c no_totals 0 (entries_of x.form (taken ++ records))
+  totals_more limited =
+      (rendered limited).totals
+      ∙ (ap (λ (t : Totals). totals_from c t p.number es) (h.totals (limited_before limited))
+      ∙ (ap (λ (n : ℕ). totals_from c (totals_from c no_totals 0 (entries_of x.form taken)) n es) (sym start)
+      ∙ (sym (joined.totals no_totals) ∙ ap (λ (l : List Entry). totals_from c no_totals 0 l) (sym more))))
+
+  pub entries_count : length (entries_of x.form (taken ++ records)) ≡ length (taken ++ records)
+  entries_count = ap (λ (l : List Entry). length l) more ∙ omega (arith, length-append (entries_of x.form taken) es, length-append taken records, h.entries, round.staged.count)
+
+  pub spoken_more : (number : ℕ) → number < length (taken ++ records) → c.version number ≤ length t.points
+  spoken_more number inside = elim (cases_lt number (length taken)) [
+    | inl before ↦ omega (arith, h.spoken number before, round.new_lines.points_are, length-append s.points news, ap (λ (l : List ℕ). length l) round.new_lines.points_are)
+    | inr behind ↦ spoken_new number (number - length taken) (omega (arith, behind, h.number)) (omega (arith, behind, inside, length-append taken records, round.staged.count, round.outcomes_count))
+  ] where
+    spoken_new : (number k : ℕ) → number ≡ p.number + k → k < length os → c.version number ≤ length t.points
+    spoken_new number k is within =
+        let o : Outcome = get_or os k no_outcome in
+        let at : slice_get os k ≡ Some (get_or os k no_outcome) = slice_get-get_or os k no_outcome within in
+        let few : (get_or os k no_outcome).version ≤ length t.points = all_at (λ (y : Outcome). y.version ≤ length t.points) os k (get_or os k no_outcome) round.versions at in
+        let version : (get_or os k no_outcome).version ≡ c.version (get_or os k no_outcome).number = outcomes.versions k (get_or os k no_outcome) at in
+        let same : (get_or os k no_outcome).number ≡ number = outcomes.numbers k (get_or os k no_outcome) at ∙ sym is in
+        let V : ℕ → Type 0 = λ n. n ≤ length t.points in
+        subst V (version ∙ ap (λ (n : ℕ). c.version n) same) few
+
+  pub reads_more : all_asking (items_in (entries_of x.form (taken ++ records))) ≤ t.reads
+  reads_more =
+      let same : all_asking (items_in (entries_of x.form (taken ++ records))) ≡ all_asking (items_in (entries_of x.form taken)) + all_asking (items_in es) =
+      ap (λ (l : List Entry). all_asking (items_in l)) more ∙ asking_append (entries_of x.form taken) es in
+      omega (arith, same, h.reads, round.reads)
+
+  -- a round more is written
+  pub written_more : (d : Contents) (there : Spot) → Wrote x.run vs (packets_in parts) (lines_in parts) a d → HasWritten x c opened (mark d q t there) (taken ++ records)
+  written_more d there wrote = record {
+    stands = round.staged.stands taken h.stands;
+    stage_form = round.staged.form ∙ h.stage_form;
+    number = omega (arith, round.numbered, h.number, length-append taken records);
+    entries = entries_count;
+    asked = asked_more;
+    totals = totals_more;
+    files = λ later limited.
+        let first = h.files (news ++ later) (limited_before limited) in
+        let W : List ℕ → List ℕ → List ℕ → Type 0 = λ u v w. Wrote x.run u v w opened d in
+        let P = packets_from c x.written 0 taken (entries_of x.form taken) in
+        let L = lines_from c 0 (entries_of x.form taken) in
+        let V = load_lines (s.points ++ (news ++ later)) (take p.printed (loads_of x)) in
+        let all : Wrote x.run (V ++ vs) (P ++ packets_in parts) (L ++ lines_in parts) opened d = wrote_more x.run opened a d V P L vs (packets_in parts) (lines_in parts) first wrote in
+        subst (λ (u : List ℕ). W u (packets_from c x.written 0 (taken ++ records) (entries_of x.form (taken ++ records))) (lines_from c 0 (entries_of x.form (taken ++ records)))) (versions_are later)
+        (subst (λ (v : List ℕ). W (V ++ vs) v (lines_from c 0 (entries_of x.form (taken ++ records)))) (packets_are limited)
+        (subst (λ (w : List ℕ). W (V ++ vs) (P ++ packets_in parts) w) (lines_are limited) all));
+    none_due = round.new_lines.none_due;
+    spoken = spoken_more;
+    reads = reads_more;
+  }

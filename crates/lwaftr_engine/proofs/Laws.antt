@@ -1,12 +1,10 @@
 -- The laws of the layers below that the lemmas take, as the law functions state them.
-use Rattle.std.proofs.Common.{◌≡◌, ℕ, ◌+◌, ◌≤◌, Bool, List, Option, Result, Ok}
+use Rattle.std.proofs.Common.{◌≡◌, ℕ, Bool, List, Option, Result}
 use Rattle.binding_file.specs.Files.{TableOf}
 use Rattle.binding_file.specs.declared.refusals.FileRefused.{FileRefused}
 use Rattle.binding_rules.specs.Tables.{BindingTable}
 use Rattle.capture_io.specs.Capture.{Splits}
-use Rattle.capture_io.specs.Record.{next_in}
 use Rattle.capture_io.specs.declared.forms.CaptureBad.{CaptureBad}
-use Rattle.capture_io.specs.declared.forms.Next.TheVariants as next
 use Rattle.capture_io.specs.declared.forms.Rec.{Rec}
 
 -- a file has one answer as a table
@@ -17,7 +15,3 @@ OneAnswer = (bytes : List ℕ) (answer other : Result BindingTable FileRefused) 
 abbrev pub OneReading : Type 0
 OneReading = (big : Bool) (left : List ℕ) (at number : ℕ) (rs others : List Rec) (ending other : Option CaptureBad) →
     Splits big left at number rs ending → Splits big left at number others other → (rs ≡ others) × (ending ≡ other)
-
--- a record ends behind its header
-abbrev pub RecordsRise : Type 0
-RecordsRise = (big : Bool) (left : List ℕ) (at number : ℕ) (r : Rec) → next_in big left at number ≡ Ok (next.Rec r) → at + 16 ≤ r.next_at

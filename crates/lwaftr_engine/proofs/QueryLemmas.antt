@@ -1,7 +1,5 @@
 -- What a question about a table file leaves.
-use Rattle.std.proofs.Common.{◌≡◌, inl, inr, ℕ, ◌≤◌, List, [], ◌∷◌, length, Option, Some, None, Result, Ok, Err, refl, sym, ap, subst, arith}
-use Rattle.std.specs.Borrow.{Bor}
-use Rattle.std.specs.Prelude.{◌↔◌}
+use Rattle.std.proofs.Common.{◌≡◌, inl, inr, ℕ, ◌≤◌, List, [], ◌∷◌, length, Option, Some, None, Result, Ok, Err, sym, ap, subst, arith}
 use Rattle.aftr_base.specs.Contents.{Contents, content, Told}
 use Rattle.aftr_base.specs.declared.numbers.V4.{V4}
 use Rattle.aftr_base.specs.declared.numbers.V6.{V6}
@@ -11,11 +9,8 @@ use Rattle.binding_rules.specs.Bindings.{bound}
 use Rattle.binding_rules.specs.Tables.{BindingTable}
 use Rattle.binding_rules.specs.declared.binding.Binding.{Binding}
 use Rattle.binding_rules.specs.declared.binding.Want.TheVariants as want
-use Rattle.lwaftr_engine.specs.Jobs.{AskNothing, AsksWho, IsWho}
-use Rattle.lwaftr_engine.specs.Queries.{Answers, IsLineOf, IsOwnerLine, IsOwnerText, NamesOwner, Puts, RefusesAs}
-use Rattle.lwaftr_engine.specs.Tables.{IsNoTable}
-use Rattle.lwaftr_engine.specs.declared.words.Job.{Job}
-use Rattle.lwaftr_engine.specs.declared.words.Job.TheVariants as asked
+use Rattle.lwaftr_engine.specs.Answered.{IsNoTable, IsOwnerText, Puts}
+use Rattle.lwaftr_engine.specs.Questions.{Answers, IsLineOf, IsOwnerLine, NamesOwner, RefusesAs}
 use Rattle.lwaftr_engine.specs.declared.table_file.NoTable.{NoTable}
 use Rattle.lwaftr_engine.specs.declared.table_file.NoTable.TheVariants as none
 use Rattle.lwaftr_engine.specs.declared.status.Status.{Status}
@@ -49,7 +44,7 @@ named (b ∷ []) owner line few is text = subst (λ o. IsOwnerText o line) is te
 named (b ∷ c ∷ bs) owner line few is text = absurd (omega (arith, few))
 
 -- what is put of a line that answers a question
-answered : (IsLine : List ℕ → Type 0) (line : List ℕ) (s : Status) (said now : Option (List ℕ)) → IsLine line → Puts s line said now → Answers IsLine s said now
+pub answered : (IsLine : List ℕ → Type 0) (line : List ℕ) (s : Status) (said now : Option (List ℕ)) → IsLine line → Puts s line said now → Answers IsLine s said now
 answered IsLine line status.Done said now it p = (line, it, p)
 answered IsLine line status.WriteFault said now it p = (line, it, p.0, p.1, p.2)
 answered IsLine line status.OutOfMemory said now it p = inr (line, it, p.0, p.1, p.2)
@@ -69,17 +64,3 @@ owner_answers h name v4 port t words slice owner line put s said now spelled com
     let asked : IsOwnerLine v4 port t line = named (bound t.bindings v4 (want.Port port)) owner line (compiled.lawful.at_most_one v4 (want.Port port)) owner_is text in
     answered (λ l. IsLineOf (IsOwnerLine v4 port) h name l) line s said now
     (record { table = t; valid = compiled.valid; spelled = spelled; asked = asked }) (subst (λ l. Puts s l said now) same puts)
-
--- the words of a job that asks for the owner of a port
-pub who_words : (ws : List (List ℕ)) (j : Job) (file : Bor (List ℕ)) (address : V4) (number : ℕ) → j ≡ asked.Who file address number
-    → ((name : List ℕ) (v4 : V4) (port : ℕ) → AsksWho ws name v4 port ↔ IsWho (Some j) name v4 port) → AsksWho ws file.now address number
-who_words ws j file address number is asks =
-    (asks file.now address number).1 (subst (λ k. IsWho (Some k) file.now address number) (sym is) (refl, refl, refl))
-
--- a question that is answered is one that the words ask
-pub not_usage : (ws : List (List ℕ)) (name : List ℕ) (v4 : V4) (port : ℕ) (IsLine : List ℕ → Type 0) (s : Status) (said now : Option (List ℕ)) → AsksWho ws name v4 port
-    → Answers IsLine s said now → (s ≡ status.Usage) ↔ AskNothing ws
-not_usage ws name v4 port IsLine s said now asks answers = (
-  λ usage. let none : Answers IsLine status.Usage said now = subst (λ t. Answers IsLine t said now) usage answers in absurd none,
-  λ nothing. absurd (nothing.who name v4 port asks),
-)

@@ -1,76 +1,101 @@
--- What a run leaves: the files of its records, by how the reading ended.
-use Rattle.std.specs.Prelude.{◌≡◌, ◌≢◌, ℕ, ◌≤◌, nat_le, List, ◌++◌, length, take, filter, Option, Some, Ok}
-use Rattle.std.specs.Option.{option_map}
+-- What a run leaves, by how the reading ended.
+use Rattle.std.specs.Prelude.{◌≡◌, ℕ, ◌<◌, ◌≤◌, Bool, true, List, [], ◌∷◌, ◌++◌, All, map, Option, Some, None, Ok, Err}
+use Rattle.std.specs.List.{Contains}
 use Rattle.aftr_base.specs.Contents.{Contents, content}
-use Rattle.aftr_text.specs.Lines.{summary_text}
-use Rattle.binding_rules.specs.Tables.{BindingTable}
+use Rattle.aftr_text.specs.declared.jobs.RunJob.{RunJob}
+use Rattle.area_swap.specs.Histories.{HistoryValue}
 use Rattle.binding_file.specs.Files.{TableOf}
-use Rattle.capture_io.specs.Capture.{IsCapture}
-use Rattle.capture_io.specs.Header.{header_in}
+use Rattle.binding_rules.specs.Tables.{BindingTable}
 use Rattle.capture_io.specs.declared.forms.CaptureBad.{CaptureBad}
-use Rattle.capture_io.specs.declared.forms.Form.{Form}
 use Rattle.capture_io.specs.declared.forms.Rec.{Rec}
-use Rattle.lwaftr_engine.specs.Jobs.{RunNames}
-use Rattle.lwaftr_engine.specs.Outputs.{Course, steady, output_of, verdicts_of, versions_of, totals_of}
+use Rattle.lwaftr_engine.specs.Inputs.{Header, IsInput, header_of}
+use Rattle.lwaftr_engine.specs.Runs.{IsRun}
+use Rattle.reload_plan.specs.declared.loads.Slot.{Slot}
+use Rattle.swap_core.specs.declared.plan.Window.{Window}
+use Rattle.lwaftr_engine.specs.Tables.{Answer, AreAnswers, slots_in, some_refused, table_by, windows_in}
 
--- a name other than the three outputs holds what it held
-abbrev pub OthersKept : RunNames → Contents → Contents → Type 0
-OthersKept n old new = (name : List ℕ) → name ≢ n.output → name ≢ n.verdicts → name ≢ n.versions → content new name ≡ content old name
+-- the table files of the run say this
+pub record AreTables (run : RunJob) (m : Contents) (first : BindingTable) (answers : List Answer) : Type 0 where
+  pub table : TableOf (content m run.table) (Ok first)
+  pub loads : AreAnswers m run.loads answers
 
--- The files are those of one router that took these records of the capture, each under the table in force at its number; the
--- sink took the summary.
-pub record IsRun (n : RunNames) (old new : Contents) (said now : Option (List ℕ)) (c : Course) (form : Form) (rs : List Rec) : Type 0 where
-  pub output : content new n.output ≡ output_of c form rs
-  pub verdicts : content new n.verdicts ≡ verdicts_of c form rs
-  pub versions : content new n.versions ≡ versions_of n.table
-  pub others : OthersKept n old new
-  pub summary : now ≡ option_map (λ taken. taken ++ summary_text (totals_of c form rs)) said
+-- the names of the table files
+abbrev pub table_names : RunJob → List (List ℕ)
+table_names run = run.table ∷ map (λ load. load.name) run.loads
 
--- the tables are those of the run's files: the one table from the first record to the last
-pub record IsCourse (n : RunNames) (old : Contents) (c : Course) : Type 0 where
-  pub bindings : BindingTable
-  pub table : TableOf (content old n.table) (Ok bindings)
-  pub course : c ≡ steady bindings
+-- the first record, if there is one, ends behind a place
+abbrev pub IsBehind : ℕ → List Rec → Type 0
+IsBehind place [] = Unit {0}
+IsBehind place (r ∷ rs) = place < r.next_at
 
 -- a run of all whole records of the capture, which ends so
-pub record IsWholeRun (n : RunNames) (old new : Contents) (said now : Option (List ℕ)) (ending : Option CaptureBad) : Type 0 where
-  pub course : Course
-  pub tables : IsCourse n old course
-  pub form : Form
+pub record IsWhole (run : RunJob) (tables : ℕ → BindingTable) (windows : List Window) (slots : List Slot) (old new : Contents) (said now : Option (List ℕ)) (history : Option HistoryValue) (ending : Option CaptureBad) : Type 0 where
+  pub header : Header
   pub records : List Rec
-  pub capture : IsCapture (content old n.input) (Ok form) records ending
-  pub run : IsRun n old new said now course form records
+  pub capture : IsInput (content old run.input) header records ending
+  pub is_run : IsRun run tables windows slots header.form header.written records old new said now history
 
--- the records that end at or before a place
-abbrev pub ended_by : ℕ → List Rec → List Rec
-ended_by place all = filter (λ r. nat_le r.next_at place) all
-
--- A run cut short by a read that failed at a place of the capture: it took the records that end at or before it, which are
--- the first ones.
-pub record IsCutRun (n : RunNames) (old new : Contents) (said now : Option (List ℕ)) (last : Option (List ℕ × ℕ)) : Type 0 where
-  pub course : Course
-  pub tables : IsCourse n old course
-  pub form : Form
-  pub all : List Rec
+-- A run cut short by a read that failed at a place of the capture behind its header: it took the records that end at or before it,
+-- and the next one, if there is one, ends behind it.
+pub record IsCut (run : RunJob) (tables : ℕ → BindingTable) (windows : List Window) (slots : List Slot) (old new : Contents) (said now : Option (List ℕ)) (history : Option HistoryValue) (last : Option (List ℕ × ℕ)) : Type 0 where
+  pub header : Header
+  pub taken : List Rec
+  pub rest : List Rec
   pub ending : Option CaptureBad
-  pub capture : IsCapture (content old n.input) (Ok form) all ending
+  pub capture : IsInput (content old run.input) header (taken ++ rest) ending
   pub place : ℕ
-  pub last_is : last ≡ Some (n.input, place)
-  pub in_records : 24 ≤ place
-  pub first_ones : take (length (ended_by place all)) all ≡ ended_by place all
-  pub run : IsRun n old new said now course form (ended_by place all)
+  pub last_is : last ≡ Some (run.input, place)
+  pub in_records : header.ends_at ≤ place
+  pub reached : All (λ r. r.next_at ≤ place) taken
+  pub next : IsBehind place rest
+  pub is_run : IsRun run tables windows slots header.form header.written taken old new said now history
 
--- nothing was written: the files are as they were, and the sink took nothing
-pub record IsUntouched (old new : Contents) (said now : Option (List ℕ)) : Type 0 where
+-- a run of all whole records under the tables of its files; some load was refused, or none
+pub record IsWholeRun (run : RunJob) (old new : Contents) (said now : Option (List ℕ)) (history : Option HistoryValue) (ending : Option CaptureBad) (refused : Bool) : Type 0 where
+  pub first : BindingTable
+  pub answers : List Answer
+  pub tables : AreTables run old first answers
+  pub some_load_refused : some_refused answers ≡ refused
+  pub whole : IsWhole run (table_by first answers) (windows_in run.loads answers) (slots_in 0 answers) old new said now history ending
+
+-- a run cut short under the tables of its files
+pub record IsCutRun (run : RunJob) (old new : Contents) (said now : Option (List ℕ)) (history : Option HistoryValue) (last : Option (List ℕ × ℕ)) : Type 0 where
+  pub first : BindingTable
+  pub answers : List Answer
+  pub tables : AreTables run old first answers
+  pub cut : IsCut run (table_by first answers) (windows_in run.loads answers) (slots_in 0 answers) old new said now history last
+
+-- nothing was written: the files are as they were, and the sink took nothing; nothing came into force
+pub record IsUntouched (old new : Contents) (said now : Option (List ℕ)) (history : Option HistoryValue) : Type 0 where
   pub files : new ≡ old
   pub sink : now ≡ said
+  pub none : history ≡ None
 
--- The read that failed is one of a record, and of nothing else: the last place is one of the capture behind its header,
--- the header is sound, and no table is read from the capture's file.
-pub record IsInRecords (n : RunNames) (old : Contents) (last : Option (List ℕ × ℕ)) : Type 0 where
-  pub form : Form
-  pub header : header_in (content old n.input) ≡ Ok form
+-- The read that failed is one of a record, and of nothing else: the last place is one of the capture behind its header, the header
+-- is sound, and no table is read from the capture's file. (The first four bytes tell which kind of file it is.)
+pub record IsInRecords (run : RunJob) (old : Contents) (last : Option (List ℕ × ℕ)) : Type 0 where
+  pub header : Header
+  pub sound : header_of (content old run.input) ≡ Ok header
   pub place : ℕ
-  pub last_is : last ≡ Some (n.input, place)
-  pub behind : 24 ≤ place
-  pub apart : n.input ≢ n.table
+  pub last_is : last ≡ Some (run.input, place)
+  pub behind : (4 ≤ place) × ((header.has_end ≡ true) × (header.ends_at ≤ place))
+  pub apart : Contains (table_names run) run.input → ⊥
+
+-- The table files are read before the capture: where the read that failed is one of the capture, and no table is read from the
+-- capture's file, the first table is accepted.
+abbrev pub IsBehindTable : RunJob → Contents → Option (List ℕ × ℕ) → Type 0
+IsBehindTable run old last = (place : ℕ) → last ≡ Some (run.input, place) → (Contains (table_names run) run.input → ⊥) →
+    (first : BindingTable) × TableOf (content old run.table) (Ok first)
+
+-- A read failed before the outputs were made, and nothing was written.
+pub record IsUnread (run : RunJob) (old new : Contents) (said now : Option (List ℕ)) (history : Option HistoryValue) (last : Option (List ℕ × ℕ)) : Type 0 where
+  pub kept : IsUntouched old new said now history
+  pub early : IsInRecords run old last → ⊥
+  pub behind_table : IsBehindTable run old last
+
+-- the capture's header is refused under a table that is accepted, and nothing was written
+pub record IsBadHeader (run : RunJob) (old new : Contents) (said now : Option (List ℕ)) (history : Option HistoryValue) (refusal : CaptureBad) : Type 0 where
+  pub first : BindingTable
+  pub table : TableOf (content old run.table) (Ok first)
+  pub header : header_of (content old run.input) ≡ Err refusal
+  pub kept : IsUntouched old new said now history

@@ -1,11 +1,24 @@
-pub mod Clauses
-pub mod Counting
+-- The promises of the program's call stand in Promises, Questions, Migrations and Demos, over Causes, Endings, Fronts, Inputs, Runs,
+-- Statuses, Tables and Worlds. What stands in Progress, Loads, Opened and Answered is for the parts of the engine alone.
+pub mod Causes
+pub mod Demos
 pub mod Endings
-pub mod Jobs
-pub mod Opened
-pub mod Outputs
-pub mod Progress
-pub mod Queries
-pub mod Rendering
+pub mod Fronts
+pub mod Inputs
+pub mod Migrations
+pub mod Promises
+pub mod Questions
+pub mod Runs
 pub mod Statuses
 pub mod Tables
+pub mod Worlds
+pub mod Answered
+pub mod Loads
+pub mod Opened
+pub mod Progress
+pub mod Rounds
+pub mod Broken
+pub mod Ended
+pub mod Finishing
+pub mod Planned
+pub mod Shows

@@ -1,108 +1,159 @@
 -- How far a run has come, and what its outputs hold by then.
-use Rattle.std.specs.Prelude.{◌≡◌, ◌≢◌, ℕ, ◌^◌, ◌<◌, ◌≤◌, ◌⊎◌, Bool, true, false, List, [], ◌∷◌, ◌++◌, length, All, Option, Some, None}
+use Rattle.std.specs.Prelude.{◌≡◌, ◌≢◌, ℕ, ◌^◌, ◌<◌, ◌≤◌, ◌⊎◌, Bool, true, false, List, [], ◌∷◌, ◌++◌, length, take, drop, All, Option, Some, None}
 use Rattle.aftr_base.specs.Contents.{Contents, content}
 use Rattle.aftr_base.specs.Outside.{FailsAt, Outside, Rises, Rose}
+use Rattle.aftr_text.specs.declared.jobs.RunJob.{RunJob}
+use Rattle.area_swap.specs.Values.{HasWholeShare, IsIdle, IsOf, IsResting}
 use Rattle.capture_io.specs.declared.forms.CaptureBad.{CaptureBad}
 use Rattle.capture_io.specs.declared.forms.Form.{Form}
 use Rattle.capture_io.specs.declared.forms.Rec.{Rec}
 use Rattle.capture_io.specs.declared.rounds.Ending.{Ending}
 use Rattle.capture_io.specs.declared.rounds.Ending.TheVariants as ending
+use Rattle.capture_io.specs.declared.written.Written.{Written}
 use Rattle.capture_io.specs.Rounds.{Left, Precedes}
-use Rattle.item_stage.specs.Items.{entries_of}
+use Rattle.item_stage.specs.Items.{entries_of, items_in}
 use Rattle.item_stage.specs.Stages.{Stands}
+use Rattle.lwaftr_engine.specs.Runs.{all_asking}
 use Rattle.lwaftr_engine.specs.declared.rounds.Progress.{Progress}
-use Rattle.lwaftr_engine.specs.Endings.{IsRun}
-use Rattle.lwaftr_engine.specs.Jobs.{RunNames}
-use Rattle.lwaftr_engine.specs.Counting.{no_totals, totals_from}
-use Rattle.lwaftr_engine.specs.Outputs.{Course, packets_from, lines_from, written_as}
-use Rattle.lwaftr_engine.specs.Rendering.{IsWithin}
+use Rattle.lwaftr_engine.specs.declared.shift.Shift.{Shift}
+use Rattle.lwaftr_engine.specs.declared.tasks.Task.{Task}
+use Rattle.reload_plan.specs.declared.loads.Slot.{Slot}
+use Rattle.run_output.specs.Counting.{IsWithin, no_totals, totals_from}
+use Rattle.run_output.specs.Limiting.{HasAsked, IsLimited, rate_of}
+use Rattle.run_output.specs.Outputs.{Course, lines_from, packets_from}
+use Rattle.run_output.specs.Versions.{NamedSlot, NoneIsDue, load_lines, named}
+use Rattle.swap_core.specs.Plans.{Tables, table}
+use Rattle.table_words.specs.Layout.{IsCompiled}
 
--- the number and the counts are in their ranges, and the stage has taken the records before the next one
-pub record IsInRange (p : Progress) : Type 0 where
+-- what a run is told before its first record
+pub record Setup : Type 0 where
+  pub run : RunJob
+  pub slots : List Slot
+  pub form : Form
+  pub written : Written
+
+abbrev pub setup_of : Task → Setup
+setup_of task = record { run = task.job.now; slots = task.slots.now; form = task.form; written = task.written }
+
+abbrev pub loads_of : Setup → List NamedSlot
+loads_of x = named x.run.loads x.slots
+
+-- where a reader stands: in which bytes, what is left of them, and from which place on
+pub record Spot : Type 1 where
+  pub stood : List ℕ → Type 0
+  pub left : Left
+  pub at : ℕ
+
+abbrev pub spot : (List ℕ → Type 0) → Left → ℕ → Spot
+spot stood left at = record { stood = stood; left = left; at = at }
+
+-- the points so far, and how many words of the areas were read
+pub record Seats : Type 0 where
+  pub points : List ℕ
+  pub reads : ℕ
+
+abbrev pub seats_of : Shift → Seats
+seats_of s = record { points = s.desk.known.points; reads = s.seat.known.reads }
+
+-- what the files hold, how far the run has come, what the workers have done, and where the reader stands
+pub record Mark : Type 1 where
+  pub held : Contents
+  pub progress : Progress
+  pub seats : Seats
+  pub reader : Spot
+
+abbrev pub mark : Contents → Progress → Seats → Spot → Mark
+mark held progress seats reader = record { held = held; progress = progress; seats = seats; reader = reader }
+
+-- the workers' seat and the desk between two rounds
+pub record IsOnDuty (plan : Tables) (s : Shift) : Type 0 where
+  pub its_plan : s.areas.plan ≡ plan
+  pub seat_areas : IsOf s.areas s.seat
+  pub desk_areas : IsOf s.areas s.desk
+  pub idle : IsIdle s.seat.known
+  pub whole : HasWholeShare s.seat.known
+  pub rests : IsResting s.desk.known
+  pub room : s.crew.room ≡ 16384
+
+-- what rounds add: draws and points behind those that there were
+pub record AddsTo (before now : Shift) : Type 0 where
+  pub drawn : List (ℕ × ℕ)
+  pub draws : now.seat.known.actor.draws ≡ before.seat.known.actor.draws ++ drawn
+  pub news : List ℕ
+  pub points : now.desk.known.points ≡ before.desk.known.points ++ news
+
+-- the tables of the course are those of the plan, and its versions those of the draws
+pub record Suits (plan : Tables) (draws : List (ℕ × ℕ)) (c : Course) : Type 0 where
+  pub tables : (version : ℕ) → version < length plan.tables → IsCompiled (c.tables version) (table plan version)
+  pub versions : All (λ (d : ℕ × ℕ). c.version d.0 ≡ d.1) draws
+
+-- the numbers are in their ranges, and stage and limit are those of the run
+pub record IsInRange (x : Setup) (p : Progress) : Type 0 where
   pub number : p.number ≤ 2 ^ 31
   pub staged : p.stage.number ≡ p.number
   pub totals : IsWithin p.totals p.number
+  pub rate : rate_of p.limit ≡ x.run.errors
+  pub printed : p.printed ≤ length x.slots
 
--- packets are put behind one output, and lines behind another
-pub record Wrote (n : RunNames) (packets lines : List ℕ) (old new : Contents) : Type 0 where
-  pub output : content new n.output ≡ content old n.output ++ packets
-  pub verdicts : content new n.verdicts ≡ content old n.verdicts ++ lines
-  pub others : (name : List ℕ) → name ≢ n.output → name ≢ n.verdicts → content new name ≡ content old name
+-- lines of tables, packets and lines of records are put behind what the outputs held
+pub record Wrote (run : RunJob) (versions packets lines : List ℕ) (old new : Contents) : Type 0 where
+  pub versions_is : content new run.versions ≡ content old run.versions ++ versions
+  pub output : content new run.output ≡ content old run.output ++ packets
+  pub verdicts : content new run.verdicts ≡ content old run.verdicts ++ lines
+  pub others : (name : List ℕ) → name ≢ run.output → name ≢ run.verdicts → name ≢ run.versions → content new name ≡ content old name
 
--- since the outputs were opened, these records were taken, and their packets and lines stand behind what was there
-pub record HasWritten (n : RunNames) (form : Form) (c : Course) (opened now : Contents) (p : Progress) (taken : List Rec) : Type 0 where
-  pub stands : Stands p.stage taken
-  pub stage_form : p.stage.form ≡ form
-  pub number : p.number ≡ length taken
-  pub entries : length (entries_of form taken) ≡ length taken
-  pub totals : p.totals ≡ totals_from c no_totals 0 (entries_of form taken)
-  pub files : Wrote n (packets_from c (written_as form) 0 taken (entries_of form taken)) (lines_from c 0 (entries_of form taken)) opened now
+abbrev pub IsLimitedRun : Setup → Course → List Rec → Type 0
+IsLimitedRun x c taken = IsLimited x.run.errors x.form taken (entries_of x.form taken) c
+
+-- Since the outputs were opened, these records were taken; the lines of the tables in force, and the records' packets and lines,
+-- stand behind what was there. Points that come later change nothing of that.
+pub record HasWritten (x : Setup) (c : Course) (opened : Contents) (m : Mark) (taken : List Rec) : Type 0 where
+  pub stands : Stands m.progress.stage taken
+  pub stage_form : m.progress.stage.form ≡ x.form
+  pub number : m.progress.number ≡ length taken
+  pub entries : length (entries_of x.form taken) ≡ length taken
+  pub asked : HasAsked x.form taken (entries_of x.form taken) c m.progress.limit
+  pub totals : IsLimitedRun x c taken → m.progress.totals ≡ totals_from c no_totals 0 (entries_of x.form taken)
+  pub files : (later : List ℕ) → IsLimitedRun x c taken →
+      Wrote x.run (load_lines (m.seats.points ++ later) (take m.progress.printed (loads_of x))) (packets_from c x.written 0 taken (entries_of x.form taken)) (lines_from c 0 (entries_of x.form taken)) opened m.held
+  pub none_due : NoneIsDue m.seats.points (drop m.progress.printed x.slots)
+  pub spoken : (number : ℕ) → number < length taken → c.version number ≤ length m.seats.points
+  pub reads : all_asking (items_in (entries_of x.form taken)) ≤ m.seats.reads
 
 -- a read of the record that is next failed, at a place from its beginning on and before its end
-pub record IsCutAt (name : List ℕ) (left : Left) (at : ℕ) (bytes : List ℕ) (number : ℕ) (last : Option (List ℕ × ℕ)) : Type 0 where
+pub record IsCutAt (name : List ℕ) (reader : Spot) (bytes : List ℕ) (number : ℕ) (last : Option (List ℕ × ℕ)) : Type 0 where
   pub place : ℕ
   pub last_is : last ≡ Some (name, place)
-  pub begun : at ≤ place
-  pub before : (r : Rec) (rs : List Rec) (e : Option CaptureBad) → left bytes number (r ∷ rs) e → place < r.next_at
+  pub begun : reader.at ≤ place
+  pub before : (r : Rec) (rs : List Rec) (e : Option CaptureBad) → reader.left bytes number (r ∷ rs) e → place < r.next_at
 
 -- how the records stopped, if they did
-abbrev pub Stops : List ℕ → Left → ℕ → List ℕ → ℕ → Option Ending → Option (List ℕ × ℕ) → Type 0
-Stops name left at bytes number (Some ending.End) last = left bytes number [] None
-Stops name left at bytes number (Some (ending.Bad refusal)) last = left bytes number [] (Some refusal)
-Stops name left at bytes number (Some ending.ReadFault) last = IsCutAt name left at bytes number last
-Stops name left at bytes number None last = Unit {0}
+abbrev pub Stops : List ℕ → Spot → List ℕ → ℕ → Option Ending → Option (List ℕ × ℕ) → Type 0
+Stops name reader bytes number (Some ending.End) last = reader.left bytes number [] None
+Stops name reader bytes number (Some (ending.Bad refusal)) last = reader.left bytes number [] (Some refusal)
+Stops name reader bytes number (Some ending.ReadFault) last = IsCutAt name reader bytes number last
+Stops name reader bytes number None last = Unit {0}
 
--- What rounds did, from one state of the reader to another: they took the next records of the capture, and wrote what these
--- records write.
-pub record TakesOn (n : RunNames) (form : Form) (c : Course) (old new : Contents) (Stood : List ℕ → Type 0) (before now : Left) (from to : ℕ) (p q : Progress) (stop : Option Ending) (last : Option (List ℕ × ℕ)) : Type 0 where
+-- What rounds did, from one state to another: they took the next records of the capture, and wrote what these records write, under
+-- every course that suits the plan and the draws so far.
+pub record TakesOn (x : Setup) (plan : Tables) (draws : List (ℕ × ℕ)) (a b : Mark) (stop : Option Ending) (last : Option (List ℕ × ℕ)) : Type 0 where
   pub records : List Rec
-  pub stands : Stood (content old n.input)
-  pub input : content new n.input ≡ content old n.input
-  pub follows : Precedes before now (content old n.input) p.number records q.number
-  pub forward : from ≤ to
-  pub within : All (λ r. r.next_at ≤ to) records
-  pub stopped : Stops n.input now to (content old n.input) q.number stop last
-  pub written : (opened : Contents) (taken : List Rec) → HasWritten n form c opened old p taken → HasWritten n form c opened new q (taken ++ records)
+  pub stands : b.reader.stood (content a.held x.run.input)
+  pub input : content b.held x.run.input ≡ content a.held x.run.input
+  pub follows : Precedes a.reader.left b.reader.left (content a.held x.run.input) a.progress.number records b.progress.number
+  pub forward : a.reader.at ≤ b.reader.at
+  pub within : All (λ r. r.next_at ≤ b.reader.at) records
+  pub stopped : Stops x.run.input b.reader (content a.held x.run.input) b.progress.number stop last
+  pub written : (c : Course) → Suits plan draws c → (opened : Contents) (taken : List Rec) → HasWritten x c opened a taken → HasWritten x c opened b (taken ++ records)
+
+abbrev pub Goes : Setup → Tables → List (ℕ × ℕ) → Mark → Mark → Option Ending → Option (List ℕ × ℕ) → Type 0
+Goes x plan draws a b stop last = a.reader.stood (content a.held x.run.input) → TakesOn x plan draws a b stop last
 
 -- A call that reads this file, and writes: where a read failed, it is one of this file.
 pub record ReadsOf (failed : Bool) (name : List ℕ) (before now : Outside) : Type 0 where
   pub faults : Rises failed before.faults now.faults
   pub lost : Rises failed before.lost now.lost
   pub last : FailsAt failed name (λ _. Unit {0}) before.last now.last
-
--- the records of a capture and how it ends, for a reader of any format
-abbrev pub Whole : Type 1
-Whole = List Rec → Option CaptureBad → Type 0
-
--- the run of all records of a capture, which ends so
-pub record IsRunOf (n : RunNames) (IsAll : Whole) (c : Course) (form : Form) (old new : Contents) (said now : Option (List ℕ)) (ended : Option CaptureBad) : Type 0 where
-  pub records : List Rec
-  pub capture : IsAll records ended
-  pub run : IsRun n old new said now c form records
-
--- the first record, if there is one, ends behind a place
-abbrev pub IsBehind : ℕ → List Rec → Type 0
-IsBehind place [] = Unit {0}
-IsBehind place (r ∷ rs) = place < r.next_at
-
--- the run of the records before a read that failed, which lie behind the file header
-pub record IsCutOf (n : RunNames) (from : ℕ) (IsAll : Whole) (c : Course) (form : Form) (old new : Contents) (said now : Option (List ℕ)) (last : Option (List ℕ × ℕ)) : Type 0 where
-  pub taken : List Rec
-  pub rest : List Rec
-  pub ended : Option CaptureBad
-  pub capture : IsAll (taken ++ rest) ended
-  pub place : ℕ
-  pub last_is : last ≡ Some (n.input, place)
-  pub behind : from ≤ place
-  pub reached : All (λ r. r.next_at ≤ place) taken
-  pub next : IsBehind place rest
-  pub run : IsRun n old new said now c form taken
-
--- what the run leaves, by how the records ended
-abbrev pub EndsAs : RunNames → ℕ → Whole → Course → Form → Ending → Contents → Contents → Option (List ℕ) → Option (List ℕ) → Option (List ℕ × ℕ) → Type 0
-EndsAs n from IsAll c form ending.End old new said now last = IsRunOf n IsAll c form old new said now None
-EndsAs n from IsAll c form (ending.Bad refusal) old new said now last = IsRunOf n IsAll c form old new said now (Some refusal)
-EndsAs n from IsAll c form ending.ReadFault old new said now last = IsCutOf n from IsAll c form old new said now last
 
 -- counts of writes and of puts that failed: one of them rose exactly where a call failed
 abbrev pub OneRises : Bool → ℕ → ℕ → ℕ → ℕ → Type 0

@@ -2,17 +2,20 @@
 //! in.
 #![tactic(auto)]
 
+mod demo;
+mod finishing;
+mod jobs;
+mod loads;
+mod migrating;
 mod outputs;
 mod queries;
-mod rendering;
 mod rounds;
 mod run;
+mod shift;
 mod status;
 mod table_file;
+mod tasks;
 mod top;
-mod words;
 
-pub use queries::{check_table, who_owns};
 pub use status::{Status, code, status_line};
 pub use top::lwaftr;
-pub use words::{Job, RunJob, read_words};

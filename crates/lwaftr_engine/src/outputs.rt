@@ -1,35 +1,102 @@
-// The outputs of a run as they are before the first record.
-ghost use Rattle.std.specs.Prelude.{◌≡◌, OnOk, IsTrue};
+// The outputs of a run as they are before the first record, and what is put behind them.
+ghost use Rattle.std.specs.Prelude.{◌≡◌, OnOk, IfErr, length};
 ghost use Rattle.aftr_base.specs.Contents.{Moves};
 ghost use Rattle.aftr_base.specs.Outside.{OnlyWrites, has_failed};
-ghost use Rattle.lwaftr_engine.specs.Endings.{OthersKept};
-ghost use Rattle.lwaftr_engine.specs.Jobs.{are_apart, names_of};
-ghost use Rattle.lwaftr_engine.specs.Opened.{IsOpened};
+ghost use Rattle.aftr_base.specs.Pieces.{AppendedAll};
+ghost use Rattle.aftr_text.specs.Jobs.{AreApart};
+ghost use Rattle.lwaftr_engine.specs.Opened.{IsHalfOpened, IsOpened};
+ghost use Rattle.lwaftr_engine.specs.Progress.{Wrote};
+ghost use Rattle.lwaftr_engine.specs.Rounds.{HasBegunToWrite};
+ghost use Rattle.lwaftr_engine.specs.Runs.{OthersKept};
+ghost use Rattle.run_output.specs.Rendering.{lines_in, packets_in};
 
-use crate::words::RunJob;
 use aftr_base::{Fault, Files, append_all};
-use aftr_text::initial_line;
+use aftr_text::{RunJob, initial_line};
 use capture_io::Written;
+use run_output::Part;
 use std::alloc::Global;
 
 /// Makes the three outputs, and writes the header of the capture and the line of the first table. A fault is one of writing.
 pub fn open_outputs<F: Files>(
     alloc: Global,
     files: &mut F,
-    job: RunJob<'_>,
-    form: Written,
+    job: &RunJob,
+    written: Written,
 ) -> Result<(), Fault>
-    requires apart { IsTrue (are_apart (names_of job)) }
-    ensures opened { OnOk result (Moves (F.outside files.old).held (F.outside files.new).held (λ m n. IsOpened (names_of job.entry) form m n)) }
-    ensures others { Moves (F.outside files.old).held (F.outside files.new).held (λ m n. OthersKept (names_of job.entry) m n) }
+    requires apart { AreApart job.now }
+    ensures opened { OnOk result (Moves (F.outside files.old).held (F.outside files.new).held (IsOpened job.now written)) }
+    ensures half { IfErr result (λ _. Moves (F.outside files.old).held (F.outside files.new).held (IsHalfOpened job.now written)) }
+    ensures others { Moves (F.outside files.old).held (F.outside files.new).held (OthersKept job.now) }
     ensures writes { OnlyWrites (has_failed result) (F.outside files.old) (F.outside files.new) }
 {
-    files.create(alloc, job.output)?;
-    files.create(alloc, job.verdicts)?;
-    files.create(alloc, job.versions)?;
+    files.create(alloc, job.output.as_str())?;
+    files.create(alloc, job.verdicts.as_str())?;
+    files.create(alloc, job.versions.as_str())?;
     let mut header = Vec::new(alloc);
-    form.push_header(&mut header)?;
-    append_all(alloc, files, job.output, &header)?;
-    let line = initial_line(alloc, job.table)?;
-    append_all(alloc, files, job.versions, line.as_str().as_bytes())
+    written.push_header(&mut header)?;
+    append_all(alloc, files, job.output.as_str(), &header)?;
+    let line = initial_line(alloc, job.table.as_str())?;
+    append_all(
+        alloc,
+        files,
+        job.versions.as_str(),
+        line.as_str().as_bytes(),
+    )
+}
+
+/// Writes what a round rendered: the lines of tables, then the packets, then the lines of records. A fault is one of writing.
+pub fn write_round<F: Files>(
+    alloc: Global,
+    files: &mut F,
+    job: &RunJob,
+    versions: &[u8],
+    parts: &[Part],
+) -> Result<(), Fault>
+    requires apart { AreApart job.now }
+    ensures wrote { OnOk result (Moves (F.outside files.old).held (F.outside files.new).held
+        (Wrote job.now versions.now (packets_in parts.now) (lines_in parts.now))) }
+    ensures begun { IfErr result (λ _. Moves (F.outside files.old).held (F.outside files.new).held
+        (HasBegunToWrite job.now versions.now (packets_in parts.now) (lines_in parts.now))) }
+    ensures others { Moves (F.outside files.old).held (F.outside files.new).held (OthersKept job.now) }
+    ensures writes { OnlyWrites (has_failed result) (F.outside files.old) (F.outside files.new) }
+{
+    append_all(alloc, files, job.versions.as_str(), versions)?;
+    write_packets(alloc, files, job.output.as_str(), parts)?;
+    write_lines(alloc, files, job.verdicts.as_str(), parts)
+}
+
+// Puts the packets of all parts behind what the file holds.
+fn write_packets<F: Files>(
+    alloc: Global,
+    files: &mut F,
+    name: &str,
+    parts: &[Part],
+) -> Result<(), Fault>
+    ensures held { AppendedAll result (F.outside files.old).held (F.outside files.new).held name.now (packets_in parts.now) }
+    ensures writes { OnlyWrites (has_failed result) (F.outside files.old) (F.outside files.new) }
+{
+    let mut i = 0;
+    'parts: while i < parts.len() {
+        append_all(alloc, files, name, &parts[i].packets)?;
+        i += 1;
+    }
+    Ok(())
+}
+
+// Puts the lines of all parts behind what the file holds.
+fn write_lines<F: Files>(
+    alloc: Global,
+    files: &mut F,
+    name: &str,
+    parts: &[Part],
+) -> Result<(), Fault>
+    ensures held { AppendedAll result (F.outside files.old).held (F.outside files.new).held name.now (lines_in parts.now) }
+    ensures writes { OnlyWrites (has_failed result) (F.outside files.old) (F.outside files.new) }
+{
+    let mut i = 0;
+    'parts: while i < parts.len() {
+        append_all(alloc, files, name, parts[i].lines.as_bytes())?;
+        i += 1;
+    }
+    Ok(())
 }

@@ -5,8 +5,10 @@ ghost use Rattle.aftr_base.specs.Outside.{Rises};
 ghost use Rattle.binding_rules.specs.Bindings.{bound};
 ghost use Rattle.binding_rules.specs.Tables.{BindingTable};
 ghost use Rattle.binding_rules.specs.declared.binding.Want.TheVariants as want;
-ghost use Rattle.lwaftr_engine.specs.Clauses.{HasCause, counts};
-ghost use Rattle.lwaftr_engine.specs.Queries.{Answers, FailedIn, IsComplete, IsLineOf, IsOwnerLine, IsOwnerText, IsValidLine, Puts, RefusesAs, is_unput, valid_text};
+ghost use Rattle.lwaftr_engine.specs.Causes.{HasCause};
+ghost use Rattle.lwaftr_engine.specs.Answered.{IsOwnerText, Puts, is_unput};
+ghost use Rattle.lwaftr_engine.specs.Questions.{Answers, FailedIn, IsComplete, IsLineOf, IsOwnerLine, IsValidLine, RefusesAs, valid_text};
+ghost use Rattle.lwaftr_engine.specs.Worlds.{world};
 ghost use Rattle.table_words.specs.Answers.{first_b4};
 ghost use Rattle.table_words.specs.Layout.{AreCompiled, IsCompiled};
 
@@ -32,12 +34,12 @@ pub fn check_table<F: Files, O: Sink>(
     ensures held { (F.outside files.new).held ≡ (F.outside files.old).held }
     ensures line { Answers (λ line. IsLineOf IsValidLine (F.outside files.old).held name.now line) result (O.out out.old) (O.out out.new) }
     ensures refused { Told (F.outside files.old).held (λ m. RefusesAs (content m name.now) result) }
-    ensures cause { HasCause result (counts (F.outside files.old) (O.faults out.old))
-        (counts (F.outside files.new) (O.faults out.new)) }
+    ensures cause { HasCause result (world (F.outside files.old) (O.out out.old) (O.faults out.old))
+        (world (F.outside files.new) (O.out out.new) (O.faults out.new)) }
     ensures failed_read { FailedIn name.now result (F.outside files.old).last (F.outside files.new).last }
     ensures complete { Told (F.outside files.old).held (λ m. IsComplete (content m name.now) result
-        (counts (F.outside files.old) (O.faults out.old))
-        (counts (F.outside files.new) (O.faults out.new))) }
+        (world (F.outside files.old) (O.out out.old) (O.faults out.old))
+        (world (F.outside files.new) (O.out out.new) (O.faults out.new))) }
 {
     // A law, and no step: a table file has one answer.
     one_table();
@@ -66,12 +68,12 @@ pub fn who_owns<F: Files, O: Sink>(
     ensures held { (F.outside files.new).held ≡ (F.outside files.old).held }
     ensures line { Answers (λ line. IsLineOf (IsOwnerLine v4 port) (F.outside files.old).held name.now line) result (O.out out.old) (O.out out.new) }
     ensures refused { Told (F.outside files.old).held (λ m. RefusesAs (content m name.now) result) }
-    ensures cause { HasCause result (counts (F.outside files.old) (O.faults out.old))
-        (counts (F.outside files.new) (O.faults out.new)) }
+    ensures cause { HasCause result (world (F.outside files.old) (O.out out.old) (O.faults out.old))
+        (world (F.outside files.new) (O.out out.new) (O.faults out.new)) }
     ensures failed_read { FailedIn name.now result (F.outside files.old).last (F.outside files.new).last }
     ensures complete { Told (F.outside files.old).held (λ m. IsComplete (content m name.now) result
-        (counts (F.outside files.old) (O.faults out.old))
-        (counts (F.outside files.new) (O.faults out.new))) }
+        (world (F.outside files.old) (O.out out.old) (O.faults out.old))
+        (world (F.outside files.new) (O.out out.new) (O.faults out.new))) }
 {
     // A law, and no step: a table file has one answer.
     one_table();
@@ -123,8 +125,8 @@ fn owner_line(alloc: Global, owner: Option<V6>) -> Result<Text, OutOfMemory>
     Ok(Text::of(line))
 }
 
-// Puts a line.
-fn put_line<O: Sink>(alloc: Global, out: &mut O, line: &[u8]) -> Status
+/// Puts a line.
+pub fn put_line<O: Sink>(alloc: Global, out: &mut O, line: &[u8]) -> Status
     ensures puts { Puts result line.now (O.out out.old) (O.out out.new) }
     ensures faults { Rises (is_unput result) (O.faults out.old) (O.faults out.new) }
 {

@@ -3,7 +3,7 @@ ghost use Rattle.std.specs.Prelude.{◌≡◌, ◌<◌, ◌≤◌, ◌+◌, ◌^
 ghost use Rattle.aftr_base.specs.Contents.{content, Told};
 ghost use Rattle.aftr_base.specs.Outside.{OnlyReads, has_failed};
 ghost use Rattle.binding_file.specs.Files.{TableOf};
-ghost use Rattle.lwaftr_engine.specs.Tables.{IsNoTable, is_unread};
+ghost use Rattle.lwaftr_engine.specs.Answered.{IsNoTable, is_unread};
 
 use aftr_base::{Bytes, Fault, Files, bytes_at};
 use binding_file::{FileError, FileRefused, read_table};

@@ -1,78 +1,103 @@
 // The program's call.
-ghost use Rattle.std.specs.Prelude.{◌≡◌, ◌⊎◌, ◌↔◌};
-ghost use Rattle.aftr_base.specs.Contents.{Moves, Told, content};
-ghost use Rattle.lwaftr_engine.specs.Clauses.{FailedAt, FilesAt, HasCause, IsAskedFor, IsFault, NothingFailed, counts};
-ghost use Rattle.lwaftr_engine.specs.Endings.{OthersKept};
-ghost use Rattle.lwaftr_engine.specs.Jobs.{AskNothing, ForRun, texts};
-ghost use Rattle.lwaftr_engine.specs.Queries.{FailedIn, ForQuery, IsAnswered, IsComplete};
-ghost use Rattle.lwaftr_engine.specs.declared.status.Status.{Status as Ended};
+ghost use Rattle.std.specs.Prelude.{◌≡◌, ◌⊎◌, ℕ, List, None};
+ghost use Rattle.aftr_base.specs.declared.numbers.V4.{V4 as Address};
+ghost use Rattle.aftr_text.specs.Jobs.{AskNothing, Asks};
+ghost use Rattle.aftr_text.specs.Parts.{texts};
+ghost use Rattle.aftr_text.specs.declared.jobs.Job.TheVariants as asked;
+ghost use Rattle.aftr_text.specs.declared.jobs.RunJob.{RunJob as Run};
+ghost use Rattle.lwaftr_engine.specs.Causes.{HasCause};
+ghost use Rattle.lwaftr_engine.specs.Demos.{KeepsDemo};
+ghost use Rattle.lwaftr_engine.specs.Migrations.{KeepsMigration};
+ghost use Rattle.lwaftr_engine.specs.Promises.{KeepsRun};
+ghost use Rattle.lwaftr_engine.specs.Questions.{IsOwnerLine, IsValidLine, KeepsQuestion};
+ghost use Rattle.lwaftr_engine.specs.Worlds.{world};
 
+use crate::demo::show_demo;
+use crate::jobs::run_job;
+use crate::migrating::migrate;
 use crate::queries::{check_table, who_owns};
-use crate::run::run_job;
 use crate::status::Status;
-use crate::words::{Job, read_words};
 use aftr_base::{Files, Sink};
-use binding_file::one_table;
-use capture_io::one_reading;
+use aftr_text::{Job, UsageError, read_words};
+use area_swap::History;
 use std::alloc::Global;
+use std::sync::Wait;
+use std::thread::Threads;
+use worker_gate::Gate;
 
-/// Does the job that the command words ask for: `run IN OUT VERDICTS VERSIONS TABLE`, `check FILE`, or
-/// `who FILE ADDRESS PORT`. The words are those behind the program's name. The name of a file has at least one byte and is no
-/// option (a `-` and something behind it), and no output of a run has the name of another of its files. The address is in
-/// dotted decimal, the port in decimal without a leading zero. Other words are `Usage`, and then nothing is touched.
+/// Does the job that the command words ask for. The words are those behind the program's name: `run`, `check`, `who`, `demo` or
+/// `migrate` with what belongs to it, as `aftr_text::read_words` reads them. Other words are `Usage`, and then nothing is touched.
 ///
-/// A run reads the table first (`ReadFault`, `BadTable`), then the file header of the capture (`ReadFault`, `BadCapture`). Up
-/// to here nothing is written. Then the outputs are made, one after another, and the records are taken in rounds: read, judged
-/// under the table, and written, the packets before the lines. Records end with the capture, with bytes that are no record
-/// (`BadCapture`), or with a read that failed (`ReadFault`); all records before that are written, and one line is put to
-/// `out`: the summary. A file or `out` that cannot be written (`WriteFault`), or memory that is not there (`OutOfMemory`),
-/// ends the call at once, whatever was written by then.
+/// A run reads the first table (`ReadFault`, `BadTable`), then the loads' tables in their order (`ReadFault`; a refused one is
+/// noted), then the file header of the capture, which may be a classic one or pcapng (`ReadFault`, `BadCapture`). Up to here
+/// nothing is written. Then OUT, VERDICTS and VERSIONS are made, in this order, and the records are taken in rounds: read, put
+/// together, judged by the workers beside the one that brings the next tables into force, and written: the new lines of tables,
+/// the packets, the lines of records, in this order. Records end with the capture, with bytes that are no record (`BadCapture`), or
+/// with a read that failed (`ReadFault`); all records before that are written, and one line is put to `out`: the summary. Then the
+/// closed areas are handed out as `history`. A file or `out` that cannot be written (`WriteFault`), or memory that is not there
+/// (`OutOfMemory`), ends the call at once, whatever was written by then. A run that ends well is `DoneRefused` where a load was
+/// refused, else `Done`.
 ///
-/// The other two read the table file (`ReadFault`, `BadTable`), write no file, and put one line to `out` (`WriteFault`):
-/// `check` how many bindings a valid file has, `valid N bindings`; `who` the end of the tunnel of the subscriber who owns the
-/// port of the address, as RFC 5952 writes it, or `none`.
-pub fn lwaftr<F: Files, O: Sink>(
+/// `check` and `who` read a table file (`ReadFault`, `BadTable`), write no file, and put one line to `out` (`WriteFault`): how many
+/// bindings a valid file has, or the end of the tunnel of the subscriber who owns the port of the address, as RFC 5952 writes it,
+/// or `none`. `migrate` writes the table anew in the newer edition, and then puts a line. `demo` runs over generated traffic,
+/// touches no file, and puts the summary.
+///
+/// It may wait, as workers wait for one another and for the tables that are due.
+pub fn lwaftr<R: Threads + Wait + Sync, F: Files, O: Sink, G: Gate + Sync>(
+    rt: &R,
     alloc: Global,
     words: &[&str],
     files: &mut F,
     out: &mut O,
+    gate: &G,
+    history: &mut Option<History>,
 ) -> Status
+    requires none { history.old ≡ None }
+
     // Which words ask for nothing.
-    ensures usage { (result ≡ Status.Usage) ↔ AskNothing (texts words.now) }
-    ensures untouched { result ≡ Status.Usage → (files.new ≡ files.old) × (out.new ≡ out.old) }
+    ensures usage { result ≡ Status.Usage → AskNothing (texts words.now) }
+    ensures no_job { AskNothing (texts words.now) → (result ≡ Status.Usage) ⊎ (result ≡ Status.OutOfMemory) }
+    ensures untouched { AskNothing (texts words.now) → (files.new ≡ files.old) × (out.new ≡ out.old) × (history.new ≡ None) }
 
-    // What a run leaves.
-    ensures files_of_a_run { ForRun words.now (λ n. Moves (F.outside files.old).held (F.outside files.new).held
-        (λ before now. FilesAt n result before now (O.out out.old) (O.out out.new) (F.outside files.new).last)) }
-    ensures others { ForRun words.now (λ n. Moves (F.outside files.old).held (F.outside files.new).held (λ before now. OthersKept n before now)) }
+    // What each job leaves.
+    ensures run { (run : Run) → Asks (texts words.now) (asked.Run run) → KeepsRun run result
+        (world (F.outside files.old) (O.out out.old) (O.faults out.old))
+        (world (F.outside files.new) (O.out out.new) (O.faults out.new)) history.new }
+    ensures check { (name : List ℕ) → Asks (texts words.now) (asked.Check name) → KeepsQuestion IsValidLine name result
+        (world (F.outside files.old) (O.out out.old) (O.faults out.old))
+        (world (F.outside files.new) (O.out out.new) (O.faults out.new)) history.new }
+    ensures who { (name : List ℕ) (v4 : Address) (port : ℕ) → Asks (texts words.now) (asked.Who name v4 port) → KeepsQuestion (IsOwnerLine v4 port) name result
+        (world (F.outside files.old) (O.out out.old) (O.faults out.old))
+        (world (F.outside files.new) (O.out out.new) (O.faults out.new)) history.new }
+    ensures demo { (seed count workers : ℕ) → Asks (texts words.now) (asked.Demo seed count workers) → KeepsDemo seed count result
+        (world (F.outside files.old) (O.out out.old) (O.faults out.old))
+        (world (F.outside files.new) (O.out out.new) (O.faults out.new)) history.new }
+    ensures migrate { (input output : List ℕ) → Asks (texts words.now) (asked.Migrate input output) → KeepsMigration input output result
+        (world (F.outside files.old) (O.out out.old) (O.faults out.old))
+        (world (F.outside files.new) (O.out out.new) (O.faults out.new)) history.new }
 
-    // What a question about a table leaves.
-    ensures queries { ForQuery words.now (λ Asks name. IsAnswered Asks name result (F.outside files.old).held (F.outside files.new).held (O.out out.old) (O.out out.new)) }
-    ensures failed_question { ForQuery words.now (λ Asks name. FailedIn name result (F.outside files.old).last (F.outside files.new).last) }
-    ensures answered { ForQuery words.now (λ Asks name. Told (F.outside files.old).held (λ m. IsComplete (content m name) result
-        (counts (F.outside files.old) (O.faults out.old))
-        (counts (F.outside files.new) (O.faults out.new)))) }
-
-    // Which status it is.
-    ensures due { ForRun words.now (λ n. Told (F.outside files.old).held (λ m. (s : Ended) → IsAskedFor n m s → (result ≡ s) ⊎ IsFault result)) }
-    ensures no_later_table { result ≡ Status.DoneRefused → ⊥ }
+    // Why it ended so.
     ensures cause { HasCause result
-        (counts (F.outside files.old) (O.faults out.old))
-        (counts (F.outside files.new) (O.faults out.new)) }
-    ensures failed_read { ForRun words.now (λ n. FailedAt n result (F.outside files.old).last (F.outside files.new).last) }
-    ensures complete { ForRun words.now (λ n. Told (F.outside files.old).held (λ m. IsAskedFor n m Status.Done →
-        NothingFailed
-        (counts (F.outside files.old) (O.faults out.old))
-        (counts (F.outside files.new) (O.faults out.new)) →
-        (result ≡ Status.Done) ⊎ (result ≡ Status.OutOfMemory))) }
+        (world (F.outside files.old) (O.out out.old) (O.faults out.old))
+        (world (F.outside files.new) (O.out out.new) (O.faults out.new)) }
 {
-    // Laws, and no steps: a table file has one answer, and a capture one reading.
-    one_table();
-    one_reading();
-    match read_words(words) {
-        None => Status::Usage,
-        Some(Job::Run(job)) => run_job(alloc, job, files, out),
-        Some(Job::Check { name }) => check_table(alloc, name, files, out),
-        Some(Job::Who { name, v4, port }) => who_owns(alloc, name, v4, port, files, out),
+    let job = match read_words(alloc, words) {
+        Ok(job) => job,
+        Err(UsageError::Usage) => return Status::Usage,
+        Err(UsageError::OutOfMemory) => return Status::OutOfMemory,
+    };
+    match &job {
+        Job::Run(job) => run_job(rt, alloc, job, files, out, gate, history),
+        Job::Check { name } => check_table(alloc, name.as_str(), files, out),
+        Job::Who { name, v4, port } => who_owns(alloc, name.as_str(), *v4, *port, files, out),
+        Job::Demo {
+            seed,
+            count,
+            workers,
+        } => show_demo(rt, alloc, *seed, *count, *workers, out, gate, history),
+        Job::Migrate { input, output } => {
+            migrate(alloc, input.as_str(), output.as_str(), files, out)
+        }
     }
 }

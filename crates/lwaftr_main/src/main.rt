@@ -3,12 +3,16 @@
 #![tactic(auto)]
 
 use aftr_base::{RealFiles, RealSink};
+use aftr_text::HELP;
 use lwaftr_engine::{Status, code, lwaftr, status_line};
 use std::alloc::Global;
 use std::io::ErrorKind;
 use std::process::ExitCode;
 use std::rt::{Env, Files};
+use std::sync::Wait;
+use std::thread::Threads;
 use std::{env, fs};
+use worker_gate::OpenGate;
 
 // A file that can always be opened, and takes nothing where it is open for reading.
 const NOTHING: &str = "/dev/null";
@@ -27,7 +31,9 @@ fn main(rt: HostRuntime) -> ExitCode {
 }
 
 // The job that the words behind the program's name ask for. A word that is not UTF-8 asks for none.
-fn run<R: Alloc<A = Global> + Env + Files + Print + Drop>(rt: &R) -> Status {
+fn run<R: Alloc<A = Global> + Env + Files + Print + Threads + Wait + Sync + Drop>(
+    rt: &R,
+) -> Status {
     let alloc = rt.alloc();
     let args = match env::args(rt) {
         Ok(args) => args,
@@ -48,15 +54,27 @@ fn run<R: Alloc<A = Global> + Env + Files + Print + Drop>(rt: &R) -> Status {
     }
     let mut files = RealFiles::new(rt, alloc);
     let mut out = RealSink::new(rt);
-    lwaftr(alloc, &words, &mut files, &mut out)
+    let mut history = None;
+    lwaftr(
+        rt,
+        alloc,
+        &words,
+        &mut files,
+        &mut out,
+        &OpenGate,
+        &mut history,
+    )
 }
 
-// The status line on standard error, where memory and standard error allow it.
+// The status line on standard error, where memory and standard error allow it; behind `usage` the words that are understood.
 fn report<R: Alloc<A = Global> + Eprint>(rt: &R, status: &Status) {
     if *status == Status::Done {
         return;
     }
     if let Ok(line) = status_line(rt.alloc(), status) {
         let _ = rt.eprint(line.as_str());
+    }
+    if *status == Status::Usage {
+        let _ = rt.eprint(HELP);
     }
 }

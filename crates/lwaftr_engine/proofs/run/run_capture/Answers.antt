@@ -1,19 +1,152 @@
-use Rattle.lwaftr_engine.specs.Jobs.{names_of}
-use Rattle.lwaftr_engine.proofs.FinishLemmas.{ran}
-use Rattle.lwaftr_engine.proofs.Touching.{apart}
+use Rattle.std.proofs.Common.{Err, Some, refl, ◌∙◌}
+use Rattle.lwaftr_engine.specs.Progress.{seats_of, setup_of, spot}
+use Rattle.lwaftr_engine.proofs.Adding.{as_planned, broken_planned, others_more, same_plan}
+use Rattle.lwaftr_engine.proofs.Apart.{apart}
+use Rattle.lwaftr_engine.proofs.Capturing.{closed_plan, ended_err, finish_broken, finished_at, opening_broken, rounds_broken}
+use Rattle.lwaftr_engine.proofs.EndLemmas.{at_end, ends}
 use Rattle.lwaftr_engine.proofs.run.run_capture.Goals as goal
 
-pub returns-clause-ran : goal.returns-clause-ran
-returns-clause-ran g c =
+pub returns-clause-ended : goal.returns-clause-ended
+returns-clause-ended g c =
     let f = g.F.Files in
     let o = g.O.Sink in
-    let r = g.R.CaptureReader in
-    let n = names_of c.args.job in
-    ran n c.args.form c.written_form.result c.args.words.now c.written_form.ensures (apart n c.requires.apart)
-    (r.stands c.args.reader.now) (r.stands c.run_records.new.reader) (r.left c.args.reader.now) (r.left c.run_records.new.reader) (r.at c.args.reader.now) (r.at c.run_records.new.reader)
-    c.in_ok-new.field-0 c.run_records.new.progress c.in_ok-ending.ending (f.outside c.run_records.new.files).last (f.outside c.finish.new.files).last
-    (o.out c.args.out.now) (o.out c.finish.new.out)
-    (λ bytes number. c.some_left.ensures c.run_records.new.reader bytes number) c.in_ok-new.ensures.stands c.in_ok-new.ensures.form c.in_ok-ending.ensures.bounded
-    c.in_ok-finish.ensures.summary c.in_ok-finish.ensures.last
-    (f.outside c.args.files.now).held (f.outside c.open_outputs.new.files).held (f.outside c.run_records.new.files).held (f.outside c.finish.new.files).held
-    c.in_ok-open_outputs.ensures.opened c.in_ok-ending.ensures.went c.in_ok-finish.ensures.verdicts
+    let r = g.C.CaptureReader in
+    let x = setup_of c.args.task in
+    let far = apart x.run c.requires.apart in
+    let first = spot (r.stands c.args.reader.now) (r.left c.args.reader.now) (r.at c.args.reader.now) in
+    let said = o.out c.args.out.now in
+    let h0 = (f.outside c.args.files.now).held in
+    let h1 = (f.outside c.open_outputs.new.files).held in
+    let h2 = (f.outside c.run_records-taken.new.files).held in
+    let s = c.in_ok-shift.shift in
+    let u = c.run_records-taken.new.shift in
+    let last = (f.outside c.run_records-taken.new.files).last in
+    let q = c.run_records-taken.new.progress in
+    let reader = spot (r.stands c.run_records-taken.new.reader) (r.left c.run_records-taken.new.reader) (r.at c.run_records-taken.new.reader) in
+    let h3 = (f.outside c.finish.new.files).held in
+    let now = o.out c.finish.new.out in
+    ends (record { access = record { forwards = c.access.ensures.forwards; forbidden = c.access.ensures.forbidden; refused = c.access.ensures.refused }; limits = c.limits_are_some.ensures; totals = c.counts_are_totals.ensures }) x far c.args.plan u.seat.known.actor.draws (seats_of s) (seats_of u) c.end_shift-closed.result c.in_ok-progress.progress q first reader c.in_ok-ending.ending last said now
+    (λ bytes number. c.some_left.ensures c.run_records-taken.new.reader bytes number) c.in_ok-progress.ensures c.in_ok-shift.ensures.points c.in_ok-ending.ensures.bounded
+    (at_end c.settled_points_are_all.ensures c.args.plan u.seat.known u.desk.known (seats_of u) c.end_shift-closed.result q.number (record {
+      same_plan = closed_plan s.areas.plan u.areas.plan c.end_shift-closed.result.plan c.args.plan c.end_shift-closed.ensures.plan (same_plan s.areas u.areas c.in_ok-ending.ensures.areas) c.in_ok-shift.ensures.duty.its_plan;
+      points = c.end_shift-closed.ensures.points;
+      reads = c.end_shift-closed.ensures.reads;
+      drawn = c.end_shift-closed.ensures.drawn;
+      history = c.end_shift-closed.ensures.history;
+    })
+    c.in_ok-ending.ensures.settled c.in_ok-ending.ensures.duty.whole
+    (closed_plan s.areas.plan u.areas.plan u.desk.known.plan c.args.plan c.in_ok-ending.ensures.duty.desk_areas.same_plan (same_plan s.areas u.areas c.in_ok-ending.ensures.areas) c.in_ok-shift.ensures.duty.its_plan)
+    refl c.in_ok-ending.ensures.drawn)
+    (f.outside c.finish.new.files).last c.in_ok-finish.ensures.last h0 h1 h2 h3
+    c.in_ok-open_outputs.ensures.opened
+    (as_planned x c.args.plan s.areas.plan c.in_ok-shift.ensures.duty.its_plan u.seat.known.actor.draws c.in_ok-progress.progress q (seats_of s) (seats_of u) first reader (Some c.in_ok-ending.ending) last h1 h2 c.in_ok-ending.ensures.went)
+    (finished_at x q c.points.result.now u.desk.known.points (c.points.ensures.points ∙ c.end_shift-closed.ensures.points) said now h2 h3 c.in_ok-finish.ensures.finished)
+
+pub returns-in_err-open_outputs-clause-ended : goal.returns-in_err-open_outputs-clause-ended
+returns-in_err-open_outputs-clause-ended g c =
+    let f = g.F.Files in
+    let o = g.O.Sink in
+    let r = g.C.CaptureReader in
+    let x = setup_of c.args.task in
+    let far = apart x.run c.requires.apart in
+    let first = spot (r.stands c.args.reader.now) (r.left c.args.reader.now) (r.at c.args.reader.now) in
+    let said = o.out c.args.out.now in
+    let h0 = (f.outside c.args.files.now).held in
+    let h1 = (f.outside c.open_outputs.new.files).held in
+    ended_err x c.args.plan first c.from_residual-in_err-open_outputs.result h0 h1 said said (f.outside c.open_outputs.new.files).last c.args.history.now c.from_residual-in_err-open_outputs.ensures.0 c.requires.none
+    (opening_broken (record { access = record { forwards = c.access.ensures.forwards; forbidden = c.access.ensures.forbidden; refused = c.access.ensures.refused }; limits = c.limits_are_some.ensures; totals = c.counts_are_totals.ensures }) x c.args.plan c.in_ok-progress.progress first said (λ bytes number. c.some_left.ensures c.args.reader.now bytes number) c.in_ok-progress.ensures h0 h1
+    c.in_err-open_outputs.ensures.half)
+
+pub returns-in_err-ending-clause-ended : goal.returns-in_err-ending-clause-ended
+returns-in_err-ending-clause-ended g c =
+    let f = g.F.Files in
+    let o = g.O.Sink in
+    let r = g.C.CaptureReader in
+    let x = setup_of c.args.task in
+    let far = apart x.run c.requires.apart in
+    let first = spot (r.stands c.args.reader.now) (r.left c.args.reader.now) (r.at c.args.reader.now) in
+    let said = o.out c.args.out.now in
+    let h0 = (f.outside c.args.files.now).held in
+    let h1 = (f.outside c.open_outputs.new.files).held in
+    let h2 = (f.outside c.run_records-taken.new.files).held in
+    let s = c.in_ok-shift.shift in
+    let u = c.run_records-taken.new.shift in
+    let last = (f.outside c.run_records-taken.new.files).last in
+    let q = c.run_records-taken.new.progress in
+    let reader = spot (r.stands c.run_records-taken.new.reader) (r.left c.run_records-taken.new.reader) (r.at c.run_records-taken.new.reader) in
+    ended_err x c.args.plan first c.from_residual-in_err-ending.result h0 h2 said said last c.args.history.now c.from_residual-in_err-ending.ensures.0 c.requires.none
+    (rounds_broken (record { access = record { forwards = c.access.ensures.forwards; forbidden = c.access.ensures.forbidden; refused = c.access.ensures.refused }; limits = c.limits_are_some.ensures; totals = c.counts_are_totals.ensures }) x far c.args.plan u.seat.known.actor.draws (seats_of s) (seats_of u) c.end_shift-closed.result (record {
+      same_plan = closed_plan s.areas.plan u.areas.plan c.end_shift-closed.result.plan c.args.plan c.end_shift-closed.ensures.plan (same_plan s.areas u.areas c.in_err-ending.ensures.areas) c.in_ok-shift.ensures.duty.its_plan;
+      points = c.end_shift-closed.ensures.points;
+      reads = c.end_shift-closed.ensures.reads;
+      drawn = c.end_shift-closed.ensures.drawn;
+      history = c.end_shift-closed.ensures.history;
+    })
+    c.in_ok-progress.progress first c.in_ok-progress.ensures c.in_ok-shift.ensures.points said h0 h1 h2
+    c.in_ok-open_outputs.ensures.opened
+    (broken_planned x c.args.plan s.areas.plan c.in_ok-shift.ensures.duty.its_plan u.seat.known.actor.draws u.desk.known.points c.in_ok-progress.progress (seats_of s) first h1 h2 c.in_err-ending.ensures.broken))
+
+pub returns-in_err-ending-clause-others : goal.returns-in_err-ending-clause-others
+returns-in_err-ending-clause-others g c =
+    let f = g.F.Files in
+    others_more (setup_of c.args.task).run (f.outside c.args.files.now).held (f.outside c.open_outputs.new.files).held (f.outside c.run_records-taken.new.files).held c.in_ok-open_outputs.ensures.others c.in_err-ending.ensures.others
+
+pub returns-in_err-finish-clause-ended : goal.returns-in_err-finish-clause-ended
+returns-in_err-finish-clause-ended g c =
+    let f = g.F.Files in
+    let o = g.O.Sink in
+    let r = g.C.CaptureReader in
+    let x = setup_of c.args.task in
+    let far = apart x.run c.requires.apart in
+    let first = spot (r.stands c.args.reader.now) (r.left c.args.reader.now) (r.at c.args.reader.now) in
+    let said = o.out c.args.out.now in
+    let h0 = (f.outside c.args.files.now).held in
+    let h1 = (f.outside c.open_outputs.new.files).held in
+    let h2 = (f.outside c.run_records-taken.new.files).held in
+    let s = c.in_ok-shift.shift in
+    let u = c.run_records-taken.new.shift in
+    let last = (f.outside c.run_records-taken.new.files).last in
+    let q = c.run_records-taken.new.progress in
+    let reader = spot (r.stands c.run_records-taken.new.reader) (r.left c.run_records-taken.new.reader) (r.at c.run_records-taken.new.reader) in
+    let h3 = (f.outside c.finish.new.files).held in
+    let now = o.out c.finish.new.out in
+    ended_err x c.args.plan first c.from_residual-in_err-finish.result h0 h3 said now (f.outside c.finish.new.files).last c.args.history.now c.from_residual-in_err-finish.ensures.0 c.requires.none
+    (finish_broken (record { access = record { forwards = c.access.ensures.forwards; forbidden = c.access.ensures.forbidden; refused = c.access.ensures.refused }; limits = c.limits_are_some.ensures; totals = c.counts_are_totals.ensures }) x far c.args.plan u.seat.known.actor.draws (seats_of s) (seats_of u) c.end_shift-closed.result (record {
+      same_plan = closed_plan s.areas.plan u.areas.plan c.end_shift-closed.result.plan c.args.plan c.end_shift-closed.ensures.plan (same_plan s.areas u.areas c.in_ok-ending.ensures.areas) c.in_ok-shift.ensures.duty.its_plan;
+      points = c.end_shift-closed.ensures.points;
+      reads = c.end_shift-closed.ensures.reads;
+      drawn = c.end_shift-closed.ensures.drawn;
+      history = c.end_shift-closed.ensures.history;
+    })
+    c.in_ok-progress.progress first c.in_ok-progress.ensures c.in_ok-shift.ensures.points q reader
+    (λ bytes number. c.some_left.ensures c.run_records-taken.new.reader bytes number) c.in_ok-ending.ensures.bounded
+    (at_end c.settled_points_are_all.ensures c.args.plan u.seat.known u.desk.known (seats_of u) c.end_shift-closed.result q.number (record {
+      same_plan = closed_plan s.areas.plan u.areas.plan c.end_shift-closed.result.plan c.args.plan c.end_shift-closed.ensures.plan (same_plan s.areas u.areas c.in_ok-ending.ensures.areas) c.in_ok-shift.ensures.duty.its_plan;
+      points = c.end_shift-closed.ensures.points;
+      reads = c.end_shift-closed.ensures.reads;
+      drawn = c.end_shift-closed.ensures.drawn;
+      history = c.end_shift-closed.ensures.history;
+    })
+    c.in_ok-ending.ensures.settled c.in_ok-ending.ensures.duty.whole
+    (closed_plan s.areas.plan u.areas.plan u.desk.known.plan c.args.plan c.in_ok-ending.ensures.duty.desk_areas.same_plan (same_plan s.areas u.areas c.in_ok-ending.ensures.areas) c.in_ok-shift.ensures.duty.its_plan)
+    refl c.in_ok-ending.ensures.drawn)
+    (Some c.in_ok-ending.ending) last said now (Err c.in_err-finish.field-0.0) c.points.result.now refl (c.points.ensures.points ∙ c.end_shift-closed.ensures.points) h0 h1 h2 h3
+    c.in_ok-open_outputs.ensures.opened
+    (as_planned x c.args.plan s.areas.plan c.in_ok-shift.ensures.duty.its_plan u.seat.known.actor.draws c.in_ok-progress.progress q (seats_of s) (seats_of u) first reader (Some c.in_ok-ending.ending) last h1 h2 c.in_ok-ending.ensures.went)
+    c.in_err-finish.ensures.finished)
+
+pub returns-in_err-finish-clause-others : goal.returns-in_err-finish-clause-others
+returns-in_err-finish-clause-others g c =
+    let f = g.F.Files in
+    let run = (setup_of c.args.task).run in
+    others_more run (f.outside c.args.files.now).held (f.outside c.run_records-taken.new.files).held (f.outside c.finish.new.files).held
+    (others_more run (f.outside c.args.files.now).held (f.outside c.open_outputs.new.files).held (f.outside c.run_records-taken.new.files).held c.in_ok-open_outputs.ensures.others c.in_ok-ending.ensures.others)
+    c.in_err-finish.ensures.others
+
+pub returns-clause-others : goal.returns-clause-others
+returns-clause-others g c =
+    let f = g.F.Files in
+    let run = (setup_of c.args.task).run in
+    others_more run (f.outside c.args.files.now).held (f.outside c.run_records-taken.new.files).held (f.outside c.finish.new.files).held
+    (others_more run (f.outside c.args.files.now).held (f.outside c.open_outputs.new.files).held (f.outside c.run_records-taken.new.files).held c.in_ok-open_outputs.ensures.others c.in_ok-ending.ensures.others)
+    c.in_ok-finish.ensures.others

@@ -1,0 +1,124 @@
+-- Each record of a round has a draw of its own, so as many draws as items ask the table, or more.
+use Rattle.std.proofs.Common.{◌≡◌, ◌≢◌, ℕ, zero, suc, ◌+◌, ◌-◌, ◌<◌, ◌≤◌, ◌==◌, Bool, true, false, List, [], ◌∷◌, ◌++◌, length, take, get_or, Option, Some, ◌⊎◌, inl, inr, refl, sym, ◌∙◌, ap, subst, arith}
+use Rattle.std.specs.Prelude.{cond}
+use Rattle.std.specs.List.{Contains, slice_get, sum_by}
+use Rattle.std.proofs.Math.Seq.{take-suc}
+use Rattle.std.proofs.lemmas.Bool.Decides.{eqb_tells}
+use Rattle.std.proofs.lemmas.List.{length-map, take_all}
+use Rattle.std.proofs.lemmas.List.FromFn.{length-range_with_len}
+use Rattle.std.proofs.lemmas.List.Sums.{sum_by-append, sum_by-cons, sum_by-le-sum_by}
+use Rattle.std.proofs.lemmas.Option.{slice_get-get_or}
+use Rattle.ip_codec.specs.declared.items.Item.{Item}
+use Rattle.ip_codec.specs.declared.items.Item.TheVariants as item
+use Rattle.item_stage.specs.Items.{items_in}
+use Rattle.item_stage.specs.declared.entries.Entry.{Entry}
+use Rattle.area_swap.specs.declared.board.View.{View}
+use Rattle.lwaftr_engine.specs.Runs.{all_asking}
+use Rattle.worker_gate.specs.Crews.{no_outcome}
+use Rattle.worker_gate.specs.Outcomes.{asking, asks, draw_of}
+use Rattle.worker_gate.specs.Rounds.{IsRound}
+use Rattle.worker_gate.specs.declared.outcomes.Outcome.{Outcome}
+use Rattle.lwaftr_engine.proofs.Elements.{number_at}
+
+-- where one element has so much more, the sum has
+gains : {A : Type 0} (f g : A → ℕ) (v : ℕ) (xs : List A) (k : ℕ) (x : A) → ((y : A) → f y ≤ g y) → f x + v ≤ g x → k < length xs → get_or xs k x ≡ x → sum_by f xs + v ≤ sum_by g xs
+gains f g v [] k x each more inside is = absurd (omega (arith, inside))
+gains {A} f g v (y ∷ ys) zero x each more inside is =
+    let P : A → Type 0 = λ z. f z + v ≤ g z in
+    let here : f y + v ≤ g y = subst P (sym is) more in
+    omega (arith, here, sum_by-cons f y ys, sum_by-cons g y ys, sum_by-le-sum_by f g ys each)
+gains f g v (y ∷ ys) (suc k) x each more inside is =
+    omega (arith, each y, sum_by-cons f y ys, sum_by-cons g y ys, gains f g v ys k x each more (omega (arith, inside)) is)
+
+module _ (items : List Item) (start : ℕ) where
+  abbrev worth : ℕ → ℕ
+  worth k = cond (asks (slice_get items k)) 1 0
+
+  -- what the draws of the first so many numbers are worth, by one draw
+  abbrev part : ℕ → ℕ × ℕ → ℕ
+  part zero d = 0
+  part (suc n) d = part n d + cond (d.0 == start + n) (worth n) 0
+
+  -- what the first so many numbers are worth
+  abbrev firsts : ℕ → ℕ
+  firsts zero = 0
+  firsts (suc n) = firsts n + worth n
+
+  abbrev Tells : ℕ → ℕ → Type 0
+  Tells a b = ((a == b) ≡ true) × (a ≡ b) ⊎ (((a == b) ≡ false) × (a ≢ b))
+
+  none_step : (n : ℕ) (d : ℕ × ℕ) → part n d ≡ 0 → start + suc n ≤ d.0 → Tells d.0 (start + n) → part n d + cond (d.0 == start + n) (worth n) 0 ≡ 0
+  none_step n d before behind (inl same) = absurd (omega (arith, behind, same.1))
+  none_step n d before behind (inr other) = omega (arith, before, ap (λ (b : Bool). let k : ℕ = cond b (worth n) 0 in k) other.0)
+
+  none_yet : (n : ℕ) (d : ℕ × ℕ) → start + n ≤ d.0 → part n d ≡ 0
+  none_yet zero d behind = refl
+  none_yet (suc n) d behind = none_step n d (none_yet n d (omega (arith, behind))) behind (eqb_tells d.0 (start + n))
+
+  part_step : (n : ℕ) (d : ℕ × ℕ) → part n d ≤ worth (d.0 - start) → Tells d.0 (start + n) → part n d + cond (d.0 == start + n) (worth n) 0 ≤ worth (d.0 - start)
+  part_step n d before (inl same) =
+      let none : part n d ≡ 0 = none_yet n d (omega (arith, same.1)) in
+      let place : d.0 - start ≡ n = omega (arith, same.1) in
+      omega (arith, none, ap worth place, ap (λ (b : Bool). let k : ℕ = cond b (worth n) 0 in k) same.0)
+  part_step n d before (inr other) = omega (arith, before, ap (λ (b : Bool). let k : ℕ = cond b (worth n) 0 in k) other.0)
+
+  part_of : (n : ℕ) (d : ℕ × ℕ) → part n d ≤ worth (d.0 - start)
+  part_of zero d = omega arith
+  part_of (suc n) d = part_step n d (part_of n d) (eqb_tells d.0 (start + n))
+
+  gain_step : (n : ℕ) (d : ℕ × ℕ) → d.0 ≡ start + n → Tells d.0 (start + n) → part n d + worth n ≤ part n d + cond (d.0 == start + n) (worth n) 0
+  gain_step n d same (inl is) = omega (arith, ap (λ (b : Bool). let k : ℕ = cond b (worth n) 0 in k) is.0)
+  gain_step n d same (inr other) = absurd (other.1 same)
+
+  one_gain : (n : ℕ) (d : ℕ × ℕ) → d.0 ≡ start + n → part n d + worth n ≤ part (suc n) d
+  one_gain n d same = gain_step n d same (eqb_tells d.0 (start + n))
+
+  -- each of these numbers is drawn
+  abbrev pub AllDrawn : ℕ → List (ℕ × ℕ) → Type 0
+  AllDrawn n news = (k : ℕ) → k < n → (d : ℕ × ℕ) × (d.0 ≡ start + k) × Contains news d
+
+  firsts_drawn : (news : List (ℕ × ℕ)) (n : ℕ) → AllDrawn n news → firsts n ≤ sum_by (part n) news
+  firsts_drawn news zero drawn = omega arith
+  firsts_drawn news (suc n) drawn =
+      let one = drawn n (omega arith) in
+      let more : sum_by (part n) news + worth n ≤ sum_by (part (suc n)) news = gains (part n) (part (suc n)) (worth n) news one.2.0 one.0 (λ d. omega arith) (one_gain n one.0 one.1) one.2.1 one.2.2 in
+      omega (arith, more, firsts_drawn news n (λ k inside. drawn k (omega (arith, inside))))
+
+  firsts_all : (n : ℕ) → n ≤ length items → firsts n ≡ all_asking (take n items)
+  firsts_all zero few = refl
+  firsts_all (suc n) few =
+      let i : Item = get_or items n item.Held in
+      let here : worth n ≡ cond (asks (Some (get_or items n item.Held))) 1 0 = ap (λ (o : Option Item). let k : ℕ = cond (asks o) 1 0 in k) (slice_get-get_or items n item.Held (omega (arith, few))) in
+      let next : take (suc n) items ≡ take n items ++ get_or items n item.Held ∷ [] = take-suc items n item.Held (omega (arith, few)) in
+      omega (
+        arith,
+        firsts_all n (omega (arith, few)),
+        here,
+        ap (λ (l : List Item). all_asking l) next,
+        sum_by-append (λ (j : Item). cond (asks (Some j)) 1 0) (take n items) (get_or items n item.Held ∷ []),
+        sum_by-cons (λ (j : Item). cond (asks (Some j)) 1 0) (get_or items n item.Held) [],
+      )
+
+  pub asked_drawn : (news : List (ℕ × ℕ)) → AllDrawn (length items) news → all_asking items ≤ asking items start news
+  asked_drawn news drawn =
+      omega (
+        arith,
+        ap (λ (l : List Item). all_asking l) (take_all (length items) items (omega arith)),
+        firsts_all (length items) (omega arith),
+        firsts_drawn news (length items) drawn,
+        sum_by-le-sum_by (part (length items)) (λ (d : ℕ × ℕ). worth (d.0 - start)) news (λ d. part_of (length items) d),
+      )
+
+asked_by : (items : List Item) (start end : ℕ) (before after : View) (all : List Outcome) → IsRound items start end before after all → end ≡ start + length items → before.reads + all_asking items ≤ after.reads
+asked_by items start end before after all round count =
+    omega (arith, round.reads, asked_drawn items start round.news drawn) where
+      long : length all ≡ length items
+      long = omega (arith, sym (length-map all (λ (o : Outcome). o.number)) ∙ (ap (λ (l : List ℕ). length l) round.numbers ∙ length-range_with_len start (end - start)), count)
+
+      drawn : (k : ℕ) → k < length items → (d : ℕ × ℕ) × (d.0 ≡ start + k) × Contains round.news d
+      drawn k inside =
+          let within : k < length all = omega (arith, inside, long) in
+          (draw_of (get_or all k no_outcome), number_at (λ (x : Outcome). x.number) all start (end - start) k (get_or all k no_outcome) round.numbers (slice_get-get_or all k no_outcome within), round.drawn k no_outcome within)
+
+pub round_asked : (entries : List Entry) (start end : ℕ) (before after : View) (all : List Outcome) → IsRound (items_in entries) start end before after all → end ≡ start + length entries → before.reads + all_asking (items_in entries) ≤ after.reads
+round_asked entries start end before after all round count = asked_by (items_in entries) start end before after all round (omega (arith, count, length-map entries (λ (e : Entry). e.item)))

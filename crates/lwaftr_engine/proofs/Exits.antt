@@ -1,0 +1,38 @@
+-- Calls that were ended by a fault, and files by another writing of their name.
+use Rattle.std.proofs.Common.{◌≡◌, ℕ, ◌≤◌, List, ◌++◌, length, take, Option, Result, Ok, Err, subst}
+use Rattle.std.specs.Prelude.{IfErr, IsErr}
+use Rattle.aftr_base.specs.Contents.{Contents, content, Moves, Writes}
+use Rattle.aftr_base.specs.Pieces.{AppendedAll}
+use Rattle.aftr_base.specs.declared.outside.Fault.{Fault}
+use Rattle.capture_io.specs.declared.forms.Rec.{Rec}
+use Rattle.item_stage.specs.Stages.{Stands}
+use Rattle.lwaftr_engine.specs.Finishing.{Finishes}
+use Rattle.lwaftr_engine.specs.Progress.{Setup}
+use Rattle.lwaftr_engine.specs.declared.rounds.Progress.{Progress}
+
+pub if_err : {T : Type 0} (A : Type 0) (r : Result T Fault) → A → IfErr r (λ _. A)
+if_err A (Ok x) a = tt
+if_err A (Err why) a = a
+
+pub appended_err : (r : Result Unit Fault) (a b : Option Contents) (name bytes : List ℕ) → IsErr r →
+    Moves a b (λ m n. (count : ℕ) × (count ≤ length bytes) × Writes m n name (content m name ++ take count bytes)) → AppendedAll r a b name bytes
+appended_err (Ok done) a b name bytes is step = absurd (cc is)
+appended_err (Err why) a b name bytes is step = step
+
+pub finishes_err : (x : Setup) (p : Progress) (points : List ℕ) (r : Result Unit Fault) (a b : Option Contents) (said now : Option (List ℕ)) → IsErr r →
+    ((e : Fault) → Moves a b (λ m n. (taken : List Rec) → Stands p.stage taken → Finishes x p points taken (Err e) m n said now)) →
+    Moves a b (λ m n. (taken : List Rec) → Stands p.stage taken → Finishes x p points taken r m n said now)
+finishes_err x p points (Ok done) a b said now is step = absurd (cc is)
+finishes_err x p points (Err why) a b said now is step = step why
+
+pub named : (a b : Option Contents) (k name bytes : List ℕ) → k ≡ name → Moves a b (λ m n. Writes m n k (content m k ++ bytes)) → Moves a b (λ m n. Writes m n name (content m name ++ bytes))
+named a b k name bytes is step = let S : List ℕ → Type 0 = λ q. Moves a b (λ m n. Writes m n q (content m q ++ bytes)) in subst S is step
+
+pub cut_named : (a b : Option Contents) (k name bytes : List ℕ) → k ≡ name →
+    Moves a b (λ m n. (count : ℕ) × (count ≤ length bytes) × Writes m n k (content m k ++ take count bytes)) →
+    Moves a b (λ m n. (count : ℕ) × (count ≤ length bytes) × Writes m n name (content m name ++ take count bytes))
+cut_named a b k name bytes is step =
+    let S : List ℕ → Type 0 = λ q. Moves a b (λ m n. (count : ℕ) × (count ≤ length bytes) × Writes m n q (content m q ++ take count bytes)) in subst S is step
+
+pub made_named : (a b : Option Contents) (k name bytes : List ℕ) → k ≡ name → Moves a b (λ m n. Writes m n k bytes) → Moves a b (λ m n. Writes m n name bytes)
+made_named a b k name bytes is step = let S : List ℕ → Type 0 = λ q. Moves a b (λ m n. Writes m n q bytes) in subst S is step

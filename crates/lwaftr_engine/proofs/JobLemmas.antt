@@ -1,0 +1,230 @@
+-- What a run leaves, in the words of the whole files.
+use Rattle.std.proofs.Common.{◌≡◌, ℕ, ◌<◌, nat_lt, Bool, true, false, not, List, [], ◌∷◌, ◌++◌, length, Option, Some, None, Result, Ok, Err, inl, inr, refl, sym, ◌∙◌, ap, subst, arith}
+use Rattle.aftr_base.specs.Contents.{Contents, content, Moves, Told}
+use Rattle.aftr_base.specs.Outside.{FailsAt, Outside, Rises, has_failed}
+use Rattle.std.specs.Prelude.{IfOk, IsSome}
+use Rattle.capture_io.specs.Rounds.{is_cut}
+use Rattle.lwaftr_engine.specs.Causes.{FailsIn, HasCause}
+use Rattle.lwaftr_engine.specs.Finishing.{HasHistoryBy}
+use Rattle.lwaftr_engine.specs.Promises.{HasHistory}
+use Rattle.lwaftr_engine.specs.Worlds.{World}
+use Rattle.aftr_base.specs.declared.outside.Fault.{Fault}
+use Rattle.aftr_base.specs.declared.outside.Fault.TheVariants as fault
+use Rattle.aftr_text.specs.declared.jobs.RunJob.{RunJob}
+use Rattle.area_swap.specs.Histories.{HistoryValue}
+use Rattle.binding_rules.specs.Tables.{BindingTable}
+use Rattle.capture_io.specs.Classic.{IsOpened, left_of, stands_in}
+use Rattle.capture_io.specs.Header as classic_header
+use Rattle.capture_io.specs.declared.classic.ClassicReader.{ClassicReader}
+use Rattle.capture_io.specs.declared.forms.CaptureBad.{CaptureBad}
+use Rattle.capture_io.specs.declared.forms.Form.{Form}
+use Rattle.capture_io.specs.declared.forms.Rec.{Rec}
+use Rattle.capture_io.specs.declared.rounds.Ending.{Ending}
+use Rattle.capture_io.specs.declared.rounds.Ending.TheVariants as ending
+use Rattle.capture_io.specs.declared.written.Written.{Written}
+use Rattle.capture_io.specs.declared.written.Written.TheVariants as written
+use Rattle.lwaftr_engine.specs.Ended.{Ends, EndsBroken, EndsBy, EndsWhole}
+use Rattle.lwaftr_engine.specs.Endings.{IsWhole}
+use Rattle.lwaftr_engine.specs.Fronts.{IsBroken, IsFront}
+use Rattle.lwaftr_engine.specs.Inputs.{Header, IsInputBy, blocks_of, classic_of, header_by, in_blocks, in_classic}
+use Rattle.lwaftr_engine.specs.Planned.{IsAtFirst, IsEarly, LeavesBy, LeavesMade, ended_status, some_slot_refused}
+use Rattle.lwaftr_engine.specs.Progress.{OneRises, ReadsOf, Setup, Spot, spot}
+use Rattle.lwaftr_engine.specs.Runs.{IsRun}
+use Rattle.lwaftr_engine.specs.declared.status.Status.{Status}
+use Rattle.pcapng_io.specs.Answers.{EndsBehind, IsInHeader}
+use Rattle.pcapng_io.specs.Captures as blocks
+use Rattle.pcapng_io.specs.Rounds as rounds
+use Rattle.pcapng_io.specs.Seen.{Seen}
+use Rattle.pcapng_io.specs.Standing as standing
+use Rattle.pcapng_io.specs.Standing.{Standing}
+use Rattle.pcapng_io.specs.declared.interface.Interface.{Interface}
+use Rattle.reload_plan.specs.declared.loads.Slot.{Slot}
+use Rattle.swap_core.specs.Plans.{Tables}
+use Rattle.swap_core.specs.declared.plan.Window.{Window}
+use Rattle.lwaftr_engine.proofs.Moving.{told_then}
+
+-- a classic capture that was opened
+pub classic_first : (r : ClassicReader) (form : Form) (bytes : List ℕ) → false ≡ blocks.is_pcapng bytes → form ≡ r.form → r.at ≡ 24 → IsOpened r bytes →
+    IsAtFirst (spot (stands_in r) (left_of r) r.at) form (written.Classic form.nano) bytes
+classic_first r form bytes kind form_is at_is opened =
+    let H : Bool → Type 0 = λ b. header_by b bytes ≡ Ok (classic_of r.form) in
+    record {
+      header = classic_of r.form;
+      sound = subst H kind (ap in_classic opened.header);
+      form_is = form_is;
+      written_is = ap (λ (f : Form). written.Classic f.nano) form_is;
+      at_is = at_is;
+      stands = opened.stands;
+      all = λ rs e left.
+          let I : Bool → Type 0 = λ b. IsInputBy b bytes (classic_of r.form) rs e in
+          subst I kind (r.form, refl, opened.all rs e left);
+    }
+
+-- a pcapng file that was opened
+pub blocks_first : (r : Standing) (form : Form) (bytes : List ℕ) → true ≡ blocks.is_pcapng bytes → form ≡ blocks.form_of r.seen.known → standing.Opens (Ok r) bytes →
+    IsAtFirst (spot (standing.stands_in r) (rounds.left_of r.seen) r.seen.known.at) form written.Blocks bytes
+blocks_first r form bytes kind form_is opened =
+    let H : Bool → Type 0 = λ b. header_by b bytes ≡ Ok (blocks_of r.seen) in
+    record {
+      header = blocks_of r.seen;
+      sound = subst H kind (ap in_blocks opened.0);
+      form_is = form_is;
+      written_is = refl;
+      at_is = refl;
+      stands = opened.1;
+      all = λ rs e left.
+          let I : Bool → Type 0 = λ b. IsInputBy b bytes (blocks_of r.seen) rs e in
+          subst I kind (r.seen, refl, (opened.0, left));
+    }
+
+-- the same run, by the form that the header has
+same_run : (run : RunJob) (tables : ℕ → BindingTable) (windows : List Window) (slots : List Slot) (form : Form) (w : Written) (header : Header) (rs : List Rec) (old new : Contents) (said now : Option (List ℕ)) (history : Option HistoryValue) →
+    form ≡ header.form → w ≡ header.written → IsRun run tables windows slots form w rs old new said now history → IsRun run tables windows slots header.form header.written rs old new said now history
+same_run run tables windows slots form w header rs old new said now history form_is written_is ran =
+    let F : Form → Type 0 = λ f. IsRun run tables windows slots f header.written rs old new said now history in
+    let W : Written → Type 0 = λ v. IsRun run tables windows slots form v rs old new said now history in
+    subst F form_is (subst W written_is ran)
+
+same_front : (run : RunJob) (tables : ℕ → BindingTable) (windows : List Window) (slots : List Slot) (form : Form) (w : Written) (header : Header) (rs : List Rec) (old new : Contents) (said now : Option (List ℕ)) →
+    form ≡ header.form → w ≡ header.written → IsFront run tables windows slots form w rs old new said now → IsFront run tables windows slots header.form header.written rs old new said now
+same_front run tables windows slots form w header rs old new said now form_is written_is front =
+    let F : Form → Type 0 = λ f. IsFront run tables windows slots f header.written rs old new said now in
+    let W : Written → Type 0 = λ v. IsFront run tables windows slots form v rs old new said now in
+    subst F form_is (subst W written_is front)
+
+module _ (x : Setup) (tables : ℕ → BindingTable) (windows : List Window) (reader : Spot) (old new : Contents) (said now : Option (List ℕ)) (last : Option (List ℕ × ℕ)) (history : Option HistoryValue)
+    (first : IsAtFirst reader x.form x.written (content old x.run.input)) where
+  whole : (ended : Option CaptureBad) → EndsWhole x tables windows reader old new said now history ended → IsWhole x.run tables windows x.slots old new said now history ended
+  whole ended ran = record {
+    header = first.header;
+    records = ran.records;
+    capture = first.all ran.records ended ran.capture;
+    is_run = same_run x.run tables windows x.slots x.form x.written first.header ran.records old new said now history first.form_is first.written_is ran.is_run;
+  }
+
+  broken : EndsBroken x tables windows reader old new said now → IsBroken x.run tables windows x.slots old new said now
+  broken ran = record {
+    header = first.header;
+    sound = first.sound;
+    taken = ran.taken;
+    rest = ran.rest;
+    ending = ran.ended;
+    capture = first.all (ran.taken ++ ran.rest) ran.ended ran.capture;
+    front = same_front x.run tables windows x.slots x.form x.written first.header ran.taken old new said now first.form_is first.written_is ran.front;
+  }
+
+  done : (refused : Bool) → some_slot_refused x.slots ≡ refused → EndsWhole x tables windows reader old new said now history None →
+      LeavesBy x.run tables windows x.slots (ended_status (Ok ending.End) refused) old new said now last history
+  done true is ran = (whole None ran, is)
+  done false is ran = (whole None ran, is)
+
+  pub leaves_by : (ended : Result Ending Fault) (refused : Bool) → some_slot_refused x.slots ≡ refused → EndsBy x tables windows reader ended old new said now last history →
+      LeavesBy x.run tables windows x.slots (ended_status ended refused) old new said now last history
+  leaves_by (Ok ending.End) refused is ran = done refused is ran
+  leaves_by (Ok (ending.Bad refusal)) refused is ran = inl (whole (Some refusal) ran)
+  leaves_by (Ok ending.ReadFault) refused is ran = inl (record {
+    header = first.header;
+    taken = ran.taken;
+    rest = ran.rest;
+    ending = ran.ended;
+    capture = first.all (ran.taken ++ ran.rest) ran.ended ran.capture;
+    place = ran.place;
+    last_is = ran.last_is;
+    in_records = omega (arith, first.at_is, ran.behind);
+    reached = ran.reached;
+    next = ran.next;
+    is_run = same_run x.run tables windows x.slots x.form x.written first.header ran.taken old new said now history first.form_is first.written_is ran.is_run;
+  })
+  leaves_by (Err fault.Failed) refused is ran = (broken ran.0, ran.1)
+  leaves_by (Err fault.OutOfMemory) refused is (inl same, none) = inl (record { files = same.0; sink = same.1; none = none })
+  leaves_by (Err fault.OutOfMemory) refused is (inr ran, none) = inr (broken ran, none)
+
+has_history_done : (refused : Bool) (history : Option HistoryValue) → IsSome history → HasHistory (ended_status (Ok ending.End) refused) history
+has_history_done true history some = some
+has_history_done false history some = some
+
+pub has_history : (ended : Result Ending Fault) (refused : Bool) (result : Status) (history : Option HistoryValue) → result ≡ ended_status ended refused → HasHistoryBy ended history → HasHistory result history
+has_history ended refused result history is by =
+    let H : Status → Type 0 = λ s. HasHistory s history in subst H (sym is) (by_end ended by) where
+      by_end : (ended : Result Ending Fault) → HasHistoryBy ended history → HasHistory (ended_status ended refused) history
+      by_end (Ok ending.End) some = has_history_done refused history some
+      by_end (Ok (ending.Bad refusal)) some = tt
+      by_end (Ok ending.ReadFault) some = tt
+      by_end (Err fault.Failed) none = none
+      by_end (Err fault.OutOfMemory) none = none
+
+-- why it ended so
+ended_cause_by : (ended : Result Ending Fault) (refused : Bool) (before now : World) → ((e : Ending) → ended ≡ Ok e → Rises (is_cut (Some e)) before.files.faults now.files.faults × Rises (is_cut (Some e)) before.files.lost now.files.lost) → OneRises (has_failed ended) before.files.spoiled now.files.spoiled before.puts now.puts → HasCause (ended_status ended refused) before now
+ended_cause_by (Ok ending.End) true before now reads writes = let r = reads ending.End refl in record { lost = r.1; spoiled = writes.0; faults = r.0; puts = writes.1 }
+ended_cause_by (Ok ending.End) false before now reads writes = let r = reads ending.End refl in record { lost = r.1; spoiled = writes.0; faults = r.0; puts = writes.1 }
+ended_cause_by (Ok (ending.Bad refusal)) refused before now reads writes = let r = reads (ending.Bad refusal) refl in record { lost = r.1; spoiled = writes.0; faults = r.0; puts = writes.1 }
+ended_cause_by (Ok ending.ReadFault) refused before now reads writes = let r = reads ending.ReadFault refl in record { lost = r.1; spoiled = writes.0; puts = writes.1 }
+ended_cause_by (Err fault.Failed) refused before now reads writes = writes
+ended_cause_by (Err fault.OutOfMemory) refused before now reads writes = tt
+
+pub ended_cause : (name : List ℕ) (ended : Result Ending Fault) (refused : Bool) (result : Status) (before now : World) → result ≡ ended_status ended refused →
+    IfOk ended (λ e. ReadsOf (is_cut (Some e)) name before.files now.files) → OneRises (has_failed ended) before.files.spoiled now.files.spoiled before.puts now.puts → HasCause result before now
+ended_cause name ended refused result before now is reads writes =
+    let H : Status → Type 0 = λ s. HasCause s before now in
+    let R : Result Ending Fault → Type 0 = λ r. IfOk r (λ e. ReadsOf (is_cut (Some e)) name before.files now.files) in
+    subst H (sym is) (ended_cause_by ended refused before now (λ e same. let r : ReadsOf (is_cut (Some e)) name before.files now.files = subst R same reads in (r.faults, r.lost)) writes)
+
+ended_place_by : (name : List ℕ) (ended : Result Ending Fault) (refused : Bool) (before now : Outside) → IfOk ended (λ e. ReadsOf (is_cut (Some e)) name before now) → FailsIn (name ∷ []) (ended_status ended refused) before.last now.last
+ended_place_by name (Ok ending.End) true before now reads = reads.last
+ended_place_by name (Ok ending.End) false before now reads = reads.last
+ended_place_by name (Ok (ending.Bad refusal)) refused before now reads = reads.last
+ended_place_by name (Ok ending.ReadFault) refused before now reads = record { name = name; place = reads.last.0; among = (0, omega arith, refl); last_is = reads.last.2 }
+ended_place_by name (Err fault.Failed) refused before now reads = tt
+ended_place_by name (Err fault.OutOfMemory) refused before now reads = tt
+
+pub ended_place : (name : List ℕ) (ended : Result Ending Fault) (refused : Bool) (result : Status) (before now : Outside) → result ≡ ended_status ended refused → IfOk ended (λ e. ReadsOf (is_cut (Some e)) name before now) → FailsIn (name ∷ []) result before.last now.last
+ended_place name ended refused result before now is reads =
+    let H : Status → Type 0 = λ s. FailsIn (name ∷ []) s before.last now.last in subst H (sym is) (ended_place_by name ended refused before now reads)
+
+pub opened_leaves : (x : Setup) (plan : Tables) (reader : Spot) (ended : Result Ending Fault) (refused : Bool) (result : Status) (h0 h1 : Option Contents) (said now : Option (List ℕ)) (last : Option (List ℕ × ℕ)) (history : Option HistoryValue) →
+    refused ≡ some_slot_refused x.slots → result ≡ ended_status ended refused → Told h0 (λ m. IsAtFirst reader x.form x.written (content m x.run.input)) →
+    Moves h0 h1 (λ m n. Ends x plan reader ended m n said now last history) → Moves h0 h1 (λ m n. LeavesMade x.run plan x.slots result m n said now last history)
+opened_leaves x plan reader ended refused result h0 h1 said now last history refused_is result_is first ran =
+    told_then h0 h0 h1 (λ m. IsAtFirst reader x.form x.written (content m x.run.input)) (λ m n. Ends x plan reader ended m n said now last history)
+    (λ m n. LeavesMade x.run plan x.slots result m n said now last history)
+    (λ m n at ends tables windows of.
+    let S : Status → Type 0 = λ k. LeavesBy x.run tables windows x.slots k m n said now last history in
+    subst S (sym result_is) (leaves_by x tables windows reader m n said now last history at ended refused (sym refused_is) (ends tables windows of at.stands)))
+    refl first ran
+
+-- a read that failed before the first record
+abbrev place_in : Option (List ℕ × ℕ) → ℕ
+place_in None = 0
+place_in (Some x) = x.1
+
+same_place : (name : List ℕ) (a b : ℕ) (last : Option (List ℕ × ℕ)) → last ≡ Some (name, a) → last ≡ Some (name, b) → a ≡ b
+same_place name a b last e f = ap place_in (sym e ∙ f)
+
+pub early_kind : (name bytes : List ℕ) (old last : Option (List ℕ × ℕ)) → FailsAt true name (λ place. place < 4) old last → IsEarly name bytes last
+early_kind name bytes old last failed = λ header place sound last_is few has_end behind.
+    absurd (omega (arith, failed.1, few, same_place name failed.0 place last failed.2 last_is))
+
+classic_end : (header : Header) (read : Result Form CaptureBad) → in_classic read ≡ Ok header → header.ends_at ≡ 24
+classic_end header (Ok form) e = cc e
+classic_end header (Err refusal) e = absurd (cc e)
+
+pub early_classic : (name bytes : List ℕ) (old last : Option (List ℕ × ℕ)) → false ≡ blocks.is_pcapng bytes → FailsAt true name (λ place. place < 24) old last → IsEarly name bytes last
+early_classic name bytes old last kind failed = λ header place sound last_is few has_end behind.
+    let H : Bool → Type 0 = λ b. header_by b bytes ≡ Ok header in
+    let end : header.ends_at ≡ 24 = classic_end header (classic_header.header_in bytes) (subst H (sym kind) sound) in
+    absurd (omega (arith, failed.1, behind, end, same_place name failed.0 place last failed.2 last_is))
+
+blocks_header : (header : Header) (read : Result Seen CaptureBad) → in_blocks read ≡ Ok header → (seen : Seen) × (read ≡ Ok seen) × (header ≡ blocks_of seen)
+blocks_header header (Ok seen) e = (seen, refl, cc e)
+blocks_header header (Err refusal) e = absurd (cc e)
+
+ends_behind : (place end : ℕ) (interfaces : List Interface) → not (nat_lt (length interfaces) 1) ≡ true → EndsBehind place interfaces end → place < end
+ends_behind place end [] has_end behind = absurd (cc has_end)
+ends_behind place end (interface ∷ interfaces) has_end behind = behind
+
+pub early_blocks : (m : Contents) (name : List ℕ) (old last : Option (List ℕ × ℕ)) → true ≡ blocks.is_pcapng (content m name) → FailsAt true name (IsInHeader (Some m) name) old last → IsEarly name (content m name) last
+early_blocks m name old last kind failed = λ header place sound last_is few has_end behind.
+    let H : Bool → Type 0 = λ b. header_by b (content m name) ≡ Ok header in
+    let found = blocks_header header (blocks.header_in (content m name)) (subst H (sym kind) sound) in
+    let inside : failed.0 < found.0.known.at = ends_behind failed.0 found.0.known.at found.0.interfaces (sym (ap (λ (h : Header). h.has_end) found.2) ∙ has_end) (failed.1 found.0 found.1) in
+    absurd (omega (arith, inside, behind, ap (λ (h : Header). h.ends_at) found.2, same_place name failed.0 place last failed.2 last_is))

@@ -1,0 +1,92 @@
+-- What a run leaves once its tables are read, or a read of them failed.
+use Rattle.std.proofs.Common.{◌≡◌, ℕ, List, [], ◌∷◌, Option, Some, None, Result, Ok, Err, inr, refl, sym, ap, subst, true, false}
+use Rattle.std.specs.Prelude.{map}
+use Rattle.aftr_base.specs.Contents.{Contents, content, Moves, Told}
+use Rattle.aftr_base.specs.Outside.{OnlyReads, Outside, has_failed}
+use Rattle.aftr_base.specs.declared.outside.Fault.{Fault}
+use Rattle.aftr_base.specs.declared.outside.Fault.TheVariants as fault
+use Rattle.aftr_text.specs.declared.jobs.LoadWords.{LoadWords}
+use Rattle.aftr_text.specs.declared.jobs.RunJob.{RunJob}
+use Rattle.area_swap.specs.Histories.{HistoryValue}
+use Rattle.binding_file.specs.Files.{TableOf}
+use Rattle.binding_rules.specs.Tables.{BindingTable}
+use Rattle.lwaftr_engine.specs.Causes.{FailsIn, HasCause, IsReadOf}
+use Rattle.lwaftr_engine.specs.Endings.{table_names}
+use Rattle.lwaftr_engine.specs.Loads.{AreFitFor, AreLoadsOf, OnlyReadsAmong}
+use Rattle.lwaftr_engine.specs.Planned.{IsMade, LeavesMade}
+use Rattle.lwaftr_engine.specs.Promises.{HasHistory, KeepsRun, Leaves}
+use Rattle.lwaftr_engine.specs.Runs.{OthersKept}
+use Rattle.lwaftr_engine.specs.Worlds.{world}
+use Rattle.lwaftr_engine.specs.declared.status.Status.{Status}
+use Rattle.lwaftr_engine.specs.declared.status.Status.TheVariants as status
+use Rattle.reload_plan.specs.declared.loads.Load.{Load}
+use Rattle.reload_plan.specs.declared.loads.Made.{Made}
+use Rattle.lwaftr_engine.proofs.DueLemmas.{AreSingle, due_told}
+use Rattle.lwaftr_engine.proofs.LeaveLemmas.{among_all, leaves_told, load_read, table_read, unread_tables}
+use Rattle.lwaftr_engine.proofs.LoadLemmas.{read_well}
+use Rattle.lwaftr_engine.proofs.UnopenedLemmas.{others_same}
+
+-- reads of many files that went well change nothing that is known
+read_all : (a b d : Outside) (names : List (List ℕ)) → b ≡ a → OnlyReadsAmong false names b d → d ≡ a
+read_all a b d names same only =
+    read_well a b d [] same (record { held = only.held; faults = only.faults; lost = only.lost; spoiled = only.spoiled; last = only.last })
+
+named_table : (h : Option Contents) (k name : List ℕ) (t : BindingTable) → k ≡ name → Told h (λ m. TableOf (content m k) (Ok t)) → Told h (λ m. TableOf (content m name) (Ok t))
+named_table h k name t is told = let T : List ℕ → Type 0 = λ q. Told h (λ m. TableOf (content m q) (Ok t)) in subst T is told
+
+module _ (one : AreSingle) (run : RunJob) (t : BindingTable) (ls : List Load) (made : Made) (of : IsMade t ls made) where
+  -- the tables were read, and the run is made of them
+  pub keeps_run : (k : List ℕ) (ws : List LoadWords) → k ≡ run.table → ws ≡ run.loads → (a b d e : Outside) (said now : Option (List ℕ)) (puts puts_now : ℕ) (result : Status) (history : Option HistoryValue) →
+      OnlyReads false k (λ _. Unit {0}) a b → OnlyReadsAmong false (map (λ (load : LoadWords). load.name) ws) b d →
+      Told a.held (λ m. TableOf (content m k) (Ok t)) → Told b.held (λ m. AreLoadsOf m ws ls) → AreFitFor ws ls →
+      Moves d.held e.held (λ m n. LeavesMade run made.plan made.slots result m n said now e.last history) → Moves d.held e.held (OthersKept run) →
+      HasCause result (world d said puts) (world e now puts_now) → FailsIn (run.input ∷ []) result d.last e.last → HasHistory result history →
+      KeepsRun run result (world a said puts) (world e now puts_now) history
+  keeps_run k ws k_is ws_is a b d e said now puts puts_now result history read reads table loads fit left others cause failed has =
+      let first : b ≡ a = read_well a a b k refl read in
+      let all : d ≡ a = read_all a b d (map (λ (load : LoadWords). load.name) ws) first reads in
+      let L : List LoadWords → Type 0 = λ l. Told b.held (λ m. AreLoadsOf m l ls) in
+      let F : List LoadWords → Type 0 = λ l. AreFitFor l ls in
+      let O : Outside → Type 0 = λ o. Moves o.held e.held (OthersKept run) in
+      let C : Outside → Type 0 = λ o. HasCause result (world o said puts) (world e now puts_now) in
+      let R : Outside → Type 0 = λ o. FailsIn (run.input ∷ []) result o.last e.last in
+      let files : Moves a.held e.held (λ m n. Leaves run result m n said now e.last history) =
+      leaves_told run t ls made of (subst F ws_is fit) result said now e.last history a.held b.held d.held e.held
+      (ap (λ (o : Outside). o.held) first) reads.held (named_table a.held k run.table t k_is table) (subst L ws_is loads) left in
+      record {
+        files = files;
+        others = subst O all others;
+        due = due_told one run result a.held e.held said now e.last history files;
+        cause = subst C all cause;
+        failed_read = among_all run result a.last e.last (subst R all failed);
+        has_history = has;
+      }
+
+unread_by : (run : RunJob) (h : Option Contents) (said : Option (List ℕ)) (last : Option (List ℕ × ℕ)) → IsReadOf (table_names run) last → Moves h h (λ m n. Leaves run status.ReadFault m n said said last None)
+unread_by run None said last failed = tt
+unread_by run (Some m) said last failed = inr (unread_tables run m said last failed)
+
+no_due : (P : Contents → Type 0) (h : Option Contents) → ((m : Contents) → P m) → Told h P
+no_due P None all = tt
+no_due P (Some m) all = all m
+
+-- a read of a load's file failed
+pub keeps_unread : {T : Type 0} (run : RunJob) (r : Result T Fault) → r ≡ Err fault.Failed → (k : List ℕ) (ws : List LoadWords) → ws ≡ run.loads → (a b d : Outside) (said : Option (List ℕ)) (puts : ℕ) (history : Option HistoryValue) → history ≡ None →
+    OnlyReads false k (λ _. Unit {0}) a b → OnlyReadsAmong (has_failed r) (map (λ (load : LoadWords). load.name) ws) b d →
+    KeepsRun run status.ReadFault (world a said puts) (world d said puts) history
+keeps_unread {T} run r r_is k ws ws_is a b d said puts history none read reads =
+    let B : Result T Fault → Type 0 = λ q. OnlyReadsAmong (has_failed q) (map (λ (load : LoadWords). load.name) ws) b d in
+    let N : List LoadWords → Type 0 = λ l. OnlyReadsAmong true (map (λ (load : LoadWords). load.name) l) b d in
+    let A : Outside → Type 0 = λ o. OnlyReadsAmong true (map (λ (load : LoadWords). load.name) run.loads) o d in
+    let only : OnlyReadsAmong true (map (λ (load : LoadWords). load.name) run.loads) a d = subst A (read_well a a b k refl read) (subst N ws_is (subst B r_is reads)) in
+    let failed : IsReadOf (table_names run) d.last = load_read run d.last only.last in
+    let H : Option HistoryValue → Type 0 = λ x. Moves a.held d.held (λ m n. Leaves run status.ReadFault m n said said d.last x) in
+    let M : Option Contents → Type 0 = λ h. Moves a.held h (λ m n. Leaves run status.ReadFault m n said said d.last None) in
+    record {
+      files = subst H (sym none) (subst M (sym only.held) (unread_by run a.held said d.last failed));
+      others = others_same run a.held d.held only.held;
+      due = no_due _ a.held (λ m s asked. inr tt);
+      cause = record { lost = only.lost; spoiled = only.spoiled; puts = refl };
+      failed_read = table_read run d.last failed;
+      has_history = tt;
+    }

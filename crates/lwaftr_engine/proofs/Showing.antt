@@ -1,0 +1,190 @@
+-- The run over the generated capture is the demonstration's.
+use Rattle.std.proofs.Common.{◌≡◌, ℕ, zero, suc, ◌+◌, ◌<◌, ◌≤◌, ◌%◌, ◌^◌, nat_le, cond, Bool, true, false, List, [], ◌∷◌, length, map, All, drop, Option, Some, None, Result, Ok, ◌⊎◌, inl, inr, refl, sym, ◌∙◌, ap, subst, arith, le-leb}
+use Rattle.std.specs.Prelude.{◌&&◌, nat_lt, IsNone, IsSome, count_by}
+use Rattle.std.specs.List.{range_with_len}
+use Rattle.std.proofs.lemmas.List.Elements.{All-cons, All-nil}
+use Rattle.std.proofs.lemmas.List.FromFn.{length-map-range_with_len}
+use Rattle.std.proofs.lemmas.List.Sums.{sum_by-cons}
+use Rattle.aftr_base.specs.Contents.{Contents, content}
+use Rattle.aftr_text.specs.declared.jobs.RunJob.{RunJob}
+use Rattle.area_swap.specs.Histories.{HistoryValue}
+use Rattle.capture_io.specs.Capture.{IsCapture}
+use Rattle.capture_io.specs.Capture as classic
+use Rattle.capture_io.specs.Written.{IsRecordable, TimedPacket, capture_bytes, timed, written_form}
+use Rattle.capture_io.specs.declared.forms.CaptureBad.{CaptureBad}
+use Rattle.capture_io.specs.declared.forms.Form.{Form}
+use Rattle.capture_io.specs.declared.forms.Rec.{Rec}
+use Rattle.ip_codec.specs.Packet6.{bytes6}
+use Rattle.lwaftr_engine.specs.Answered.{Puts}
+use Rattle.lwaftr_engine.specs.Demos.{HasDemoHistory, IsDemo, IsDemoLine, demo_tables, middle, middle_window}
+use Rattle.lwaftr_engine.specs.Endings.{IsWhole}
+use Rattle.lwaftr_engine.specs.Inputs.{Header, IsInput, IsInputBy}
+use Rattle.lwaftr_engine.specs.Planned.{LeavesMade}
+use Rattle.lwaftr_engine.specs.Runs.{IsCourse, IsHistoryOf}
+use Rattle.lwaftr_engine.specs.Shows.{IsShow}
+use Rattle.lwaftr_engine.specs.declared.demo.Show.{Show}
+use Rattle.lwaftr_engine.specs.declared.status.Status.{Status}
+use Rattle.lwaftr_engine.specs.declared.status.Status.TheVariants as status
+use Rattle.pcapng_io.specs.Captures.{is_pcapng}
+use Rattle.reload_plan.specs.declared.loads.Slot.{Slot}
+use Rattle.swap_core.specs.Points.{AreAllPoints}
+use Rattle.swap_core.specs.declared.plan.Window.{Window}
+use Rattle.traffic_gen.specs.Drawing.{drawn, state_after}
+use Rattle.traffic_gen.specs.Traffic.{capture_of, generated, packet4_of, packet_by, tunnel_head, way_of}
+use Rattle.traffic_gen.specs.declared.generator.Draw.{Draw}
+use Rattle.traffic_gen.specs.declared.generator.Kind.{Kind}
+use Rattle.traffic_gen.specs.declared.generator.Kind.TheVariants as kind
+use Rattle.traffic_gen.specs.declared.packets.Way.{Way}
+use Rattle.lwaftr_engine.proofs.Laws.{OneReading}
+
+-- packets that can be recorded are read as they were written
+abbrev pub WrittenIsRead : Type 0
+WrittenIsRead = (nano : Bool) (packets : List TimedPacket) → All IsRecordable packets → length packets ≤ 2 ^ 31 →
+    (rs : List Rec) × IsCapture (capture_bytes nano packets) (Ok (written_form nano)) rs None × (map timed rs ≡ packets)
+
+inner_size : (id : ℕ) (way : Way) → length (packet4_of id way) ≡ 32
+inner_size id way = omega arith
+
+outer_size : (sender : ℕ) (p : List ℕ) → length (bytes6 (tunnel_head sender) p) ≡ 40 + length p
+outer_size sender p = omega arith
+
+size_by : (k : Kind) (sender : ℕ) (p : List ℕ) → length p ≡ 32 → length (packet_by k sender p) ≤ 262144
+size_by kind.Inward sender p size = omega (arith, size)
+size_by kind.Outward sender p size = omega (arith, size, outer_size sender p)
+size_by kind.Between sender p size = omega (arith, size, outer_size sender p)
+size_by kind.Foreign sender p size = omega (arith, size, outer_size sender p)
+
+can_record : (seed number : ℕ) → number < 1000000 → IsRecordable (generated seed number)
+can_record seed number few =
+    let draw : Draw = drawn (state_after seed (number + 1)) in
+    record {
+      seconds = omega (arith, few);
+      fraction = omega (arith, few);
+      size = size_by draw.kind draw.sender (packet4_of (number % 2 ^ 16) (way_of draw)) (inner_size (number % 2 ^ 16) (way_of draw));
+    }
+
+can_record_all : (seed first count : ℕ) → first + count ≤ 1000000 → All IsRecordable (map (generated seed) (range_with_len first count))
+can_record_all seed first zero few = All-nil IsRecordable
+can_record_all seed first (suc count) few =
+    All-cons IsRecordable (generated seed first) (map (generated seed) (range_with_len (first + 1) count)) (can_record seed first (omega (arith, few))) (can_record_all seed (first + 1) count (omega (arith, few)))
+
+last_false : (b : Bool) → (b && false) ≡ false
+last_false true = refl
+last_false false = refl
+
+is_classic : (packets : List TimedPacket) → is_pcapng (capture_bytes false packets) ≡ false
+is_classic packets = last_false (nat_lt 3 (length (capture_bytes false packets)))
+
+same_form : (x : Result Form CaptureBad) (f g : Form) → x ≡ Ok f → x ≡ Ok g → f ≡ g
+same_form x f g a b = cc (a, b)
+
+map_length : (rs : List Rec) → length (map timed rs) ≡ length rs
+map_length [] = refl
+map_length (r ∷ rs) = ap suc (map_length rs)
+
+-- the records of a classic capture are as many as the packets that were written
+counted : OneReading → (packets : List TimedPacket) (rs : List Rec) → IsCapture (capture_bytes false packets) (Ok (written_form false)) rs None → map timed rs ≡ packets →
+    (header : Header) (others : List Rec) → IsInputBy false (capture_bytes false packets) header others None → length others ≡ length packets
+counted one packets rs capture are header others input =
+    let bytes : List ℕ = capture_bytes false packets in
+    let form : input.0 ≡ written_form false = cc (input.2.0, capture.0) in
+    let P : Form → Type 0 = λ f. classic.Splits f.big (drop 24 bytes) 24 0 others None in
+    let same : rs ≡ others = (one false (drop 24 bytes) 24 0 rs others None None capture.1 (subst P form input.2.1)).0 in
+    ap (λ (l : List Rec). length l) (sym same) ∙ (sym (map_length rs) ∙ ap (λ (l : List TimedPacket). length l) are)
+
+count_is : OneReading → WrittenIsRead → (seed count : ℕ) → count ≤ 1000000 → (header : Header) (rs : List Rec) → IsInput (capture_of seed count) header rs None → length rs ≡ count
+count_is one written seed count few header rs input =
+    let packets : List TimedPacket = map (generated seed) (range_with_len 0 count) in
+    let size : length packets ≡ count = length-map-range_with_len (generated seed) 0 count in
+    let read = written false packets (can_record_all seed 0 count (omega (arith, few))) (omega (arith, size, few)) in
+    let I : Bool → Type 0 = λ b. IsInputBy b (capture_bytes false packets) header rs None in
+    counted one packets read.0 read.1 read.2 header rs (subst I (is_classic packets) input) ∙ size
+
+is_open : (count : ℕ) → count_by (λ (w : Window). nat_le w.earliest count) (middle_window count) ≡ 1
+is_open count =
+    let opens : nat_le (middle count) count ≡ true = le-leb (middle count) count (omega arith) in
+    let one : (let k : ℕ = cond (nat_le (middle count) count) 1 0 in k) ≡ 1 = ap (λ (t : Bool). let k : ℕ = cond t 1 0 in k) opens in
+    let w : Window = record { earliest = middle count; latest = middle count } in
+    omega (arith, one, sum_by-cons (λ (v : Window). cond (nat_le v.earliest count) 1 0) w [])
+
+-- the one point of the run
+at_middle : (count : ℕ) (points : List ℕ) → AreAllPoints (middle_window count) points count → points ≡ middle count ∷ []
+at_middle count [] are = absurd (omega (arith, are.each, is_open count))
+at_middle count (p ∷ []) are =
+    let inside = are.placed.inside 0 (omega arith) in
+    let same : p ≡ middle count = omega (arith, inside.0, inside.1) in
+    ap (λ (n : ℕ). n ∷ []) same
+at_middle count (p ∷ q ∷ points) are = absurd (omega (arith, are.each, is_open count))
+
+-- what the run leaves at `Done` is the demonstration's summary and history
+shows : OneReading → WrittenIsRead → (seed count : ℕ) → count ≤ 1000000 → (run : RunJob) (slots : List Slot) (old new : Contents) (line : List ℕ) (history : Option HistoryValue) → run.errors ≡ None →
+    content old run.input ≡ capture_of seed count → IsWhole run demo_tables (middle_window count) slots old new (Some []) (Some line) history None → IsDemo seed count line history
+shows one written seed count few run slots old new line history no_limit holds whole =
+    let C : List ℕ → Type 0 = λ bytes. IsInput bytes whole.header whole.records None in
+    let input : IsInput (capture_of seed count) whole.header whole.records None = subst C holds whole.capture in
+    let many : length whole.records ≡ count = count_is one written seed count few whole.header whole.records input in
+    let r = whole.is_run in
+    let A : ℕ → Type 0 = λ n. AreAllPoints (middle_window count) r.points n in
+    let points_are : r.points ≡ middle count ∷ [] = at_middle count r.points (subst A many r.is_course.placed) in
+    let E : Option ℕ → Type 0 = λ e. IsCourse demo_tables (middle_window count) e r.points whole.header.form whole.records r.course in
+    let P : List ℕ → Type 0 = λ ps. IsCourse demo_tables (middle_window count) None ps whole.header.form whole.records r.course in
+    let H : List ℕ → Type 0 = λ ps. IsHistoryOf demo_tables (middle_window count) ps whole.header.form whole.records history in
+    record {
+      header = whole.header;
+      records = whole.records;
+      capture = input;
+      counted = many;
+      course = r.course;
+      is_course = subst P points_are (subst E no_limit r.is_course);
+      line_is = cc r.outputs.summary;
+      is_history = inr (subst H points_are r.is_history);
+    }
+
+-- the same of a sink in memory that had nothing
+pub is_demo : OneReading → WrittenIsRead → (seed count : ℕ) → count ≤ 1000000 → (show : Show) → IsShow seed count show → (new : Contents) (before line : List ℕ) → before ≡ [] → (last : Option (List ℕ × ℕ)) (history : Option HistoryValue) →
+    LeavesMade show.job show.made.plan show.made.slots status.Done show.files new (Some before) (Some line) last history → IsDemo seed count line history
+is_demo one written seed count few show is new before line none last history leaves =
+    let W : List ℕ → Type 0 = λ said. IsWhole show.job demo_tables (middle_window count) show.made.slots show.files new (Some said) (Some line) history None in
+    shows one written seed count few show.job show.made.slots show.files new line history is.job.no_limit is.holds (subst W none (leaves demo_tables (middle_window count) is.plan).0)
+
+-- the line says nothing of the history
+pub line_alone : (seed count : ℕ) (line : List ℕ) (history : Option HistoryValue) → IsDemo seed count line history → IsDemoLine seed count line
+line_alone seed count line history is = record {
+  header = is.header;
+  records = is.records;
+  capture = is.capture;
+  counted = is.counted;
+  course = is.course;
+  is_course = is.is_course;
+  line_is = is.line_is;
+  is_history = inl refl;
+}
+
+some_not_none : (history : Option HistoryValue) → IsSome history → IsNone history → ⊥
+some_not_none (Some value) some none = absurd (cc none)
+some_not_none None some none = absurd (cc some)
+
+-- the history that is handed out with the line
+pub shown_history : (seed count : ℕ) (line : List ℕ) (history : Option HistoryValue) → IsDemo seed count line history → IsSome history → HasDemoHistory seed count status.Done history
+shown_history seed count line history is some = (line, is, some_not_none history some)
+
+-- a line that cannot be put
+pub no_history : (seed count : ℕ) (s : Status) (line : List ℕ) (said now : Option (List ℕ)) (history : Option HistoryValue) → Puts s line said now → (s ≡ status.Done → ⊥) → history ≡ None → HasDemoHistory seed count s history
+no_history seed count status.Done line said now history put other none = absurd (other refl)
+no_history seed count status.WriteFault line said now history put other none = none
+no_history seed count status.OutOfMemory line said now history put other none = none
+no_history seed count status.ReadFault line said now history put other none = none
+no_history seed count (status.BadTable refusal) line said now history put other none = none
+no_history seed count status.DoneRefused line said now history put other none = none
+no_history seed count status.Usage line said now history put other none = none
+no_history seed count (status.BadCapture refusal) line said now history put other none = none
+
+pub put_ends : (s : Status) (line : List ℕ) (said now : Option (List ℕ)) → Puts s line said now → (s ≡ status.Done) ⊎ ((s ≡ status.WriteFault) ⊎ (s ≡ status.OutOfMemory))
+put_ends status.Done line said now put = inl refl
+put_ends status.WriteFault line said now put = inr (inl refl)
+put_ends status.OutOfMemory line said now put = inr (inr refl)
+put_ends status.ReadFault line said now put = absurd put
+put_ends (status.BadTable refusal) line said now put = absurd put
+put_ends status.DoneRefused line said now put = absurd put
+put_ends status.Usage line said now put = absurd put
+put_ends (status.BadCapture refusal) line said now put = absurd put

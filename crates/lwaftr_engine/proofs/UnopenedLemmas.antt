@@ -1,0 +1,95 @@
+-- A capture that cannot be opened.
+use Rattle.std.proofs.Common.{◌≡◌, ℕ, ◌<◌, Bool, true, false, List, Option, Some, None, Result, Err, inl, inr, refl, sym, ap, subst}
+use Rattle.aftr_base.specs.Contents.{Contents, content, Moves, Told}
+use Rattle.aftr_base.specs.Outside.{FailsAt}
+use Rattle.aftr_text.specs.declared.jobs.RunJob.{RunJob}
+use Rattle.area_swap.specs.Histories.{HistoryValue}
+use Rattle.capture_io.specs.Answers.{Agrees, is_read_fault}
+use Rattle.capture_io.specs.Header as classic_header
+use Rattle.capture_io.specs.declared.forms.CaptureError.{CaptureError}
+use Rattle.capture_io.specs.declared.forms.CaptureError.TheVariants as failure
+use Rattle.lwaftr_engine.specs.Inputs.{header_by, header_of, in_blocks, in_classic}
+use Rattle.lwaftr_engine.specs.Planned.{IsEarly, LeavesMade, unopened_status}
+use Rattle.lwaftr_engine.specs.Runs.{OthersKept}
+use Rattle.lwaftr_engine.specs.declared.status.Status.{Status}
+use Rattle.pcapng_io.specs.Answers.{IsInHeader}
+use Rattle.pcapng_io.specs.Captures as blocks
+use Rattle.pcapng_io.specs.Files.{IsFault}
+use Rattle.reload_plan.specs.declared.loads.Slot.{Slot}
+use Rattle.swap_core.specs.Plans.{Tables}
+use Rattle.lwaftr_engine.proofs.JobLemmas.{early_blocks, early_classic, early_kind}
+
+-- a read failed, by an answer of some call
+abbrev pub failed_as : (T : Type 0) → CaptureError → Bool
+failed_as T error = let r : Result T CaptureError = Err error in is_read_fault r
+
+-- why it was not opened
+abbrev pub IsUnopened : RunJob → Contents → Option (List ℕ × ℕ) → CaptureError → Type 0
+IsUnopened run m last (failure.Bad refusal) = header_of (content m run.input) ≡ Err refusal
+IsUnopened run m last failure.ReadFault = IsEarly run.input (content m run.input) last
+IsUnopened run m last failure.OutOfMemory = Unit {0}
+
+kind_by : (T : Type 0) (run : RunJob) (m : Contents) (error : CaptureError) (old last : Option (List ℕ × ℕ)) → IsFault error → FailsAt (failed_as T error) run.input (λ place. place < 4) old last → IsUnopened run m last error
+kind_by T run m (failure.Bad refusal) old last fault failed = absurd fault
+kind_by T run m failure.ReadFault old last fault failed = early_kind run.input (content m run.input) old last failed
+kind_by T run m failure.OutOfMemory old last fault failed = tt
+
+-- which kind of file it is was not told
+pub kind_unopened : (T : Type 0) (run : RunJob) (h : Option Contents) (error : CaptureError) (old last : Option (List ℕ × ℕ)) → IsFault error → FailsAt (failed_as T error) run.input (λ place. place < 4) old last → Told h (λ m. IsUnopened run m last error)
+kind_unopened T run None error old last fault failed = tt
+kind_unopened T run (Some m) error old last fault failed = kind_by T run m error old last fault failed
+
+classic_by : (T : Type 0) (run : RunJob) (m : Contents) (error : CaptureError) (old last : Option (List ℕ × ℕ)) → false ≡ blocks.is_pcapng (content m run.input) → Agrees (Err error) (classic_header.header_in (content m run.input)) →
+    FailsAt (failed_as T error) run.input (λ place. place < 24) old last → IsUnopened run m last error
+classic_by T run m (failure.Bad refusal) old last kind agrees failed =
+    let H : Bool → Type 0 = λ b. header_by b (content m run.input) ≡ Err refusal in subst H kind (ap in_classic agrees)
+classic_by T run m failure.ReadFault old last kind agrees failed = early_classic run.input (content m run.input) old last kind failed
+classic_by T run m failure.OutOfMemory old last kind agrees failed = tt
+
+pub classic_unopened : (T : Type 0) (run : RunJob) (h0 h1 : Option Contents) (error : CaptureError) (old last : Option (List ℕ × ℕ)) → h1 ≡ h0 → Told h0 (λ m. false ≡ blocks.is_pcapng (content m run.input)) →
+    Told h1 (λ m. Agrees (Err error) (classic_header.header_in (content m run.input))) → FailsAt (failed_as T error) run.input (λ place. place < 24) old last → Told h0 (λ m. IsUnopened run m last error)
+classic_unopened T run None h1 error old last same kind agrees failed = tt
+classic_unopened T run (Some m) h1 error old last same kind agrees failed =
+    let G : Option Contents → Type 0 = λ h. Told h (λ m. Agrees (Err error) (classic_header.header_in (content m run.input))) in
+    classic_by T run m error old last kind (subst G same agrees) failed
+
+blocks_by : (T : Type 0) (run : RunJob) (m : Contents) (error : CaptureError) (old last : Option (List ℕ × ℕ)) → true ≡ blocks.is_pcapng (content m run.input) → Agrees (Err error) (blocks.header_in (content m run.input)) →
+    FailsAt (failed_as T error) run.input (IsInHeader (Some m) run.input) old last → IsUnopened run m last error
+blocks_by T run m (failure.Bad refusal) old last kind agrees failed =
+    let H : Bool → Type 0 = λ b. header_by b (content m run.input) ≡ Err refusal in subst H kind (ap in_blocks agrees)
+blocks_by T run m failure.ReadFault old last kind agrees failed = early_blocks m run.input old last kind failed
+blocks_by T run m failure.OutOfMemory old last kind agrees failed = tt
+
+pub blocks_unopened : (T : Type 0) (run : RunJob) (h0 h1 : Option Contents) (error : CaptureError) (old last : Option (List ℕ × ℕ)) → h1 ≡ h0 → Told h0 (λ m. true ≡ blocks.is_pcapng (content m run.input)) →
+    Told h1 (λ m. Agrees (Err error) (blocks.header_in (content m run.input))) → FailsAt (failed_as T error) run.input (IsInHeader h1 run.input) old last → Told h0 (λ m. IsUnopened run m last error)
+blocks_unopened T run None h1 error old last same kind agrees failed = tt
+blocks_unopened T run (Some m) h1 error old last same kind agrees failed =
+    let G : Option Contents → Type 0 = λ h. Told h (λ m. Agrees (Err error) (blocks.header_in (content m run.input))) in
+    let F : Option Contents → Type 0 = λ h. FailsAt (failed_as T error) run.input (IsInHeader h run.input) old last in
+    blocks_by T run m error old last kind (subst G same agrees) (subst F same failed)
+
+leaves_by_error : (run : RunJob) (plan : Tables) (slots : List Slot) (error : CaptureError) (m : Contents) (said : Option (List ℕ)) (last : Option (List ℕ × ℕ)) → IsUnopened run m last error →
+    LeavesMade run plan slots (unopened_status error) m m said said last None
+leaves_by_error run plan slots (failure.Bad refusal) m said last why = λ tables windows of. inr (why, record { files = refl; sink = refl; none = refl })
+leaves_by_error run plan slots failure.ReadFault m said last why = λ tables windows of. inr (why, record { files = refl; sink = refl; none = refl })
+leaves_by_error run plan slots failure.OutOfMemory m said last why = λ tables windows of. inl (record { files = refl; sink = refl; none = refl })
+
+by_held : (run : RunJob) (plan : Tables) (slots : List Slot) (error : CaptureError) (h : Option Contents) (said : Option (List ℕ)) (last : Option (List ℕ × ℕ)) → Told h (λ m. IsUnopened run m last error) →
+    Moves h h (λ m n. LeavesMade run plan slots (unopened_status error) m n said said last None)
+by_held run plan slots error None said last why = tt
+by_held run plan slots error (Some m) said last why = leaves_by_error run plan slots error m said last why
+
+pub unopened_leaves : (run : RunJob) (plan : Tables) (slots : List Slot) (error : CaptureError) (result : Status) (h0 h1 : Option Contents) (said : Option (List ℕ)) (last : Option (List ℕ × ℕ)) (history : Option HistoryValue) →
+    result ≡ unopened_status error → history ≡ None → h1 ≡ h0 → Told h0 (λ m. IsUnopened run m last error) → Moves h0 h1 (λ m n. LeavesMade run plan slots result m n said said last history)
+unopened_leaves run plan slots error result h0 h1 said last history is none same why =
+    let S : Status → Type 0 = λ s. Moves h0 h1 (λ m n. LeavesMade run plan slots s m n said said last history) in
+    let N : Option HistoryValue → Type 0 = λ k. Moves h0 h1 (λ m n. LeavesMade run plan slots (unopened_status error) m n said said last k) in
+    let H : Option Contents → Type 0 = λ h. Moves h0 h (λ m n. LeavesMade run plan slots (unopened_status error) m n said said last None) in
+    subst S (sym is) (subst N (sym none) (subst H (sym same) (by_held run plan slots error h0 said last why)))
+
+pub others_same : (run : RunJob) (h0 h1 : Option Contents) → h1 ≡ h0 → Moves h0 h1 (OthersKept run)
+others_same run h0 h1 same =
+    let H : Option Contents → Type 0 = λ h. Moves h0 h (OthersKept run) in subst H (sym same) (by_told h0) where
+      by_told : (h : Option Contents) → Moves h h (OthersKept run)
+      by_told None = tt
+      by_told (Some m) = λ name u v w. refl

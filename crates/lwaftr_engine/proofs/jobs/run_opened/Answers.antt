@@ -1,0 +1,29 @@
+use Rattle.std.proofs.Common.{◌∙◌, List, ap, sym}
+use Rattle.reload_plan.specs.declared.loads.Slot.{Slot}
+use Rattle.lwaftr_engine.specs.Planned.{some_slot_refused}
+use Rattle.lwaftr_engine.specs.Progress.{Setup, spot}
+use Rattle.lwaftr_engine.proofs.JobLemmas.{ended_place, opened_leaves}
+use Rattle.lwaftr_engine.proofs.OpenLemmas.{first_shown, slots_shown}
+use Rattle.lwaftr_engine.proofs.jobs.run_opened.Goals as goal
+
+pub returns-clause-left : goal.returns-clause-left
+returns-clause-left g c =
+    let f = g.F.Files in
+    let o = g.O.Sink in
+    let r = g.C.CaptureReader in
+    let x : Setup = record { run = c.args.job.now; slots = c.as_slice-2.result.now; form = c.form.result; written = c.args.written } in
+    let reader = spot (r.stands c.args.reader.now) (r.left c.args.reader.now) (r.at c.args.reader.now) in
+    let h0 = (f.outside c.args.files.now).held in
+    let h1 = (f.outside c.run_capture-ended.new.files).held in
+    let last = (f.outside c.run_capture-ended.new.files).last in
+    slots_shown c.args.job.now c.args.made.plan c.as_slice-2.result.now c.args.made.slots c.as_slice-2.ensures c.ended_status.result h0 h1 (o.out c.args.out.now) (o.out c.run_capture-ended.new.out) last c.run_capture-ended.new.history
+    (opened_leaves x c.args.made.plan reader c.run_capture-ended.result c.has_refused-refused.result c.ended_status.result h0 h1 (o.out c.args.out.now) (o.out c.run_capture-ended.new.out) last c.run_capture-ended.new.history
+    (c.has_refused-refused.ensures ∙ ap (λ (l : List Slot). some_slot_refused l) (c.as_slice.ensures ∙ sym c.as_slice-2.ensures))
+    c.ended_status.ensures
+    (first_shown reader (r.form c.args.reader.now) c.form.result c.args.written c.args.job.now.input h0 c.form.ensures c.requires.opened)
+    c.run_capture-ended.ensures.ended)
+
+pub returns-clause-failed_read : goal.returns-clause-failed_read
+returns-clause-failed_read g c =
+    let f = g.F.Files in
+    ended_place c.args.job.now.input c.run_capture-ended.result c.has_refused-refused.result c.ended_status.result (f.outside c.args.files.now) (f.outside c.run_capture-ended.new.files) c.ended_status.ensures c.run_capture-ended.ensures.reads

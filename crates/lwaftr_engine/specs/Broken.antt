@@ -1,0 +1,51 @@
+-- What the outputs hold where rounds were ended by a fault.
+use Rattle.std.specs.Prelude.{◌≡◌, ◌≢◌, ℕ, ◌+◌, ◌<◌, ◌≤◌, List, ◌++◌, drop, length, take, Option}
+use Rattle.aftr_base.specs.Contents.{Contents, content}
+use Rattle.capture_io.specs.declared.forms.CaptureBad.{CaptureBad}
+use Rattle.capture_io.specs.declared.forms.Rec.{Rec}
+use Rattle.error_limit.specs.Limits.{Bucket}
+use Rattle.item_stage.specs.Items.{entries_of}
+use Rattle.lwaftr_engine.specs.Progress.{HasWritten, IsLimitedRun, Mark, Setup, Suits, loads_of}
+use Rattle.run_output.specs.Limiting.{HasAsked, rate_of}
+use Rattle.run_output.specs.Outputs.{Course, lines_from, packets_from}
+use Rattle.run_output.specs.Versions.{NoneIsDue, load_lines}
+use Rattle.swap_core.specs.Plans.{Tables}
+
+-- fronts of the lines of tables, of packets and of lines of records are put behind what the outputs held
+pub record WroteFronts (x : Setup) (versions packets lines : List ℕ) (old new : Contents) : Type 0 where
+  pub versions_count : ℕ
+  pub versions_is : content new x.run.versions ≡ content old x.run.versions ++ take versions_count versions
+  pub output_count : ℕ
+  pub output : content new x.run.output ≡ content old x.run.output ++ take output_count packets
+  pub verdicts_count : ℕ
+  pub verdicts : content new x.run.verdicts ≡ content old x.run.verdicts ++ take verdicts_count lines
+  pub others : (name : List ℕ) → name ≢ x.run.output → name ≢ x.run.verdicts → name ≢ x.run.versions → content new name ≡ content old name
+
+-- These records were taken, and fronts of what they write stand behind what the outputs held. The lines of the tables that were in
+-- force for them, which are those of the first few loads, are written whole.
+pub record HasBegun (x : Setup) (c : Course) (points : List ℕ) (opened now : Contents) (taken : List Rec) (limit : Option Bucket) : Type 0 where
+  pub entries : length (entries_of x.form taken) ≡ length taken
+  pub asked : HasAsked x.form taken (entries_of x.form taken) c limit
+  pub printed : List ℕ
+  pub later : List ℕ
+  pub all : points ≡ printed ++ later
+  pub loads : ℕ
+  pub none_due : NoneIsDue printed (drop loads x.slots)
+  pub spoken : (number : ℕ) → number < length taken → c.version number ≤ length printed
+  pub wrote : IsLimitedRun x c taken →
+      WroteFronts x (load_lines points (loads_of x)) (packets_from c x.written 0 taken (entries_of x.form taken)) (lines_from c 0 (entries_of x.form taken)) opened now
+  pub told : IsLimitedRun x c taken → length (load_lines points (take loads (loads_of x))) + length (content opened x.run.versions) ≤ length (content now x.run.versions)
+
+-- Rounds were ended by a fault: the next records of the capture were taken, and fronts of what they write were written.
+pub record IsBrokenFrom (x : Setup) (plan : Tables) (draws : List (ℕ × ℕ)) (points : List ℕ) (a : Mark) (now : Contents) : Type 0 where
+  pub input : content now x.run.input ≡ content a.held x.run.input
+  pub records : List Rec
+  pub rest : List Rec
+  pub ended : Option CaptureBad
+  pub capture : a.reader.stood (content a.held x.run.input) → a.reader.left (content a.held x.run.input) a.progress.number (records ++ rest) ended
+  pub limit : Option Bucket
+  pub rate : rate_of limit ≡ x.run.errors
+  pub begun : (c : Course) → Suits plan draws c → (opened : Contents) (taken : List Rec) → HasWritten x c opened a taken → HasBegun x c points opened now (taken ++ records) limit
+
+abbrev pub Breaks : Setup → Tables → List (ℕ × ℕ) → List ℕ → Mark → Contents → Type 0
+Breaks x plan draws points a now = a.reader.stood (content a.held x.run.input) → IsBrokenFrom x plan draws points a now

@@ -1,0 +1,56 @@
+-- What a status says of the faults of the outside.
+use Rattle.std.specs.Prelude.{◌≡◌, ◌⊎◌, ℕ, List, Option, Some}
+use Rattle.std.specs.List.{Contains}
+use Rattle.aftr_base.specs.Outside.{Rose}
+use Rattle.lwaftr_engine.specs.Worlds.{World}
+use Rattle.lwaftr_engine.specs.declared.status.Status.{Status}
+use Rattle.lwaftr_engine.specs.declared.status.Status.TheVariants as status
+
+-- no call of the outside failed
+pub record NothingRose (before now : World) : Type 0 where
+  pub lost : now.files.lost ≡ before.files.lost
+  pub spoiled : now.files.spoiled ≡ before.files.spoiled
+  pub faults : now.files.faults ≡ before.files.faults
+  pub puts : now.puts ≡ before.puts
+
+-- a read failed, and nothing else did
+pub record ReadsRose (before now : World) : Type 0 where
+  pub lost : Rose before.files.lost now.files.lost
+  pub spoiled : now.files.spoiled ≡ before.files.spoiled
+  pub puts : now.puts ≡ before.puts
+
+-- `ReadFault` comes only where a read failed in this call and nothing else did, `WriteFault` only where a create, an append or a
+-- put failed, and at every other status but want of memory nothing failed.
+abbrev pub HasCause : Status → World → World → Type 0
+HasCause status.ReadFault before now = ReadsRose before now
+HasCause status.WriteFault before now = Rose before.files.spoiled now.files.spoiled ⊎ Rose before.puts now.puts
+HasCause status.OutOfMemory before now = Unit {0}
+HasCause _ before now = NothingRose before now
+
+-- nothing failed of reads, of creates and appends, and of puts
+pub record NothingFailed (before now : World) : Type 0 where
+  pub lost : Rose before.files.lost now.files.lost → ⊥
+  pub spoiled : Rose before.files.spoiled now.files.spoiled → ⊥
+  pub puts : Rose before.puts now.puts → ⊥
+
+-- the last read that failed is one of a file with one of these names
+pub record IsReadOf (names : List (List ℕ)) (last : Option (List ℕ × ℕ)) : Type 0 where
+  pub name : List ℕ
+  pub place : ℕ
+  pub among : Contains names name
+  pub last_is : last ≡ Some (name, place)
+
+-- At `ReadFault` the last read that failed is one of these files. Nothing is said of it where writing failed or memory was short,
+-- and at every other status no read failed.
+abbrev pub FailsIn : List (List ℕ) → Status → Option (List ℕ × ℕ) → Option (List ℕ × ℕ) → Type 0
+FailsIn names status.ReadFault old new = IsReadOf names new
+FailsIn names status.WriteFault old new = Unit {0}
+FailsIn names status.OutOfMemory old new = Unit {0}
+FailsIn names _ old new = new ≡ old
+
+-- the job ended by a fault of the outside or for want of memory
+abbrev pub IsFault : Status → Type 0
+IsFault status.ReadFault = Unit {0}
+IsFault status.WriteFault = Unit {0}
+IsFault status.OutOfMemory = Unit {0}
+IsFault _ = ⊥

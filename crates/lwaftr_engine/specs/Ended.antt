@@ -1,0 +1,58 @@
+-- What a run leaves from the opening of its outputs on, by how the records ended.
+use Rattle.std.specs.Prelude.{◌≡◌, ◌⊎◌, ℕ, ◌≤◌, List, ◌++◌, All, Option, Some, None, Result, Ok, Err}
+use Rattle.aftr_base.specs.Contents.{Contents, content}
+use Rattle.aftr_base.specs.declared.outside.Fault.{Fault}
+use Rattle.aftr_base.specs.declared.outside.Fault.TheVariants as fault
+use Rattle.area_swap.specs.Histories.{HistoryValue}
+use Rattle.binding_rules.specs.Tables.{BindingTable}
+use Rattle.capture_io.specs.declared.forms.CaptureBad.{CaptureBad}
+use Rattle.capture_io.specs.declared.forms.Rec.{Rec}
+use Rattle.capture_io.specs.declared.rounds.Ending.{Ending}
+use Rattle.capture_io.specs.declared.rounds.Ending.TheVariants as ending
+use Rattle.lwaftr_engine.specs.Endings.{IsBehind}
+use Rattle.lwaftr_engine.specs.Fronts.{IsFront}
+use Rattle.lwaftr_engine.specs.Progress.{Setup, Spot}
+use Rattle.lwaftr_engine.specs.Runs.{IsPlanOf, IsRun}
+use Rattle.swap_core.specs.Plans.{Tables}
+use Rattle.swap_core.specs.declared.plan.Window.{Window}
+
+-- the run of all records that are left, which end so
+pub record EndsWhole (x : Setup) (tables : ℕ → BindingTable) (windows : List Window) (reader : Spot) (old new : Contents) (said now : Option (List ℕ)) (history : Option HistoryValue) (ended : Option CaptureBad) : Type 0 where
+  pub records : List Rec
+  pub capture : reader.left (content old x.run.input) 0 records ended
+  pub is_run : IsRun x.run tables windows x.slots x.form x.written records old new said now history
+
+-- the run of the records before a read that failed
+pub record EndsCut (x : Setup) (tables : ℕ → BindingTable) (windows : List Window) (reader : Spot) (old new : Contents) (said now : Option (List ℕ)) (history : Option HistoryValue) (last : Option (List ℕ × ℕ)) : Type 0 where
+  pub taken : List Rec
+  pub rest : List Rec
+  pub ended : Option CaptureBad
+  pub capture : reader.left (content old x.run.input) 0 (taken ++ rest) ended
+  pub place : ℕ
+  pub last_is : last ≡ Some (x.run.input, place)
+  pub behind : reader.at ≤ place
+  pub reached : All (λ r. r.next_at ≤ place) taken
+  pub next : IsBehind place rest
+  pub is_run : IsRun x.run tables windows x.slots x.form x.written taken old new said now history
+
+-- the run was ended by a fault
+pub record EndsBroken (x : Setup) (tables : ℕ → BindingTable) (windows : List Window) (reader : Spot) (old new : Contents) (said now : Option (List ℕ)) : Type 0 where
+  pub taken : List Rec
+  pub rest : List Rec
+  pub ended : Option CaptureBad
+  pub capture : reader.left (content old x.run.input) 0 (taken ++ rest) ended
+  pub front : IsFront x.run tables windows x.slots x.form x.written taken old new said now
+
+abbrev pub EndsBy : Setup → (ℕ → BindingTable) → List Window → Spot → Result Ending Fault → Contents → Contents → Option (List ℕ) → Option (List ℕ) → Option (List ℕ × ℕ) → Option HistoryValue → Type 0
+EndsBy x tables windows reader (Ok ending.End) old new said now last history = EndsWhole x tables windows reader old new said now history None
+EndsBy x tables windows reader (Ok (ending.Bad refusal)) old new said now last history = EndsWhole x tables windows reader old new said now history (Some refusal)
+EndsBy x tables windows reader (Ok ending.ReadFault) old new said now last history = EndsCut x tables windows reader old new said now history last
+EndsBy x tables windows reader (Err fault.Failed) old new said now last history = EndsBroken x tables windows reader old new said now × (history ≡ None)
+EndsBy x tables windows reader (Err fault.OutOfMemory) old new said now last history =
+    (((new ≡ old) × (now ≡ said)) ⊎ EndsBroken x tables windows reader old new said now) × (history ≡ None)
+
+-- under every list of tables of which the plan's words are
+abbrev pub Ends : Setup → Tables → Spot → Result Ending Fault → Contents → Contents → Option (List ℕ) → Option (List ℕ) → Option (List ℕ × ℕ) → Option HistoryValue → Type 0
+Ends x plan reader result old new said now last history =
+    (tables : ℕ → BindingTable) (windows : List Window) → IsPlanOf tables windows plan → reader.stood (content old x.run.input) →
+    EndsBy x tables windows reader result old new said now last history

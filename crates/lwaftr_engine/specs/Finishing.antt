@@ -1,0 +1,69 @@
+-- What is written when the records have ended.
+use Rattle.std.specs.Prelude.{◌≡◌, ◌⊎◌, ℕ, false, List, [], ◌++◌, drop, flat_map, length, take, Option, None, IsSome, Result, Ok, Err}
+use Rattle.std.specs.Option.{option_map}
+use Rattle.aftr_base.specs.Contents.{Contents}
+use Rattle.aftr_base.specs.declared.outside.Fault.{Fault}
+use Rattle.aftr_text.specs.Lines.{ended_text, summary_text}
+use Rattle.area_swap.specs.Histories.{HistoryValue}
+use Rattle.capture_io.specs.declared.forms.Form.{Form}
+use Rattle.capture_io.specs.declared.forms.Rec.{Rec}
+use Rattle.capture_io.specs.declared.rounds.Ending.{Ending}
+use Rattle.item_stage.specs.Items.{unfinished_of}
+use Rattle.item_stage.specs.Stages.{Stands}
+use Rattle.lwaftr_engine.specs.declared.rounds.Progress.{Progress}
+use Rattle.lwaftr_engine.specs.Progress.{Setup, Wrote, loads_of}
+use Rattle.run_output.specs.Counting.{no_totals, with_version}
+use Rattle.run_output.specs.Limiting.{HasAsked, rate_of}
+use Rattle.run_output.specs.Outputs.{Course}
+use Rattle.run_output.specs.Versions.{load_lines}
+
+-- how far a run has come before its first record
+pub record IsFirst (form : Form) (errors : Option ℕ) (p : Progress) : Type 0 where
+  pub stands : Stands p.stage []
+  pub stage_form : p.stage.form ≡ form
+  pub staged : p.stage.number ≡ 0
+  pub number : p.number ≡ 0
+  pub totals : p.totals ≡ no_totals
+  pub rate : rate_of p.limit ≡ errors
+  pub asked : (form : Form) (c : Course) → HasAsked form [] [] c p.limit
+  pub printed : p.printed ≡ 0
+
+-- the last lines of tables, of the points of the whole run, and those of the datagrams that were never whole
+abbrev pub last_versions : Setup → Progress → List ℕ → List ℕ
+last_versions x p points = load_lines points (drop p.printed (loads_of x))
+
+abbrev pub last_lines : Progress → List Rec → List ℕ
+last_lines p taken = flat_map (ended_text false) (unfinished_of p.stage.form taken)
+
+abbrev pub last_line : Progress → List ℕ → List ℕ
+last_line p points = summary_text (with_version p.totals (length points))
+
+-- all of it is written
+pub record IsFinished (x : Setup) (p : Progress) (points : List ℕ) (taken : List Rec) (old new : Contents) (said now : Option (List ℕ)) : Type 0 where
+  pub wrote : Wrote x.run (last_versions x p points) [] (last_lines p taken) old new
+  pub took : now ≡ option_map (λ out. out ++ last_line p points) said
+
+-- a front of it is written: of the lines of tables, then of those of datagrams, and nothing is put
+pub record IsHalfWritten (x : Setup) (p : Progress) (points : List ℕ) (taken : List Rec) (old new : Contents) (said now : Option (List ℕ)) : Type 0 where
+  pub versions : ℕ
+  pub lines : ℕ
+  pub wrote : Wrote x.run (take versions (last_versions x p points)) [] (take lines (last_lines p taken)) old new
+  pub took : now ≡ said
+
+-- all lines are written, and a front of the summary is put
+pub record IsHalfPut (x : Setup) (p : Progress) (points : List ℕ) (taken : List Rec) (old new : Contents) (said now : Option (List ℕ)) : Type 0 where
+  pub wrote : Wrote x.run (last_versions x p points) [] (last_lines p taken) old new
+  pub count : ℕ
+  pub took : now ≡ option_map (λ out. out ++ take count (last_line p points)) said
+
+abbrev pub IsHalfFinished : Setup → Progress → List ℕ → List Rec → Contents → Contents → Option (List ℕ) → Option (List ℕ) → Type 0
+IsHalfFinished x p points taken old new said now = IsHalfWritten x p points taken old new said now ⊎ IsHalfPut x p points taken old new said now
+
+abbrev pub Finishes : Setup → Progress → List ℕ → List Rec → Result Unit Fault → Contents → Contents → Option (List ℕ) → Option (List ℕ) → Type 0
+Finishes x p points taken (Ok done) old new said now = IsFinished x p points taken old new said now
+Finishes x p points taken (Err why) old new said now = IsHalfFinished x p points taken old new said now
+
+-- there is a history where all is written, and none after a fault
+abbrev pub HasHistoryBy : Result Ending Fault → Option HistoryValue → Type 0
+HasHistoryBy (Ok ending) history = IsSome history
+HasHistoryBy (Err why) history = history ≡ None

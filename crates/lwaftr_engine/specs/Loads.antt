@@ -1,0 +1,53 @@
+-- The loads of a run as they are read.
+use Rattle.std.specs.Prelude.{◌≡◌, ℕ, Bool, true, false, List, [], ◌∷◌, Option, Ok, Err}
+use Rattle.aftr_base.specs.Contents.{Contents, content}
+use Rattle.aftr_base.specs.Outside.{Outside, Rises}
+use Rattle.aftr_text.specs.declared.jobs.LoadWords.{LoadWords}
+use Rattle.binding_file.specs.Files.{TableOf}
+use Rattle.lwaftr_engine.specs.Causes.{IsReadOf}
+use Rattle.lwaftr_engine.specs.Tables.{Answer}
+use Rattle.reload_plan.specs.Accepted.{IsSound}
+use Rattle.reload_plan.specs.declared.loads.Load.{Load}
+use Rattle.reload_plan.specs.declared.loads.Loaded.{Loaded}
+use Rattle.reload_plan.specs.declared.loads.Loaded.TheVariants as loaded
+use Rattle.table_words.specs.Layout.{IsCompiled}
+
+-- the words of the table, or its refusal
+abbrev pub IsLoadedAs : Answer → Loaded → Type 0
+IsLoadedAs (Ok t) (loaded.Words words) = IsCompiled t words
+IsLoadedAs (Err refusal) (loaded.Refused cause) = cause ≡ refusal
+IsLoadedAs _ _ = ⊥
+
+-- what the load's file says, and the load by it
+pub record IsLoadOf (m : Contents) (words : LoadWords) (load : Load) : Type 0 where
+  pub answer : Answer
+  pub says : TableOf (content m words.name) answer
+  pub is : IsLoadedAs answer load.loaded
+
+abbrev pub AreLoadsOf : Contents → List LoadWords → List Load → Type 0
+AreLoadsOf m [] [] = Unit {0}
+AreLoadsOf m (w ∷ ws) (l ∷ ls) = IsLoadOf m w l × AreLoadsOf m ws ls
+AreLoadsOf m _ _ = ⊥
+
+-- each load has its window, and the words of a table or a refusal
+pub record IsFitFor (words : LoadWords) (load : Load) : Type 0 where
+  pub window : load.window ≡ words.window
+  pub sound : IsSound load.loaded
+
+abbrev pub AreFitFor : List LoadWords → List Load → Type 0
+AreFitFor [] [] = Unit {0}
+AreFitFor (w ∷ ws) (l ∷ ls) = IsFitFor w l × AreFitFor ws ls
+AreFitFor _ _ = ⊥
+
+-- where a call failed, a read of a file with one of these names did
+abbrev pub FailsAmong : Bool → List (List ℕ) → Option (List ℕ × ℕ) → Option (List ℕ × ℕ) → Type 0
+FailsAmong true names before now = IsReadOf names now
+FailsAmong false names before now = now ≡ before
+
+-- a call that reads these files and does nothing else
+pub record OnlyReadsAmong (failed : Bool) (names : List (List ℕ)) (before now : Outside) : Type 0 where
+  pub held : now.held ≡ before.held
+  pub faults : Rises failed before.faults now.faults
+  pub lost : Rises failed before.lost now.lost
+  pub spoiled : now.spoiled ≡ before.spoiled
+  pub last : FailsAmong failed names before.last now.last

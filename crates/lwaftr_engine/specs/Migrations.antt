@@ -1,0 +1,79 @@
+-- A table file written anew in the newer edition, under another name.
+use Rattle.std.specs.Prelude.{◌≡◌, ◌⊎◌, ℕ, List, ◌++◌, length, take, Option, None, Ok}
+use Rattle.std.specs.Option.{option_map}
+use Rattle.aftr_base.specs.Contents.{Contents, content, Moves, Told, Writes}
+use Rattle.aftr_base.specs.Outside.{Rose}
+use Rattle.aftr_text.specs.Lines.{migrated_text}
+use Rattle.area_swap.specs.Histories.{HistoryValue}
+use Rattle.binding_file.specs.Files.{TableOf, TextOf}
+use Rattle.binding_rules.specs.Tables.{BindingTable, binding_table}
+use Rattle.binding_rules.specs.declared.settings.Edition.TheVariants as edition
+use Rattle.lwaftr_engine.specs.Causes.{HasCause}
+use Rattle.lwaftr_engine.specs.Questions.{Answers, FailedIn, IsComplete, RefusesAs}
+use Rattle.lwaftr_engine.specs.Worlds.{World}
+use Rattle.lwaftr_engine.specs.declared.status.Status.{Status}
+use Rattle.lwaftr_engine.specs.declared.status.Status.TheVariants as status
+
+-- the same settings and bindings in the newer edition
+abbrev pub in_edition_two : BindingTable → BindingTable
+in_edition_two t = binding_table edition.Two t.softwire t.bindings
+
+-- a text of the file's table in the newer edition
+pub record IsNewText (m : Contents) (input : List ℕ) (t : BindingTable) (text : List ℕ) : Type 0 where
+  pub table : TableOf (content m input) (Ok t)
+  pub spelled : TextOf text (Ok (in_edition_two t))
+
+-- OUT is as it was, or holds a front of such a text; nothing else changed
+abbrev pub HoldsFrontOfText : List ℕ → List ℕ → Contents → Contents → Type 0
+HoldsFrontOfText input output old new =
+    (new ≡ old) ⊎ ((t : BindingTable) × (text : List ℕ) × IsNewText old input t text × (count : ℕ) × Writes old new output (take count text))
+
+-- OUT holds such a text whole, and nothing else changed
+pub record HoldsText (input output : List ℕ) (t : BindingTable) (old new : Contents) : Type 0 where
+  pub text : List ℕ
+  pub is_new : IsNewText old input t text
+  pub writes : Writes old new output text
+
+-- `migrated N bindings`
+abbrev pub IsMigratedLine : List ℕ → Type 0
+IsMigratedLine line = (bindings : ℕ) × (line ≡ migrated_text bindings)
+
+-- all of the text is written, and the sink took a front of its line
+pub record IsAtLine (input output : List ℕ) (old new : Contents) (said now : Option (List ℕ)) : Type 0 where
+  pub table : BindingTable
+  pub holds : HoldsText input output table old new
+  pub count : ℕ
+  pub took : now ≡ option_map (λ taken. taken ++ take count (migrated_text (length table.bindings))) said
+
+-- the text is not all written, and the sink took nothing
+pub record IsAtText (input output : List ℕ) (old new : Contents) (said now : Option (List ℕ)) : Type 0 where
+  pub holds : HoldsFrontOfText input output old new
+  pub took : now ≡ said
+
+-- all is done
+pub record IsMigrated (input output : List ℕ) (old new : Contents) (said now : Option (List ℕ)) : Type 0 where
+  pub table : BindingTable
+  pub holds : HoldsText input output table old new
+  pub took : now ≡ option_map (λ taken. taken ++ migrated_text (length table.bindings)) said
+
+-- What OUT holds and what the sink took, by the status. Where no call of the files failed, a `WriteFault` is one of the sink, and
+-- the text is whole.
+abbrev pub LeavesMigrated : List ℕ → List ℕ → Status → World → World → Contents → Contents → Type 0
+LeavesMigrated input output status.Done before now old new = IsMigrated input output old new before.said now.said
+LeavesMigrated input output status.WriteFault before now old new =
+    (IsAtText input output old new before.said now.said × Rose before.files.faults now.files.faults) ⊎ IsAtLine input output old new before.said now.said
+LeavesMigrated input output status.OutOfMemory before now old new =
+    IsAtText input output old new before.said now.said ⊎ IsAtLine input output old new before.said now.said
+LeavesMigrated input output status.ReadFault before now old new = new ≡ old
+LeavesMigrated input output (status.BadTable refusal) before now old new = new ≡ old
+LeavesMigrated input output _ before now old new = ⊥
+
+-- What the migration leaves: OUT holds a text that spells the same table in the newer edition, and the sink took its line.
+pub record KeepsMigration (input output : List ℕ) (result : Status) (before now : World) (history : Option HistoryValue) : Type 0 where
+  pub files : Moves before.files.held now.files.held (LeavesMigrated input output result before now)
+  pub line : Answers IsMigratedLine result before.said now.said
+  pub refused : Told before.files.held (λ m. RefusesAs (content m input) result)
+  pub cause : HasCause result before now
+  pub failed_read : FailedIn input result before.files.last now.files.last
+  pub complete : Told before.files.held (λ m. IsComplete (content m input) result before now)
+  pub none : history ≡ None

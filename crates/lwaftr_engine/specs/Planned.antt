@@ -1,0 +1,99 @@
+-- What the parts of a run's job are told, and what they leave.
+use Rattle.std.specs.Prelude.{◌≡◌, ◌⊎◌, ℕ, ◌≤◌, Bool, true, false, if◌then◌else◌, List, [], ◌∷◌, All, length, Option, Some, None, IfSome, Result, Ok, Err}
+use Rattle.aftr_base.specs.Contents.{Contents, content}
+use Rattle.aftr_base.specs.declared.outside.Fault.{Fault}
+use Rattle.aftr_base.specs.declared.outside.Fault.TheVariants as fault
+use Rattle.aftr_text.specs.Jobs.{AreApart, AreRising, IsLoad, IsRate, IsWorkers, windows_of}
+use Rattle.aftr_text.specs.declared.jobs.RunJob.{RunJob}
+use Rattle.area_swap.specs.Histories.{HistoryValue}
+use Rattle.binding_rules.specs.Tables.{BindingTable}
+use Rattle.capture_io.specs.declared.forms.CaptureBad.{CaptureBad}
+use Rattle.capture_io.specs.declared.forms.CaptureError.{CaptureError}
+use Rattle.capture_io.specs.declared.forms.CaptureError.TheVariants as failure
+use Rattle.capture_io.specs.declared.forms.Form.{Form}
+use Rattle.capture_io.specs.declared.forms.Rec.{Rec}
+use Rattle.capture_io.specs.declared.rounds.Ending.{Ending}
+use Rattle.capture_io.specs.declared.rounds.Ending.TheVariants as ending
+use Rattle.capture_io.specs.declared.written.Written.{Written}
+use Rattle.lwaftr_engine.specs.Endings.{IsCut, IsUntouched, IsWhole}
+use Rattle.lwaftr_engine.specs.Fronts.{IsBroken}
+use Rattle.lwaftr_engine.specs.Inputs.{Header, IsInput, header_of}
+use Rattle.lwaftr_engine.specs.Progress.{Spot}
+use Rattle.lwaftr_engine.specs.Runs.{IsPlanOf}
+use Rattle.lwaftr_engine.specs.declared.status.Status.{Status}
+use Rattle.lwaftr_engine.specs.declared.status.Status.TheVariants as status
+use Rattle.reload_plan.specs.Accepted.{accepted, slots_from}
+use Rattle.reload_plan.specs.declared.loads.Load.{Load}
+use Rattle.reload_plan.specs.declared.loads.Made.{Made}
+use Rattle.reload_plan.specs.declared.loads.Slot.{Slot}
+use Rattle.reload_plan.specs.declared.loads.Slot.TheVariants as slot
+use Rattle.swap_core.specs.Plans.{Tables}
+use Rattle.swap_core.specs.declared.plan.Window.{Window}
+use Rattle.table_words.specs.Layout.{IsCompiled}
+
+-- what is known of a run that words asked for
+pub record IsRunJob (run : RunJob) : Type 0 where
+  pub loads : All IsLoad run.loads
+  pub few : length run.loads ≤ 255
+  pub apart : AreApart run
+  pub rising : AreRising (windows_of run.loads)
+  pub workers : IsWorkers run.workers
+  pub errors : IfSome run.errors IsRate
+
+-- the plan of a first table and of loads
+pub record IsMade (first : BindingTable) (loads : List Load) (made : Made) : Type 0 where
+  pub words : List ℕ
+  pub compiled : IsCompiled first words
+  pub plan : made.plan ≡ accepted words loads
+  pub slots : made.slots ≡ slots_from 0 loads
+
+abbrev pub some_slot_refused : List Slot → Bool
+some_slot_refused [] = false
+some_slot_refused (slot.Version version ∷ slots) = some_slot_refused slots
+some_slot_refused (slot.Refused cause ∷ slots) = true
+
+abbrev pub unopened_status : CaptureError → Status
+unopened_status (failure.Bad refusal) = status.BadCapture refusal
+unopened_status failure.ReadFault = status.ReadFault
+unopened_status failure.OutOfMemory = status.OutOfMemory
+
+abbrev pub done_status : Bool → Status
+done_status refused = if refused then status.DoneRefused else status.Done
+
+abbrev pub ended_status : Result Ending Fault → Bool → Status
+ended_status (Ok ending.End) refused = done_status refused
+ended_status (Ok (ending.Bad refusal)) refused = status.BadCapture refusal
+ended_status (Ok ending.ReadFault) refused = status.ReadFault
+ended_status (Err fault.Failed) refused = status.WriteFault
+ended_status (Err fault.OutOfMemory) refused = status.OutOfMemory
+
+-- A reader that was opened: it stands in these bytes behind their header, and what is left is all of the capture.
+pub record IsAtFirst (reader : Spot) (form : Form) (written : Written) (bytes : List ℕ) : Type 0 where
+  pub header : Header
+  pub sound : header_of bytes ≡ Ok header
+  pub form_is : form ≡ header.form
+  pub written_is : written ≡ header.written
+  pub at_is : reader.at ≡ header.ends_at
+  pub stands : reader.stood bytes
+  pub all : (rs : List Rec) (e : Option CaptureBad) → reader.left bytes 0 rs e → IsInput bytes header rs e
+
+-- a read of the capture's file failed, but not one of a record
+abbrev pub IsEarly : List ℕ → List ℕ → Option (List ℕ × ℕ) → Type 0
+IsEarly name bytes last = (header : Header) (place : ℕ) → header_of bytes ≡ Ok header → last ≡ Some (name, place) → 4 ≤ place → header.has_end ≡ true → header.ends_at ≤ place → ⊥
+
+-- what a run leaves under tables that were read, by its status
+abbrev pub LeavesBy : RunJob → (ℕ → BindingTable) → List Window → List Slot → Status → Contents → Contents → Option (List ℕ) → Option (List ℕ) → Option (List ℕ × ℕ) → Option HistoryValue → Type 0
+LeavesBy run tables windows slots status.Done old new said now last history = IsWhole run tables windows slots old new said now history None × (some_slot_refused slots ≡ false)
+LeavesBy run tables windows slots status.DoneRefused old new said now last history = IsWhole run tables windows slots old new said now history None × (some_slot_refused slots ≡ true)
+LeavesBy run tables windows slots (status.BadCapture refusal) old new said now last history =
+    IsWhole run tables windows slots old new said now history (Some refusal) ⊎ ((header_of (content old run.input) ≡ Err refusal) × IsUntouched old new said now history)
+LeavesBy run tables windows slots status.ReadFault old new said now last history =
+    IsCut run tables windows slots old new said now history last ⊎ (IsEarly run.input (content old run.input) last × IsUntouched old new said now history)
+LeavesBy run tables windows slots status.WriteFault old new said now last history = IsBroken run tables windows slots old new said now × (history ≡ None)
+LeavesBy run tables windows slots status.OutOfMemory old new said now last history =
+    IsUntouched old new said now history ⊎ (IsBroken run tables windows slots old new said now × (history ≡ None))
+LeavesBy run tables windows slots _ old new said now last history = ⊥
+
+abbrev pub LeavesMade : RunJob → Tables → List Slot → Status → Contents → Contents → Option (List ℕ) → Option (List ℕ) → Option (List ℕ × ℕ) → Option HistoryValue → Type 0
+LeavesMade run plan slots result old new said now last history =
+    (tables : ℕ → BindingTable) (windows : List Window) → IsPlanOf tables windows plan → LeavesBy run tables windows slots result old new said now last history

@@ -1,0 +1,78 @@
+-- The promises of the program's call on a run.
+use Rattle.std.specs.Prelude.{◌≡◌, ◌⊎◌, ℕ, Bool, true, false, List, [], ◌∷◌, ◌++◌, Option, Some, None, IsSome, Ok, Err}
+use Rattle.aftr_base.specs.Contents.{Contents, content, Moves, Told}
+use Rattle.aftr_text.specs.declared.jobs.RunJob.{RunJob}
+use Rattle.area_swap.specs.Histories.{HistoryValue}
+use Rattle.binding_file.specs.Files.{TableOf}
+use Rattle.binding_rules.specs.Tables.{BindingTable}
+use Rattle.capture_io.specs.declared.forms.CaptureBad.{CaptureBad}
+use Rattle.capture_io.specs.declared.forms.Rec.{Rec}
+use Rattle.lwaftr_engine.specs.Causes.{FailsIn, HasCause, IsFault}
+use Rattle.lwaftr_engine.specs.Endings.{AreTables, IsBadHeader, IsCutRun, IsUnread, IsUntouched, IsWholeRun, table_names}
+use Rattle.lwaftr_engine.specs.Fronts.{IsBrokenRun}
+use Rattle.lwaftr_engine.specs.Inputs.{Header, IsInput, header_of}
+use Rattle.lwaftr_engine.specs.Runs.{OthersKept}
+use Rattle.lwaftr_engine.specs.Tables.{Answer, some_refused}
+use Rattle.lwaftr_engine.specs.Worlds.{World}
+use Rattle.lwaftr_engine.specs.declared.status.Status.{Status}
+use Rattle.lwaftr_engine.specs.declared.status.Status.TheVariants as status
+
+-- what the files hold at a status, what the sink took, and the history
+abbrev pub Leaves : RunJob → Status → Contents → Contents → Option (List ℕ) → Option (List ℕ) → Option (List ℕ × ℕ) → Option HistoryValue → Type 0
+Leaves run status.Done old new said now last history = IsWholeRun run old new said now history None false
+Leaves run status.DoneRefused old new said now last history = IsWholeRun run old new said now history None true
+Leaves run (status.BadCapture refusal) old new said now last history =
+    ((refused : Bool) × IsWholeRun run old new said now history (Some refusal) refused) ⊎ IsBadHeader run old new said now history refusal
+Leaves run status.ReadFault old new said now last history =
+    IsCutRun run old new said now history last ⊎ IsUnread run old new said now history last
+Leaves run (status.BadTable refusal) old new said now last history =
+    TableOf (content old run.table) (Err refusal) × IsUntouched old new said now history
+Leaves run status.WriteFault old new said now last history = IsBrokenRun run old new said now history
+Leaves run status.OutOfMemory old new said now last history =
+    IsUntouched old new said now history ⊎ IsBrokenRun run old new said now history
+Leaves run status.Usage old new said now last history = ⊥
+
+-- The status that the table files and the capture ask for, whatever the outside does: the first table's refusal, else the
+-- capture's, else `DoneRefused` where a load is refused, else `Done`.
+pub record AsksDone (run : RunJob) (m : Contents) (some : Bool) : Type 0 where
+  pub first : BindingTable
+  pub answers : List Answer
+  pub tables : AreTables run m first answers
+  pub some_is : some_refused answers ≡ some
+  pub header : Header
+  pub records : List Rec
+  pub capture : IsInput (content m run.input) header records None
+
+-- the capture is refused with this cause: its header, or what stands behind its last whole record
+abbrev pub Refuses : List ℕ → CaptureBad → Type 0
+Refuses bytes refusal = (header_of bytes ≡ Err refusal) ⊎ ((header : Header) × (rs : List Rec) × IsInput bytes header rs (Some refusal))
+
+abbrev pub IsAskedFor : RunJob → Contents → Status → Type 0
+IsAskedFor run m (status.BadTable refusal) = TableOf (content m run.table) (Err refusal)
+IsAskedFor run m (status.BadCapture refusal) =
+    ((first : BindingTable) × TableOf (content m run.table) (Ok first)) × Refuses (content m run.input) refusal
+IsAskedFor run m status.Done = AsksDone run m false
+IsAskedFor run m status.DoneRefused = AsksDone run m true
+IsAskedFor run m _ = ⊥
+
+-- Whatever is told, the history is there where all was done, and is not where nothing came into force or a fault ended the run. A run
+-- does not end with `Usage`.
+abbrev pub HasHistory : Status → Option HistoryValue → Type 0
+HasHistory status.Done history = IsSome history
+HasHistory status.DoneRefused history = IsSome history
+HasHistory (status.BadCapture refusal) history = Unit {0}
+HasHistory status.ReadFault history = Unit {0}
+HasHistory status.Usage history = ⊥
+HasHistory _ history = history ≡ None
+
+-- a run, and what it leaves
+pub record KeepsRun (run : RunJob) (result : Status) (before now : World) (history : Option HistoryValue) : Type 0 where
+  -- what the files hold, what the sink took, and the history
+  pub files : Moves before.files.held now.files.held (λ old new. Leaves run result old new before.said now.said now.files.last history)
+  -- other names hold what they held
+  pub others : Moves before.files.held now.files.held (OthersKept run)
+  -- which status it is
+  pub due : Told before.files.held (λ m. (s : Status) → IsAskedFor run m s → (result ≡ s) ⊎ IsFault result)
+  pub cause : HasCause result before now
+  pub failed_read : FailsIn (table_names run ++ run.input ∷ []) result before.files.last now.files.last
+  pub has_history : HasHistory result history

@@ -1,0 +1,102 @@
+// What a run writes when its records have ended.
+ghost use Rattle.std.specs.Prelude.{◌≡◌, ◌<◌, ◌^◌, ◌≤◌, IfOk, List, OnOk, drop, false, flat_map, length, string_bytes};
+ghost use Rattle.aftr_base.specs.Contents.{Moves};
+ghost use Rattle.aftr_base.specs.Outside.{has_failed};
+ghost use Rattle.aftr_text.specs.Jobs.{AreApart};
+ghost use Rattle.aftr_text.specs.Lines.{ended_text};
+ghost use Rattle.capture_io.specs.declared.forms.Rec.{Rec as Record};
+ghost use Rattle.item_stage.specs.Items.{unfinished_of};
+ghost use Rattle.item_stage.specs.Stages.{Stands};
+ghost use Rattle.lwaftr_engine.specs.Finishing.{Finishes};
+ghost use Rattle.lwaftr_engine.specs.Progress.{OneRises, loads_of, setup_of};
+ghost use Rattle.lwaftr_engine.specs.Runs.{OthersKept};
+ghost use Rattle.run_output.specs.Counting.{with_version};
+ghost use Rattle.run_output.specs.Versions.{load_lines};
+
+use crate::rounds::Progress;
+use crate::tasks::Task;
+use aftr_base::{Fault, Files, OutOfMemory, Sink, append_all, put_all};
+use aftr_text::{Totals, summary};
+use item_stage::Stage;
+use run_output::{push_ended_lines, push_last_versions};
+use std::alloc::Global;
+
+// The lines of the datagrams that were never whole.
+fn unfinished_lines(alloc: Global, stage: &Stage) -> Result<String, OutOfMemory>
+    ensures { IfOk result (λ lines. (taken : List Record) → Stands stage.now taken →
+        string_bytes lines ≡ flat_map (ended_text false) (unfinished_of stage.now.form taken)) }
+{
+    let mut lines = String::new(alloc);
+    let unfinished = stage.unfinished(alloc)?;
+    push_ended_lines(&mut lines, false, unfinished.as_slice())?;
+    Ok(lines)
+}
+
+// The lines of the loads that were not told yet.
+fn last_versions(
+    alloc: Global,
+    task: Task<'_>,
+    points: &[u32],
+    printed: usize,
+) -> Result<String, OutOfMemory>
+    requires same { length (setup_of task).slots ≡ length (setup_of task).run.loads }
+    requires inside { printed ≤ length (setup_of task).slots }
+    ensures { IfOk result (λ lines. string_bytes lines ≡ load_lines points.now (drop printed (loads_of (setup_of task.entry)))) }
+{
+    let mut lines = String::new(alloc);
+    push_last_versions(
+        alloc,
+        &mut lines,
+        task.job.loads.as_slice(),
+        task.slots,
+        points,
+        printed,
+    )?;
+    Ok(lines)
+}
+
+// The totals of a run with so many points.
+fn totals_with(totals: Totals, points: &[u32]) -> Totals
+    requires { length points.now < 2 ^ 32 }
+    ensures { result ≡ with_version totals (length points.now) }
+{
+    Totals {
+        version: points.len() as u32,
+        ..totals
+    }
+}
+
+/// Writes what is left when the records have ended: the lines of the loads that were not told yet, those of unfinished datagrams,
+/// and the summary.
+pub fn finish<F: Files, O: Sink>(
+    alloc: Global,
+    files: &mut F,
+    out: &mut O,
+    task: Task<'_>,
+    progress: &Progress,
+    points: &[u32],
+) -> Result<(), Fault>
+    requires apart { AreApart (setup_of task).run }
+    requires same { length (setup_of task).slots ≡ length (setup_of task).run.loads }
+    requires inside { progress.now.printed ≤ length (setup_of task).slots }
+    requires few { length points.now < 2 ^ 32 }
+    ensures finished { Moves (F.outside files.old).held (F.outside files.new).held (λ m n. (taken : List Record) → Stands progress.now.stage taken →
+        Finishes (setup_of task.entry) progress.now points.now taken result m n (O.out out.old) (O.out out.new)) }
+    ensures others { Moves (F.outside files.old).held (F.outside files.new).held (OthersKept (setup_of task.entry).run) }
+    ensures faults { OnOk result ((F.outside files.new).faults ≡ (F.outside files.old).faults) }
+    ensures lost { (F.outside files.new).lost ≡ (F.outside files.old).lost }
+    ensures last { (F.outside files.new).last ≡ (F.outside files.old).last }
+    ensures writing { OneRises (has_failed result) (F.outside files.old).spoiled (F.outside files.new).spoiled (O.faults out.old) (O.faults out.new) }
+{
+    let versions = last_versions(alloc, task, points, progress.printed)?;
+    append_all(
+        alloc,
+        files,
+        task.job.versions.as_str(),
+        versions.as_bytes(),
+    )?;
+    let lines = unfinished_lines(alloc, &progress.stage)?;
+    append_all(alloc, files, task.job.verdicts.as_str(), lines.as_bytes())?;
+    let line = summary(alloc, totals_with(progress.totals, points))?;
+    put_all(alloc, out, line.as_str().as_bytes())
+}

@@ -1,0 +1,232 @@
+// The run that the command words ask for.
+ghost use Rattle.std.specs.Prelude.{◌≡◌, [], ◌∷◌, All, IfOk, None, length};
+ghost use Rattle.aftr_base.specs.Contents.{Moves, Told, content};
+ghost use Rattle.lwaftr_engine.specs.Causes.{FailsIn, HasCause};
+ghost use Rattle.lwaftr_engine.specs.Loads.{AreFitFor};
+ghost use Rattle.lwaftr_engine.specs.Planned.{IsAtFirst, IsMade, IsRunJob, LeavesMade, done_status, ended_status, some_slot_refused, unopened_status};
+ghost use Rattle.lwaftr_engine.specs.Progress.{spot};
+ghost use Rattle.lwaftr_engine.specs.Promises.{HasHistory, KeepsRun};
+ghost use Rattle.lwaftr_engine.specs.Runs.{OthersKept};
+ghost use Rattle.lwaftr_engine.specs.Worlds.{world};
+ghost use Rattle.table_words.specs.Layout.{AreCompiled};
+
+use crate::loads::loads_in;
+use crate::run::run_capture;
+use crate::status::Status;
+use crate::table_file::{NoTable, table_in};
+use crate::tasks::Task;
+use aftr_base::{Fault, Files, OutOfMemory, Sink};
+use aftr_text::RunJob;
+use area_swap::History;
+use binding_file::one_table;
+use binding_rules::Table;
+use capture_io::{CaptureError, CaptureReader, ClassicReader, Ending, Written, one_reading};
+use pcapng_io::{NgReader, is_ng};
+use reload_plan::{Load, Made, Slot, plan};
+use std::alloc::Global;
+use std::sync::Wait;
+use std::thread::Threads;
+use table_words::compile;
+use worker_gate::Gate;
+
+// The plan of a table and loads.
+fn made_of(
+    alloc: Global,
+    first: &Table,
+    loads: Vec<Load>,
+    job: &RunJob,
+) -> Result<Made, OutOfMemory>
+    requires job { IsRunJob job.now }
+    requires fit { AreFitFor job.now.loads loads.items }
+    ensures made { IfOk result (λ made. IsMade first.now loads.items made) }
+    ensures compiled { IfOk result (λ made. All AreCompiled made.plan.tables) }
+    ensures count { IfOk result (λ made. length made.slots ≡ length job.now.loads) }
+{
+    let words = compile(alloc, first)?;
+    plan(alloc, words, loads)
+}
+
+// Whether some load was refused.
+fn has_refused(slots: &[Slot]) -> bool
+    ensures { result ≡ some_slot_refused slots.now }
+{
+    let mut i = 0;
+    'slots: while i < slots.len() {
+        if let Slot::Refused(_) = slots[i] {
+            return true;
+        }
+        i += 1;
+    }
+    false
+}
+
+// The status of a capture that cannot be opened.
+fn unopened(error: CaptureError) -> Status
+    ensures { result ≡ unopened_status error }
+{
+    match error {
+        CaptureError::Bad(refusal) => Status::BadCapture(refusal),
+        CaptureError::ReadFault => Status::ReadFault,
+        CaptureError::OutOfMemory => Status::OutOfMemory,
+    }
+}
+
+// The status of a run whose records ended so.
+fn ended_status(ended: Result<Ending, Fault>, refused: bool) -> Status
+    ensures { result ≡ ended_status ended refused }
+{
+    match ended {
+        Ok(Ending::End) => done_status(refused),
+        Ok(Ending::Bad(refusal)) => Status::BadCapture(refusal),
+        Ok(Ending::ReadFault) => Status::ReadFault,
+        Err(Fault::Failed) => Status::WriteFault,
+        Err(Fault::OutOfMemory) => Status::OutOfMemory,
+    }
+}
+
+fn done_status(refused: bool) -> Status
+    ensures { result ≡ done_status refused }
+{
+    if refused {
+        Status::DoneRefused
+    } else {
+        Status::Done
+    }
+}
+
+// What a run does once its tables are read and its capture is opened: the reader stands before the first record.
+fn run_opened<R: Threads + Wait + Sync, F: Files, O: Sink, C: CaptureReader, G: Gate + Sync>(
+    rt: &R,
+    alloc: Global,
+    files: &mut F,
+    out: &mut O,
+    job: &RunJob,
+    made: Made,
+    written: Written,
+    reader: &mut C,
+    gate: &G,
+    history: &mut Option<History>,
+) -> Status
+    requires job { IsRunJob job.now }
+    requires compiled { All AreCompiled made.plan.tables }
+    requires count { length made.slots ≡ length job.now.loads }
+    requires ready { C.ready reader.old 0 }
+    requires opened { Told (F.outside files.old).held (λ m. IsAtFirst (spot (C.stands reader.old) (C.left reader.old) (C.at reader.old)) (C.form reader.old) written (content m job.now.input)) }
+    requires none { history.old ≡ None }
+    ensures left { Moves (F.outside files.old).held (F.outside files.new).held (λ m n. LeavesMade job.now made.plan made.slots result
+        m n (O.out out.old) (O.out out.new) (F.outside files.new).last history.new) }
+    ensures others { Moves (F.outside files.old).held (F.outside files.new).held (OthersKept job.now) }
+    ensures cause { HasCause result (world (F.outside files.old) (O.out out.old) (O.faults out.old))
+        (world (F.outside files.new) (O.out out.new) (O.faults out.new)) }
+    ensures failed_read { FailsIn (job.now.input ∷ []) result (F.outside files.old).last (F.outside files.new).last }
+    ensures has_history { HasHistory result history.new }
+{
+    let Made { plan, slots } = made;
+    let refused = has_refused(slots.as_slice());
+    let task = Task {
+        job,
+        slots: slots.as_slice(),
+        form: reader.form(),
+        written,
+    };
+    let ended = run_capture(rt, alloc, files, out, task, plan, reader, gate, history);
+    ended_status(ended, refused)
+}
+
+/// Opens the capture, which may be of either format, and takes its records: the steps of a run behind the reading of its tables.
+pub fn run_made<R: Threads + Wait + Sync, F: Files, O: Sink, G: Gate + Sync>(
+    rt: &R,
+    alloc: Global,
+    files: &mut F,
+    out: &mut O,
+    job: &RunJob,
+    made: Made,
+    gate: &G,
+    history: &mut Option<History>,
+) -> Status
+    requires job { IsRunJob job.now }
+    requires compiled { All AreCompiled made.plan.tables }
+    requires count { length made.slots ≡ length job.now.loads }
+    requires none { history.old ≡ None }
+    ensures left { Moves (F.outside files.old).held (F.outside files.new).held (λ m n. LeavesMade job.now made.plan made.slots result
+        m n (O.out out.old) (O.out out.new) (F.outside files.new).last history.new) }
+    ensures others { Moves (F.outside files.old).held (F.outside files.new).held (OthersKept job.now) }
+    ensures cause { HasCause result (world (F.outside files.old) (O.out out.old) (O.faults out.old))
+        (world (F.outside files.new) (O.out out.new) (O.faults out.new)) }
+    ensures failed_read { FailsIn (job.now.input ∷ []) result (F.outside files.old).last (F.outside files.new).last }
+    ensures has_history { HasHistory result history.new }
+{
+    let name = job.input.as_str();
+    match is_ng(alloc, files, name) {
+        Ok(true) => match NgReader::open(alloc, files, name) {
+            Ok(mut reader) => run_opened(
+                rt,
+                alloc,
+                files,
+                out,
+                job,
+                made,
+                Written::Blocks,
+                &mut reader,
+                gate,
+                history,
+            ),
+            Err(error) => unopened(error),
+        },
+        Ok(false) => match ClassicReader::open(alloc, files, name) {
+            Ok(mut reader) => {
+                let nano = reader.form().nano;
+                run_opened(
+                    rt,
+                    alloc,
+                    files,
+                    out,
+                    job,
+                    made,
+                    Written::Classic { nano },
+                    &mut reader,
+                    gate,
+                    history,
+                )
+            }
+            Err(error) => unopened(error),
+        },
+        Err(error) => unopened(error),
+    }
+}
+
+/// Does the run.
+pub fn run_job<R: Threads + Wait + Sync, F: Files, O: Sink, G: Gate + Sync>(
+    rt: &R,
+    alloc: Global,
+    job: &RunJob,
+    files: &mut F,
+    out: &mut O,
+    gate: &G,
+    history: &mut Option<History>,
+) -> Status
+    requires job { IsRunJob job.now }
+    requires none { history.old ≡ None }
+    ensures { KeepsRun job.now result (world (F.outside files.old) (O.out out.old) (O.faults out.old))
+        (world (F.outside files.new) (O.out out.new) (O.faults out.new)) history.new }
+{
+    // Laws, and no steps: a table file has one answer, and a capture one reading.
+    one_table();
+    one_reading();
+    NgReader::one_left();
+    let table = match table_in(alloc, files, job.table.as_str()) {
+        Ok(table) => table,
+        Err(NoTable::ReadFault) => return Status::ReadFault,
+        Err(NoTable::Refused(refusal)) => return Status::BadTable(refusal),
+        Err(NoTable::OutOfMemory) => return Status::OutOfMemory,
+    };
+    let loads = match loads_in(alloc, files, job.loads.as_slice()) {
+        Ok(loads) => loads,
+        Err(Fault::Failed) => return Status::ReadFault,
+        Err(Fault::OutOfMemory) => return Status::OutOfMemory,
+    };
+    let Ok(made) = made_of(alloc, &table, loads, job) else {
+        return Status::OutOfMemory;
+    };
+    run_made(rt, alloc, files, out, job, made, gate, history)
+}
