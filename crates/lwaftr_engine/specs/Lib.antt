@@ -1,5 +1,6 @@
 -- The promises of the program's call stand in Promises, Questions, Migrations and Demos, over Causes, Endings, Fronts, Inputs, Runs,
--- Statuses, Tables and Worlds. What stands in Progress, Loads, Opened and Answered is for the parts of the engine alone.
+-- Statuses, Tables and Worlds. What stands in Answered, Broken, Ended, Finishing, Loads, Opened, Planned, Progress, Rounds and Shows is
+-- for the parts of the engine alone.
 pub mod Causes
 pub mod Demos
 pub mod Endings
