@@ -246,6 +246,14 @@ def all_cases(program):
     run("check with closed standard output", ["check", "t0.toml"], 4, write, run=run_closed)
     run("check that nobody reads", ["check", "t0.toml"], 4, write, run=run_unread)
     run("who", ["who", "t0.toml", "203.0.113.1", "1232"], 0, b"", b"2001:db8:1::1\n")
+    run("migrate", ["migrate", "t0.toml", "t1.toml"], 0, b"", b"migrated 1 bindings\n")
+    run("migrate of a missing file", ["migrate", "other", "t1.toml"], 3, read, files={**NONE, "t1.toml": None})
+    run("migrate of a table that is refused", ["migrate", "bad.toml", "t1.toml"], 5, b"table refused: not-toml\n",
+        files={**NONE, "t1.toml": None})
+    run("migrate into a folder", ["migrate", "t0.toml", "folder"], 4, write, files={**NONE, "folder": "a folder"})
+    run("migrate into a full device", ["migrate", "t0.toml", "/dev/full"], 4, write)
+    run("demo", ["demo", "0", "1", "1"], 0, b"", b"records 1 held 0 forwarded 0 dropped 1 packets 0 version 1\n")
+    run("demo into a full device", ["demo", "0", "1", "1"], 4, write, run=run_full)
     # A pipe is read from its front, as a file is: either all of it, or not at all.
     piped(program)
     # The same file under two names: the second name is made anew, so the capture is lost; the other words mean what they say.
