@@ -32,20 +32,27 @@ def block(kind, body):
 SECTION = block(0x0A0D0D0A, struct.pack("<IHHq", 0x1A2B3C4D, 1, 0, -1))
 INTERFACE = block(1, struct.pack("<HHI", 101, 0, 262144))
 
+def hostile(name, *parts):
+    with open(path(f"hostile_{name}.pcapng"), "wb") as out:
+        for part in parts:
+            out.write(part)
+
+
 if len(sys.argv) > 2:
     size = 100_000_000
-    with open(path("blocks_of_12.pcapng"), "wb") as out:
-        out.write(SECTION + INTERFACE + block(5, b"") * (size // 12))
-    with open(path("interfaces.pcapng"), "wb") as out:
-        out.write((SECTION + INTERFACE * 65_536) * (size // (28 + 20 * 65_536)))
-    with open(path("options.pcapng"), "wb") as out:
-        options = struct.pack("<HH", 1, 0) * ((size - 100) // 4)
-        out.write(SECTION + block(1, struct.pack("<HHI", 101, 0, 262144) + options))
+    begin = SECTION + INTERFACE
     packet = block(6, struct.pack("<IIIII", 0, 0, 1_000_000, 80, 80) + bytes(80))
-    with open(path("interfaces_and_packets.pcapng"), "wb") as out:
-        out.write(SECTION + (INTERFACE + packet) * 65_536 + packet * 700_000)
-    with open(path("million.pcapng"), "wb") as out:
-        out.write(SECTION + INTERFACE + packet * 1_000_000)
+    hostile("blocks_of_12", begin, block(5, b"") * (size // 12))
+    hostile("interfaces", (SECTION + INTERFACE * 65_536) * (size // (28 + 20 * 65_536)))
+    hostile("options", SECTION, block(1, struct.pack("<HHI", 101, 0, 262144) + struct.pack("<HH", 1, 0) * ((size - 100) // 4)))
+    hostile("later_options", begin, block(1, struct.pack("<HHI", 101, 0, 262144) + struct.pack("<HH", 1, 0) * ((size - 100) // 4)))
+    hostile("interfaces_and_packets", SECTION, (INTERFACE + packet) * 65_536, packet * 700_000)
+    hostile("sections", begin, SECTION * (size // 28))
+    hostile("packets_of_16", begin, block(3, bytes(4)) * (size // 16))
+    hostile("packets_with_options", begin, block(6, struct.pack("<IIIII", 0, 0, 0, 80, 80) + bytes(900_000)) * (size // 900_032))
+    hostile("one_long_block", begin, block(5, bytes(size - 100)))
+    hostile("long_block_and_packets", begin, block(5, bytes(size // 2)), packet * (size // 2 // 112))
+    hostile("block_cut", begin, struct.pack("<II", 5, 4_000_000_000), bytes(size))
     sys.exit()
 
 classic("micro.pcap", 101, 300, False)
