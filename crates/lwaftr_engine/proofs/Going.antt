@@ -151,7 +151,7 @@ module _ (joins : Joins) (x : Setup) (c : Course) (p q : Progress) (s t : Seats)
 
   pub spoken_more : (number : ℕ) → number < length (taken ++ records) → c.version number ≤ length t.points
   spoken_more number inside = elim (cases_lt number (length taken)) [
-    | inl before ↦ omega (arith, h.spoken number before, round.new_lines.points_are, length-append s.points news, ap (λ (l : List ℕ). length l) round.new_lines.points_are)
+    | inl before ↦ omega (arith, h.spoken number before, length-append s.points news, ap (λ (l : List ℕ). length l) round.new_lines.points_are)
     | inr behind ↦ spoken_new number (number - length taken) (omega (arith, behind, h.number)) (omega (arith, behind, inside, length-append taken records, round.staged.count, round.outcomes_count))
   ] where
     spoken_new : (number k : ℕ) → number ≡ p.number + k → k < length os → c.version number ≤ length t.points
