@@ -1,13 +1,16 @@
 -- What the first line with a true condition answers, and the relation that says the same by what stands before it.
 use Rattle.std.proofs.Common.{◌≡◌, ◌||◌, ◌⊎◌, inl, inr, Bool, true, false, List, [], ◌∷◌, ◌++◌, Option, Some, None, refl, ap, sym, ◌∙◌, if◌then◌else◌, subst}
-use Rattle.std.specs.List.{All, list_all}
-use Rattle.std.proofs.lemmas.Bool.{and_parts}
+use Rattle.std.specs.List.{All, list_all, list_any}
+use Rattle.std.proofs.lemmas.Bool.{and_parts, both_ways, false_from_ne_true, or_from, true_from_ne_false}
 use Rattle.std.proofs.lemmas.List.Elements.{All-nil, All-cons, All-head, All-tail}
 use Rattle.binding_rules.specs.Tables.{BindingTable}
 use Rattle.ip_codec.specs.declared.items.Item.{Item}
-use Rattle.verdict_core.specs.Lines.{Line, verdict_in}
+use Rattle.ip_codec.specs.declared.rules.Rule.{Rule}
+use Rattle.verdict_core.specs.Lines.{Kind, Refusing, Forbidding, Passing, Line, verdict_in}
 use Rattle.verdict_core.specs.Verdicts.{Judged, lines}
+use Rattle.verdict_core.specs.declared.verdicts.Reply.TheVariants as reply
 use Rattle.verdict_core.specs.declared.verdicts.Verdict.{Verdict}
+use Rattle.verdict_core.specs.declared.verdicts.Verdict.TheVariants as verdict
 
 abbrev IsFalse : Line → Type 0
 IsFalse line = line.test ≡ false
@@ -109,55 +112,116 @@ decided_by test (line ∷ ls) v all is =
     let parts = and_parts (test line) (list_all test ls) all in
     deciding_by test line ls v parts.0 (λ first. decided_by test ls v parts.1 first) line.test is
 
--- A property holds of what decides, where it holds of each answer once its condition is true and those before it are false.
-abbrev pub EachAnswer : (Verdict → Type 0) → List Line → Type 0
-EachAnswer P [] = Unit {0}
-EachAnswer P (line ∷ ls) = (line.test ≡ true → P line.answer) × (line.test ≡ false → EachAnswer P ls)
+abbrev pub is_silent : Verdict → Bool
+is_silent (verdict.Drop why reply.Silent) = true
+is_silent _ = false
 
-each_by : (P : Verdict → Type 0) (line : Line) (ls : List Line) (v : Verdict) → EachAnswer P (line ∷ ls) →
-    (EachAnswer P ls → verdict_in ls ≡ Some v → P v) → (test : Bool) → line.test ≡ test →
-    (if test then Some line.answer else verdict_in ls) ≡ Some v → P v
-each_by P line ls v each rest true e first = let same : line.answer ≡ v = cc in subst P same (each.0 e)
-each_by P line ls v each rest false e first = rest (each.1 e) first
+-- A property of every silent drop holds of what decides in a list of such drops.
+module _ (P : Verdict → Type 0) (of_silent : (why : Rule) → P (verdict.Drop why reply.Silent)) where
+  silent_is : (v : Verdict) → is_silent v ≡ true → P v
+  silent_is (verdict.Drop why reply.Silent) is = of_silent why
+  silent_is (verdict.Drop why (reply.Unreachable own way)) is = absurd cc
+  silent_is (verdict.Drop why (reply.TooBig own mtu way)) is = absurd cc
+  silent_is (verdict.Drop why (reply.Exceeded own way)) is = absurd cc
+  silent_is (verdict.Drop why (reply.Policy from to hop)) is = absurd cc
+  silent_is (verdict.Drop why (reply.Relay own code mtu way)) is = absurd cc
+  silent_is (verdict.Outward mtu) is = absurd cc
+  silent_is (verdict.Inward from to hop mtu back) is = absurd cc
+  silent_is verdict.Held is = absurd cc
 
-pub each_decides : (P : Verdict → Type 0) (ls : List Line) (v : Verdict) → EachAnswer P ls → verdict_in ls ≡ Some v → P v
-each_decides P [] v each is = absurd cc
-each_decides P (line ∷ ls) v each is =
-    each_by P line ls v each (λ more first. each_decides P ls v more first) line.test refl is
+  pub by_silence : (ls : List Line) (v : Verdict) → list_all (λ line. is_silent line.answer) ls ≡ true → verdict_in ls ≡ Some v → P v
+  by_silence ls v all first =
+      let d = decided_by (λ line. is_silent line.answer) ls v all first in
+      subst P d.1.1 (silent_is d.0.answer d.1.0)
 
--- no line of the list is true
-abbrev pub AllMissed : List Line → Type 0
-AllMissed [] = Unit {0}
-AllMissed (line ∷ ls) = (line.test ≡ false) × AllMissed ls
+-- what a list can answer besides what keeps a packet, each with whether a line before it is true
+abbrev pub with_way : Kind → Bool → Verdict → List (Bool × Verdict) → List (Bool × Verdict)
+with_way Passing before v ways = (before, v) ∷ ways
+with_way Refusing before v ways = ways
+with_way Forbidding before v ways = ways
 
-missed_by : (line : Line) (ls : List Line) → (verdict_in ls ≡ None → AllMissed ls) → (test : Bool) → line.test ≡ test →
-    (if test then Some line.answer else verdict_in ls) ≡ None → AllMissed (line ∷ ls)
-missed_by line ls rest true e none = absurd cc
-missed_by line ls rest false e none = (e, rest none)
+abbrev pub ways_behind : Bool → List Line → List (Bool × Verdict)
+ways_behind before [] = []
+ways_behind before (line ∷ ls) = with_way line.kind before line.answer (ways_behind (before || line.test) ls)
 
-pub all_missed : (ls : List Line) → verdict_in ls ≡ None → AllMissed ls
-all_missed [] is = tt
-all_missed (line ∷ ls) is = missed_by line ls (λ none. all_missed ls none) line.test refl is
+abbrev pub EachWay : (Verdict → Type 0) → List (Bool × Verdict) → Type 0
+EachWay P [] = Unit {0}
+EachWay P (way ∷ ways) = (way.0 ≡ false → P way.1) × EachWay P ways
 
-pub none_decides : (ls : List Line) → AllMissed ls → verdict_in ls ≡ None
-none_decides [] missed = refl
-none_decides (line ∷ ls) missed =
-    ap (λ (b : Bool). if b then Some line.answer else verdict_in ls) missed.0 ∙ none_decides ls missed.1
+-- lines that let nothing pass answer what passes the test
+abbrev pub as_kept : (Verdict → Bool) → Kind → Verdict → Bool
+as_kept test Passing v = true
+as_kept test Refusing v = test v
+as_kept test Forbidding v = test v
+
+-- A property of all that passes a test holds of what decides, where the lines that keep a packet answer such, and where it holds
+-- of each way once no line before it is true.
+module _ (P : Verdict → Type 0) (test : Verdict → Bool) (of_kept : (v : Verdict) → test v ≡ true → P v) where
+  by_kind : (k : Kind) (before : Bool) (v : Verdict) (ways : List (Bool × Verdict)) → before ≡ false → as_kept test k v ≡ true →
+      EachWay P (with_way k before v ways) → P v × EachWay P ways
+  by_kind Passing before v ways none is each = (each.0 none, each.1)
+  by_kind Refusing before v ways none is each = (of_kept v is, each)
+  by_kind Forbidding before v ways none is each = (of_kept v is, each)
+
+  by_line : (line : Line) (ls : List Line) (v : Verdict) → P line.answer → (line.test ≡ false → verdict_in ls ≡ Some v → P v) → (b : Bool) →
+      line.test ≡ b → (if b then Some line.answer else verdict_in ls) ≡ Some v → P v
+  by_line line ls v holds rest true e first = let same : line.answer ≡ v = cc in subst P same holds
+  by_line line ls v holds rest false e first = rest e first
+
+  by_kinds : (before : Bool) → before ≡ false → (ls : List Line) (v : Verdict) → list_all (λ line. as_kept test line.kind line.answer) ls ≡ true →
+      EachWay P (ways_behind before ls) → verdict_in ls ≡ Some v → P v
+  by_kinds before none [] v all each is = absurd cc
+  by_kinds before none (line ∷ ls) v all each is =
+      let parts = and_parts (as_kept test line.kind line.answer) (list_all (λ l. as_kept test l.kind l.answer) ls) all in
+      let here = by_kind line.kind before line.answer (ways_behind (before || line.test) ls) none parts.0 each in
+      by_line line ls v here.0 (λ e first. by_kinds (before || line.test) (or_from before line.test none e) ls v parts.1 here.1 first) line.test refl is
+
+  pub by_ways : (ls : List Line) (v : Verdict) → list_all (λ line. as_kept test line.kind line.answer) ls ≡ true →
+      EachWay P (ways_behind false ls) → verdict_in ls ≡ Some v → P v
+  by_ways ls v all each is = by_kinds false refl ls v all each is
+
+-- whether some line is true
+abbrev pub is_any : List Line → Bool
+is_any ls = list_any (λ line. line.test) ls
+
+pub or_true : (b : Bool) → (b || true) ≡ true
+or_true true = refl
+or_true false = refl
+
+none_by : (line : Line) (ls : List Line) → (verdict_in ls ≡ None → is_any ls ≡ false) → (test : Bool) →
+    (if test then Some line.answer else verdict_in ls) ≡ None → (test || is_any ls) ≡ false
+none_by line ls rest true none = absurd cc
+none_by line ls rest false none = rest none
+
+none_true : (ls : List Line) → verdict_in ls ≡ None → is_any ls ≡ false
+none_true [] none = refl
+none_true (line ∷ ls) none = none_by line ls (λ behind. none_true ls behind) line.test none
+
+-- What is so behind a list in which no line is true: otherwise some line would be.
+pub so_behind : (ls : List Line) (b : Bool) → verdict_in ls ≡ None → (b ≡ false → is_any ls ≡ true) → b ≡ true
+so_behind ls b none otherwise = true_from_ne_false b (λ e. both_ways (is_any ls) (none_true ls none) (otherwise e))
+
+-- the same of what is not so, by whether a line before it is true
+pub not_behind : (before b : Bool) → before ≡ false → (b ≡ true → before ≡ true) → b ≡ false
+not_behind before b none otherwise = false_from_ne_true b (λ e. both_ways before none (otherwise e))
 
 -- some line decides
 abbrev pub Decides : List Line → Type 0
 Decides ls = (v : Verdict) × (verdict_in ls ≡ Some v)
 
-some_by : (line : Line) (ls : List Line) → Decides ls → (test : Bool) → (v : Verdict) × ((if test then Some line.answer else verdict_in ls) ≡ Some v)
-some_by line ls rest true = (line.answer, refl)
-some_by line ls rest false = rest
+some_by : (line : Line) (ls : List Line) → (is_any ls ≡ true → Decides ls) → (test : Bool) → (test || is_any ls) ≡ true →
+    (v : Verdict) × ((if test then Some line.answer else verdict_in ls) ≡ Some v)
+some_by line ls rest true any = (line.answer, refl)
+some_by line ls rest false any = rest any
 
--- where the second of two lists decides, both end to end do
-pub ends_behind : (ls more : List Line) → Decides more → Decides (ls ++ more)
-ends_behind [] more rest = rest
-ends_behind (line ∷ ls) more rest = some_by line (ls ++ more) (ends_behind ls more rest) line.test
+pub some_decides : (ls : List Line) → is_any ls ≡ true → Decides ls
+some_decides [] any = absurd cc
+some_decides (line ∷ ls) any = some_by line ls (λ behind. some_decides ls behind) line.test any
 
--- where a line is always true, some line decides
-pub ends_with : (ls : List Line) (line : Line) (more : List Line) → line.test ≡ true → Decides (ls ++ line ∷ more)
-ends_with ls line more is =
-    ends_behind ls (line ∷ more) (line.answer, ap (λ (b : Bool). if b then Some line.answer else verdict_in more) is)
+behind_some : (line : Line) (ls : List Line) → Decides ls → (test : Bool) → (v : Verdict) × ((if test then Some line.answer else verdict_in ls) ≡ Some v)
+behind_some line ls rest true = (line.answer, refl)
+behind_some line ls rest false = rest
+
+pub decides_behind : (ls more : List Line) → Decides more → Decides (ls ++ more)
+decides_behind [] more rest = rest
+decides_behind (line ∷ ls) more rest = behind_some line (ls ++ more) (decides_behind ls more rest) line.test

@@ -1,60 +1,58 @@
--- What decides about an IPv4 packet fits it, names enough room, and goes to the owner of its destination.
-use Rattle.std.proofs.Common.{◌≡◌, ℕ, ◌≤◌, ◌-◌, nat_lt, ◌&&◌, ◌⊎◌, inl, inr, if◌then◌else◌, Bool, not, true, false, List, [], ◌∷◌, ◌++◌, Option, Some, None, Result, Ok, Err, refl, ap, sym, ◌∙◌, subst}
+-- What decides about an IPv4 packet fits it, and names enough room.
+use Rattle.std.proofs.Common.{◌≡◌, ℕ, ◌≤◌, ◌-◌, nat_lt, ◌&&◌, ◌||◌, inl, inr, if◌then◌else◌, Bool, not, true, false, List, ◌++◌, Option, Some, None, Ok, refl}
 use Rattle.std.proofs.lemmas.Bool.{ltb-false}
 use Rattle.aftr_base.specs.declared.numbers.V6.{V6}
-use Rattle.binding_rules.specs.declared.settings.Softwire.{Softwire}
 use Rattle.binding_rules.specs.Tables.{BindingTable, IsLawful}
-use Rattle.icmp_errors.specs.Answers.{gets_answer6}
 use Rattle.ip_codec.specs.Packet4.{Packet4, ip4_of, is_fragment, packet_len}
 use Rattle.ip_codec.specs.declared.items.Item.{Item}
 use Rattle.ip_codec.specs.declared.items.Item.TheVariants as item
 use Rattle.ip_codec.specs.declared.items.Outer.{Outer}
-use Rattle.ip_codec.specs.declared.packet4.Ip4Bad.{Ip4Bad}
-use Rattle.ip_codec.specs.declared.rules.Rule.{Rule}
-use Rattle.ip_codec.specs.declared.rules.Rule.TheVariants as rule
-use Rattle.port_locate.specs.Keys.{destination_at, downstream_key, source_at, upstream_key}
-use Rattle.port_locate.specs.declared.keys.Key.{Key}
-use Rattle.verdict_core.specs.Access.{Delivers}
-use Rattle.verdict_core.specs.Answers.{dropped, is_too_large, is_used_up, may_complain, no_owner, not_sender, too_large, used_up, way_back}
-use Rattle.verdict_core.specs.Fitting.{Fits, FitsReply, HasPacket, HasRoom, IsSendable}
-use Rattle.verdict_core.specs.Lines.{Line, verdict_in}
-use Rattle.verdict_core.specs.Verdicts.{access_lines, down_lines, down_refusals, down_ways, hairpin_lines, is_bound_address, onward_lines, outward_lines, owner_end, up_lines}
-use Rattle.verdict_core.specs.declared.verdicts.Path.{Path}
-use Rattle.verdict_core.specs.declared.verdicts.Path.TheVariants as path
+use Rattle.port_locate.specs.Keys.{destination_at, downstream_key, source_at}
+use Rattle.verdict_core.specs.Answers.{inward_room, is_too_large, is_used_up}
+use Rattle.verdict_core.specs.Fitting.{Fits, HasPacket, HasRoom, IsSendable, IsUp}
+use Rattle.verdict_core.specs.Lines.{verdict_in}
+use Rattle.verdict_core.specs.Verdicts.{access_lines, down_lines, down_refusals, down_ways, hairpin_lines, is_bound_address, onward_lines, outward_lines, owner_end, ttl_lines, up_lines}
 use Rattle.verdict_core.specs.declared.verdicts.Reply.{Reply}
 use Rattle.verdict_core.specs.declared.verdicts.Reply.TheVariants as reply
 use Rattle.verdict_core.specs.declared.verdicts.Verdict.{Verdict}
 use Rattle.verdict_core.specs.declared.verdicts.Verdict.TheVariants as verdict
-use Rattle.verdict_core.proofs.Firsts.{EachAnswer, Parts, all_missed, each_decides, parted}
+use Rattle.verdict_core.proofs.Firsts.{Parts, by_ways, not_behind, or_true, parted}
 use Rattle.verdict_core.proofs.Owned.{owner_known, whole_packet}
+use Rattle.verdict_core.proofs.Permits.{sender_owner}
 
-pub record IsGood (t : BindingTable) (i : Item) (v : Verdict) : Type 0 where
+pub record IsGood (i : Item) (v : Verdict) : Type 0 where
   pub fits : Fits i v
   pub room : HasRoom v
-  pub delivers : Delivers t i v
 
--- a drop is good where what the sender is told fits
-drops : (t : BindingTable) (i : Item) (why : Rule) (told : Reply) → FitsReply i told → IsGood t i (verdict.Drop why told)
-drops t i why told fits = record { fits = fits; room = tt; delivers = tt }
+-- what the sender of a packet that was read can be told: of its source only where it came through a tunnel
+abbrev can_tell : Bool → Reply → Bool
+can_tell up reply.Silent = true
+can_tell up (reply.Unreachable own way) = true
+can_tell up (reply.TooBig own mtu way) = true
+can_tell up (reply.Exceeded own way) = true
+can_tell up (reply.Policy from to hop) = up
+can_tell up (reply.Relay own code mtu way) = false
 
-tells : (t : BindingTable) (i : Item) (why : Rule) (if_so : Bool) (told : Reply) → FitsReply i told → IsGood t i (dropped why if_so told)
-tells t i why true told fits = drops t i why told fits
-tells t i why false told fits = drops t i why reply.Silent tt
+tells_or_not : (up if_so : Bool) (told : Reply) → can_tell up (if if_so then told else reply.Silent) ≡ (not if_so || can_tell up told)
+tells_or_not up true told = refl
+tells_or_not up false told = refl
 
--- the same of each answer about a packet that was read
-good_no_owner : (t : BindingTable) (i : Item) (s : Softwire) (why : Rule) (way : Path) (p : Packet4) → HasPacket i p → IsGood t i (no_owner s why way p)
-good_no_owner t i s why way p has = tells t i why (s.errors_down && may_complain p) (reply.Unreachable s.own way) (p, has)
+abbrev can_drop : Bool → Verdict → Bool
+can_drop up (verdict.Drop why told) = can_tell up told
+can_drop up (verdict.Outward mtu) = false
+can_drop up (verdict.Inward from to hop mtu back) = false
+can_drop up verdict.Held = false
 
-good_used_up : (t : BindingTable) (i : Item) (s : Softwire) (way : Path) (p : Packet4) → HasPacket i p → IsGood t i (used_up s way p)
-good_used_up t i s way p has = tells t i rule.Ttl (may_complain p) (reply.Exceeded s.own way) (p, has)
-
-good_too_large : (t : BindingTable) (i : Item) (s : Softwire) (room : ℕ) (way : Path) (p : Packet4) → HasPacket i p → IsGood t i (too_large s room way p)
-good_too_large t i s room way p has = tells t i rule.TooBig (may_complain p) (reply.TooBig s.own room way) (p, has)
-
-good_not_sender : (t : BindingTable) (outer : Outer) (inner : List ℕ) (s : Softwire) (p : Packet4) → HasPacket (item.Up outer inner) p →
-    IsGood t (item.Up outer inner) (not_sender s outer)
-good_not_sender t outer inner s p has =
-    tells t (item.Up outer inner) rule.NoBinding (s.errors_up && gets_answer6 outer.src.0) (reply.Policy s.aftr outer.src s.hop_limit) (tt, (p, has))
+drop_good : (i : Item) (p : Packet4) → HasPacket i p → (up : Bool) → (up ≡ true → IsUp i) → (v : Verdict) → can_drop up v ≡ true → IsGood i v
+drop_good i p has up is_up (verdict.Drop why reply.Silent) is = record { fits = tt; room = tt }
+drop_good i p has up is_up (verdict.Drop why (reply.Unreachable own way)) is = record { fits = (p, has); room = tt }
+drop_good i p has up is_up (verdict.Drop why (reply.TooBig own mtu way)) is = record { fits = (p, has); room = tt }
+drop_good i p has up is_up (verdict.Drop why (reply.Exceeded own way)) is = record { fits = (p, has); room = tt }
+drop_good i p has up is_up (verdict.Drop why (reply.Policy from to hop)) is = record { fits = (is_up is, (p, has)); room = tt }
+drop_good i p has up is_up (verdict.Drop why (reply.Relay own code mtu way)) is = absurd cc
+drop_good i p has up is_up (verdict.Outward mtu) is = absurd cc
+drop_good i p has up is_up (verdict.Inward from to hop mtu back) is = absurd cc
+drop_good i p has up is_up verdict.Held is = absurd cc
 
 -- a packet that may be cut, or fits
 small : (p : Packet4) (room : ℕ) → is_too_large room p ≡ false → p.df ≡ true → packet_len p ≤ room
@@ -77,53 +75,32 @@ module _ (t : BindingTable) (lawful : IsLawful t) (p : Packet4) where
     has_down : HasPacket down p
     has_down = (bytes, refl, read)
 
-    down_first : EachAnswer (IsGood t down) (down_refusals t.softwire p (downstream_key p))
-    down_first = (
-      λ _. drops t down rule.ToSelf reply.Silent tt,
-      λ _. (
-        λ _. drops t down rule.IcmpOff reply.Silent tt,
-        λ _.
-            (λ _. drops t down rule.IcmpBad reply.Silent tt, λ _. (λ _. drops t down rule.NoPort reply.Silent tt, λ _. tt)),
-      ),
-    )
+    of_down : (v : Verdict) → can_drop false v ≡ true → IsGood down v
+    of_down v is = drop_good down p has_down false (λ never. absurd cc) v is
 
-    down_way : is_fragment p ≡ false → (end : Option V6) → owner_end t p.dst (downstream_key p) ≡ end → EachAnswer (IsGood t down) (down_ways t.softwire p end)
-    down_way whole None is = (λ _. good_no_owner t down t.softwire rule.NoBinding path.Plain p has_down, λ missing. absurd cc)
-    down_way whole (Some to) is = (
-      λ _. good_no_owner t down t.softwire rule.NoBinding path.Plain p has_down,
-      λ _. (
-        λ _. good_used_up t down t.softwire path.Plain p has_down,
-        λ alive. (
-          λ _. good_too_large t down t.softwire (t.softwire.mtu6 - 40) path.Plain p has_down,
-          λ fits. (λ _. inward_good alive fits, λ _. tt),
-        ),
-      ),
-    )
-      where
-        inward_good : is_used_up p ≡ false → is_too_large (t.softwire.mtu6 - 40) p ≡ false →
-            IsGood t down (verdict.Inward t.softwire.aftr to t.softwire.hop_limit t.softwire.mtu6 false)
-        inward_good alive fits =
-            let owned = owner_known t p.dst (downstream_key p) to lawful is in
-            record {
-              fits = (tt, sendable down p (t.softwire.mtu6 - 40) has_down whole alive fits);
-              room = lawful.mtu6;
-              delivers = record { packet = p; carried = has_down; want = owned.want; key = owned.key; receiver = owned.owner };
-            }
+    inward_good : (to : V6) → owner_end t p.dst (downstream_key p) ≡ Some to → is_used_up p ≡ false → is_too_large (inward_room t.softwire) p ≡ false →
+        IsGood down (verdict.Inward t.softwire.aftr to t.softwire.hop_limit t.softwire.mtu6 false)
+    inward_good to is alive fits =
+        let owned = owner_known t p.dst (downstream_key p) to lawful is in
+        let whole = whole_packet destination_at source_at p owned.want owned.key in
+        record { fits = (tt, sendable down p (t.softwire.mtu6 - 40) has_down whole alive fits); room = lawful.mtu6 }
 
-    abbrev first_down : List Line
-    first_down = down_refusals t.softwire p (downstream_key p)
+    down_by : (v : Verdict) (end : Option V6) → owner_end t p.dst (downstream_key p) ≡ end →
+        verdict_in (down_refusals t.softwire p (downstream_key p) ++ down_ways t.softwire p end) ≡ Some v → IsGood down v
+    down_by v None is =
+        by_ways (λ w. IsGood down w) (can_drop false) of_down (down_refusals t.softwire p (downstream_key p) ++ down_ways t.softwire p None) v
+        (simp (tells_or_not, or_true)) tt
+    down_by v (Some to) is =
+        by_ways (λ w. IsGood down w) (can_drop false) of_down (down_refusals t.softwire p (downstream_key p) ++ down_ways t.softwire p (Some to)) v
+        (simp (tells_or_not, or_true)) (
+          λ none.
+              inward_good to is (not_behind _ (is_used_up p) none (λ e. simp (e, or_true)))
+              (not_behind _ (is_too_large (inward_room t.softwire) p) none (λ e. simp (e, or_true))),
+          tt,
+        )
 
-    abbrev then_down : List Line
-    then_down = down_ways t.softwire p (owner_end t p.dst (downstream_key p))
-
-    down_by : (v : Verdict) → Parts first_down then_down v → IsGood t down v
-    down_by v (inl first) = each_decides (IsGood t down) first_down v down_first first
-    down_by v (inr rest) =
-        let whole = whole_packet destination_at source_at p (all_missed first_down rest.0).1.1.1.0 in
-        each_decides (IsGood t down) then_down v (down_way whole (owner_end t p.dst (downstream_key p)) refl) rest.1
-
-    pub down_good : (v : Verdict) → verdict_in (down_lines t (Ok p)) ≡ Some v → IsGood t down v
-    down_good v is = down_by v (parted first_down then_down v is)
+    pub down_good : (v : Verdict) → verdict_in (down_lines t (Ok p)) ≡ Some v → IsGood down v
+    down_good v is = down_by v (owner_end t p.dst (downstream_key p)) refl is
 
   module _ (outer : Outer) (inner : List ℕ) (read : ip4_of inner ≡ Ok p) where
     abbrev up : Item
@@ -132,68 +109,50 @@ module _ (t : BindingTable) (lawful : IsLawful t) (p : Packet4) where
     has_up : HasPacket up p
     has_up = (inner, refl, read)
 
-    access_good : EachAnswer (IsGood t up) (access_lines t outer p)
-    access_good = (
-      λ _. drops t up rule.NotOurs reply.Silent tt,
-      λ _. (
-        λ _. drops t up rule.IcmpBad reply.Silent tt,
-        λ _.
-            (λ _. drops t up rule.NoPort reply.Silent tt, λ _. (λ _. good_not_sender t outer inner t.softwire p has_up, λ _. tt)),
-      ),
-    )
+    of_up : (v : Verdict) → can_drop true v ≡ true → IsGood up v
+    of_up v is = drop_good up p has_up true (λ _. tt) v is
 
-    module _ (whole : is_fragment p ≡ false) (alive : is_used_up p ≡ false) where
-      outward_good : EachAnswer (IsGood t up) (outward_lines t.softwire outer p)
-      outward_good = (
-        λ _. drops t up rule.ToSelf reply.Silent tt,
-        λ _. (
-          λ _. good_too_large t up t.softwire t.softwire.mtu4 (way_back t.softwire outer) p has_up,
-          λ fits. (λ _. record { fits = (tt, sendable up p t.softwire.mtu4 has_up whole alive fits); room = lawful.mtu4; delivers = tt }, λ _. tt),
-        ),
-      )
+    module _ (whole : is_fragment p ≡ false) where
+      back_good : (to : V6) → is_used_up p ≡ false → is_too_large (inward_room t.softwire) p ≡ false →
+          IsGood up (verdict.Inward t.softwire.aftr to t.softwire.hop_limit t.softwire.mtu6 true)
+      back_good to alive fits = record { fits = (tt, sendable up p (t.softwire.mtu6 - 40) has_up whole alive fits); room = lawful.mtu6 }
 
-      hairpin_good : (end : Option V6) → owner_end t p.dst (downstream_key p) ≡ end → EachAnswer (IsGood t up)
-          (hairpin_lines t.softwire outer p (is_bound_address t p.dst) end ++ outward_lines t.softwire outer p)
-      hairpin_good None is = (
-        λ _. drops t up rule.HairpinOff reply.Silent tt,
-        λ _. (
-          λ _. good_no_owner t up t.softwire rule.HairpinNoBinding (way_back t.softwire outer) p has_up,
-          λ _. (
-            λ _. good_too_large t up t.softwire (t.softwire.mtu6 - 40) (way_back t.softwire outer) p has_up,
-            λ _. outward_good,
-          ),
-        ),
-      )
-      hairpin_good (Some to) is = (
-        λ _. drops t up rule.HairpinOff reply.Silent tt,
-        λ _. (
-          λ _. good_no_owner t up t.softwire rule.HairpinNoBinding (way_back t.softwire outer) p has_up,
-          λ _. (
-            λ _. good_too_large t up t.softwire (t.softwire.mtu6 - 40) (way_back t.softwire outer) p has_up,
-            λ fits. (λ _. inward_good fits, λ never. absurd cc),
-          ),
-        ),
-      )
-        where
-          inward_good : is_too_large (t.softwire.mtu6 - 40) p ≡ false →
-              IsGood t up (verdict.Inward t.softwire.aftr to t.softwire.hop_limit t.softwire.mtu6 true)
-          inward_good fits =
-              let owned = owner_known t p.dst (downstream_key p) to lawful is in
-              record {
-                fits = (tt, sendable up p (t.softwire.mtu6 - 40) has_up whole alive fits);
-                room = lawful.mtu6;
-                delivers = record { packet = p; carried = has_up; want = owned.want; key = owned.key; receiver = owned.owner };
-              }
+      out_good : is_used_up p ≡ false → is_too_large t.softwire.mtu4 p ≡ false → IsGood up (verdict.Outward t.softwire.mtu4)
+      out_good alive fits = record { fits = (tt, sendable up p t.softwire.mtu4 has_up whole alive fits); room = lawful.mtu4 }
 
-    onward_good : is_fragment p ≡ false → EachAnswer (IsGood t up) (onward_lines t outer p)
-    onward_good whole =
-        (λ _. good_used_up t up t.softwire (way_back t.softwire outer) p has_up, λ alive. hairpin_good whole alive (owner_end t p.dst (downstream_key p)) refl)
+      onward_by : (v : Verdict) (end : Option V6) →
+          verdict_in (ttl_lines t.softwire outer p ++ (hairpin_lines t.softwire outer p (is_bound_address t p.dst) end ++ outward_lines t.softwire outer p)) ≡ Some v →
+          IsGood up v
+      onward_by v None =
+          by_ways (λ w. IsGood up w) (can_drop true) of_up
+          (ttl_lines t.softwire outer p ++ (hairpin_lines t.softwire outer p (is_bound_address t p.dst) None ++ outward_lines t.softwire outer p)) v
+          (simp (tells_or_not, or_true)) (
+            λ none.
+                out_good (not_behind _ (is_used_up p) none (λ e. simp e))
+                (not_behind _ (is_too_large t.softwire.mtu4 p) none (λ e. simp (e, or_true))),
+            tt,
+          )
+      onward_by v (Some to) =
+          by_ways (λ w. IsGood up w) (can_drop true) of_up
+          (ttl_lines t.softwire outer p ++ (hairpin_lines t.softwire outer p (is_bound_address t p.dst) (Some to) ++ outward_lines t.softwire outer p)) v
+          (simp (tells_or_not, or_true)) (
+            λ none.
+                back_good to (not_behind _ (is_used_up p) none (λ e. simp e))
+                (not_behind _ (is_too_large (inward_room t.softwire) p) none (λ e. simp (e, or_true))),
+            (
+              λ none.
+                  out_good (not_behind _ (is_used_up p) none (λ e. simp e))
+                  (not_behind _ (is_too_large t.softwire.mtu4 p) none (λ e. simp (e, or_true))),
+              tt,
+            ),
+          )
 
-    up_by : (v : Verdict) → Parts (access_lines t outer p) (onward_lines t outer p) v → IsGood t up v
-    up_by v (inl first) = each_decides (IsGood t up) (access_lines t outer p) v access_good first
+    up_by : (v : Verdict) → Parts (access_lines t outer p) (onward_lines t outer p) v → IsGood up v
+    up_by v (inl first) = by_ways (λ w. IsGood up w) (can_drop true) of_up (access_lines t outer p) v (simp (tells_or_not, or_true)) tt first
     up_by v (inr rest) =
-        let whole = whole_packet source_at destination_at p (all_missed (access_lines t outer p) rest.0).1.1.0 in
-        each_decides (IsGood t up) (onward_lines t outer p) v (onward_good whole) rest.1
+        let owned = sender_owner t outer p lawful rest.0 in
+        let whole = whole_packet source_at destination_at p owned.want owned.key in
+        onward_by whole v (owner_end t p.dst (downstream_key p)) rest.1
 
-    pub up_good : (v : Verdict) → verdict_in (up_lines t outer (Ok p)) ≡ Some v → IsGood t up v
+    pub up_good : (v : Verdict) → verdict_in (up_lines t outer (Ok p)) ≡ Some v → IsGood up v
     up_good v is = up_by v (parted (access_lines t outer p) (onward_lines t outer p) v is)

@@ -1,3 +1,4 @@
+pub mod Delivering
 pub mod Firsts
 pub mod Good
 pub mod Items

@@ -1,5 +1,5 @@
 -- The owner of what a packet asks for, and the packet itself.
-use Rattle.std.proofs.Common.{◌≡◌, ℕ, ◌==◌, ◌≤◌, if◌then◌else◌, Bool, true, false, List, [], ◌∷◌, length, Option, Some, None, refl, ap, sym, ◌∙◌, arith}
+use Rattle.std.proofs.Common.{◌≡◌, ℕ, ◌==◌, ◌≤◌, if◌then◌else◌, Bool, true, false, List, [], ◌∷◌, length, Option, Some, refl, ap, ◌∙◌, arith}
 use Rattle.std.proofs.lemmas.Bool.{eqb-true, eq-eqb}
 use Rattle.aftr_base.specs.declared.numbers.V6.{V6}
 use Rattle.binding_rules.specs.Bindings.{bound}
@@ -14,7 +14,7 @@ use Rattle.port_locate.specs.declared.keys.Key.TheVariants as key
 use Rattle.table_words.specs.Answers.{first_b4}
 use Rattle.verdict_core.specs.Access.{IsOwner}
 use Rattle.verdict_core.specs.Answers.{ends_at}
-use Rattle.verdict_core.specs.Verdicts.{names_no_port, owner_end}
+use Rattle.verdict_core.specs.Verdicts.{owner_end}
 
 -- what a key asks for, and its one owner
 pub record HasOwner (t : BindingTable) (address : ℕ) (k : Key) (end : ℕ) : Type 0 where
@@ -53,10 +53,10 @@ owner_ends t address k want end asks o =
     ∙ eq-eqb o.binding.b4.0 end o.ends
 
 -- a packet that asks for something is no fragment
-pub whole_packet : (at quoted : ℕ) (p : Packet4) → names_no_port (key_at at quoted p) ≡ false → is_fragment p ≡ false
-whole_packet at quoted p = by_fragment (is_fragment p)
+pub whole_packet : (at quoted : ℕ) (p : Packet4) (want : Want) → key_at at quoted p ≡ key.At want → is_fragment p ≡ false
+whole_packet at quoted p want = by_fragment (is_fragment p)
     (if p.protocol == 1 then icmp_key (icmp4_of p.payload) quoted else key_of (plain_want p.protocol p.payload at))
   where
-    by_fragment : (fragment : Bool) (k : Key) → names_no_port (if fragment then key.NoPort else k) ≡ false → fragment ≡ false
+    by_fragment : (fragment : Bool) (k : Key) → (if fragment then key.NoPort else k) ≡ key.At want → fragment ≡ false
     by_fragment true k is = absurd cc
     by_fragment false k is = refl

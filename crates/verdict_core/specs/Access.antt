@@ -1,6 +1,6 @@
 -- Who may send, who receives, and whom errors reach: the tunnel's address, the IPv4 address and the port of a subscriber stand
 -- in one binding (RFC 7596, section 6.2; RFC 2473, section 8).
-use Rattle.std.specs.Prelude.{◌≡◌, ℕ, ◌↔◌, Bool, false, true, List, [], ◌∷◌, Option, Some, None, Ok}
+use Rattle.std.specs.Prelude.{◌≡◌, ℕ, ◌↔◌, Bool, false, true, List, [], ◌∷◌, Some, None, Ok}
 use Rattle.aftr_base.specs.declared.numbers.V6.{V6}
 use Rattle.binding_rules.specs.Bindings.{bound}
 use Rattle.binding_rules.specs.Tables.{BindingTable}

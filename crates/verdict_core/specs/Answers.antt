@@ -1,5 +1,5 @@
 -- What the lines answer: drops, with what the sender is told, and ways out.
-use Rattle.std.specs.Prelude.{ℕ, ◌+◌, ◌-◌, ◌==◌, nat_lt, Bool, true, false, ◌&&◌, min, max, List, [], ◌∷◌, Option, Some, None, if◌then◌else◌}
+use Rattle.std.specs.Prelude.{ℕ, ◌-◌, ◌==◌, nat_lt, Bool, true, false, ◌&&◌, min, max, List, [], ◌∷◌, Option, Some, None, if◌then◌else◌}
 use Rattle.aftr_base.specs.declared.numbers.V6.{V6}
 use Rattle.binding_rules.specs.declared.settings.Softwire.{Softwire}
 use Rattle.icmp_errors.specs.Answers.{about, gets_answer, gets_answer6}

@@ -1,7 +1,6 @@
 -- How many steps a verdict takes.
-use Rattle.std.specs.Prelude.{◌≡◌, ℕ, ◌+◌, ◌*◌, ◌⊎◌, List}
+use Rattle.std.specs.Prelude.{◌≡◌, ℕ, ◌+◌, ◌*◌, ◌⊎◌}
 use Rattle.binding_rules.specs.Tables.{BindingTable}
-use Rattle.binding_rules.specs.declared.binding.Binding.{Binding}
 use Rattle.binding_rules.specs.declared.settings.Edition.TheVariants as edition
 use Rattle.table_words.specs.Bounds.{found_bound, look_bound, most_shapes}
 

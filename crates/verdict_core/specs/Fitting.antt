@@ -1,5 +1,5 @@
 -- Which verdicts an item can have.
-use Rattle.std.specs.Prelude.{◌≡◌, ℕ, ◌+◌, ◌-◌, ◌≤◌, ◌⊎◌, true, false, List, Option, Some, None, Ok}
+use Rattle.std.specs.Prelude.{◌≡◌, ℕ, ◌-◌, ◌≤◌, ◌⊎◌, true, false, List, Option, Some, None, Ok}
 use Rattle.aftr_base.specs.declared.numbers.V6.{V6}
 use Rattle.icmp_codec.specs.Message6.{Message6, icmp6_of}
 use Rattle.icmp_relay.specs.Quotes.{TunnelQuote, quote_of}

@@ -1,6 +1,6 @@
 -- The verdict on an item under a table: the first line whose condition is true (RFC 7596, section 6.2). Where no RFC is named,
 -- the line is ours; so are the order of the lines and the exact condition of each.
-use Rattle.std.specs.Prelude.{◌≡◌, ℕ, ◌==◌, nat_le, Bool, true, false, not, ◌&&◌, List, [], ◌∷◌, ◌++◌, length, slice_index, Option, Some, None, Result, Ok, Err, unwrap_or}
+use Rattle.std.specs.Prelude.{◌≡◌, ℕ, ◌==◌, nat_le, Bool, true, false, not, ◌&&◌, List, [], ◌∷◌, ◌++◌, length, slice_index, Option, None, Result, Ok, Err, unwrap_or}
 use Rattle.std.specs.List.{All}
 use Rattle.aftr_base.specs.declared.numbers.V6.{V6}
 use Rattle.binding_rules.specs.Bindings.{bound}
@@ -168,17 +168,24 @@ quote_refusals s q = refuses (not (q.src6 == s.aftr.0)) (silent rule.RelayBad) �
 abbrev pub receiver_lines : TunnelQuote → Option V6 → List Line
 receiver_lines q end = refuses (not (ends_at end q.dst6)) (silent rule.RelayNoBinding) ∷ []
 
--- To the source of the quoted packet, by whether it is an address of the table, and the tunnel's end of its owner (RFC 2473,
--- section 8).
-abbrev pub relay_lines : Softwire → ℕ → ℕ → TunnelQuote → Bool → Option V6 → List Line
-relay_lines s kind word q is_ours end =
+-- What keeps a message from the source of the quoted packet, by whether that is an address of the table, and the tunnel's end of
+-- its owner ..
+abbrev pub relay_refusals : TunnelQuote → Bool → Option V6 → List Line
+relay_refusals q is_ours end =
     -- the quoted source is an address of the table, and nobody owns it
     forbids (is_ours && is_missing end) (silent rule.RelayNoBinding)
     -- no ICMP error may be sent about the quoted packet (RFC 1122, section 3.2.2)
     ∷ forbids (not (gets_answer q.inner)) (silent rule.RelayMute)
-    -- to the subscriber that sent it, through its tunnel, or to the IPv4 network
-    ∷ (ways_to end (λ to. relayed s kind word (path.Tunnel s.aftr to s.hop_limit))
-    ++ passes (relayed s kind word path.Plain) ∷ [])
+    ∷ []
+
+-- .. and the ways to it: to the subscriber that sent it, through its tunnel, or to the IPv4 network (RFC 2473, section 8).
+abbrev pub relay_ways : Softwire → ℕ → ℕ → Option V6 → List Line
+relay_ways s kind word end =
+    ways_to end (λ to. relayed s kind word (path.Tunnel s.aftr to s.hop_limit))
+    ++ passes (relayed s kind word path.Plain) ∷ []
+
+abbrev pub relay_lines : Softwire → ℕ → ℕ → TunnelQuote → Bool → Option V6 → List Line
+relay_lines s kind word q is_ours end = relay_refusals q is_ours end ++ relay_ways s kind word end
 
 -- what the source and the destination of a quoted packet ask of the table
 abbrev pub quoted_source : TunnelQuote → Key

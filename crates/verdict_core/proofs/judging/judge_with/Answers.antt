@@ -1,4 +1,4 @@
-use Rattle.std.proofs.Common.{◌≡◌, Some, inl, inr, refl}
+use Rattle.std.proofs.Common.{inl, inr, refl}
 use Rattle.ip_codec.specs.Seen.{seen}
 use Rattle.table_words.specs.Bounds.{found_bound, look_bound}
 use Rattle.verdict_core.proofs.Firsts.{judged, only_verdict}
