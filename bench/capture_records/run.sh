@@ -1,7 +1,7 @@
 #!/usr/bin/env bash
 # Times reading captures of 1,000,000 records, of 80 and of 390 bytes, classic and of blocks, by the real files, in rounds and
-# one by one: builds the program in a temporary repository, runs each five times, and counts its system calls and allocations
-# where strace and valgrind are there.
+# one by one: builds the program in a temporary repository, takes the least processor time of 25 turns, and counts system calls
+# and allocations where strace and valgrind are there.
 #     bench/capture_records/run.sh [REPOSITORY]
 set -e
 here="$(cd "$(dirname "$0")" && pwd)"
@@ -52,14 +52,32 @@ rm -f "$crate/out/records_bench"
 program="$crate/out/records_bench"
 [ -x "$program" ] || { tail "$work/build.txt"; exit 1; }
 cd "$work"
+# the least processor time of 25 turns of a command, by the number of records
+processor() {
+    python3 - "$@" <<'P'
+import resource, subprocess, sys
+
+
+def used():
+    usage = resource.getrusage(resource.RUSAGE_CHILDREN)
+    return usage.ru_utime + usage.ru_stime
+
+
+least = 1000
+for turn in range(25):
+    before = used()
+    subprocess.run(sys.argv[1:], check=True, stdout=subprocess.DEVNULL)
+    least = min(least, used() - before)
+print(f"{least * 1000:.1f} ns a record of processor")
+P
+}
 for size in 80 390; do
     for form in pcap pcapng; do
         file="records_$size.$form"
         cat "$file" > /dev/null
+        echo "$file, cat: $(processor cat "$file")"
         for way in "" records; do
-            for turn in 1 2 3 4 5; do
-                "$program" "$file" $way
-            done | sort -t, -k2.2n | sed -n "1s/^/$file, ${way:-rounds}, least of five: /p"
+            echo "$file, ${way:-rounds}: $(processor "$program" "$file" $way), $("$program" "$file" $way)"
             if command -v strace > /dev/null; then
                 strace -f -c -o calls.txt "$program" "$file" $way > /dev/null
                 echo "    $(awk '$NF == "read" || $NF == "pread64" { n += $4 } END { print n }' calls.txt) reads of the system"
@@ -68,10 +86,5 @@ for size in 80 390; do
                 valgrind "$program" "$file" $way 2>&1 | sed -n 's/.*total heap usage: \([0-9,]*\) allocs.*/    \1 allocations/p'
             fi
         done
-        for turn in 1 2 3 4 5; do
-            start="$(date +%s%N)"
-            cat "$file" > /dev/null
-            echo "$(($(date +%s%N) - start))"
-        done | sort -n | sed -n "1s/^/$file, cat, least of five: /p"
     done
 done
