@@ -49,41 +49,61 @@ fn leaves<R: Threads + Wait + Sync>(
     Ok(ran.status == Status::Done && ran.files.text("verdicts.txt") == lines && ran.said() == said)
 }
 
+/// The first number of workers with which a run leaves something else.
+fn first_other<'a, R: Threads + Wait + Sync>(
+    rt: &R,
+    alloc: Global,
+    capture: &[u8],
+    many: [&'a str; 2],
+    left: (&str, &str),
+) -> Result<Option<&'a str>, Fail> {
+    for workers in many {
+        if !leaves(rt, alloc, capture, workers, left)? {
+            return Ok(Some(workers));
+        }
+    }
+    Ok(None)
+}
+
+/// 257 pieces of one datagram, of 8 bytes each.
+fn many_places(alloc: Global) -> Result<Vec<u8>, Fail> {
+    let mut capture = hex(alloc, HEADER)?;
+    for number in 0..257u16 {
+        put_piece(&mut capture, alloc, 1, 7, number, true, b"8 bytes.")?;
+    }
+    Ok(capture)
+}
+
+/// Lines of so many records under the first table, of which the first `few` have one outcome and the others another.
+fn two_kinds(
+    alloc: Global,
+    (few, first): (u32, &str),
+    (count, then): (u32, &str),
+) -> Result<String, Fail> {
+    let mut lines = String::new(alloc);
+    for number in 0..count {
+        let outcome = if number < few { first } else { then };
+        lines.push_str(&format!(in alloc; "{number} 0 {outcome}\n")?)?;
+    }
+    Ok(lines)
+}
+
 #[test]
 fn the_257th_piece_of_a_datagram_is_refused(rt: HostRuntime) -> Result<(), Fail> {
     let alloc = rt.alloc();
-    let mut capture = hex(alloc, HEADER)?;
-    let mut lines = String::new(alloc);
-    for number in 0..257u16 {
-        put_piece(&mut capture, alloc, 1, 7, number, true, b"8 bytes.")?;
-        let outcome = if number < 256 {
-            "held"
-        } else {
-            "drop frag-many"
-        };
-        lines.push_str(&format!(in alloc; "{number} 0 {outcome} 0\n")?)?;
-    }
+    let capture = many_places(alloc)?;
+    let mut lines = two_kinds(alloc, (256, "held 0"), (257, "drop frag-many 0"))?;
     lines.push_str("unfinished 0\n")?;
     let said = "records 257 held 256 forwarded 0 dropped 1 packets 0 version 0\n";
-    for workers in ["1", "16"] {
-        let left = leaves(&rt, alloc, &capture, workers, (&lines, said))?;
-        assert!(rt; left, "{workers}");
-    }
+    let other = first_other(&rt, alloc, &capture, ["1", "16"], (&lines, said))?;
+    assert_eq!(rt; other, None);
     Ok(())
 }
 
 /// The lines of 300 datagrams that begin in one lane at one time, of one that begins there when all those have ended, and of
 /// what is left.
 fn flood_lines(alloc: Global) -> Result<String, Fail> {
-    let mut lines = String::new(alloc);
-    for number in 0..300u32 {
-        let outcome = if number < 256 {
-            "held"
-        } else {
-            "drop frag-full"
-        };
-        lines.push_str(&format!(in alloc; "{number} 0 {outcome} 0\n")?)?;
-    }
+    let mut lines = two_kinds(alloc, (256, "held 0"), (300, "drop frag-full 0"))?;
     for number in 0..256u32 {
         lines.push_str(&format!(in alloc; "expired {number}\n")?)?;
     }
@@ -91,30 +111,27 @@ fn flood_lines(alloc: Global) -> Result<String, Fail> {
     Ok(lines)
 }
 
-#[test]
-fn a_lane_has_room_for_256_datagrams(rt: HostRuntime) -> Result<(), Fail> {
-    let alloc = rt.alloc();
+/// The first pieces of 300 datagrams in one lane, and of another one when those have ended.
+fn flood(alloc: Global) -> Result<Vec<u8>, Fail> {
     let packet = tunnelled(alloc)?;
     let first = packet.get(40..48).unwrap_or(&[]);
     let mut capture = hex(alloc, HEADER)?;
     for number in 0..300u32 {
-        put_piece(
-            &mut capture,
-            alloc,
-            1,
-            number.wrapping_mul(16),
-            0,
-            true,
-            first,
-        )?;
+        let identification = number.wrapping_mul(16);
+        put_piece(&mut capture, alloc, 1, identification, 0, true, first)?;
     }
     put_piece(&mut capture, alloc, 62, 4_800, 0, true, first)?;
+    Ok(capture)
+}
+
+#[test]
+fn a_lane_has_room_for_256_datagrams(rt: HostRuntime) -> Result<(), Fail> {
+    let alloc = rt.alloc();
+    let capture = flood(alloc)?;
     let lines = flood_lines(alloc)?;
     let said = "records 301 held 257 forwarded 0 dropped 44 packets 0 version 0\n";
-    for workers in ["1", "16"] {
-        let left = leaves(&rt, alloc, &capture, workers, (&lines, said))?;
-        assert!(rt; left, "{workers}");
-    }
+    let other = first_other(&rt, alloc, &capture, ["1", "16"], (&lines, said))?;
+    assert_eq!(rt; other, None);
     Ok(())
 }
 
@@ -135,20 +152,30 @@ fn two_rounds(alloc: Global) -> Result<Vec<u8>, Fail> {
     Ok(capture)
 }
 
+/// Puts the line of a record that is held or goes out.
+fn put_line(alloc: Global, lines: &mut String, number: u32, held: bool) -> Result<(), Fail> {
+    let outcome = if held { "held 0" } else { "up 1" };
+    let line = format!(in alloc; "{number} 0 {outcome}\n")?;
+    lines.push_str(&line)?;
+    Ok(())
+}
+
+fn two_rounds_lines(alloc: Global) -> Result<String, Fail> {
+    let mut lines = String::new(alloc);
+    for number in 0..20_000u32 {
+        put_line(alloc, &mut lines, number, number == 16_383)?;
+    }
+    Ok(lines)
+}
+
 #[test]
 fn a_datagram_may_begin_in_one_round_and_end_in_the_next(rt: HostRuntime) -> Result<(), Fail> {
     let alloc = rt.alloc();
     let capture = two_rounds(alloc)?;
-    let mut lines = String::new(alloc);
-    for number in 0..20_000u32 {
-        let outcome = if number == 16_383 { "held 0" } else { "up 1" };
-        lines.push_str(&format!(in alloc; "{number} 0 {outcome}\n")?)?;
-    }
+    let lines = two_rounds_lines(alloc)?;
     let said = "records 20000 held 1 forwarded 19999 dropped 0 packets 19999 version 0\n";
-    for workers in ["1", "16"] {
-        let left = leaves(&rt, alloc, &capture, workers, (&lines, said))?;
-        assert!(rt; left, "{workers}");
-    }
+    let other = first_other(&rt, alloc, &capture, ["1", "16"], (&lines, said))?;
+    assert_eq!(rt; other, None);
     Ok(())
 }
 
@@ -171,21 +198,26 @@ fn many_pieces(alloc: Global) -> Result<Vec<u8>, Fail> {
     Ok(capture)
 }
 
+fn many_pieces_lines(alloc: Global) -> Result<String, Fail> {
+    let mut lines = String::new(alloc);
+    for number in 0..40_000u32 {
+        put_line(alloc, &mut lines, number, number % 2 == 0)?;
+    }
+    for number in 39_990..40_000u32 {
+        if number % 2 == 0 {
+            lines.push_str(&format!(in alloc; "unfinished {number}\n")?)?;
+        }
+    }
+    Ok(lines)
+}
+
 #[test]
 fn datagrams_in_pieces_over_all_rounds(rt: HostRuntime) -> Result<(), Fail> {
     let alloc = rt.alloc();
     let capture = many_pieces(alloc)?;
-    let mut lines = String::new(alloc);
-    for number in 0..40_000u32 {
-        let outcome = if number % 2 == 0 { "held 0" } else { "up 1" };
-        lines.push_str(&format!(in alloc; "{number} 0 {outcome}\n")?)?;
-    }
-    lines.push_str("unfinished 39990\nunfinished 39992\nunfinished 39994\n")?;
-    lines.push_str("unfinished 39996\nunfinished 39998\n")?;
+    let lines = many_pieces_lines(alloc)?;
     let said = "records 40000 held 20000 forwarded 20000 dropped 0 packets 20000 version 0\n";
-    for workers in ["1", "4"] {
-        let left = leaves(&rt, alloc, &capture, workers, (&lines, said))?;
-        assert!(rt; left, "{workers}");
-    }
+    let other = first_other(&rt, alloc, &capture, ["1", "4"], (&lines, said))?;
+    assert_eq!(rt; other, None);
     Ok(())
 }

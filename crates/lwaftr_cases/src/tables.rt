@@ -1,4 +1,5 @@
 // Table files by name.
+use aftr_base::MemFiles;
 use std::alloc::Global;
 use std::test::Fail;
 
@@ -71,4 +72,11 @@ pub fn table_text(alloc: Global, table: &str) -> Result<String, Fail> {
         _ => put_small(alloc, &mut text, name)?,
     }
     Ok(text)
+}
+
+/// Puts the table that `table` names into a file.
+pub fn put_table(alloc: Global, files: &mut MemFiles, file: &str, table: &str) -> Result<(), Fail> {
+    let text = table_text(alloc, table)?;
+    files.set(alloc, file, text.as_bytes())?;
+    Ok(())
 }

@@ -3,7 +3,7 @@ use crate::captures::{Form, front, hex, put_packet};
 use crate::cases::lines_of;
 use crate::given::{PACKETS, RUNS};
 use crate::runs::{Ran, WORDS, run_over};
-use crate::tables::table_text;
+use crate::tables::put_table;
 use aftr_base::MemFiles;
 use lwaftr_engine::status_line;
 use std::alloc::Global;
@@ -83,10 +83,10 @@ pub fn capture_of(alloc: Global, form: Form, records: &str) -> Result<Vec<u8>, F
 pub fn files_of_case(alloc: Global, form: Form, case: &Case<'_>) -> Result<MemFiles, Fail> {
     let mut files = MemFiles::new(alloc);
     files.set(alloc, "in.pcap", &capture_of(alloc, form, case.records)?)?;
-    files.set(alloc, "t0.toml", table_text(alloc, case.table)?.as_bytes())?;
+    put_table(alloc, &mut files, "t0.toml", case.table)?;
     for word in case.words.split(' ') {
         if let Some((_, name)) = word.split_once(':') {
-            files.set(alloc, name, table_text(alloc, name)?.as_bytes())?;
+            put_table(alloc, &mut files, name, name)?;
         }
     }
     Ok(files)

@@ -2,8 +2,8 @@
 use crate::captures::capture;
 use crate::cases::words_of;
 use crate::outside::{Narrow, Watched};
-use crate::runs::{Ran, files_of, run_gated};
-use crate::tables::table_text;
+use crate::runs::{Ran, run_gated};
+use crate::tables::put_table;
 use aftr_base::MemFiles;
 use lwaftr_engine::Status;
 use std::alloc::Global;
@@ -73,11 +73,11 @@ impl Gate for Held {
 
 /// A capture of so many packets of the subscriber, the table that has it, and tables for loads.
 pub fn files(alloc: Global, count: u32) -> Result<MemFiles, Fail> {
-    let whole = table_text(alloc, "whole")?;
-    let mut files = files_of(alloc, &capture(alloc, count)?, &whole)?;
-    for name in ["whole", "none"] {
-        files.set(alloc, name, table_text(alloc, name)?.as_bytes())?;
-    }
+    let mut files = MemFiles::new(alloc);
+    files.set(alloc, "in.pcap", &capture(alloc, count)?)?;
+    put_table(alloc, &mut files, "t0.toml", "whole")?;
+    put_table(alloc, &mut files, "whole", "whole")?;
+    put_table(alloc, &mut files, "none", "none")?;
     Ok(files)
 }
 
