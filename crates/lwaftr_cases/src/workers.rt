@@ -14,7 +14,8 @@ use std::test::Fail;
 use std::thread::{Threads, yield_now};
 use worker_gate::{Gate, OpenGate};
 
-/// A gate that holds records until another one has passed, for so many turns each, and notes where they ran out.
+/// A gate that holds records until another one has passed, for so many turns each. Where they run out it notes that, and holds no
+/// more.
 #[derive(Drop)]
 struct Held {
     /// Which record is held: the first one, or each under the first table but record 0.
@@ -59,7 +60,7 @@ impl Gate for Held {
         if self.waits_for(number, version) {
             self.passed.store(1, SeqCst);
         }
-        if self.holds(number, version) {
+        if self.holds(number, version) && self.late.load(SeqCst) == 0 {
             for _ in 0..self.turns {
                 if self.passed.load(SeqCst) == 1 {
                     return;
@@ -177,7 +178,7 @@ fn two_workers_run_beside_one_another(rt: HostRuntime) -> Result<(), Fail> {
 /// The point of a table that may come into force from record 1 to record 64, where records under the first table wait for one
 /// under the next.
 fn point_beside<R: Threads + Wait + Sync>(rt: &R, alloc: Global) -> Result<u32, Fail> {
-    let gate = Held::new(None, None, 1_000_000);
+    let gate = Held::new(None, None, 100_000);
     let ran = run_held(rt, alloc, 64, "1-64:whole --workers 2", &gate)?;
     let printed = points(alloc, ran.files.text("versions.txt"))?;
     Ok(printed.first().copied().unwrap_or(64))
