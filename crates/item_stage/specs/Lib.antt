@@ -1,4 +1,5 @@
 pub mod Alone
+pub mod Beside
 pub mod Fragments
 pub mod Heads
 pub mod Items
@@ -8,5 +9,6 @@ pub mod Ordered
 pub mod Rejoined
 pub mod Shown
 pub mod Stages
+pub mod Tracks
 pub mod Turns
 pub mod Waiting

@@ -4,16 +4,20 @@
 #![tactic(auto)]
 
 mod alone;
+mod beside;
 mod entries;
 mod joining;
 mod keys;
+mod lane_steps;
 mod looking;
 mod marks;
 mod reading;
 mod rounds;
 mod row;
+mod row_steps;
 mod rows;
 mod stage;
+mod tracks;
 mod turns;
 
 pub use entries::Entry;

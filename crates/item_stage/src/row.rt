@@ -6,10 +6,12 @@ ghost use Rattle.item_stage.specs.Waiting.{no_row, numbers_in, row_fed, row_turn
 ghost use Rattle.reassembly_lane.specs.Lanes.{arrival};
 
 use crate::keys::LANES;
+use crate::tracks::{LaneSteps, Run, run_row};
 use aftr_base::{Numbers, OutOfMemory};
 use reassembly_lane::{Fed, Lane, Piece};
 use std::alloc::Global;
 use std::marker::Model;
+use std::thread::Threads;
 
 /// Sixteen lanes of fragments that wait, seen as the list of what waits in each.
 #[derive(Debug, Drop)]
@@ -59,6 +61,27 @@ impl<K: Ord + Copy + Drop> Row<K> {
         ensures { IfOk result (λ said. row_turn said self.new ≡ row_fed K.cmp self.old lane (arrival piece.entry)) }
     {
         Ok(self.lanes[lane].feed(alloc, piece)?)
+    }
+}
+
+impl<K: Ord + Copy + Drop + Send> Row<K> {
+    ghost use Rattle.std.specs.Prelude.{All, length};
+    ghost use Rattle.item_stage.specs.Beside.{lanes_in};
+    ghost use Rattle.item_stage.specs.Tracks.{IsRowRun};
+
+    /// Takes the records of a round, several lanes at once.
+    pub(crate) fn run<R: Threads + Sync, S: LaneSteps<K> + Sync>(
+        &mut self,
+        rt: &R,
+        alloc: Global,
+        steps: &S,
+    ) -> Result<Run<K>, OutOfMemory>
+        requires { All (S.keeps steps.now) self.old }
+        ensures numbers { IfOk result (λ run. run.numbers.items ≡ lanes_in (S.ops steps.now)) }
+        ensures run { IfOk result (λ run. IsRowRun (S.ops steps.now) (S.keeps steps.now) self.old self.new run.tracks.items) }
+        ensures tracks { IfOk result (λ run. length run.tracks.items ≡ lane_count) }
+    {
+        run_row(rt, alloc, steps, &mut self.lanes)
     }
 }
 

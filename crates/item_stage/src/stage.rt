@@ -10,6 +10,7 @@ ghost use Rattle.item_stage.specs.Heads.{HaveHeaders};
 ghost use Rattle.item_stage.specs.Turns.{entries_from, rows_after, turn};
 
 use crate::alone::read_alone;
+use crate::beside::take_beside;
 use crate::looking::needs_no_lane;
 use crate::marks::Slot;
 use crate::rounds::Items;
@@ -19,6 +20,12 @@ use aftr_base::{Numbers, OutOfMemory};
 use capture_io::{Form, RecordView, Records, time_of};
 use std::alloc::Global;
 use std::marker::Model;
+use std::thread::Threads;
+
+/// A look for fragments in a round is at each so many records, and so many that are found are many.
+const LOOK_EVERY: usize = 16;
+
+const MANY_FOUND: u32 = 4;
 
 /// What takes the records of one capture, in their order, and says what each becomes. Fragments wait in it for the rest of
 /// their datagrams, from one call to the next.
@@ -91,6 +98,38 @@ impl Stage {
         }
     }
 
+    /// The same, where a round with many fragments is worked by several threads.
+    pub fn items_by_threads<'a, R: Threads + Sync>(
+        &mut self,
+        rt: &R,
+        alloc: Global,
+        records: &'a Records,
+        start: u32,
+    ) -> Result<Items<'a>, OutOfMemory>
+        requires start { start ≡ self.old.number }
+        requires few { start + length records.now ≤ 2 ^ 31 }
+        ensures entries { IfOk result (λ items. (taken : List Record) → Stands self.old taken →
+            entries_of self.old.form (taken ++ records.now) ≡ entries_of self.old.form taken ++ items) }
+        ensures stands { IfOk result (λ _. (taken : List Record) → Stands self.old taken → Stands self.new (taken ++ records.now)) }
+        ensures count { IfOk result (λ items. length items ≡ length records.now) }
+        ensures form { self.new.form ≡ self.old.form }
+        ensures number { IfOk result (λ _. self.new.number ≡ self.old.number + length records.now) }
+        ensures fails { IfErr result (λ _. HasFailed self.new) }
+        ensures failed { HasFailed self.old → IsErr result }
+    {
+        self.still_takes()?;
+        match take_round(rt, alloc, self.form, &mut self.rows, records, start) {
+            Ok(marks) => {
+                self.number = number_behind(start, records.len());
+                Ok(Items::of(self.form, records, marks))
+            }
+            Err(why) => {
+                self.failed = true;
+                Err(why)
+            }
+        }
+    }
+
     /// The first record's number of each datagram of which some fragments came and others are missing, ascending.
     pub fn unfinished(&self, alloc: Global) -> Result<Numbers, OutOfMemory>
         ensures numbers { IfOk result (λ numbers. (taken : List Record) → Stands self.now taken →
@@ -118,6 +157,46 @@ fn number_behind(start: u32, count: usize) -> u32
     ensures { result ≡ start + count }
 {
     start + count as u32
+}
+
+// Whether many records are fragments, by a look at each sixteenth one: four of them stand for some 64.
+fn has_many(form: Form, records: &Records) -> bool
+    requires { length records.now ≤ 2 ^ 31 }
+{
+    let mut found = 0;
+    let mut index = 0;
+    'records: while index < records.len() {
+        if !needs_no_lane(form, records.get(index).bytes) {
+            found += 1;
+        }
+        if found >= MANY_FOUND {
+            return true;
+        }
+        index += LOOK_EVERY;
+    }
+    false
+}
+
+// Gives records to the lanes, the first of which has this number: beside one another where many are fragments.
+fn take_round<R: Threads + Sync>(
+    rt: &R,
+    alloc: Global,
+    form: Form,
+    rows: &mut Rows,
+    records: &Records,
+    start: u32,
+) -> Result<Vec<Slot>, OutOfMemory>
+    requires few { start + length records.now ≤ 2 ^ 31 }
+    requires headers { HaveHeaders rows.old }
+    ensures headers { IfOk result (λ _. HaveHeaders rows.new) }
+    ensures marks { IfOk result (λ marks. entries_by form records.now marks.items ≡ entries_from form rows.old start records.now) }
+    ensures count { IfOk result (λ marks. length marks.items ≡ length records.now) }
+    ensures rows { IfOk result (λ _. rows.new ≡ rows_after form rows.old start records.now) }
+{
+    if has_many(form, records) {
+        return take_beside(rt, alloc, form, rows, records, start);
+    }
+    take_all(alloc, form, rows, records, start)
 }
 
 // Gives records to the lanes, one after the other, the first of which has this number.

@@ -1,7 +1,8 @@
 // What a record does to the rows of lanes.
 ghost use Rattle.std.specs.Prelude.{◌≡◌, ◌<◌, [], ◌++◌, IfOk};
 ghost use Rattle.ip_codec.specs.Packet4.{packet4};
-ghost use Rattle.item_stage.specs.Alone.{behind_fragment, item_alone, told_item};
+ghost use Rattle.item_stage.specs.Alone.{Told, behind_fragment, item_alone, told_item};
+ghost use Rattle.item_stage.specs.Beside.{became_inside};
 ghost use Rattle.item_stage.specs.Fragments.{down_key, inner_key, lane_count, outer_key, part_of4, part_of6};
 ghost use Rattle.item_stage.specs.Heads.{CanBeJoined, EachLane, HaveHeaders};
 ghost use Rattle.item_stage.specs.Marks.{entry_by, item_became, marked, turning};
@@ -72,9 +73,10 @@ fn take_down(
     })
 }
 
-fn down_became(alloc: Global, answer: Answer) -> Result<Became, OutOfMemory>
+pub(crate) fn down_became(alloc: Global, answer: Answer) -> Result<Became, OutOfMemory>
     requires { CanBeJoined answer }
-    ensures { IfOk result (λ became. item_became became ≡ down_item answer) }
+    ensures item { IfOk result (λ became. item_became became ≡ down_item answer) }
+    ensures inside { IfOk result (λ became. became_inside became ≡ Told (down_item answer)) }
 {
     match answer {
         Answer::Held => Ok(Became::Held),
@@ -128,9 +130,10 @@ fn take_inside(
     })
 }
 
-fn up_became(alloc: Global, outer: Outer, answer: Answer) -> Result<Became, OutOfMemory>
+pub(crate) fn up_became(alloc: Global, outer: Outer, answer: Answer) -> Result<Became, OutOfMemory>
     requires { CanBeJoined answer }
-    ensures { IfOk result (λ became. item_became became ≡ up_item outer answer) }
+    ensures item { IfOk result (λ became. item_became became ≡ up_item outer answer) }
+    ensures inside { IfOk result (λ became. became_inside became ≡ Told (up_item outer answer)) }
 {
     match answer {
         Answer::Held => Ok(Became::Held),
@@ -242,7 +245,7 @@ fn feed4<K: Ord + Copy + Drop>(
 }
 
 // An IPv4 fragment as a piece of its datagram. Of the first one the header is kept.
-fn piece_of<'a, K: Copy>(key: K, at: Moment, packet: &ReadPacket<'a>) -> Piece<'a, K>
+pub(crate) fn piece_of<'a, K: Copy>(key: K, at: Moment, packet: &ReadPacket<'a>) -> Piece<'a, K>
     ensures { arrival result ≡ arriving key at.time at.number (part_of4 (packet4 packet.now.view)) }
 {
     Piece {
@@ -258,7 +261,7 @@ fn piece_of<'a, K: Copy>(key: K, at: Moment, packet: &ReadPacket<'a>) -> Piece<'
 }
 
 // The rule of a refused fragment.
-fn rule_of(why: FragBad) -> Rule
+pub(crate) fn rule_of(why: FragBad) -> Rule
     ensures { result ≡ rule_of why }
 {
     match why {

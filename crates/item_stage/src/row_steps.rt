@@ -1,0 +1,235 @@
+// The records of a round, row by row.
+ghost use Rattle.std.specs.Prelude.{◌≡◌, ◌+◌, ◌^◌, ◌≤◌, ◌<◌, ℕ, List, None, length};
+ghost use Rattle.item_stage.specs.Beside.{became_inside, between, down_op, half_in, inner_op, inside_op, outer_op};
+ghost use Rattle.item_stage.specs.Shown.{shown, shown_inside};
+
+use crate::alone::{Alone, Inside, behind_fragment, read_alone};
+use crate::keys::{DownKey, InnerKey, LANES, OuterKey, lane_of};
+use crate::lane_steps::{take_down, take_inner, take_outer};
+use crate::marks::{Became, Mark, Slot};
+use crate::tracks::LaneSteps;
+use crate::turns::Moment;
+use aftr_base::OutOfMemory;
+use capture_io::{Form, Records, time_of};
+use reassembly_lane::Lane;
+use std::alloc::Global;
+
+/// The records of a round, of which the first has the number `start`.
+#[derive(Clone, Copy)]
+pub(crate) struct Taken<'a> {
+    pub(crate) form: Form,
+    pub(crate) records: &'a Records,
+    pub(crate) start: u32,
+    pub(crate) ghost few: { start + length records.now ≤ 2 ^ 31 },
+}
+
+impl<'a> Taken<'a> {
+    ghost use Rattle.std.specs.Prelude.{Some, slice_get};
+    ghost use Rattle.capture_io.specs.Record.{nanoseconds};
+    ghost use Rattle.capture_io.specs.declared.forms.Rec.{Rec as Record};
+    ghost use Rattle.item_stage.specs.Alone.{alone_of};
+
+    /// When the record at an index came, and its number.
+    fn moment(&self, index: usize) -> Moment
+        requires { index < length self.now.records.now }
+        ensures time { (r : Record) → slice_get self.now.records.now index ≡ Some r → result.time ≡ nanoseconds self.now.form r.seconds r.fraction }
+        ensures number { result.number ≡ self.now.start + index }
+    {
+        let record = self.records.get(index);
+        Moment {
+            time: time_of(self.form, record.seconds, record.fraction),
+            number: self.start + index as u32,
+        }
+    }
+
+    /// What it is by itself.
+    fn alone(&self, index: usize) -> Alone<'a>
+        requires { index < length self.now.records.now }
+        ensures { (r : Record) → slice_get self.now.records.now index ≡ Some r → shown result ≡ alone_of self.now.form r.bytes }
+    {
+        read_alone(self.form, self.records.get(index).bytes)
+    }
+}
+
+/// No lane.
+const NONE: u8 = LANES as u8;
+
+fn outer_lane(alone: &Alone<'_>) -> u8
+    ensures { (time number : ℕ) → (outer_op time number (shown alone.now)).0 ≡ result }
+{
+    match alone {
+        Alone::Outside(cut) => lane_of(cut.id) as u8,
+        Alone::Ready(_) => NONE,
+        Alone::Downstream(_) => NONE,
+        Alone::Carries(_) => NONE,
+    }
+}
+
+fn down_lane(alone: &Alone<'_>) -> u8
+    ensures { (time number : ℕ) → (down_op time number (shown alone.now)).0 ≡ result }
+{
+    match alone {
+        Alone::Downstream(packet) => lane_of(u32::from(packet.view.id)) as u8,
+        Alone::Ready(_) => NONE,
+        Alone::Outside(_) => NONE,
+        Alone::Carries(_) => NONE,
+    }
+}
+
+fn inside_lane(inside: &Inside<'_>) -> u8
+    ensures { (time number : ℕ) (ended : List ℕ) → (inside_op time number ended (shown_inside inside.now)).0 ≡ result }
+{
+    match inside {
+        Inside::Fragment { packet, .. } => lane_of(u32::from(packet.view.id)) as u8,
+        Inside::Told(_) => NONE,
+    }
+}
+
+fn marked_lane(mark: &Mark) -> u8
+    ensures { (time number : ℕ) → (inside_op time number mark.now.ended (became_inside mark.now.became)).0 ≡ result }
+{
+    match &mark.became {
+        Became::Carries { outer, next, body } => inside_lane(&behind_fragment(
+            *outer,
+            *next,
+            body.as_slice(),
+        )),
+        Became::Held => NONE,
+        Became::Bad(_) => NONE,
+        Became::Down(_) => NONE,
+        Became::Up { .. } => NONE,
+    }
+}
+
+fn unmarked_lane(alone: &Alone<'_>) -> u8
+    ensures { (time number : ℕ) → (inner_op time number (between (shown alone.now) None)).0 ≡ result }
+{
+    match alone {
+        Alone::Carries(inside) => inside_lane(inside),
+        Alone::Ready(_) => NONE,
+        Alone::Outside(_) => NONE,
+        Alone::Downstream(_) => NONE,
+    }
+}
+
+fn inner_lane(alone: &Alone<'_>, slot: &Slot) -> u8
+    ensures { (time number : ℕ) → (inner_op time number (between (shown alone.now) (half_in slot.now))).0 ≡ result }
+{
+    match slot.get() {
+        Some(mark) => marked_lane(mark),
+        None => unmarked_lane(alone),
+    }
+}
+
+/// What they do in the outer row.
+#[derive(Clone, Copy)]
+pub(crate) struct OuterSteps<'a>(pub(crate) Taken<'a>);
+
+impl<'a> LaneSteps<OuterKey> for OuterSteps<'a> {
+    ghost use Rattle.item_stage.specs.Beside.{outer_ops};
+
+    ghost ops = { λ s. outer_ops s.0.form s.0.start s.0.records.now };
+
+    ghost keeps = { λ s lane. Unit {0} };
+
+    fn len(&self) -> usize {
+        self.0.records.len()
+    }
+
+    fn lane(&self, index: usize) -> u8 {
+        outer_lane(&self.0.alone(index))
+    }
+
+    fn step(
+        &self,
+        alloc: Global,
+        index: usize,
+        lane: &mut Lane<OuterKey>,
+    ) -> Result<Slot, OutOfMemory> {
+        let slot = take_outer(alloc, lane, self.0.moment(index), &self.0.alone(index))?;
+        Ok(slot)
+    }
+}
+
+/// What they do in the row of fragments from outside.
+#[derive(Clone, Copy)]
+pub(crate) struct DownSteps<'a>(pub(crate) Taken<'a>);
+
+impl<'a> LaneSteps<DownKey> for DownSteps<'a> {
+    ghost use Rattle.item_stage.specs.Beside.{down_ops};
+    ghost use Rattle.item_stage.specs.Heads.{EachContext};
+
+    ghost ops = { λ s. down_ops s.0.form s.0.start s.0.records.now };
+
+    ghost keeps = { λ s lane. EachContext lane };
+
+    fn len(&self) -> usize {
+        self.0.records.len()
+    }
+
+    fn lane(&self, index: usize) -> u8 {
+        down_lane(&self.0.alone(index))
+    }
+
+    fn step(
+        &self,
+        alloc: Global,
+        index: usize,
+        lane: &mut Lane<DownKey>,
+    ) -> Result<Slot, OutOfMemory> {
+        let slot = take_down(alloc, lane, self.0.moment(index), &self.0.alone(index))?;
+        Ok(slot)
+    }
+}
+
+/// What they do in the inner row, with what the outer row left of each.
+#[derive(Clone, Copy)]
+pub(crate) struct InnerSteps<'a> {
+    pub(crate) taken: Taken<'a>,
+    pub(crate) slots: &'a [Slot],
+    pub(crate) ghost same: { length slots.now ≡ length taken.records.now },
+}
+
+impl<'a> InnerSteps<'a> {
+    ghost use Rattle.std.specs.Prelude.{slice_index_or};
+
+    fn slot(&self, index: usize) -> &'a Slot
+        requires { index < length self.now.taken.records.now }
+        ensures { result.now ≡ slice_index_or self.now.slots.now index result.now }
+    {
+        &self.slots[index]
+    }
+}
+
+impl<'a> LaneSteps<InnerKey> for InnerSteps<'a> {
+    ghost use Rattle.item_stage.specs.Beside.{halves_in, inner_ops};
+    ghost use Rattle.item_stage.specs.Heads.{EachContext};
+
+    ghost ops = { λ s. inner_ops s.taken.form s.taken.start s.taken.records.now (halves_in s.slots.now) };
+
+    ghost keeps = { λ s lane. EachContext lane };
+
+    fn len(&self) -> usize {
+        self.taken.records.len()
+    }
+
+    fn lane(&self, index: usize) -> u8 {
+        inner_lane(&self.taken.alone(index), self.slot(index))
+    }
+
+    fn step(
+        &self,
+        alloc: Global,
+        index: usize,
+        lane: &mut Lane<InnerKey>,
+    ) -> Result<Slot, OutOfMemory> {
+        let slot = take_inner(
+            alloc,
+            lane,
+            self.taken.moment(index),
+            &self.taken.alone(index),
+            self.slot(index),
+        )?;
+        Ok(slot)
+    }
+}
