@@ -66,40 +66,9 @@ impl Stage {
     }
 
     /// Takes the next records, and gives an entry for each. The first of them has the number `start`, which is how many were
-    /// taken before; all numbers are below 2^31. After
-    /// `OutOfMemory` the stage has failed, and answers that to every later call.
-    pub fn items<'a>(
-        &mut self,
-        alloc: Global,
-        records: &'a Records,
-        start: u32,
-    ) -> Result<Items<'a>, OutOfMemory>
-        requires start { start ≡ self.old.number }
-        requires few { start + length records.now ≤ 2 ^ 31 }
-        ensures entries { IfOk result (λ items. (taken : List Record) → Stands self.old taken →
-            entries_of self.old.form (taken ++ records.now) ≡ entries_of self.old.form taken ++ items) }
-        ensures stands { IfOk result (λ _. (taken : List Record) → Stands self.old taken → Stands self.new (taken ++ records.now)) }
-        ensures count { IfOk result (λ items. length items ≡ length records.now) }
-        ensures form { self.new.form ≡ self.old.form }
-        ensures number { IfOk result (λ _. self.new.number ≡ self.old.number + length records.now) }
-        ensures fails { IfErr result (λ _. HasFailed self.new) }
-        ensures failed { HasFailed self.old → IsErr result }
-    {
-        self.still_takes()?;
-        match take_all(alloc, self.form, &mut self.rows, records, start) {
-            Ok(marks) => {
-                self.number = number_behind(start, records.len());
-                Ok(Items::of(self.form, records, marks))
-            }
-            Err(why) => {
-                self.failed = true;
-                Err(why)
-            }
-        }
-    }
-
-    /// The same, where a round with many fragments is worked by several threads.
-    pub fn items_by_threads<'a, R: Threads + Sync>(
+    /// taken before; all numbers are below 2^31. Where many of the records are fragments, lanes are worked beside one another, by
+    /// four threads. After `OutOfMemory` the stage has failed, and answers that to every later call.
+    pub fn items<'a, R: Threads + Sync>(
         &mut self,
         rt: &R,
         alloc: Global,

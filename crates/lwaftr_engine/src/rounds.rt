@@ -130,7 +130,7 @@ fn run_round<R: Threads + Wait + Sync, F: Files, C: CaptureReader, G: Gate + Syn
     let most_bytes = enough_bytes(task.job.workers);
     let name = task.job.input.as_str();
     let round = reader.read_round(alloc, files, name, start, most_bytes, records)?;
-    let items = progress.stage.items(alloc, &round.records, start)?;
+    let items = progress.stage.items(rt, alloc, &round.records, start)?;
     judge_round(rt, shift, &items, start, round.number, gate);
     render_round(
         rt,

@@ -174,14 +174,14 @@ fn a_stage_takes_records_in_rounds(rt: HostRuntime) -> Result<(), Fail> {
     let packet = joined(alloc, &[UP_TUNNEL, UP])?;
     let mut stage = Stage::new(alloc, form(PLAIN))?;
     let first = records_of(alloc, &[&packet, b"", &packet])?;
-    let items = stage.items(alloc, &first, 0)?;
+    let items = stage.items(&rt, alloc, &first, 0)?;
     assert!(rt; are_up_short_up(&items));
     if items.len() > 1 {
         assert_eq!(rt; items.ended(1).len(), 0);
     }
     let none = records_of(alloc, &[])?;
     let count = first.len() as u32;
-    assert_eq!(rt; stage.items(alloc, &none, count)?.len(), 0);
+    assert_eq!(rt; stage.items(&rt, alloc, &none, count)?.len(), 0);
     assert_eq!(rt; stage.unfinished(alloc)?.as_slice().len(), 0);
     Ok(())
 }

@@ -62,30 +62,30 @@ const TOOL_CAPTURE: &str = "\
 
 #[test]
 fn whole_packets_are_items_of_their_own(rt: HostRuntime) -> Result<(), Fail> {
-    assert!(rt; goes(rt.alloc(), PLAIN, WHOLE)?);
+    assert!(rt; goes(&rt, PLAIN, WHOLE)?);
     Ok(())
 }
 
 #[test]
 fn messages_keep_what_stands_behind_the_headers(rt: HostRuntime) -> Result<(), Fail> {
-    assert!(rt; goes(rt.alloc(), PLAIN, MESSAGES)?);
+    assert!(rt; goes(&rt, PLAIN, MESSAGES)?);
     Ok(())
 }
 
 #[test]
 fn headers_are_passed_or_refused(rt: HostRuntime) -> Result<(), Fail> {
-    assert!(rt; goes(rt.alloc(), PLAIN, CHAINS)?);
+    assert!(rt; goes(&rt, PLAIN, CHAINS)?);
     Ok(())
 }
 
 #[test]
 fn frames_with_a_tag_and_padding(rt: HostRuntime) -> Result<(), Fail> {
-    assert!(rt; goes(rt.alloc(), ETHERNET, FRAMES)?);
+    assert!(rt; goes(&rt, ETHERNET, FRAMES)?);
     Ok(())
 }
 
 #[test]
 fn records_as_a_capture_tool_writes_them(rt: HostRuntime) -> Result<(), Fail> {
-    assert!(rt; goes(rt.alloc(), ETHERNET, TOOL_CAPTURE)?);
+    assert!(rt; goes(&rt, ETHERNET, TOOL_CAPTURE)?);
     Ok(())
 }

@@ -8,9 +8,8 @@ const PLAIN: u32 = 101;
 /// A line of a tunnel packet that was not cut, and its item.
 const WHOLE: &str = "1 6000000000200440 S A I = up 60000000 40 S A I\n";
 
-/// The bytes behind the first eight of the datagram in `WHOLE`, as a last piece at second 1, and its item.
-const LAST: &str = "\
-    1 6000000000202c40 S A 0400000800000007 40111490cb007101c633640704d00035000c000074657374 = up 60000000 40 S A I\n";
+/// The bytes behind the first eight of the datagram in `WHOLE`, and its item.
+const REST: &str = "40111490cb007101c633640704d00035000c000074657374 = up 60000000 40 S A I";
 
 /// Pushes the line of a tunnel packet with a Fragment header and eight bytes of what was cut, with more to follow: its second,
 /// its offset in units of eight bytes, its identification, and what it becomes.
@@ -26,6 +25,12 @@ fn push_piece(
         text,
         "{second} 6000000000102c40 S A 0400{field:04x}{id:08x} 4500002000010000 = {item}\n"
     )?;
+    Ok(())
+}
+
+/// Pushes the line of the last piece of the datagram in `WHOLE`, at second 1, with its identification.
+fn push_last(text: &mut String, id: u32) -> Result<(), Fail> {
+    write!(text, "1 6000000000202c40 S A 04000008{id:08x} {REST}\n")?;
     Ok(())
 }
 
@@ -69,28 +74,54 @@ fn packets_and_two_pieces(alloc: Global) -> Result<String, Fail> {
     }
     push_piece(&mut text, 1, 0, 7, "held")?;
     text.push_str("|\n")?;
-    text.push_str(LAST)?;
+    push_last(&mut text, 7)?;
+    text.push_str("unfinished")?;
+    Ok(text)
+}
+
+/// 100 datagrams over all lanes, their first pieces and then their last ones. Behind each piece comes this text.
+fn datagrams_of_all_lanes(alloc: Global, behind: &str) -> Result<String, Fail> {
+    let mut text = String::new(alloc);
+    for id in 0..100u32 {
+        push_piece(&mut text, 1, 0, id, "held")?;
+        text.push_str(behind)?;
+    }
+    for id in 0..100u32 {
+        push_last(&mut text, id)?;
+        text.push_str(behind)?;
+    }
     text.push_str("unfinished")?;
     Ok(text)
 }
 
 #[test]
+fn lanes_beside_one_another_give_what_one_record_at_a_time_gives(
+    rt: HostRuntime,
+) -> Result<(), Fail> {
+    let beside = datagrams_of_all_lanes(rt.alloc(), "")?;
+    assert!(rt; goes(&rt, PLAIN, &beside)?);
+    let alone = datagrams_of_all_lanes(rt.alloc(), "|\n")?;
+    assert!(rt; goes(&rt, PLAIN, &alone)?);
+    Ok(())
+}
+
+#[test]
 fn a_datagram_of_257_pieces(rt: HostRuntime) -> Result<(), Fail> {
     let case = pieces_of_one(rt.alloc())?;
-    assert!(rt; goes(rt.alloc(), PLAIN, &case)?);
+    assert!(rt; goes(&rt, PLAIN, &case)?);
     Ok(())
 }
 
 #[test]
 fn more_datagrams_than_a_lane_keeps(rt: HostRuntime) -> Result<(), Fail> {
     let case = datagrams_of_one_lane(rt.alloc())?;
-    assert!(rt; goes(rt.alloc(), PLAIN, &case)?);
+    assert!(rt; goes(&rt, PLAIN, &case)?);
     Ok(())
 }
 
 #[test]
 fn a_fragment_in_two_rounds_of_many_records(rt: HostRuntime) -> Result<(), Fail> {
     let case = packets_and_two_pieces(rt.alloc())?;
-    assert!(rt; goes(rt.alloc(), PLAIN, &case)?);
+    assert!(rt; goes(&rt, PLAIN, &case)?);
     Ok(())
 }

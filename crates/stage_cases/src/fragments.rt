@@ -85,60 +85,60 @@ const ROUNDS: &str = "\
 
 #[test]
 fn three_pieces_of_a_tunnel_packet(rt: HostRuntime) -> Result<(), Fail> {
-    assert!(rt; goes(rt.alloc(), PLAIN, THREE_PIECES)?);
+    assert!(rt; goes(&rt, PLAIN, THREE_PIECES)?);
     Ok(())
 }
 
 #[test]
 fn pieces_that_overlap_are_refused(rt: HostRuntime) -> Result<(), Fail> {
-    assert!(rt; goes(rt.alloc(), PLAIN, CONTRADICTING_PIECES)?);
+    assert!(rt; goes(&rt, PLAIN, CONTRADICTING_PIECES)?);
     Ok(())
 }
 
 #[test]
 fn a_piece_after_sixty_seconds(rt: HostRuntime) -> Result<(), Fail> {
-    assert!(rt; goes(rt.alloc(), PLAIN, IN_TIME)?);
+    assert!(rt; goes(&rt, PLAIN, IN_TIME)?);
     Ok(())
 }
 
 #[test]
 fn a_piece_after_more_than_sixty_seconds(rt: HostRuntime) -> Result<(), Fail> {
-    assert!(rt; goes(rt.alloc(), PLAIN, LATE)?);
+    assert!(rt; goes(&rt, PLAIN, LATE)?);
     Ok(())
 }
 
 #[test]
 fn fragments_from_outside_with_padding_and_options(rt: HostRuntime) -> Result<(), Fail> {
-    assert!(rt; goes(rt.alloc(), PLAIN, FROM_OUTSIDE)?);
+    assert!(rt; goes(&rt, PLAIN, FROM_OUTSIDE)?);
     Ok(())
 }
 
 #[test]
 fn fragments_in_the_tunnel_by_their_tunnel(rt: HostRuntime) -> Result<(), Fail> {
-    assert!(rt; goes(rt.alloc(), PLAIN, IN_TUNNEL)?);
+    assert!(rt; goes(&rt, PLAIN, IN_TUNNEL)?);
     Ok(())
 }
 
 #[test]
 fn fragments_of_fragments(rt: HostRuntime) -> Result<(), Fail> {
-    assert!(rt; goes(rt.alloc(), PLAIN, TWICE_CUT)?);
+    assert!(rt; goes(&rt, PLAIN, TWICE_CUT)?);
     Ok(())
 }
 
 #[test]
 fn headers_before_and_in_what_was_cut(rt: HostRuntime) -> Result<(), Fail> {
-    assert!(rt; goes(rt.alloc(), PLAIN, CUT_BEHIND_HEADERS)?);
+    assert!(rt; goes(&rt, PLAIN, CUT_BEHIND_HEADERS)?);
     Ok(())
 }
 
 #[test]
 fn datagrams_of_two_rows_end_with_one_record(rt: HostRuntime) -> Result<(), Fail> {
-    assert!(rt; goes(rt.alloc(), PLAIN, ENDS_IN_TWO_ROWS)?);
+    assert!(rt; goes(&rt, PLAIN, ENDS_IN_TWO_ROWS)?);
     Ok(())
 }
 
 #[test]
 fn fragments_wait_from_round_to_round(rt: HostRuntime) -> Result<(), Fail> {
-    assert!(rt; goes(rt.alloc(), PLAIN, ROUNDS)?);
+    assert!(rt; goes(&rt, PLAIN, ROUNDS)?);
     Ok(())
 }
