@@ -120,6 +120,20 @@ fn run_track<K: Ord, S: LaneSteps<K>>(
     track.failed = done.is_err();
 }
 
+// In how many threads a row is worked: in none but this one where no record goes to its lanes.
+fn threads_for(lanes: &[u8]) -> usize
+    ensures { 0 < result }
+{
+    let mut index = 0;
+    'records: while index < lanes.len() {
+        if usize::from(lanes[index]) < LANES {
+            return THREADS;
+        }
+        index += 1;
+    }
+    1
+}
+
 // All tracks, several at once.
 fn run_tracks<R: Threads + Sync, K: Ord + Send, S: LaneSteps<K> + Sync>(
     rt: &R,
@@ -137,7 +151,7 @@ fn run_tracks<R: Threads + Sync, K: Ord + Send, S: LaneSteps<K> + Sync>(
     thread::for_each_mut(
         rt,
         tracks,
-        THREADS,
+        threads_for(lanes),
         &|place, track: &mut Track<K>|
             requires { IsSync S.row × ((lanes.now ≡ lanes_in (S.ops steps.now)) × IsReady (S.keeps steps.now) track.old) }
             ensures { HasRunUnless (S.ops steps.entry.now) (S.keeps steps.entry.now) place track.old track.new }
