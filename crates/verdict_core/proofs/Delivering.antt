@@ -49,7 +49,8 @@ module _ (t : BindingTable) (lawful : IsLawful t) (v : Verdict) where
 
   pub down_delivers : (bytes : List ℕ) (r : Result Packet4 Ip4Bad) → ip4_of bytes ≡ r → verdict_in (down_lines t r) ≡ Some v → Delivers t (item.Down bytes) v
   down_delivers bytes (Ok p) read first = down_read bytes p read first
-  down_delivers bytes (Err refusal) read first = by_ways (λ w. Delivers t (item.Down bytes) w) is_drop (of_drop t (item.Down bytes)) (down_lines t (Err refusal)) v refl tt first
+  down_delivers bytes (Err refusal) read first =
+      by_ways (λ w. Delivers t (item.Down bytes) w) is_drop (of_drop t (item.Down bytes)) (down_lines t (Err refusal)) v refl tt first
 
   up_read : (outer : Outer) (inner : List ℕ) (p : Packet4) → ip4_of inner ≡ Ok p → verdict_in (up_lines t outer (Ok p)) ≡ Some v →
       Delivers t (item.Up outer inner) v
@@ -71,4 +72,5 @@ module _ (t : BindingTable) (lawful : IsLawful t) (v : Verdict) where
   pub up_delivers : (outer : Outer) (inner : List ℕ) (r : Result Packet4 Ip4Bad) → ip4_of inner ≡ r → verdict_in (up_lines t outer r) ≡ Some v →
       Delivers t (item.Up outer inner) v
   up_delivers outer inner (Ok p) read first = up_read outer inner p read first
-  up_delivers outer inner (Err refusal) read first = by_ways (λ w. Delivers t (item.Up outer inner) w) is_drop (of_drop t (item.Up outer inner)) (up_lines t outer (Err refusal)) v refl tt first
+  up_delivers outer inner (Err refusal) read first =
+      by_ways (λ w. Delivers t (item.Up outer inner) w) is_drop (of_drop t (item.Up outer inner)) (up_lines t outer (Err refusal)) v refl tt first

@@ -128,7 +128,7 @@ module _ (t : BindingTable) (lawful : IsLawful t) (p : Packet4) where
           (ttl_lines t.softwire outer p ++ (hairpin_lines t.softwire outer p (is_bound_address t p.dst) None ++ outward_lines t.softwire outer p)) v
           (simp (tells_or_not, or_true)) (
             λ none.
-                out_good (not_behind _ (is_used_up p) none (λ e. simp e))
+                out_good (not_behind _ (is_used_up p) none (λ e. simp (e, or_true)))
                 (not_behind _ (is_too_large t.softwire.mtu4 p) none (λ e. simp (e, or_true))),
             tt,
           )
@@ -137,11 +137,11 @@ module _ (t : BindingTable) (lawful : IsLawful t) (p : Packet4) where
           (ttl_lines t.softwire outer p ++ (hairpin_lines t.softwire outer p (is_bound_address t p.dst) (Some to) ++ outward_lines t.softwire outer p)) v
           (simp (tells_or_not, or_true)) (
             λ none.
-                back_good to (not_behind _ (is_used_up p) none (λ e. simp e))
+                back_good to (not_behind _ (is_used_up p) none (λ e. simp (e, or_true)))
                 (not_behind _ (is_too_large (inward_room t.softwire) p) none (λ e. simp (e, or_true))),
             (
               λ none.
-                  out_good (not_behind _ (is_used_up p) none (λ e. simp e))
+                  out_good (not_behind _ (is_used_up p) none (λ e. simp (e, or_true)))
                   (not_behind _ (is_too_large t.softwire.mtu4 p) none (λ e. simp (e, or_true))),
               tt,
             ),

@@ -33,7 +33,7 @@ sender_owner t outer p lawful none =
 pub may_send : (t : BindingTable) (outer : Outer) (inner : List ℕ) (p : Packet4) → IsLawful t → ip4_of inner ≡ Ok p →
     verdict_in (access_lines t outer p) ≡ None → Permits t outer inner
 may_send t outer inner p lawful read none =
-    let ours = so_behind (access_lines t outer p) (outer.dst.0 == t.softwire.aftr.0) none (λ other. simp other) in
+    let ours = so_behind (access_lines t outer p) (outer.dst.0 == t.softwire.aftr.0) none (λ other. simp (other, or_true)) in
     let owned = sender_owner t outer p lawful none in
     record {
       ours = eqb-true _ _ ours;

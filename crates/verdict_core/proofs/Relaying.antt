@@ -19,7 +19,7 @@ use Rattle.verdict_core.specs.Verdicts.{error_lines, is_bound_address, lines, me
 use Rattle.verdict_core.specs.declared.verdicts.Path.{Path}
 use Rattle.verdict_core.specs.declared.verdicts.Path.TheVariants as path
 use Rattle.verdict_core.specs.declared.verdicts.Verdict.{Verdict}
-use Rattle.verdict_core.proofs.Firsts.{Parts, by_silence, decided_behind, is_silent, parted, so_behind}
+use Rattle.verdict_core.proofs.Firsts.{Parts, by_silence, decided_behind, is_silent, or_true, parted, so_behind}
 use Rattle.verdict_core.proofs.Owned.{owner_ends, owner_known, owner_of}
 
 -- what an answer about a message has to be: it fits the message, and is relayed only to the quoted packet's source
@@ -87,7 +87,7 @@ module _ (t : BindingTable) (lawful : IsLawful t) (src dst : V6) (message : List
           outside : not (is_bound_address t quote.inner.src) ≡ true
           outside =
               so_behind (relay_refusals quote (is_bound_address t quote.inner.src) None) (not (is_bound_address t quote.inner.src)) none
-              (λ other. simp (not-false (is_bound_address t quote.inner.src) other))
+              (λ other. simp (not-false (is_bound_address t quote.inner.src) other, or_true))
 
       relay_own : (v : Verdict) (end : Option V6) → owner_end t quote.inner.src (quoted_source quote) ≡ end →
           Parts (relay_refusals quote (is_bound_address t quote.inner.src) end) (relay_ways t.softwire error.kind error.word end) v → P v
@@ -107,7 +107,7 @@ module _ (t : BindingTable) (lawful : IsLawful t) (src dst : V6) (message : List
     by_receiver v from (inl first) = own_refused receivers v refl first
     by_receiver v from (inr rest) =
         let sent_to =
-        so_behind receivers (ends_at (owner_end t quote.inner.dst (quoted_destination quote)) quote.dst6) rest.0 (λ other. simp other) in
+        so_behind receivers (ends_at (owner_end t quote.inner.dst (quoted_destination quote)) quote.dst6) rest.0 (λ other. simp (other, or_true)) in
         relay_own from sent_to v end_of_source refl
         (parted (relay_refusals quote (is_bound_address t quote.inner.src) end_of_source) (relay_ways t.softwire error.kind error.word end_of_source) v rest.1)
 
@@ -115,7 +115,7 @@ module _ (t : BindingTable) (lawful : IsLawful t) (src dst : V6) (message : List
     by_quote v (inl first) = own_refused (quote_refusals t.softwire quote) v refl first
     by_quote v (inr rest) =
         let from =
-        so_behind (quote_refusals t.softwire quote) (quote.src6 == t.softwire.aftr.0) rest.0 (λ other. simp other) in
+        so_behind (quote_refusals t.softwire quote) (quote.src6 == t.softwire.aftr.0) rest.0 (λ other. simp (other, or_true)) in
         by_receiver v (eqb-true _ _ from) (parted receivers after v rest.1)
 
     quote_own : (v : Verdict) → verdict_in (quote_lines t error.kind error.word (Ok quote)) ≡ Some v → P v
@@ -136,7 +136,7 @@ module _ (t : BindingTable) (lawful : IsLawful t) (src dst : V6) (message : List
   message_by : (v : Verdict) → Parts (message_refusals t.softwire dst message) (error_lines t (icmp6_of src.0 dst.0 message)) v → P v
   message_by v (inl first) = own_refused (message_refusals t.softwire dst message) v refl first
   message_by v (inr rest) =
-      let ours = so_behind (message_refusals t.softwire dst message) (dst.0 == t.softwire.aftr.0) rest.0 (λ other. simp other) in
+      let ours = so_behind (message_refusals t.softwire dst message) (dst.0 == t.softwire.aftr.0) rest.0 (λ other. simp (other, or_true)) in
       error_own (eqb-true _ _ ours) v rest.1
 
   pub message_own : (v : Verdict) → verdict_in (lines t (item.Six58 src dst message)) ≡ Some v → P v
