@@ -1,6 +1,7 @@
 #!/usr/bin/env bash
 # Times a stage over packets that wait for nothing and over floods of fragments: builds the program in a temporary repository,
-# which proves it first, and runs it. The crates are those of this repository, or of the one that is named.
+# which proves it first, and runs it, on all processors and on one of them, where its threads are worked one after the other.
+# The crates are those of this repository, or of the one that is named.
 #     bench/stage_floods/run.sh [REPOSITORY]
 set -e
 here="$(cd "$(dirname "$0")" && pwd)"
@@ -27,4 +28,7 @@ printf 'stage_bench: aftr_base capture_io item_stage\n' >> "$repository/crates.t
 (cd "$bench" && rt run > "$work/build.txt" 2>&1) || true
 program="$bench/out/stage_bench"
 [ -x "$program" ] || { tail "$work/build.txt"; exit 1; }
+echo "on all processors:"
 "$program"
+echo "on one:"
+taskset -c 0 "$program"
