@@ -1,6 +1,6 @@
 #!/usr/bin/env bash
 # Rounds by 4 and by 16 workers beside a desk that puts 255 tables into force: builds the program in a
-# temporary repository, which proves it first, and runs it.
+# temporary repository, which proves it first, and runs it once.
 #     bench/gate_stress/run.sh
 set -e
 here="$(cd "$(dirname "$0")" && pwd)"
@@ -23,6 +23,8 @@ mkdir -p "$bench/src" "$bench/proofs/run_rounds" "$bench/proofs/plan_of"
 cp "$here/program/main.rt.txt" "$bench/src/main.rt"
 cp "$here/program/run_rounds.antt.txt" "$bench/proofs/run_rounds/Invariants.antt"
 cp "$here/program/plan_of.antt.txt" "$bench/proofs/plan_of/Invariants.antt"
+cp "$here/program/plan_of_answers.antt.txt" "$bench/proofs/plan_of/Answers.antt"
+cp "$here/program/growing.antt.txt" "$bench/proofs/Growing.antt"
+echo "pub mod Growing" > "$bench/proofs/Lib.antt"
 (cd "$bench" && ${RT:-rt} run > "$work/build.txt" 2>&1) || true
-[ -x "$bench/out/stress_bench" ] || { tail "$work/build.txt"; exit 1; }
-"$bench/out/stress_bench"
+grep ' workers, ' "$work/build.txt" || { tail "$work/build.txt"; exit 1; }
