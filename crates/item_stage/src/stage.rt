@@ -22,10 +22,11 @@ use std::alloc::Global;
 use std::marker::Model;
 use std::thread::Threads;
 
-/// A look for fragments in a round is at each so many records, and so many that are found are many.
+/// A look for a flood of fragments is at each so many records, and it is one where so many were looked at and each was a
+/// fragment.
 const LOOK_EVERY: usize = 16;
 
-const MANY_FOUND: u32 = 4;
+const FLOOD: u32 = 128;
 
 /// What takes the records of one capture, in their order, and says what each becomes. Fragments wait in it for the rest of
 /// their datagrams, from one call to the next.
@@ -66,8 +67,8 @@ impl Stage {
     }
 
     /// Takes the next records, and gives an entry for each. The first of them has the number `start`, which is how many were
-    /// taken before; all numbers are below 2^31. Where many of the records are fragments, lanes are worked beside one another, by
-    /// four threads. After `OutOfMemory` the stage has failed, and answers that to every later call.
+    /// taken before; all numbers are below 2^31. In a flood of fragments lanes are worked beside one another, by four threads.
+    /// After `OutOfMemory` the stage has failed, and answers that to every later call.
     pub fn items<'a, R: Threads + Sync>(
         &mut self,
         rt: &R,
@@ -128,17 +129,18 @@ fn number_behind(start: u32, count: usize) -> u32
     start + count as u32
 }
 
-// Whether many records are fragments, by a look at each sixteenth one: four of them stand for some 64.
-fn has_many(form: Form, records: &Records) -> bool
+// Whether the records begin with a flood of fragments, some two thousand, by a look at each sixteenth one.
+fn is_flood(form: Form, records: &Records) -> bool
     requires { length records.now ≤ 2 ^ 31 }
 {
     let mut found = 0;
     let mut index = 0;
     'records: while index < records.len() {
-        if !needs_no_lane(form, records.get(index).bytes) {
-            found += 1;
+        if needs_no_lane(form, records.get(index).bytes) {
+            return false;
         }
-        if found >= MANY_FOUND {
+        found += 1;
+        if found >= FLOOD {
             return true;
         }
         index += LOOK_EVERY;
@@ -146,7 +148,7 @@ fn has_many(form: Form, records: &Records) -> bool
     false
 }
 
-// Gives records to the lanes, the first of which has this number: beside one another where many are fragments.
+// Gives records to the lanes, the first of which has this number: beside one another in a flood of fragments.
 fn take_round<R: Threads + Sync>(
     rt: &R,
     alloc: Global,
@@ -162,7 +164,7 @@ fn take_round<R: Threads + Sync>(
     ensures count { IfOk result (λ marks. length marks.items ≡ length records.now) }
     ensures rows { IfOk result (λ _. rows.new ≡ rows_after form rows.old start records.now) }
 {
-    if has_many(form, records) {
+    if is_flood(form, records) {
         return take_beside(rt, alloc, form, rows, records, start);
     }
     take_all(alloc, form, rows, records, start)

@@ -79,14 +79,14 @@ fn packets_and_two_pieces(alloc: Global) -> Result<String, Fail> {
     Ok(text)
 }
 
-/// 100 datagrams over all lanes, their first pieces and then their last ones. Behind each piece comes this text.
-fn datagrams_of_all_lanes(alloc: Global, behind: &str) -> Result<String, Fail> {
+/// So many datagrams over all lanes, their first pieces and then their last ones. Behind each piece comes this text.
+fn datagrams_of_all_lanes(alloc: Global, count: u32, behind: &str) -> Result<String, Fail> {
     let mut text = String::new(alloc);
-    for id in 0..100u32 {
+    for id in 0..count {
         push_piece(&mut text, 1, 0, id, "held")?;
         text.push_str(behind)?;
     }
-    for id in 0..100u32 {
+    for id in 0..count {
         push_last(&mut text, id)?;
         text.push_str(behind)?;
     }
@@ -98,9 +98,9 @@ fn datagrams_of_all_lanes(alloc: Global, behind: &str) -> Result<String, Fail> {
 fn lanes_beside_one_another_give_what_one_record_at_a_time_gives(
     rt: HostRuntime,
 ) -> Result<(), Fail> {
-    let beside = datagrams_of_all_lanes(rt.alloc(), "")?;
+    let beside = datagrams_of_all_lanes(rt.alloc(), 1100, "")?;
     assert!(rt; goes(&rt, PLAIN, &beside)?);
-    let alone = datagrams_of_all_lanes(rt.alloc(), "|\n")?;
+    let alone = datagrams_of_all_lanes(rt.alloc(), 1100, "|\n")?;
     assert!(rt; goes(&rt, PLAIN, &alone)?);
     Ok(())
 }
