@@ -118,8 +118,8 @@ module _ (joins : Joins) (x : Setup) (c : Course) (p q : Progress) (s t : Seats)
       HasBegun x c t.points opened d (taken ++ records) q.limit
   behind_versions packets lines more_packets more_lines packets_is lines_is wrote =
       let V = load_lines t.points (take q.printed (loads_of x)) in
-      let P1 = packets_from c x.written 0 (taken ++ records) (entries_of x.form (taken ++ records)) in
-      let L1 = lines_from c 0 (entries_of x.form (taken ++ records)) in
+      let every_packet = packets_from c x.written 0 (taken ++ records) (entries_of x.form (taken ++ records)) in
+      let every_line = lines_from c 0 (entries_of x.form (taken ++ records)) in
       record {
         entries = entries_count joins x c p q s t news records es os vs parts round outcomes opened a here taken h;
         asked = asked_more joins x c p q s t news records es os vs parts round outcomes opened a here taken h;
@@ -131,18 +131,18 @@ module _ (joins : Joins) (x : Setup) (c : Course) (p q : Progress) (s t : Seats)
         spoken = spoken_more joins x c p q s t news records es os vs parts round outcomes opened a here taken h;
         wrote = λ limited.
             let f = h.files (news ++ []) (limited_before joins x c p q s t news records es os vs parts round outcomes opened a here taken h limited) in
-            let all_packets : P1 ≡ (P ++ packets) ++ more_packets = sym (packets_are joins x c p q s t news records es os vs parts round outcomes opened a here taken h limited)
+            let all_packets : every_packet ≡ (P ++ packets) ++ more_packets = sym (packets_are joins x c p q s t news records es os vs parts round outcomes opened a here taken h limited)
             ∙ (ap (λ (l : List ℕ). P ++ l) packets_is ∙ sym (append_assoc P packets more_packets)) in
-            let all_lines : L1 ≡ (L ++ lines) ++ more_lines = sym (lines_are joins x c p q s t news records es os vs parts round outcomes opened a here taken h limited)
+            let all_lines : every_line ≡ (L ++ lines) ++ more_lines = sym (lines_are joins x c p q s t news records es os vs parts round outcomes opened a here taken h limited)
             ∙ (ap (λ (l : List ℕ). L ++ l) lines_is ∙ sym (append_assoc L lines more_lines)) in
             record {
               versions_count = length V;
               versions_is = wrote.versions_is ∙ (ap (λ (l : List ℕ). l ++ vs) f.versions_is ∙ (append_assoc (content opened x.run.versions) before vs
                   ∙ ap (λ (l : List ℕ). content opened x.run.versions ++ l) (both ∙ front_of all V (load_lines t.points (drop q.printed (loads_of x))) (lines_split t.points q.printed (loads_of x)))));
               output_count = length (P ++ packets);
-              output = wrote.output ∙ (ap (λ (l : List ℕ). l ++ packets) f.output ∙ (append_assoc (content opened x.run.output) P packets ∙ ap (λ (l : List ℕ). content opened x.run.output ++ l) (front_of P1 (P ++ packets) more_packets all_packets)));
+              output = wrote.output ∙ (ap (λ (l : List ℕ). l ++ packets) f.output ∙ (append_assoc (content opened x.run.output) P packets ∙ ap (λ (l : List ℕ). content opened x.run.output ++ l) (front_of every_packet (P ++ packets) more_packets all_packets)));
               verdicts_count = length (L ++ lines);
-              verdicts = wrote.verdicts ∙ (ap (λ (l : List ℕ). l ++ lines) f.verdicts ∙ (append_assoc (content opened x.run.verdicts) L lines ∙ ap (λ (l : List ℕ). content opened x.run.verdicts ++ l) (front_of L1 (L ++ lines) more_lines all_lines)));
+              verdicts = wrote.verdicts ∙ (ap (λ (l : List ℕ). l ++ lines) f.verdicts ∙ (append_assoc (content opened x.run.verdicts) L lines ∙ ap (λ (l : List ℕ). content opened x.run.verdicts ++ l) (front_of every_line (L ++ lines) more_lines all_lines)));
               others = λ name u v w. wrote.others name u v w ∙ f.others name u v w;
             };
         told = λ limited.

@@ -129,12 +129,6 @@ module _ (laws : EndLaws) (x : Setup) (far : AreFilesApart x.run) (tables : ℕ 
       }
 
   module _ (q : Progress) (reader : Spot) (d e : Contents) (said now : Option (List ℕ)) (rs : List Rec) (has : HasCourse x tables windows s b (mark d q s reader) rs) where
-    P1 : List ℕ
-    P1 = packets_from has.course x.written 0 rs (entries_of x.form rs)
-
-    L1 : List ℕ
-    L1 = lines_from has.course 0 (entries_of x.form rs)
-
     files : Wrote x.run (load_lines (s.points ++ []) (take q.printed (loads_of x))) (packets_from has.course x.written 0 rs (entries_of x.form rs)) (lines_from has.course 0 (entries_of x.form rs)) b d
     files = has.written.files [] has.limited
 
