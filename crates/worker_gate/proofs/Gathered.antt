@@ -1,6 +1,7 @@
 -- The outcomes of workers, one after another, at the places of their numbers.
 use Rattle.std.proofs.Common.{◌≡◌, ◌≢◌, ℕ, ◌+◌, ◌<◌, ◌≤◌, ◌⊎◌, inl, inr, List, [], ◌∷◌, ◌++◌, All, length, map, get_or, count_by, ap, subst, refl, sym, ◌∙◌, arith, length-append}
 use Rattle.std.specs.List.{Contains}
+use Rattle.std.proofs.Math.ListN as lists
 use Rattle.std.proofs.lemmas.List.{append-nil, append_assoc, map-append, length-map, get_or-map, get_or_append_left, get_or_push}
 use Rattle.std.proofs.lemmas.List.Elements.{All-nil, All-append, All-cons, All-map, Contains-append_left, Contains-append_right}
 use Rattle.ip_codec.specs.declared.items.Item.{Item}
@@ -14,6 +15,7 @@ use Rattle.worker_gate.specs.declared.crew.Sheet.{Sheet}
 use Rattle.worker_gate.specs.declared.outcomes.Outcome.{Outcome}
 use Rattle.worker_gate.specs.declared.worker.Worker.{Worker}
 use Rattle.worker_gate.specs.Crews.{list_of, no_outcome, outcome_at, sheet_at}
+use Rattle.worker_gate.specs.OutcomeLists.{number_of}
 use Rattle.worker_gate.specs.Outcomes.{draw_of, Ascends, IsJudged, asking}
 use Rattle.worker_gate.specs.Gathering.{AreNoted, Gathered, HasJudged, IsAtHand, IsFound}
 use Rattle.worker_gate.proofs.Counts.{drawn_as, count_on, count_no_outcome}
@@ -66,11 +68,16 @@ sheet_last sheets s =
     ap (λ (l : List (List Outcome)). get_or l (length sheets) []) (lists_longer sheets s)
     ∙ get_or_push (map list_of sheets) (list_of s) [] (length sheets) (length-map sheets list_of)
 
-pub numbers_inside : (areas : AreasValue) (start end long : ℕ) (w : Worker) → IsAtHand areas start end w → start + long ≡ end
+numbers_inside : (areas : AreasValue) (start end long : ℕ) (w : Worker) → IsAtHand areas start end w → start + long ≡ end
     → All (λ (o : Outcome). (start ≤ o.number) × (o.number < start + long)) w.outcomes.items
 numbers_inside areas start end long w h size =
     let P : ℕ → Type 0 = λ n. All (λ (o : Outcome). (start ≤ o.number) × (o.number < n)) w.outcomes.items in
     subst P (sym size) (outcomes_inside w.outcomes.items start w.next start end h.ascending (omega arith) h.work.until)
+
+pub numbers_in_round : (areas : AreasValue) (start end long : ℕ) (w : Worker) → IsAtHand areas start end w → start + long ≡ end
+    → All (λ (n : ℕ). (start ≤ n) × (n < start + long)) (map number_of w.outcomes.items)
+numbers_in_round areas start end long w h size =
+    All-map (λ (n : ℕ). (start ≤ n) × (n < start + long)) number_of w.outcomes.items (numbers_inside areas start end long w h size)
 
 pub few_outcomes : (areas : AreasValue) (start end : ℕ) (w : Worker) → IsAtHand areas start end w → length w.outcomes.items ≤ end
 few_outcomes areas start end w h = omega (arith, ascends_length w.outcomes.items start w.next h.ascending, h.work.until)
@@ -163,15 +170,24 @@ module _ (areas : AreasValue) (items : List Item) (start end : ℕ) (v w : View)
       count_on (start + k) h.news own in
       let all : count_by (drawn_as (start + k)) (h.news ++ own) ≡ 0 = omega (arith, sum, here, zero_times) in inl all
 
+  abbrev numbers : List ℕ
+  numbers = map number_of s.outcomes.items
+
+  many : length numbers ≡ length s.outcomes.items
+  many = length-map s.outcomes.items number_of
+
+  number_at : (m : ℕ) → get_or numbers m 0 ≡ (get_or s.outcomes.items m no_outcome).number
+  number_at m = lists.get_or-map number_of s.outcomes.items m no_outcome
+
   at_place : (k : ℕ) (d : Place)
-      → (((m : ℕ) → m < length s.outcomes.items → (get_or s.outcomes.items m no_outcome).number ≢ start + k) × (get_or after k d ≡ get_or before k d))
-      ⊎ ((m : ℕ) × (m < length s.outcomes.items) × (get_or after k d ≡ record { sheet = length sheets; index = m })
-      × ((get_or s.outcomes.items m no_outcome).number ≡ start + k))
+      → (((m : ℕ) → m < length numbers → get_or numbers m 0 ≢ start + k) × (get_or after k d ≡ get_or before k d))
+      ⊎ ((m : ℕ) × (m < length numbers) × (get_or after k d ≡ record { sheet = length sheets; index = m }) × (get_or numbers m 0 ≡ start + k))
       → Has sheets h.news k (get_or before k d) → Has (sheets ++ s ∷ []) (h.news ++ own) k (get_or after k d)
   at_place k d (inl e) f =
-      let P : Place → Type 0 = λ x. Has (sheets ++ s ∷ []) (h.news ++ own) k x in subst P (sym e.1) (other k (get_or before k d) e.0 f)
+      let P : Place → Type 0 = λ x. Has (sheets ++ s ∷ []) (h.news ++ own) k x in
+      subst P (sym e.1) (other k (get_or before k d) (λ m less is. e.0 m (omega (arith, less, many)) (number_at m ∙ is)) f)
   at_place k d (inr e) f =
-      inr (found_here areas.plan items start h.news own sheets s (start + k) (get_or after k d) e.0 e.2 e.1 own_is own_judged e.3)
+      inr (found_here areas.plan items start h.news own sheets s (start + k) (get_or after k d) e.0 e.2 (omega (arith, e.1, many)) own_is own_judged (sym (number_at e.0) ∙ e.3))
 
   own_inside : All (λ (d : ℕ × ℕ). (start ≤ d.0) × (d.0 < end)) own
   own_inside =
@@ -179,7 +195,7 @@ module _ (areas : AreasValue) (items : List Item) (start end : ℕ) (v w : View)
       let Q : List (ℕ × ℕ) → Type 0 = λ l. All P l in
       subst Q (sym hand.draws) (draws_inside worker.outcomes.items start worker.next start end hand.ascending (omega arith) hand.work.until)
 
-  pub gathered_more : AreNoted start (length sheets) s.outcomes.items (length s.outcomes.items) before after → length after ≡ length before
+  pub gathered_more : AreNoted start (length sheets) numbers (length numbers) before after → length after ≡ length before
       → Gathered areas.plan items start end v (together w worker.seat.known) (sheets ++ s ∷ []) after
   gathered_more noted long =
       let asked : asking items start (h.news ++ own) ≡ asking items start h.news + asking items start own = asking_on items start h.news own in

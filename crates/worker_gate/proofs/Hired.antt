@@ -1,5 +1,5 @@
 -- Workers hired from one seat.
-use Rattle.std.proofs.Common.{◌≡◌, ℕ, ◌+◌, ◌-◌, ◌*◌, ◌/◌, ◌%◌, ◌^◌, ◌<◌, ◌≤◌, List, [], ◌∷◌, ◌++◌, All, length, map, vec_capacity, ap, subst, sym, ◌∙◌, add-one, arith}
+use Rattle.std.proofs.Common.{◌≡◌, ℕ, ◌+◌, ◌-◌, ◌*◌, ◌/◌, ◌%◌, ◌^◌, ◌<◌, ◌≤◌, List, [], ◌∷◌, ◌++◌, All, length, map, ap, subst, sym, ◌∙◌, add-one, arith}
 use Rattle.std.proofs.Math.Nat.{pow-succ'}
 use Rattle.std.proofs.lemmas.List.Elements.{All-nil}
 use Rattle.std.proofs.lemmas.List.Sums.{sum_by_push}
@@ -35,7 +35,7 @@ module _ (areas : AreasValue) (start end : ℕ) (v : View) (w : Worker) (known :
   same_records : w.seat.known.seen.records ≡ v.seen.records
   same_records = ap (λ (x : View). x.seen.records) known
 
-  pub hired_at_hand : IsOf areas w.seat → start ≤ v.seen.records → start ≤ end → end - start ≤ vec_capacity w.outcomes → IsAtHand areas start end w
+  pub hired_at_hand : IsOf areas w.seat → start ≤ v.seen.records → start ≤ end → end - start ≤ w.outcomes.room → IsAtHand areas start end w
   hired_at_hand its seen range room =
       let empty : length w.outcomes.items ≡ 0 = ap (λ (l : List Outcome). length l) none in
       let P : List Outcome → Type 0 = λ l. Ascends start l w.next in

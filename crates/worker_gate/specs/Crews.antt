@@ -1,5 +1,5 @@
 -- Where the outcomes of a round stand. All of it is ours.
-use Rattle.std.specs.Prelude.{ℕ, ◌<◌, ◌≤◌, List, [], All, length, map, get_or, vec_capacity}
+use Rattle.std.specs.Prelude.{ℕ, ◌<◌, ◌≤◌, List, [], All, length, map, get_or}
 use Rattle.verdict_core.specs.declared.verdicts.Verdict.TheVariants as verdict
 use Rattle.worker_gate.specs.declared.crew.Place.{Place}
 use Rattle.worker_gate.specs.declared.crew.Sheet.{Sheet}
@@ -35,4 +35,4 @@ outcomes_at sheets places = map (outcome_at sheets) places
 pub record AreSheets (room : ℕ) (sheets : List Sheet) : Type 0 where
   pub some_one : 1 ≤ length sheets
   pub few : length sheets ≤ 16
-  pub rooms : All (λ (s : Sheet). room ≤ vec_capacity s.outcomes) sheets
+  pub rooms : All (λ (s : Sheet). room ≤ s.outcomes.room) sheets

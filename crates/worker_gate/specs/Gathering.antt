@@ -1,5 +1,5 @@
 -- Workers between the passes of a round, and how their outcomes come to the places of their numbers. All of it is ours.
-use Rattle.std.specs.Prelude.{◌≡◌, ◌≢◌, ℕ, ◌+◌, ◌<◌, ◌≤◌, ◌⊎◌, ◌==◌, List, ◌++◌, All, length, map, get_or, vec_capacity, sum_by, count_by}
+use Rattle.std.specs.Prelude.{◌≡◌, ◌≢◌, ℕ, ◌+◌, ◌<◌, ◌≤◌, ◌⊎◌, ◌==◌, List, ◌++◌, All, length, map, get_or, sum_by, count_by}
 use Rattle.std.specs.List.{Contains}
 use Rattle.ip_codec.specs.declared.items.Item.{Item}
 use Rattle.swap_core.specs.Plans.{Tables}
@@ -8,9 +8,8 @@ use Rattle.area_swap.specs.Values.{AreasValue, IsIdle}
 use Rattle.area_swap.specs.Views.{IsUpTo}
 use Rattle.worker_gate.specs.declared.crew.Place.{Place}
 use Rattle.worker_gate.specs.declared.crew.Sheet.{Sheet}
-use Rattle.worker_gate.specs.declared.outcomes.Outcome.{Outcome}
 use Rattle.worker_gate.specs.declared.worker.Worker.{Worker}
-use Rattle.worker_gate.specs.Crews.{IsPlaced, no_outcome, outcome_at}
+use Rattle.worker_gate.specs.Crews.{IsPlaced, outcome_at}
 use Rattle.worker_gate.specs.Outcomes.{draw_of, Ascends, IsJudged, asking}
 use Rattle.worker_gate.specs.Serving.{CanServe}
 
@@ -32,21 +31,22 @@ pub record IsOfRound (areas : AreasValue) (items : List Item) (start end : ℕ) 
 
 -- what no pass changes of a worker: its share, and for how many outcomes it has room
 abbrev pub hand_of : Worker → ℕ × ℕ
-hand_of w = (w.seat.known.share, vec_capacity w.outcomes)
+hand_of w = (w.seat.known.share, w.outcomes.room)
 
 -- the workers' part of the whole share
 abbrev pub shares : List Worker → ℕ
 shares workers = sum_by (λ (w : Worker). w.seat.known.share) workers
 
 abbrev pub HasRoom : ℕ → Worker → Type 0
-HasRoom room w = room ≤ vec_capacity w.outcomes
+HasRoom room w = room ≤ w.outcomes.room
 
--- The places of the first so many outcomes of a sheet are those of their numbers, and no other place changed.
-abbrev pub AreNoted : ℕ → ℕ → List Outcome → ℕ → List Place → List Place → Type 0
-AreNoted start sheet outcomes count before after =
+-- The places of the first so many outcomes of a sheet, which have these numbers, are those of their numbers, and no other place
+-- changed.
+abbrev pub AreNoted : ℕ → ℕ → List ℕ → ℕ → List Place → List Place → Type 0
+AreNoted start sheet numbers count before after =
     (k : ℕ) (d : Place) → k < length before
-    → (((m : ℕ) → m < count → (get_or outcomes m no_outcome).number ≢ start + k) × (get_or after k d ≡ get_or before k d))
-    ⊎ ((m : ℕ) × (m < count) × (get_or after k d ≡ record { sheet = sheet; index = m }) × ((get_or outcomes m no_outcome).number ≡ start + k))
+    → (((m : ℕ) → m < count → get_or numbers m 0 ≢ start + k) × (get_or after k d ≡ get_or before k d))
+    ⊎ ((m : ℕ) × (m < count) × (get_or after k d ≡ record { sheet = sheet; index = m }) × (get_or numbers m 0 ≡ start + k))
 
 -- at this place stands the outcome of a number, which is of one of these draws
 pub record IsFound (p : Tables) (items : List Item) (start : ℕ) (draws : List (ℕ × ℕ)) (sheets : List Sheet) (n : ℕ) (place : Place) : Type 0 where

@@ -2,6 +2,7 @@ pub mod Crews
 pub mod Failures
 pub mod Gathering
 pub mod Laws
+pub mod OutcomeLists
 pub mod Outcomes
 pub mod Reloading
 pub mod Rounds

@@ -1,5 +1,5 @@
 -- What a worker is between two draws, and what its calls leave. All of it is ours.
-use Rattle.std.specs.Prelude.{◌≡◌, ℕ, ◌+◌, ◌-◌, ◌<◌, ◌≤◌, List, [], ◌∷◌, ◌++◌, All, length, map, vec_capacity}
+use Rattle.std.specs.Prelude.{◌≡◌, ℕ, ◌+◌, ◌-◌, ◌<◌, ◌≤◌, List, [], ◌∷◌, ◌++◌, All, length, map}
 use Rattle.binding_rules.specs.Tables.{BindingTable}
 use Rattle.binding_rules.specs.declared.settings.Softwire.{Softwire}
 use Rattle.ip_codec.specs.declared.items.Item.{Item}
@@ -30,7 +30,7 @@ pub record CanServe (areas : AreasValue) (start end : ℕ) (w : Worker) : Type 0
   pub reached : MustReach w.seat.known w.next
   pub from : start ≤ w.next
   pub until : w.next ≤ end
-  pub room : length w.outcomes.items + (end - w.next) ≤ vec_capacity w.outcomes
+  pub room : length w.outcomes.items + (end - w.next) ≤ w.outcomes.room
 
 -- These outcomes are behind those that the worker had, and are those of its seat's new draws, which have ascending numbers from
 -- `next` on; each is judged under its own version. Whoever judges reads the areas. The first of the items is that of the record
@@ -41,7 +41,7 @@ pub record HasServed (p : Tables) (items : List Item) (start : ℕ) (v w : Worke
   pub draws : w.seat.known.actor.draws ≡ v.seat.known.actor.draws ++ map draw_of news
   pub ascending : Ascends v.next news w.next
   pub judged : All (IsJudged p items start) news
-  pub same_room : vec_capacity w.outcomes ≡ vec_capacity v.outcomes
+  pub same_room : w.outcomes.room ≡ v.outcomes.room
   pub same_share : w.seat.known.share ≡ v.seat.known.share
   pub later : IsUpTo v.seat.known.seen w.seat.known.seen
   pub reads : v.seat.known.reads + asking items start (map draw_of news) ≤ w.seat.known.reads
@@ -69,7 +69,7 @@ pub record IsPutDown (p : Tables) (items : List Item) (start number version : �
   pub verdict : Verdict
   pub outcomes : w.outcomes.items ≡ v.outcomes.items ++ (record { number = number; version = version; verdict = verdict }) ∷ []
   pub judged : IsJudged p items start (record { number = number; version = version; verdict = verdict })
-  pub same_room : vec_capacity w.outcomes ≡ vec_capacity v.outcomes
+  pub same_room : w.outcomes.room ≡ v.outcomes.room
   pub same_next : w.next ≡ v.next
   pub only_reads : OnlyReads v.seat w.seat
   pub reads : v.seat.known.reads + asking items start ((number, version) ∷ []) ≤ w.seat.known.reads
@@ -81,7 +81,7 @@ pub record ArePutDown (p : Tables) (items : List Item) (start first count versio
   pub draws : map draw_of news ≡ consecutive first count version
   pub ascending : Ascends first news (first + count)
   pub judged : All (IsJudged p items start) news
-  pub same_room : vec_capacity w.outcomes ≡ vec_capacity v.outcomes
+  pub same_room : w.outcomes.room ≡ v.outcomes.room
   pub same_next : w.next ≡ v.next
   pub only_reads : OnlyReads v.seat w.seat
   pub reads : v.seat.known.reads + asking items start (map draw_of news) ≤ w.seat.known.reads

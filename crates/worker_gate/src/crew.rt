@@ -2,6 +2,7 @@
 ghost use Rattle.std.specs.Prelude.{◌≡◌, ◌≤◌, All, IfOk, length, vec_capacity};
 ghost use Rattle.worker_gate.specs.Crews.{IsPlaced, outcome_at};
 
+use crate::outcome_list::OutcomeList;
 use crate::outcomes::Outcome;
 use crate::worker::Worker;
 use aftr_base::OutOfMemory;
@@ -11,7 +12,7 @@ use std::marker::Model;
 /// One worker's list of outcomes, in the order in which it drew them.
 #[derive(Drop)]
 pub(crate) struct Sheet {
-    pub(crate) outcomes: Vec<Outcome>,
+    pub(crate) outcomes: OutcomeList,
 }
 
 /// Where an outcome stands: the sheet, and its index there.
@@ -50,11 +51,11 @@ impl Model for Crew {
 // The sheets of so many workers, each with room for so many outcomes.
 fn sheets_of(alloc: Global, workers: u32, room: usize) -> Result<Vec<Sheet>, OutOfMemory>
     ensures sheets { IfOk result (λ sheets. (length sheets.items ≡ workers) × (length sheets.items ≤ vec_capacity sheets)) }
-    ensures room { IfOk result (λ sheets. All (λ s. room ≤ vec_capacity s.outcomes) sheets.items) }
+    ensures room { IfOk result (λ sheets. All (λ s. room ≤ s.outcomes.room) sheets.items) }
 {
     let mut sheets = Vec::with_capacity(alloc, workers as usize)?;
     'sheets: for _ in 0..workers {
-        let outcomes = Vec::with_capacity(alloc, room)?;
+        let outcomes = OutcomeList::with_capacity(alloc, room)?;
         sheets.push_reserved(Sheet { outcomes });
     }
     Ok(sheets)
@@ -117,7 +118,9 @@ fn outcome_in(sheets: &[Sheet], place: Place) -> &Outcome
     requires { IsPlaced sheets.now place }
     ensures { result.now ≡ outcome_at sheets.now place }
 {
-    &sheets[place.sheet as usize].outcomes[place.index as usize]
+    sheets[place.sheet as usize]
+        .outcomes
+        .get(place.index as usize)
 }
 
 impl<'a> Outcomes<'a> {

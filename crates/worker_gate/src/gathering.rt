@@ -5,7 +5,6 @@ ghost use Rattle.ip_codec.specs.declared.items.Item.{Item};
 ghost use Rattle.worker_gate.specs.Gathering.{AreNoted, Gathered, HasJudged, HasRoom, IsAtHand, shares};
 
 use crate::crew::{Place, Sheet};
-use crate::outcomes::Outcome;
 use crate::worker::Worker;
 use area_swap::{Areas, WorkerSeat};
 
@@ -24,7 +23,7 @@ pub(crate) fn hire(
     requires seen { start ≤ seat.old.known.seen.records }
     requires range { start ≤ end }
     requires few { length sheets.old.items ≤ 16 }
-    requires rooms { All (λ s. end - start ≤ vec_capacity s.outcomes) sheets.old.items }
+    requires rooms { All (λ s. end - start ≤ s.outcomes.room) sheets.old.items }
     requires none { workers.old.items ≡ [] }
     requires places { length sheets.old.items ≤ vec_capacity workers.old }
     ensures areas { IsOf areas.now seat.new }
@@ -32,7 +31,7 @@ pub(crate) fn hire(
     ensures whole { seat.new.known.share + shares workers.new.items ≡ 65536 }
     ensures sheets { (sheets.new.items ≡ []) × (vec_capacity sheets.new ≡ vec_capacity sheets.old) }
     ensures workers { (length workers.new.items ≡ length sheets.old.items) × (vec_capacity workers.new ≡ vec_capacity workers.old) }
-    ensures rooms { (room : ℕ) → All (λ s. room ≤ vec_capacity s.outcomes) sheets.old.items → All (HasRoom room) workers.new.items }
+    ensures rooms { (room : ℕ) → All (λ s. room ≤ s.outcomes.room) sheets.old.items → All (HasRoom room) workers.new.items }
     ensures at_hand { All (IsAtHand areas.now start end) workers.new.items }
     ensures judged { (items : List Item) → All (HasJudged areas.now.plan items start) workers.new.items }
 {
@@ -57,14 +56,14 @@ fn fit(places: &mut Vec<Place>, count: usize)
 }
 
 // Notes at the number of each outcome of a sheet where it stands.
-fn note_places(places: &mut [Place], outcomes: &[Outcome], sheet: u32, start: u32)
-    requires inside { All (λ o. (start ≤ o.number) × (o.number < start + length places.old)) outcomes.now }
-    requires few { length outcomes.now < 4294967296 }
+fn note_places(places: &mut [Place], numbers: &[u32], sheet: u32, start: u32)
+    requires inside { All (λ n. (start ≤ n) × (n < start + length places.old)) numbers.now }
+    requires few { length numbers.now < 4294967296 }
     ensures size { length places.new ≡ length places.old }
-    ensures noted { AreNoted start sheet outcomes.now (length outcomes.now) places.old places.new }
+    ensures noted { AreNoted start sheet numbers.now (length numbers.now) places.old places.new }
 {
-    'outcomes: for index in 0..outcomes.len() {
-        let at = (outcomes[index].number - start) as usize;
+    'numbers: for index in 0..numbers.len() {
+        let at = (numbers[index] - start) as usize;
         places[at] = Place {
             sheet,
             index: index as u32,
@@ -73,14 +72,14 @@ fn note_places(places: &mut [Place], outcomes: &[Outcome], sheet: u32, start: u3
 }
 
 // The same in a list of places.
-fn note_sheet(places: &mut Vec<Place>, outcomes: &[Outcome], sheet: u32, start: u32)
-    requires inside { All (λ o. (start ≤ o.number) × (o.number < start + length places.old.items)) outcomes.now }
-    requires few { length outcomes.now < 4294967296 }
+fn note_sheet(places: &mut Vec<Place>, numbers: &[u32], sheet: u32, start: u32)
+    requires inside { All (λ n. (start ≤ n) × (n < start + length places.old.items)) numbers.now }
+    requires few { length numbers.now < 4294967296 }
     ensures size { length places.new.items ≡ length places.old.items }
     ensures room { vec_capacity places.new ≡ vec_capacity places.old }
-    ensures noted { AreNoted start sheet outcomes.now (length outcomes.now) places.old.items places.new.items }
+    ensures noted { AreNoted start sheet numbers.now (length numbers.now) places.old.items places.new.items }
 {
-    note_places(places.as_mut_slice(), outcomes, sheet, start);
+    note_places(places.as_mut_slice(), numbers, sheet, start);
 }
 
 // Takes the workers of a round apart: their seats are joined into one, each has its sheet back, and each number has its place.
@@ -106,7 +105,7 @@ pub(crate) fn gather(
     ensures whole { seat.new.known.share ≡ seat.old.known.share + shares workers.old.items }
     ensures workers { (workers.new.items ≡ []) × (vec_capacity workers.new ≡ vec_capacity workers.old) }
     ensures sheets { (length sheets.new.items ≡ length workers.old.items) × (vec_capacity sheets.new ≡ vec_capacity sheets.old) }
-    ensures rooms { (room : ℕ) → All (HasRoom room) workers.old.items → All (λ s. room ≤ vec_capacity s.outcomes) sheets.new.items }
+    ensures rooms { (room : ℕ) → All (HasRoom room) workers.old.items → All (λ s. room ≤ s.outcomes.room) sheets.new.items }
     ensures places { (start + length places.new.items ≡ end) × (vec_capacity places.old ≤ vec_capacity places.new) }
     ensures gathered { (items : List Item) → All (HasJudged areas.now.plan items start) workers.old.items → Gathered areas.now.plan items start end seat.old.known seat.new.known sheets.new.items places.new.items }
 {
@@ -118,7 +117,7 @@ pub(crate) fn gather(
             ..
         } = worker;
         areas.join(seat, part);
-        note_sheet(places, &outcomes, sheets.len() as u32, start);
+        note_sheet(places, outcomes.numbers(), sheets.len() as u32, start);
         sheets.push_reserved(Sheet { outcomes });
     }
 }

@@ -8,6 +8,7 @@ mod gate;
 mod gathering;
 mod judging;
 mod laws;
+mod outcome_list;
 mod outcomes;
 mod reloading;
 mod rounds;

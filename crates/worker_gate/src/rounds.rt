@@ -250,7 +250,7 @@ fn run<R: Threads + Wait + Sync, S: RoundItems + Sync, G: Gate + Sync>(
     requires inside { end ≡ start + length (S.items items.now) }
     requires some_one { 1 ≤ length sheets.old.items }
     requires few { length sheets.old.items ≤ 16 }
-    requires rooms { All (λ s. end - start ≤ vec_capacity s.outcomes) sheets.old.items }
+    requires rooms { All (λ s. end - start ≤ s.outcomes.room) sheets.old.items }
     requires sheets { length sheets.old.items ≤ vec_capacity sheets.old }
     requires workers { (workers.old.items ≡ []) × (length sheets.old.items ≤ vec_capacity workers.old) }
     requires places { end - start ≤ vec_capacity places.old }
@@ -260,7 +260,7 @@ fn run<R: Threads + Wait + Sync, S: RoundItems + Sync, G: Gate + Sync>(
     ensures desk { IsDesk desk.new.known }
     ensures settled { IsSettled seat.new.known desk.new.known }
     ensures sheets { (length sheets.new.items ≡ length sheets.old.items) × (vec_capacity sheets.new ≡ vec_capacity sheets.old) }
-    ensures rooms { (room : ℕ) → All (λ s. room ≤ vec_capacity s.outcomes) sheets.old.items → All (λ s. room ≤ vec_capacity s.outcomes) sheets.new.items }
+    ensures rooms { (room : ℕ) → All (λ s. room ≤ s.outcomes.room) sheets.old.items → All (λ s. room ≤ s.outcomes.room) sheets.new.items }
     ensures workers { (workers.new.items ≡ []) × (vec_capacity workers.new ≡ vec_capacity workers.old) }
     ensures places { All (IsPlaced sheets.new.items) places.new.items × (start + length places.new.items ≡ end) }
     ensures room { vec_capacity places.old ≤ vec_capacity places.new }

@@ -1,5 +1,5 @@
 // A worker's way through the records: it holds a table, draws, judges, and puts down what came of it.
-ghost use Rattle.std.specs.Prelude.{◌≡◌, ◌+◌, ◌-◌, ◌<◌, ◌≤◌, All, IfSome, length, vec_capacity};
+ghost use Rattle.std.specs.Prelude.{◌≡◌, ◌+◌, ◌-◌, ◌<◌, ◌≤◌, All, IfSome, length};
 ghost use Rattle.table_words.specs.Layout.{AreCompiled};
 ghost use Rattle.area_swap.specs.Values.{HoldsOne, IsIdle};
 ghost use Rattle.area_swap.specs.Views.{held_table, held_version};
@@ -32,13 +32,13 @@ fn put_down<S: RoundItems, L: Ledger>(
     requires holding { IsHolding areas.now version settings.now worker.old.seat }
     requires from { start ≤ number }
     requires inside { number < start + length (S.items items.now) }
-    requires room { length worker.old.outcomes.items < vec_capacity worker.old.outcomes }
+    requires room { length worker.old.outcomes.items < worker.old.outcomes.room }
     ensures holding { IsHolding areas.now version settings.now worker.new.seat }
     ensures down { IsPutDown areas.now.plan (S.items items.now) start number version worker.old worker.new }
 {
     let item = items.item((number - start) as usize);
     let verdict = judge_held(areas, &mut worker.seat, settings, &item, steps);
-    worker.outcomes.push_reserved(Outcome {
+    worker.outcomes.put(Outcome {
         number,
         version,
         verdict,
@@ -62,7 +62,7 @@ fn put_run<S: RoundItems, G: Gate, L: Ledger>(
     requires from { start ≤ first }
     requires inside { first + count ≤ start + length (S.items items.now) }
     requires small { first + count < 4294967296 }
-    requires room { length worker.old.outcomes.items + count ≤ vec_capacity worker.old.outcomes }
+    requires room { length worker.old.outcomes.items + count ≤ worker.old.outcomes.room }
     ensures holding { IsHolding areas.now version settings.now worker.new.seat }
     ensures down { ArePutDown areas.now.plan (S.items items.now) start first count version worker.old worker.new }
 {

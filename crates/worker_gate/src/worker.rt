@@ -1,8 +1,9 @@
 // A worker: a seat, and the outcomes of its draws.
-ghost use Rattle.std.specs.Prelude.{◌≡◌, ◌≤◌, [], IfErr, IfOk, vec_capacity};
+ghost use Rattle.std.specs.Prelude.{◌≡◌, ◌≤◌, [], IfErr, IfOk};
 ghost use Rattle.worker_gate.specs.Failures.{seat_of};
 ghost use Rattle.worker_gate.specs.Serving.{MustReach};
 
+use crate::outcome_list::OutcomeList;
 use crate::outcomes::Outcome;
 use area_swap::WorkerSeat;
 use std::alloc::Global;
@@ -13,7 +14,7 @@ pub struct Worker {
     /// Words that nobody uses, so that no two workers side by side write to one cache line.
     apart: [u64; 16],
     pub(crate) seat: WorkerSeat,
-    pub(crate) outcomes: Vec<Outcome>,
+    pub(crate) outcomes: OutcomeList,
     pub(crate) next: u32,
 }
 
@@ -24,10 +25,10 @@ pub enum WorkerError {
 }
 
 impl Worker {
-    pub(crate) fn of(seat: WorkerSeat, outcomes: Vec<Outcome>, next: u32) -> Worker
+    pub(crate) fn of(seat: WorkerSeat, outcomes: OutcomeList, next: u32) -> Worker
         ensures seat { result.seat ≡ seat }
         ensures outcomes { result.outcomes.items ≡ outcomes.items }
-        ensures room { vec_capacity result.outcomes ≡ vec_capacity outcomes }
+        ensures room { result.outcomes.room ≡ outcomes.room }
         ensures next { result.next ≡ next }
     {
         Worker {
@@ -49,12 +50,12 @@ impl Worker {
         requires seen { first ≤ seat.known.seen.records }
         ensures seat { IfOk result (λ worker. worker.seat ≡ seat) }
         ensures outcomes { IfOk result (λ worker. worker.outcomes.items ≡ []) }
-        ensures room { IfOk result (λ worker. room ≤ vec_capacity worker.outcomes) }
+        ensures room { IfOk result (λ worker. room ≤ worker.outcomes.room) }
         ensures next { IfOk result (λ worker. worker.next ≡ first) }
         ensures reached { IfOk result (λ worker. MustReach worker.seat.known worker.next) }
         ensures back { IfErr result (λ e. seat_of e ≡ seat) }
     {
-        let outcomes = match Vec::with_capacity(alloc, room) {
+        let outcomes = match OutcomeList::with_capacity(alloc, room) {
             Ok(outcomes) => outcomes,
             Err(_) => return Err(WorkerError::OutOfMemory(seat)),
         };
@@ -67,6 +68,6 @@ impl Worker {
         ensures outcomes { result.1.items ≡ self.outcomes.items }
     {
         let Worker { seat, outcomes, .. } = self;
-        (seat, outcomes)
+        (seat, outcomes.part())
     }
 }

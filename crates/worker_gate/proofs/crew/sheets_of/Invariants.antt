@@ -7,5 +7,5 @@ invariant-sheets l =
     record {
       many : length l.sheets.items ≡ l.counter;
       room : l.workers ≤ vec_capacity l.sheets;
-      rooms : All (λ (s : Sheet). l.room ≤ vec_capacity s.outcomes) l.sheets.items;
+      rooms : All (λ (s : Sheet). l.room ≤ s.outcomes.room) l.sheets.items;
     }

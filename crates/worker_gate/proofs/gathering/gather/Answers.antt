@@ -1,11 +1,12 @@
-use Rattle.std.proofs.Common.{◌≡◌, ℕ, ◌+◌, ◌<◌, ◌≤◌, List, [], ◌∷◌, ◌++◌, All, length, vec_capacity, ap, subst, refl, sym, ◌∙◌, arith, Some}
+use Rattle.std.proofs.Common.{◌≡◌, ℕ, ◌+◌, ◌<◌, ◌≤◌, List, [], ◌∷◌, ◌++◌, All, length, ap, subst, refl, sym, ◌∙◌, arith, Some}
+use Rattle.std.proofs.lemmas.List.{length-map}
 use Rattle.std.proofs.lemmas.List.Elements.{All-pop, All-push}
 use Rattle.area_swap.specs.declared.board.View.{View}
 use Rattle.worker_gate.specs.declared.crew.Sheet.{Sheet}
-use Rattle.worker_gate.specs.declared.outcomes.Outcome.{Outcome}
 use Rattle.worker_gate.specs.declared.worker.Worker.{Worker}
+use Rattle.worker_gate.specs.OutcomeLists.{number_of}
 use Rattle.worker_gate.specs.Gathering.{AreNoted, Gathered, HasJudged, HasRoom, IsAtHand, shares}
-use Rattle.worker_gate.proofs.Gathered.{few_outcomes, gathered_more, numbers_inside}
+use Rattle.worker_gate.proofs.Gathered.{few_outcomes, gathered_more, numbers_in_round}
 use Rattle.worker_gate.proofs.Hands.{one_longer}
 use Rattle.worker_gate.proofs.Hired.{shares_more}
 use Rattle.worker_gate.proofs.gathering.gather.Goals as goal
@@ -13,18 +14,19 @@ use Rattle.worker_gate.proofs.gathering.gather.Goals as goal
 pub note_sheet-requires-clause-inside : goal.note_sheet-requires-clause-inside
 note_sheet-requires-clause-inside c =
     let P : Worker → Type 0 = λ x. IsAtHand c.args.areas.now c.args.start c.args.end x in
-    let L : List Outcome → Type 0 = λ l. All (λ (o : Outcome). (c.args.start ≤ o.number) × (o.number < c.args.start + length c.workers.places.items)) l in
+    let L : List ℕ → Type 0 = λ l. All (λ (n : ℕ). (c.args.start ≤ n) × (n < c.args.start + length c.workers.places.items)) l in
     let hand : P c.in-Some.worker =
     (All-pop P c.workers.workers.items c.pop.new.self.items (Some c.in-Some.worker) c.in-Some.ensures.items c.workers.invariant.at_hand).1 in
-    subst L (sym c.deref.ensures.value)
-    (numbers_inside c.args.areas.now c.args.start c.args.end (length c.workers.places.items) c.in-Some.worker hand c.workers.invariant.size)
+    subst L (sym c.numbers.ensures)
+    (numbers_in_round c.args.areas.now c.args.start c.args.end (length c.workers.places.items) c.in-Some.worker hand c.workers.invariant.size)
 
 pub note_sheet-requires-clause-few : goal.note_sheet-requires-clause-few
 note_sheet-requires-clause-few c =
     let P : Worker → Type 0 = λ x. IsAtHand c.args.areas.now c.args.start c.args.end x in
     let hand : P c.in-Some.worker =
     (All-pop P c.workers.workers.items c.pop.new.self.items (Some c.in-Some.worker) c.in-Some.ensures.items c.workers.invariant.at_hand).1 in
-    let same : length c.deref.result.now ≡ length c.in-Some.worker.outcomes.items = ap (λ (l : List Outcome). length l) c.deref.ensures.value in
+    let same : length c.numbers.result.now ≡ length c.in-Some.worker.outcomes.items =
+    ap (λ (l : List ℕ). length l) c.numbers.ensures ∙ length-map c.in-Some.worker.outcomes.items number_of in
     omega (arith, same, few_outcomes c.args.areas.now c.args.start c.args.end c.in-Some.worker hand, c.ranges.end.fits)
 
 pub workers-preserved : goal.workers-preserved
@@ -51,9 +53,9 @@ workers-preserved c =
       size = omega (arith, c.note_sheet.ensures.size, c.workers.invariant.size);
       rooms = λ n h. (All-pop (HasRoom n) c.workers.workers.items c.pop.new.self.items (Some w) c.in-Some.ensures.items (c.workers.invariant.rooms n h)).0;
       sheet_rooms = λ n h.
-          (let R : Sheet → Type 0 = λ x. n ≤ vec_capacity x.outcomes in
+          (let R : Sheet → Type 0 = λ x. n ≤ x.outcomes.room in
           let L : List Sheet → Type 0 = λ l. All R l in
-          let own : n ≤ vec_capacity w.outcomes =
+          let own : n ≤ w.outcomes.room =
           (All-pop (HasRoom n) c.workers.workers.items c.pop.new.self.items (Some w) c.in-Some.ensures.items (c.workers.invariant.rooms n h)).1 in
           subst L (sym items) (All-push R c.workers.sheets.items s (c.workers.invariant.sheet_rooms n h) own));
       judged = λ list h.
@@ -63,10 +65,10 @@ workers-preserved c =
           (let J : Worker → Type 0 = λ x. HasJudged c.args.areas.now.plan list c.args.start x in
           let own : J w =
           (All-pop J c.workers.workers.items c.pop.new.self.items (Some w) c.in-Some.ensures.items (c.workers.invariant.judged list h)).1 in
-          let N : List Outcome → Type 0 =
+          let N : List ℕ → Type 0 =
           λ l. AreNoted c.args.start (length c.workers.sheets.items) l (length l) c.workers.places.items c.note_sheet.new.places.items in
           let M : ℕ → Type 0 =
-          λ n. AreNoted c.args.start n c.deref.result.now (length c.deref.result.now) c.workers.places.items c.note_sheet.new.places.items in
+          λ n. AreNoted c.args.start n c.numbers.result.now (length c.numbers.result.now) c.workers.places.items c.note_sheet.new.places.items in
           let number : c.len.result ≡ length c.workers.sheets.items = omega (arith, c.len.ensures, c.workers.sheets.ok) in
           let V : View → Type 0 =
           λ v. Gathered c.args.areas.now.plan list c.args.start c.args.end c.args.seat.now.known v (c.workers.sheets.items ++ s ∷ []) c.note_sheet.new.places.items in
@@ -76,5 +78,5 @@ workers-preserved c =
           (subst V (sym c.join.ensures.seat)
           (gathered_more c.args.areas.now list c.args.start c.args.end c.args.seat.now.known c.workers.seat.known w c.workers.sheets.items s
           c.workers.places.items c.note_sheet.new.places.items refl (c.workers.invariant.gathered list h) hands.1 own
-          (subst N c.deref.ensures.value (subst M number c.note_sheet.ensures.noted)) c.note_sheet.ensures.size)));
+          (subst N c.numbers.ensures (subst M number c.note_sheet.ensures.noted)) c.note_sheet.ensures.size)));
     }

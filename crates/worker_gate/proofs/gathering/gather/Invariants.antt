@@ -18,7 +18,7 @@ invariant-workers l =
       place_room : vec_capacity l.initial.places ≤ vec_capacity l.places;
       size : l.start + length l.places.items ≡ l.end;
       rooms : (room : ℕ) → All (HasRoom room) l.initial.workers.items → All (HasRoom room) l.workers.items;
-      sheet_rooms : (room : ℕ) → All (HasRoom room) l.initial.workers.items → All (λ (s : Sheet). room ≤ vec_capacity s.outcomes) l.sheets.items;
+      sheet_rooms : (room : ℕ) → All (HasRoom room) l.initial.workers.items → All (λ (s : Sheet). room ≤ s.outcomes.room) l.sheets.items;
       judged : (items : List Item) → All (HasJudged l.areas.plan items l.start) l.initial.workers.items → All (HasJudged l.areas.plan items l.start) l.workers.items;
       gathered : (items : List Item) → All (HasJudged l.areas.plan items l.start) l.initial.workers.items
           → Gathered l.areas.plan items l.start l.end l.initial.seat.known l.seat.known l.sheets.items l.places.items;

@@ -1,4 +1,4 @@
-use Rattle.std.proofs.Common.{◌≡◌, ℕ, ◌+◌, ◌-◌, ◌/◌, ◌%◌, ◌^◌, ◌<◌, ◌≤◌, List, [], ◌∷◌, ◌++◌, All, length, vec_capacity, ap, subst, sym, ◌∙◌, arith, Some}
+use Rattle.std.proofs.Common.{◌≡◌, ℕ, ◌+◌, ◌-◌, ◌/◌, ◌%◌, ◌^◌, ◌<◌, ◌≤◌, List, [], ◌∷◌, ◌++◌, All, length, ap, subst, sym, ◌∙◌, arith, Some}
 use Rattle.std.proofs.lemmas.List.Elements.{All-pop, All-push}
 use Rattle.area_swap.specs.declared.board.View.{View}
 use Rattle.area_swap.specs.Values.{IsOf, SeatValue}
@@ -20,8 +20,8 @@ sheets-preserved c =
     let w : Worker = c.of-worker.result in
     let own_seat : w.seat ≡ c.split-part.result = c.of-worker.ensures.seat in
     let own_view : w.seat.known ≡ new_half c.sheets.seat.known = ap (λ (x : SeatValue). x.known) own_seat ∙ c.split-part.ensures.new in
-    let own_room : vec_capacity w.outcomes ≡ vec_capacity c.in-Some.sheet.outcomes =
-    c.of-worker.ensures.room ∙ c.clear.ensures.capacity in
+    let own_room : w.outcomes.room ≡ c.in-Some.sheet.outcomes.room =
+    c.of-worker.ensures.room ∙ c.clear.ensures.room in
     let own_outcomes : w.outcomes.items ≡ [] = c.of-worker.ensures.outcomes ∙ c.clear.ensures.items in
     let I : SeatValue → Type 0 = λ x. IsOf c.args.areas.now x in
     let own_areas : IsOf c.args.areas.now w.seat = subst I (sym own_seat) c.split-part.ensures.areas.1 in
@@ -34,12 +34,12 @@ sheets-preserved c =
     let long : length c.push_reserved.new.self.items ≡ length c.sheets.workers.items + 1 = one_longer c.push_reserved.new.self.items c.sheets.workers.items w items in
     let parts : shares c.push_reserved.new.self.items ≡ shares c.sheets.workers.items + w.seat.known.share =
     ap shares items ∙ shares_more c.sheets.workers.items w in
-    let E : Sheet → Type 0 = λ s. c.args.end - c.args.start ≤ vec_capacity s.outcomes in
+    let E : Sheet → Type 0 = λ s. c.args.end - c.args.start ≤ s.outcomes.room in
     let enough : All E c.pop.new.self.items × E c.in-Some.sheet =
     All-pop E c.sheets.sheets.items c.pop.new.self.items (Some c.in-Some.sheet) c.in-Some.ensures.items c.sheets.invariant.enough in
     let seen : c.args.start ≤ c.sheets.seat.known.seen.records =
     omega (arith, c.requires.seen, ap (λ (v : View). v.seen.records) c.sheets.invariant.seat) in
-    let room : c.args.end - c.args.start ≤ vec_capacity w.outcomes = omega (arith, enough.1, own_room) in
+    let room : c.args.end - c.args.start ≤ w.outcomes.room = omega (arith, enough.1, own_room) in
     record {
       areas = c.split-part.ensures.areas.0;
       seat = still_same c.args.seat.now.known c.sheets.seat.known c.split-part.new.seat.known c.sheets.invariant.seat c.split-part.ensures.kept;
@@ -50,14 +50,14 @@ sheets-preserved c =
       worker_room = c.push_reserved.ensures.capacity ∙ c.sheets.invariant.worker_room;
       enough = enough.0;
       rooms = λ n h.
-          (let R : Sheet → Type 0 = λ s. n ≤ vec_capacity s.outcomes in
+          (let R : Sheet → Type 0 = λ s. n ≤ s.outcomes.room in
           (All-pop R c.sheets.sheets.items c.pop.new.self.items (Some c.in-Some.sheet) c.in-Some.ensures.items (c.sheets.invariant.rooms n h)).0);
       worker_rooms = λ n h.
-          (let R : Sheet → Type 0 = λ s. n ≤ vec_capacity s.outcomes in
+          (let R : Sheet → Type 0 = λ s. n ≤ s.outcomes.room in
           let L : List Worker → Type 0 = λ l. All (HasRoom n) l in
-          let one : n ≤ vec_capacity c.in-Some.sheet.outcomes =
+          let one : n ≤ c.in-Some.sheet.outcomes.room =
           (All-pop R c.sheets.sheets.items c.pop.new.self.items (Some c.in-Some.sheet) c.in-Some.ensures.items (c.sheets.invariant.rooms n h)).1 in
-          let own : n ≤ vec_capacity w.outcomes = omega (arith, one, own_room) in
+          let own : n ≤ w.outcomes.room = omega (arith, one, own_room) in
           subst L (sym items) (All-push (HasRoom n) c.sheets.workers.items w (c.sheets.invariant.worker_rooms n h) own));
       at_hand =
           (let P : Worker → Type 0 = λ x. IsAtHand c.args.areas.now c.args.start c.args.end x in

@@ -15,9 +15,9 @@ invariant-sheets l =
       many : length l.sheets.items + length l.workers.items ≡ length l.initial.sheets.items;
       sheet_room : vec_capacity l.sheets ≡ vec_capacity l.initial.sheets;
       worker_room : vec_capacity l.workers ≡ vec_capacity l.initial.workers;
-      enough : All (λ (s : Sheet). l.end - l.start ≤ vec_capacity s.outcomes) l.sheets.items;
-      rooms : (room : ℕ) → All (λ (s : Sheet). room ≤ vec_capacity s.outcomes) l.initial.sheets.items → All (λ (s : Sheet). room ≤ vec_capacity s.outcomes) l.sheets.items;
-      worker_rooms : (room : ℕ) → All (λ (s : Sheet). room ≤ vec_capacity s.outcomes) l.initial.sheets.items → All (HasRoom room) l.workers.items;
+      enough : All (λ (s : Sheet). l.end - l.start ≤ s.outcomes.room) l.sheets.items;
+      rooms : (room : ℕ) → All (λ (s : Sheet). room ≤ s.outcomes.room) l.initial.sheets.items → All (λ (s : Sheet). room ≤ s.outcomes.room) l.sheets.items;
+      worker_rooms : (room : ℕ) → All (λ (s : Sheet). room ≤ s.outcomes.room) l.initial.sheets.items → All (HasRoom room) l.workers.items;
       at_hand : All (IsAtHand l.areas l.start l.end) l.workers.items;
       judged : (items : List Item) → All (HasJudged l.areas.plan items l.start) l.workers.items;
     }

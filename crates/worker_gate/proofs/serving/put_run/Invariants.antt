@@ -1,4 +1,4 @@
-use Rattle.std.proofs.Common.{◌+◌, ◌-◌, ◌≤◌, length, vec_capacity}
+use Rattle.std.proofs.Common.{◌+◌, ◌-◌, ◌≤◌, length}
 use Rattle.worker_gate.specs.Serving.{ArePutDown, IsHolding}
 use Rattle.worker_gate.proofs.serving.put_run.Given as goal
 
@@ -7,5 +7,5 @@ invariant-numbers g l = let r = g.S.RoundItems in
     record {
       down : ArePutDown l.areas.plan (r.items l.items) l.start l.first l.i l.version l.initial.worker l.worker;
       holding : IsHolding l.areas l.version l.settings l.worker.seat;
-      room : length l.worker.outcomes.items + (l.count - l.i) ≤ vec_capacity l.worker.outcomes;
+      room : length l.worker.outcomes.items + (l.count - l.i) ≤ l.worker.outcomes.room;
     }
