@@ -40,7 +40,7 @@ def repeated(head, unit, tail, size=BYTES):
 
 # Held back: a long header with many lines below it, keys of many parts, small inline tables.
 write("held_header", "[" + "x" * 8_400_000 + "]\n", pairs(1_190_000))
-write("held_header_33", "[" + "x" * 33 + "]\n", pairs(2_300_000))
+write("held_header_25", "[" + "x" * 25 + "]\n", pairs(2_300_000))
 write("held_deep_header", "[" + ".".join("a" * 80) + "]\n", pairs(2_300_000))
 dotted = "{" + ".".join("a" * 80) + "=1},"
 write("held_dotted_keys", repeated("binding=[", dotted, "]\n"))
@@ -58,12 +58,12 @@ padded("maps_of_64", "".join("[" + key(n) + "]\n" + letters for n in range(secti
 sections = MARKS // 13 - 1
 twelve = "".join(letter + "=1\n" for letter in LETTERS[:12])
 padded("maps_of_12", "".join("[" + key(n) + "]\n" + twelve for n in range(sections)))
-header = "[" + ".".join("a" * 16) + "]\n"
+header = "[" + ".".join("a" * 12) + "]\n"
 padded("deep_header", header + pairs(MARKS - 40))
 others = "".join("A%d=1\n" % n for n in range(3_000))
-crowd = "".join("[" + ".".join("a" * depth) + "]\n" + others for depth in range(1, 16))
-padded("deep_crowded_header", others + crowd + header + pairs(MARKS - 48_200))
-long = ["[" + "a" * 26 + "%06d]\n" % n for n in range(20_000)]
+crowd = "".join("[" + ".".join("a" * depth) + "]\n" + others for depth in range(1, 12))
+padded("deep_crowded_header", others + crowd + header + pairs(MARKS - 36_200))
+long = ["[" + "a" * 18 + "%06d]\n" % n for n in range(20_000)]
 padded("long_headers", "".join(long) + pairs(MARKS - 20_010))
 write("array_of_tables", "[[a]]\n" * (MARKS // 2))
 

@@ -60,7 +60,7 @@ most_marks = 1048576
 
 -- the most bytes of a header
 abbrev pub most_header : ℕ
-most_header = 32
+most_header = 24
 
 -- a bracket has more bytes behind it than a header may have
 abbrev pub has_long_header : List ℕ → Bool

@@ -8,7 +8,7 @@ ghost use Rattle.binding_file.specs.Parts.{header_after};
 const MOST_MARKS: usize = 1_048_576;
 
 /// The most bytes of a header, as `binding`, between its brackets.
-const MOST_HEADER: usize = 32;
+const MOST_HEADER: usize = 24;
 
 /// Where a byte of a TOML text stands.
 #[derive(Clone, Copy, Debug, PartialEq, Eq)]
@@ -53,7 +53,7 @@ pub(crate) fn is_costly(text: &[u8]) -> bool
 
 /// The length of the header so far, its bracket included; 0 outside of headers.
 fn header_after(header: usize, seen: u8) -> usize
-    requires { header ≤ 33 }
+    requires { header ≤ 25 }
     ensures { result ≡ header_after header seen }
 {
     if seen == b'[' {

@@ -42,7 +42,7 @@ const BINDING_NAMES: [Name; 5] = [Name::B4, Name::Ipv4, Name::Offset, Name::Leng
 /// is no array of tables; then each of its elements in order, its keys like those of `softwire`; and last the first
 /// refusal by the rules of tables. `OutOfMemory` comes where the allocator has no room for the document, the bindings or
 /// the test of the rules, and for a text that is held back: one with more than 1,048,576 of the bytes `.`, `=`, `[`, `{`
-/// outside of comments and quoted texts, or a header of more than 32 bytes, as no table of bindings has.
+/// outside of comments and quoted texts, or a header of more than 24 bytes, as no table of bindings has.
 pub fn read_table(alloc: Global, text: &[u8]) -> Result<Table, FileError>
     ensures table { IfOk result (λ t. TableOf text.now (Ok t)) }
     ensures cause { IfErr result (IsFileCause text.now) }

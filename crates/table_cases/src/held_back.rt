@@ -7,37 +7,37 @@ const HELD_BACK: &str = "out of memory";
 
 // A line has what stands before a run of `x`, the length of the run, what stands behind it, and the answer. `|` ends a line of
 // the file.
-const RUNS: &str = "[ ~ 32 ~ ] ~ missing version
-[ ~ 33 ~ ] ~ out of memory
-[[ ~ 32 ~ ]] ~ missing version
-[[ ~ 33 ~ ]] ~ out of memory
-[\" ~ 30 ~ \"] ~ missing version
-[\" ~ 31 ~ \"] ~ out of memory
-[\"=# ~ 29 ~ \"] ~ out of memory
-[' ~ 31 ~ '] ~ out of memory
-[a.b. ~ 28 ~ ] ~ missing version
-[a.b. ~ 29 ~ ] ~ out of memory
-a = 1|  [ ~ 33 ~ ] ~ out of memory
-\u{feff}[ ~ 33 ~ ] ~ out of memory
-# [ ~ 33 ~ ] ~ missing version
-# '|[ ~ 33 ~ ] ~ out of memory
-a = 1 # \"|[ ~ 33 ~ ] ~ out of memory
-a = \"[ ~ 33 ~ ]\" ~ missing version
-a = '[ ~ 33 ~ ]' ~ missing version
-a = \"\\\"[ ~ 33 ~ ]\" ~ missing version
-a = \"\\\\\" #[ ~ 33 ~ ] ~ missing version
-a = \"\\\\\"|[ ~ 33 ~ ] ~ out of memory
-a = '\\'|[ ~ 33 ~ ] ~ out of memory
-a = ['#', [ ~ 33 ~ ] ~ out of memory
-a = \"\"|b = \"[ ~ 33 ~ ]\" ~ missing version
-a = \"\"\"'\"\"\"|[ ~ 33 ~ ] ~ out of memory
-a = \"\"\"\"\"\"\"|[ ~ 33 ~ ] ~ out of memory
-a = '''\"'''|[ ~ 33 ~ ] ~ out of memory
-a = \"\"\"b\"\"\"|[ ~ 32 ~ ] ~ missing version
+const RUNS: &str = "[ ~ 24 ~ ] ~ missing version
+[ ~ 25 ~ ] ~ out of memory
+[[ ~ 24 ~ ]] ~ missing version
+[[ ~ 25 ~ ]] ~ out of memory
+[\" ~ 22 ~ \"] ~ missing version
+[\" ~ 23 ~ \"] ~ out of memory
+[\"=# ~ 21 ~ \"] ~ out of memory
+[' ~ 23 ~ '] ~ out of memory
+[a.b. ~ 20 ~ ] ~ missing version
+[a.b. ~ 21 ~ ] ~ out of memory
+a = 1|  [ ~ 25 ~ ] ~ out of memory
+\u{feff}[ ~ 25 ~ ] ~ out of memory
+# [ ~ 25 ~ ] ~ missing version
+# '|[ ~ 25 ~ ] ~ out of memory
+a = 1 # \"|[ ~ 25 ~ ] ~ out of memory
+a = \"[ ~ 25 ~ ]\" ~ missing version
+a = '[ ~ 25 ~ ]' ~ missing version
+a = \"\\\"[ ~ 25 ~ ]\" ~ missing version
+a = \"\\\\\" #[ ~ 25 ~ ] ~ missing version
+a = \"\\\\\"|[ ~ 25 ~ ] ~ out of memory
+a = '\\'|[ ~ 25 ~ ] ~ out of memory
+a = ['#', [ ~ 25 ~ ] ~ out of memory
+a = \"\"|b = \"[ ~ 25 ~ ]\" ~ missing version
+a = \"\"\"'\"\"\"|[ ~ 25 ~ ] ~ out of memory
+a = \"\"\"\"\"\"\"|[ ~ 25 ~ ] ~ out of memory
+a = '''\"'''|[ ~ 25 ~ ] ~ out of memory
+a = \"\"\"b\"\"\"|[ ~ 24 ~ ] ~ missing version
 ";
 
 #[test]
-fn headers_have_32_bytes_at_most(rt: HostRuntime) -> Result<(), Fail> {
+fn headers_have_24_bytes_at_most(rt: HostRuntime) -> Result<(), Fail> {
     let alloc = rt.alloc();
     for line in RUNS.lines() {
         let (before, rest) = line.split_once(" ~ ").ok_or("what stands before")?;
