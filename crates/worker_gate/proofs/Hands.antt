@@ -1,22 +1,11 @@
 -- Workers whose shares and rooms stay as they are.
-use Rattle.std.proofs.Common.{◌≡◌, ℕ, suc, ◌+◌, ◌<◌, ◌≤◌, List, [], ◌∷◌, ◌++◌, All, length, map, get_or, sum_by, ap, subst, refl, sym, ◌∙◌, arith, length-append}
+use Rattle.std.proofs.Common.{◌≡◌, ℕ, ◌+◌, ◌<◌, ◌≤◌, List, [], ◌∷◌, ◌++◌, All, length, map, sum_by, ap, subst, refl, sym, ◌∙◌, arith, length-append}
 use Rattle.std.proofs.Math.ListN.{get_or-map}
 use Rattle.std.proofs.lemmas.List.{length-map}
-use Rattle.std.proofs.lemmas.List.Elements.{All-map}
+use Rattle.std.proofs.lemmas.List.Elements.{All-head, All-map, All-tail}
 use Rattle.std.proofs.lemmas.List.Sums.{sum_by-cons}
 use Rattle.worker_gate.specs.declared.worker.Worker.{Worker}
 use Rattle.worker_gate.specs.Gathering.{HasRoom, hand_of, shares}
-
-pub hands_same : (xs ys : List Worker) → length ys ≡ length xs
-    → ((i : ℕ) (d : Worker) → i < length xs → hand_of (get_or ys i d) ≡ hand_of (get_or xs i d)) → map hand_of ys ≡ map hand_of xs
-hands_same [] [] long same = refl
-hands_same [] (y ∷ ys) long same = absurd (omega (arith, long))
-hands_same (x ∷ xs) [] long same = absurd (omega (arith, long))
-hands_same (x ∷ xs) (y ∷ ys) long same =
-    let rest : map hand_of ys ≡ map hand_of xs =
-    hands_same xs ys (omega (arith, long)) (λ i d less. same (suc i) d (omega (arith, less))) in
-    let this : hand_of y ≡ hand_of x = same 0 x (omega arith) in
-    ap (λ (h : ℕ × ℕ). h ∷ map hand_of ys) this ∙ ap (λ (l : List (ℕ × ℕ)). hand_of x ∷ l) rest
 
 abbrev share_in : ℕ × ℕ → ℕ
 share_in h = h.0
@@ -39,6 +28,12 @@ rooms_same room xs ys same h k d less =
     let L : List (ℕ × ℕ) → Type 0 = λ l. All P l in
     let inside : k < length (map hand_of ys) = omega (arith, less, length-map ys hand_of) in
     subst P (get_or-map hand_of ys k d) (subst L (sym same) (All-map P hand_of xs h) k (hand_of d) inside)
+
+pub first_and_others : (P : Worker → Type 0) (ws : List Worker) (w : Worker) (others : List Worker) → ws ≡ w ∷ others → All P ws → P w × All P others
+first_and_others P ws w others is h =
+    let L : List Worker → Type 0 = λ l. All P l in
+    let all : All P (w ∷ others) = subst L is h in
+    (All-head P w others all, All-tail P w others all)
 
 module _ {X : Type 0} where
   pub one_longer : (xs ys : List X) (x : X) → xs ≡ ys ++ x ∷ [] → length xs ≡ length ys + 1

@@ -19,7 +19,7 @@ use crate::worker::Worker;
 use area_swap::{Areas, Desk, Due, WorkerSeat};
 use item_stage::RoundItems;
 use std::sync::Wait;
-use std::thread::{Threads, for_each_mut, join_mut};
+use std::thread::{Threads, join_mut};
 
 // At most so many numbers are drawn at once.
 const MOST: u32 = 64;
@@ -54,7 +54,43 @@ fn serve_one<R: Wait, S: RoundItems, G: Gate>(
     serve(rt, worker, areas, items, start, end, most, gate);
 }
 
-// All workers serve, each in a thread of its own.
+// The first worker serves in a new thread, and the others beside it.
+#[cycle(beside)]
+fn serve_beside<R: Threads + Wait + Sync, S: RoundItems + Sync, G: Gate + Sync>(
+    rt: &R,
+    first: &mut Worker,
+    others: &mut [Worker],
+    areas: &Areas,
+    items: &S,
+    start: u32,
+    end: u32,
+    most: u32,
+    gate: &G,
+)
+    requires first { IsOfRound areas.now (S.items items.now) start end first.old }
+    requires others { All (IsOfRound areas.now (S.items items.now) start end) others.old }
+    requires compiled { All AreCompiled areas.now.plan.tables }
+    requires inside { end ≤ start + length (S.items items.now) }
+    requires most { 1 ≤ most }
+    ensures first { IsOfRound areas.now (S.items items.now) start end first.new }
+    ensures others { All (IsOfRound areas.now (S.items items.now) start end) others.new }
+    ensures first_hand { hand_of first.new ≡ hand_of first.old }
+    ensures other_hands { map hand_of others.new ≡ map hand_of others.old }
+{
+    let mut one = ||
+        requires { IsSync R.row × (IsSync S.row × (IsSync G.row × (IsOfRound areas.now (S.items items.now) start end first.now × (All AreCompiled areas.now.plan.tables × ((end ≤ start + length (S.items items.now)) × (1 ≤ most)))))) }
+        ensures { IsOfRound areas.entry.now (S.items items.entry.now) start end first.exit.now × (hand_of first.exit.now ≡ hand_of first.entry.now) }
+    { serve_one(rt, first, areas, items, start, end, most, gate) };
+    let mut rest = ||
+        requires { IsSync R.row × (IsSync S.row × (IsSync G.row × (All (IsOfRound areas.now (S.items items.now) start end) others.now × (All AreCompiled areas.now.plan.tables × ((end ≤ start + length (S.items items.now)) × (1 ≤ most)))))) }
+        ensures { All (IsOfRound areas.entry.now (S.items items.entry.now) start end) others.exit.now × (map hand_of others.exit.now ≡ map hand_of others.entry.now) }
+    { serve_all(rt, others, areas, items, start, end, most, gate) };
+    join_mut(rt, &mut one, &mut rest);
+}
+
+// All workers serve, each in a thread of its own. One thread makes all the others: what a thread makes that was just made itself
+// begins late.
+#[cycle(beside)]
 fn serve_all<R: Threads + Wait + Sync, S: RoundItems + Sync, G: Gate + Sync>(
     rt: &R,
     workers: &mut [Worker],
@@ -65,7 +101,6 @@ fn serve_all<R: Threads + Wait + Sync, S: RoundItems + Sync, G: Gate + Sync>(
     most: u32,
     gate: &G,
 )
-    requires some_one { 0 < length workers.old }
     requires round { All (IsOfRound areas.now (S.items items.now) start end) workers.old }
     requires compiled { All AreCompiled areas.now.plan.tables }
     requires inside { end ≤ start + length (S.items items.now) }
@@ -73,16 +108,14 @@ fn serve_all<R: Threads + Wait + Sync, S: RoundItems + Sync, G: Gate + Sync>(
     ensures round { All (IsOfRound areas.now (S.items items.now) start end) workers.new }
     ensures hands { map hand_of workers.new ≡ map hand_of workers.old }
 {
-    let threads = workers.len();
-    for_each_mut(
-        rt,
-        workers,
-        threads,
-        &|_, worker: &mut Worker|
-            requires { IsSync R.row × (IsSync S.row × (IsSync G.row × (IsOfRound areas.now (S.items items.now) start end worker.old × (All AreCompiled areas.now.plan.tables × ((end ≤ start + length (S.items items.now)) × (1 ≤ most)))))) }
-            ensures { IsOfRound areas.entry.now (S.items items.entry.now) start end worker.new × (hand_of worker.new ≡ hand_of worker.old) }
-        { serve_one(rt, worker, areas, items, start, end, most, gate) },
-    );
+    let Some((first, others)) = workers.split_first_mut() else {
+        return;
+    };
+    if others.is_empty() {
+        serve_one(rt, first, areas, items, start, end, most, gate);
+    } else {
+        serve_beside(rt, first, others, areas, items, start, end, most, gate);
+    }
 }
 
 // Whether a table can come into force before so many records are drawn.
@@ -113,7 +146,6 @@ fn pass<R: Threads + Wait + Sync, S: RoundItems + Sync, G: Gate + Sync>(
     most: u32,
     gate: &G,
 )
-    requires some_one { 0 < length workers.old }
     requires round { All (IsOfRound areas.now (S.items items.now) start end) workers.old }
     requires compiled { All AreCompiled areas.now.plan.tables }
     requires inside { end ≤ start + length (S.items items.now) }
@@ -133,7 +165,7 @@ fn pass<R: Threads + Wait + Sync, S: RoundItems + Sync, G: Gate + Sync>(
     join_mut(
         rt,
         &mut ||
-            requires { IsSync R.row × (IsSync S.row × (IsSync G.row × ((0 < length workers.now) × (All (IsOfRound areas.now (S.items items.now) start end) workers.now × (All AreCompiled areas.now.plan.tables × ((end ≤ start + length (S.items items.now)) × (1 ≤ most))))))) }
+            requires { IsSync R.row × (IsSync S.row × (IsSync G.row × (All (IsOfRound areas.now (S.items items.now) start end) workers.now × (All AreCompiled areas.now.plan.tables × ((end ≤ start + length (S.items items.now)) × (1 ≤ most)))))) }
             ensures { All (IsOfRound areas.entry.now (S.items items.entry.now) start end) workers.exit.now × (map hand_of workers.exit.now ≡ map hand_of workers.entry.now) }
         { serve_all(rt, workers, areas, items, start, end, most, gate) },
         &mut ||
