@@ -13,3 +13,11 @@ counted old part word text after n m before added same =
 
 pub three : (old a b c : List ℕ) → old ++ a ++ b ++ c ≡ old ++ (a ++ b ++ c)
 three old a b c = append_assoc (old ++ a) b c ∙ append_assoc old a (b ++ c) ∙ ap (λ (l : List ℕ). old ++ l) (sym (append_assoc a b c))
+
+-- three parts, and then two
+pub ended : (old a b c d e f text more after : List ℕ) → text ≡ old ++ a → more ≡ text ++ (b ++ c ++ d) → after ≡ more ++ (e ++ f) →
+    after ≡ old ++ (a ++ b ++ c ++ d ++ e ++ f)
+ended old a b c d e f text more after before between added =
+    longer old (a ++ (b ++ c ++ d)) (e ++ f) more after (longer old a (b ++ c ++ d) text more before between) added
+    ∙ ap (λ (l : List ℕ). old ++ l)
+    (sym (append_assoc (a ++ (b ++ c ++ d)) e f) ∙ ap (λ (l : List ℕ). l ++ e ++ f) (sym (three a b c d)))

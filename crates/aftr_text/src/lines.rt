@@ -1,8 +1,9 @@
 // The lines of records and of datagrams.
 ghost use Rattle.std.specs.Prelude.{◌≡◌, ◌++◌, IfOk, codes, decimal, string_bytes};
+ghost use Rattle.ip_codec.specs.Rules.{name_of};
 ghost use Rattle.aftr_text.specs.Lines.{ended_text, limited_text, outcome, verdict_text};
 
-use crate::numbers::{push_count, push_number};
+use crate::numbers::{push_count, push_last_number, push_next_number, push_number};
 use aftr_base::{OutOfMemory, Text};
 use ip_codec::Rule;
 use std::alloc::Global;
@@ -42,10 +43,8 @@ pub fn push_verdict_line(
     ensures { IfOk result (λ _. string_bytes text.new ≡ string_bytes text.old ++ verdict_text number version verdict packets) }
 {
     push_judged(text, number, version)?;
-    text.push_str(" ")?;
     push_outcome(text, verdict)?;
-    push_count(text, " ", u64::from(packets))?;
-    text.push_str("\n")?;
+    push_last_number(text, u64::from(packets))?;
     Ok(())
 }
 
@@ -54,21 +53,30 @@ fn push_judged(text: &mut String, number: u32, version: u32) -> Result<(), OutOf
     ensures { IfOk result (λ _. string_bytes text.new ≡ string_bytes text.old ++ decimal number ++ codes " " ++ decimal version) }
 {
     push_number(text, u64::from(number))?;
-    push_count(text, " ", u64::from(version))
+    push_next_number(text, u64::from(version))?;
+    Ok(())
 }
 
+// What became of the record, with a blank on either side.
 fn push_outcome(text: &mut String, verdict: Verdict) -> Result<(), OutOfMemory>
-    ensures { IfOk result (λ _. string_bytes text.new ≡ string_bytes text.old ++ outcome verdict) }
+    ensures { IfOk result (λ _. string_bytes text.new ≡ string_bytes text.old ++ (codes " " ++ outcome verdict ++ codes " ")) }
 {
     match verdict {
-        Verdict::Held => text.push_str("held")?,
-        Verdict::Outward { .. } => text.push_str("up")?,
-        Verdict::Inward { back, .. } => text.push_str(if back { "hairpin" } else { "down" })?,
-        Verdict::Drop { why, .. } => {
-            text.push_str("drop ")?;
-            text.push_str(why.name())?;
-        }
+        Verdict::Held => text.push_str(" held ")?,
+        Verdict::Outward { .. } => text.push_str(" up ")?,
+        Verdict::Inward { back, .. } => text.push_str(if back { " hairpin " } else { " down " })?,
+        Verdict::Drop { why, .. } => push_rule(text, why)?,
     }
+    Ok(())
+}
+
+// That the record was dropped, and for which rule.
+fn push_rule(text: &mut String, why: Rule) -> Result<(), OutOfMemory>
+    ensures { IfOk result (λ _. string_bytes text.new ≡ string_bytes text.old ++ (codes " " ++ (codes "drop " ++ name_of why) ++ codes " ")) }
+{
+    text.push_str(" drop ")?;
+    text.push_str(why.name())?;
+    text.push_str(" ")?;
     Ok(())
 }
 
