@@ -92,12 +92,16 @@ front-lowered packet sum is alive ttl_most protocol_most word_most sum_is =
     ∙ front header (packet.ttl - 1) sum shaped.least_header (omega (arith, ttl_is)) (omega (arith, ttl_is)) (omega (arith, protocol_is)) word_most
     version sums patch_is
 
--- the front, the rest of the header and the payload were pushed
-pub pushed : (out out1 out2 out3 front header payload whole : List ℕ) → front ++ drop 12 header ≡ whole →
-    out1 ≡ out ++ front → out2 ≡ out1 ++ take (length header - 12) (drop 12 header) → out3 ≡ out2 ++ payload →
-    out3 ≡ out ++ (whole ++ payload)
-pushed out out1 out2 out3 front header payload whole whole_is is1 is2 is3 =
-    is3
-    ∙ ap (λ l. l ++ payload) (is2 ∙ ap (λ l. l ++ take (length header - 12) (drop 12 header)) is1
-    ∙ ap (λ l. (out ++ front) ++ l) (take_rest header 12) ∙ append_assoc out front (drop 12 header) ∙ ap (λ l. out ++ l) whole_is)
-    ∙ append_assoc out whole payload
+-- the front and the rest of the header were pushed
+pub header-pushed : (out out1 out2 front header whole : List ℕ) → front ++ drop 12 header ≡ whole →
+    out1 ≡ out ++ front → out2 ≡ out1 ++ take (length header - 12) (drop 12 header) → out2 ≡ out ++ whole
+header-pushed out out1 out2 front header whole whole_is is1 is2 =
+    is2
+    ∙ ap (λ l. l ++ take (length header - 12) (drop 12 header)) is1
+    ∙ ap (λ l. (out ++ front) ++ l) (take_rest header 12)
+    ∙ append_assoc out front (drop 12 header)
+    ∙ ap (λ l. out ++ l) whole_is
+
+-- a header and a payload were pushed
+pub payload-pushed : (out out1 out2 whole payload : List ℕ) → out1 ≡ out ++ whole → out2 ≡ out1 ++ payload → out2 ≡ out ++ (whole ++ payload)
+payload-pushed out out1 out2 whole payload is1 is2 = is2 ∙ ap (λ l. l ++ payload) is1 ∙ append_assoc out whole payload

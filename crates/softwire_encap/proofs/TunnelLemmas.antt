@@ -1,11 +1,10 @@
 -- Lemmas on the tunnel's header and the packet behind it.
-use Rattle.std.proofs.Common.{◌≡◌, ℕ, ◌+◌, ◌≤◌, List, [], ◌∷◌, ◌++◌, length, take, refl, sym, ◌∙◌, ap, append_assoc, arith}
-use Rattle.std.proofs.Math.Seq.{take-append_seam}
-use Rattle.std.proofs.lemmas.List.{length-append, take_all}
+use Rattle.std.proofs.Common.{◌≡◌, ℕ, ◌+◌, ◌≤◌, List, [], ◌∷◌, ◌++◌, length, drop, take, refl, sym, ◌∙◌, ap, append_assoc, arith}
+use Rattle.std.proofs.Math.Seq.{drop-append_seam, take-append_seam}
+use Rattle.std.proofs.lemmas.List.{append-nil, length-append, take_all}
 use borrow.Rule.Slice.PartMut.{put_mid}
 use Rattle.aftr_base.proofs.PieceLemmas.{front_over}
 use Rattle.aftr_base.specs.declared.numbers.V6.{V6}
-use Rattle.ip_codec.specs.Packet6.{Packet6}
 use Rattle.softwire_encap.specs.Tunnel.{tos_of, tunnel_front, tunnelled, with_body, wrapped}
 
 pub front_of_wrapped : (from to : V6) (hop : ℕ) (inner : List ℕ) →
@@ -28,6 +27,15 @@ pub longer_body : (from to : V6) (hop : ℕ) (inner rest : List ℕ) → 2 ≤ l
 longer_body from to hop [] rest some = absurd (omega arith)
 longer_body from to hop (a ∷ []) rest some = absurd (omega arith)
 longer_body from to hop (a ∷ b ∷ inner) rest some = refl
+
+-- a list of twelve in front of an array of twenty, and another one put behind it
+pub put_last : (first part front behind : List ℕ) → length first ≡ 12 → first ≡ front → part ≡ behind →
+    put_mid 12 8 (first ++ 0 ∷ 0 ∷ 0 ∷ 0 ∷ 0 ∷ 0 ∷ 0 ∷ 0 ∷ []) part ≡ front ++ behind
+put_last first part front behind len first_is part_is =
+    let zeros : List ℕ = 0 ∷ 0 ∷ 0 ∷ 0 ∷ 0 ∷ 0 ∷ 0 ∷ 0 ∷ [] in
+    (λ i. take (sym len i) (first ++ zeros) ++ (part ++ drop 8 (drop (sym len i) (first ++ zeros))))
+    ∙ ((λ i. take-append_seam first zeros i ++ (part ++ drop 8 (drop-append_seam first zeros i)))
+    ∙ (ap (λ l. first ++ l) (append-nil part) ∙ (λ i. first_is i ++ part_is i)))
 
 -- a list in front of an array, and another one put behind it
 pub put_behind : (n m k : ℕ) (first rest part front behind : List ℕ) → length first ≡ n → length part ≡ m → first ≡ front → part ≡ behind →

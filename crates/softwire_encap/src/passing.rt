@@ -12,7 +12,9 @@ const CHECKSUM: usize = 10;
 
 const ADDRESSES: usize = 12;
 
-// The most bytes of a header (RFC 791, section 3.1).
+// How many bytes a header has without options, and how many at most (RFC 791, section 3.1).
+const PLAIN_HEADER: usize = 20;
+
 const MOST_HEADER: usize = 60;
 
 /// The packet as a router passes it on, in memory of its own final size: the time to live is one less, and the header's
@@ -38,10 +40,36 @@ pub fn push_lowered(out: &mut Vec<u8>, p: &Ip4View<'_>) -> Result<(), OutOfMemor
     ensures read { IfOk result (λ _. ip4_of (lowered (packet4 p.now)) ≡ Ok (passed (packet4 p.now))) }
     ensures size { IfOk result (λ _. length (lowered (packet4 p.now)) ≡ packet_len (packet4 p.now)) }
 {
-    out.extend_from_slice(&lowered_front(p))?;
-    out.extend_from_slice(&p.header[ADDRESSES..])?;
+    push_lowered_header(out, p)?;
     out.extend_from_slice(p.payload)?;
     Ok(())
+}
+
+// Puts the header of that packet there: at once where it has no options, as most have none.
+fn push_lowered_header(out: &mut Vec<u8>, p: &Ip4View<'_>) -> Result<(), OutOfMemory>
+    requires whole { ip4_of (p.now.header.now ++ p.now.payload.now) ≡ Ok (packet4 p.now) }
+    requires alive { 1 ≤ p.now.ttl }
+    ensures { IfOk result (λ _. out.new.items ≡ out.old.items ++ lowered_header (packet4 p.now)) }
+{
+    let front = lowered_front(p);
+    if p.header.len() == PLAIN_HEADER {
+        out.extend_from_slice(&plain_header(&front, &p.header[ADDRESSES..]))?;
+        return Ok(());
+    }
+    out.extend_from_slice(&front)?;
+    out.extend_from_slice(&p.header[ADDRESSES..])?;
+    Ok(())
+}
+
+// A header without options of its two parts.
+fn plain_header(front: &[u8; 12], addresses: &[u8]) -> [u8; 20]
+    requires { length addresses.now ≡ 8 }
+    ensures { result ≡ front.now ++ addresses.now }
+{
+    let mut bytes = [0; PLAIN_HEADER];
+    bytes[..ADDRESSES].copy_from_slice(front);
+    bytes[ADDRESSES..].copy_from_slice(addresses);
+    bytes
 }
 
 /// The header of the packet that `lower` makes, in front of 60 bytes; it has as many as that of `p`. So a packet that is not put
