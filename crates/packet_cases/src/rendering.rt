@@ -3,6 +3,7 @@
 use crate::sending::{are_just, is_packet, joined, part, pattern, sent_back, sent_in, sent_out};
 use aftr_base::V6;
 use case_data::{DOWN, DOWN_LOWERED, DOWN_TUNNEL, UP, UP_LOWERED};
+use packet_render::MOST_PACKETS;
 use std::test::Fail;
 
 // Another subscriber's end of its tunnel.
@@ -11,10 +12,10 @@ const OTHER: V6 = V6(0x2001_0db8_0001_0000_0000_0000_0000_0002);
 const HAIRPIN: &[u8; 32] =
     b"\x45\0\0\x20\0\x01\0\0\x40\x11\x02\xc9\xcb\0\x71\x01\xcb\0\x71\x01\x04\xd0\x04\xd4\0\x0c\0\0test";
 
-const HAIRPIN_LOWERED: &[u8; 32] =
+pub const HAIRPIN_LOWERED: &[u8; 32] =
     b"\x45\0\0\x20\0\x01\0\0\x3f\x11\x03\xc9\xcb\0\x71\x01\xcb\0\x71\x01\x04\xd0\x04\xd4\0\x0c\0\0test";
 
-const HAIRPIN_TUNNEL: &[u8; 40] =
+pub const HAIRPIN_TUNNEL: &[u8; 40] =
     b"\x60\0\0\0\0\x20\x04\x40\x20\x01\x0d\xb8\0\0\0\0\0\0\0\0\0\0\0\x01\x20\x01\x0d\xb8\0\x01\0\0\0\0\0\0\0\0\0\x02";
 
 #[test]
@@ -95,6 +96,40 @@ fn tunnel_packets_are_cut(rt: HostRuntime) -> Result<(), Fail> {
     Ok(())
 }
 
+// A header before 1,233 bytes, from a subscriber to another one.
+const LONG_HAIRPIN: &[u8; 20] =
+    b"\x45\0\x04\xe5\0\x08\0\0\x40\x11\xfd\xfc\xcb\0\x71\x01\xcb\0\x71\x01";
+
+const LONG_HAIRPIN_LOWERED: &[u8; 20] =
+    b"\x45\0\x04\xe5\0\x08\0\0\x3f\x11\xfe\xfc\xcb\0\x71\x01\xcb\0\x71\x01";
+// The headers of its two fragments at 1,280 bytes: 1,232 bytes of the inner packet and then 21, of datagram 7.
+const HAIRPIN_FIRST: &[u8; 48] =
+    b"\x60\0\0\0\x04\xd8\x2c\x40\x20\x01\x0d\xb8\0\0\0\0\0\0\0\0\0\0\0\x01\x20\x01\x0d\xb8\0\x01\0\0\0\0\0\0\0\0\0\x02\x04\0\0\x01\0\0\0\x07";
+
+const HAIRPIN_LAST: &[u8; 48] =
+    b"\x60\0\0\0\0\x1d\x2c\x40\x20\x01\x0d\xb8\0\0\0\0\0\0\0\0\0\0\0\x01\x20\x01\x0d\xb8\0\x01\0\0\0\0\0\0\0\0\0\x02\x04\0\x04\xd0\0\0\0\x07";
+
+#[test]
+fn packets_to_a_neighbour_are_cut(rt: HostRuntime) -> Result<(), Fail> {
+    let alloc = rt.alloc();
+    let data = pattern(alloc, 1233)?;
+    let sent = sent_back(alloc, &joined(alloc, LONG_HAIRPIN, &data)?, OTHER, 1280)?;
+    assert!(rt; are_just(&sent, 2), "two fragments");
+    assert!(rt;
+        is_packet(
+            &sent.1,
+            0,
+            &[HAIRPIN_FIRST, LONG_HAIRPIN_LOWERED, part(&data, 0, 1212)]
+        ),
+        "1,280 bytes"
+    );
+    assert!(rt;
+        is_packet(&sent.1, 1, &[HAIRPIN_LAST, part(&data, 1212, 1233)]),
+        "69 bytes"
+    );
+    Ok(())
+}
+
 // A header before 65,515 bytes, and the headers of its first and its last fragment at 1,280 bytes, of datagram 0.
 const LONGEST: &[u8; 20] =
     b"\x45\0\xff\xff\0\x03\0\0\x40\x11\x14\xae\xc6\x33\x64\x07\xcb\0\x71\x01";
@@ -159,6 +194,40 @@ fn packets_are_cut_on_their_way_out(rt: HostRuntime) -> Result<(), Fail> {
     assert!(rt;
         is_packet(&sent.1, 2, &[OPTIONS_LAST, part(&data, 1064, 1100)]),
         "the last"
+    );
+    Ok(())
+}
+
+// A header of 60 bytes before 65,475 bytes, from a subscriber: an option of 40 bytes for experiments, which is copied.
+const ALL_COPIED: &[u8; 60] =
+    b"\x4f\0\xff\xff\0\x09\0\0\x40\x11\x02\x02\xcb\0\x71\x01\xc6\x33\x64\x07\x9e\x28\x01\x02\x03\x04\x05\x06\x07\x08\x09\x0a\x0b\x0c\x0d\x0e\x0f\x10\x11\x12\x13\x14\x15\x16\x17\x18\x19\x1a\x1b\x1c\x1d\x1e\x1f\x20\x21\x22\x23\x24\x25\x26";
+// The headers of three of its pieces at 576 bytes: the first, the one from 32,768 on, and the last, from 65,024 on.
+const COPIED_FIRST: &[u8; 60] =
+    b"\x4f\0\x02\x3c\0\x09\x20\0\x3f\x11\xe0\xc5\xcb\0\x71\x01\xc6\x33\x64\x07\x9e\x28\x01\x02\x03\x04\x05\x06\x07\x08\x09\x0a\x0b\x0c\x0d\x0e\x0f\x10\x11\x12\x13\x14\x15\x16\x17\x18\x19\x1a\x1b\x1c\x1d\x1e\x1f\x20\x21\x22\x23\x24\x25\x26";
+
+const COPIED_MIDDLE: &[u8; 60] =
+    b"\x4f\0\x02\x3c\0\x09\x30\0\x3f\x11\xd0\xc5\xcb\0\x71\x01\xc6\x33\x64\x07\x9e\x28\x01\x02\x03\x04\x05\x06\x07\x08\x09\x0a\x0b\x0c\x0d\x0e\x0f\x10\x11\x12\x13\x14\x15\x16\x17\x18\x19\x1a\x1b\x1c\x1d\x1e\x1f\x20\x21\x22\x23\x24\x25\x26";
+
+const COPIED_LAST: &[u8; 60] =
+    b"\x4f\0\x01\xff\0\x09\x1f\xc0\x3f\x11\xe1\x42\xcb\0\x71\x01\xc6\x33\x64\x07\x9e\x28\x01\x02\x03\x04\x05\x06\x07\x08\x09\x0a\x0b\x0c\x0d\x0e\x0f\x10\x11\x12\x13\x14\x15\x16\x17\x18\x19\x1a\x1b\x1c\x1d\x1e\x1f\x20\x21\x22\x23\x24\x25\x26";
+
+#[test]
+fn the_most_pieces_are_128(rt: HostRuntime) -> Result<(), Fail> {
+    let alloc = rt.alloc();
+    let data = pattern(alloc, 65475)?;
+    let sent = sent_out(alloc, &joined(alloc, ALL_COPIED, &data)?, 576)?;
+    assert!(rt; are_just(&sent, MOST_PACKETS), "128 pieces");
+    assert!(rt;
+        is_packet(&sent.1, 0, &[COPIED_FIRST, part(&data, 0, 512)]),
+        "the first"
+    );
+    assert!(rt;
+        is_packet(&sent.1, 64, &[COPIED_MIDDLE, part(&data, 32768, 33280)]),
+        "the one from 32,768 on"
+    );
+    assert!(rt;
+        is_packet(&sent.1, 127, &[COPIED_LAST, part(&data, 65024, 65475)]),
+        "the last, of 451 bytes"
     );
     Ok(())
 }

@@ -1,5 +1,6 @@
 // What senders are told of packets that are dropped. The errors and their checksums were computed by Python alone; the lengths
 // follow from RFC 1812, section 4.3.2.3, and RFC 4443, section 2.4 (c).
+use crate::rendering::{HAIRPIN_LOWERED, HAIRPIN_TUNNEL};
 use crate::sending::{
     Recorded, are_just, dropped, exceeded, is_packet, joined, part, pattern, policy, relayed,
     too_big, unreachable,
@@ -105,14 +106,27 @@ const RELAYED: &[u8; 28] =
     b"\x45\0\0\x3c\0\0\x40\0\x40\x01\x4e\x85\xc0\0\x02\x01\xc6\x33\x64\x07\x03\x04\x0a\xc1\0\0\x05\x50";
 
 const ROUTER: V6 = V6(0x2001_0db8_0009_0000_0000_0000_0000_0001);
+// The same before the tunnel packet of one subscriber's datagram to another, and what stands before that datagram in the answer
+// to the first one.
+const HAIRPIN_TOO_BIG: &[u8; 8] = b"\x02\0\xeb\x1f\0\0\x05\x78";
+
+const RELAYED_BACK: &[u8; 68] =
+    b"\x60\0\0\0\0\x3c\x04\x40\x20\x01\x0d\xb8\0\0\0\0\0\0\0\0\0\0\0\x01\x20\x01\x0d\xb8\0\x01\0\0\0\0\0\0\0\0\0\x01\x45\0\0\x3c\0\0\x40\0\x40\x01\x3c\xbe\xc0\0\x02\x01\xcb\0\x71\x01\x03\x04\x06\x22\0\0\x05\x50";
 
 #[test]
 fn errors_about_tunnel_packets_are_passed_on(rt: HostRuntime) -> Result<(), Fail> {
     let alloc = rt.alloc();
     let quoted = joined(alloc, DOWN_TUNNEL, DOWN_LOWERED)?;
     let message = joined(alloc, PACKET_TOO_BIG, &quoted)?;
-    let told = relayed(alloc, ROUTER, &message, OWN, 1360)?;
-    assert!(rt; is_just(&told, &[RELAYED, DOWN_LOWERED]));
+    let told = relayed(alloc, ROUTER, &message, OWN, 1360, Path::Plain)?;
+    assert!(rt; is_just(&told, &[RELAYED, DOWN_LOWERED]), "to a host");
+    let quoted = joined(alloc, HAIRPIN_TUNNEL, HAIRPIN_LOWERED)?;
+    let message = joined(alloc, HAIRPIN_TOO_BIG, &quoted)?;
+    let told = relayed(alloc, ROUTER, &message, OWN, 1360, BACK)?;
+    assert!(rt;
+        is_just(&told, &[RELAYED_BACK, HAIRPIN_LOWERED]),
+        "to a subscriber"
+    );
     Ok(())
 }
 

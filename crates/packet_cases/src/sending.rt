@@ -242,13 +242,14 @@ pub fn too_big(alloc: Global, bytes: &[u8], own: V4, mtu: u16) -> Result<Recorde
     record(alloc, &ItemView::Down { packet }, verdict, 7)
 }
 
-// What a host is told of an ICMPv6 error about the tunnel packet that carried its own.
+// What a sender is told of an ICMPv6 error about the tunnel packet that carried its own.
 pub fn relayed(
     alloc: Global,
     src: V6,
     message: &[u8],
     own: V4,
     mtu: u16,
+    path: Path,
 ) -> Result<Recorded, Fail> {
     let Ok(view) = icmp6(src, AFTR, message) else {
         return Err("an ICMPv6 message".into());
@@ -263,7 +264,7 @@ pub fn relayed(
         own,
         code: 4,
         mtu,
-        path: Path::Plain,
+        path,
     };
     let verdict = Verdict::Drop {
         why: Rule::Relayed,
