@@ -5,3 +5,4 @@ mod Members
 mod Written
 mod Unique
 mod Looks
+mod FewerMarks

@@ -9,7 +9,8 @@ use Rattle.binding_rules.specs.declared.settings.Softwire.{Softwire}
 use Rattle.binding_rules.specs.declared.refused.TableError.{TableError}
 use Rattle.binding_rules.specs.declared.refused.TableError.TheVariants as table_error
 use Rattle.toml.specs.Data.{Data, array, table, depth, members_depth, as_table, Items, no_items, item, Members, no_members, member}
-use Rattle.binding_file.specs.Costs.{ends_header}
+use Rattle.binding_file.specs.Costs.{ends_header, header_bytes, most_header, seen}
+use Rattle.binding_file.specs.declared.costs.Part.TheVariants as part
 use Rattle.binding_file.specs.Files.{IsElement, IsSoftwire}
 use Rattle.binding_file.specs.declared.refusals.FileRefused.{FileRefused}
 use Rattle.binding_file.specs.declared.refusals.FileRefused.TheVariants as refused
@@ -69,3 +70,8 @@ pub record IsSoftwireData (d : Data) (s : Softwire) : Type 0 where
 -- how much of a header stands in front once this byte is passed, its bracket included
 abbrev pub header_after : ℕ → ℕ → ℕ
 header_after header b = if b == 91 then 1 else if ends_header b || header == 0 then 0 else header + 1
+
+-- a header that begins here is short, outside of comments and quoted texts and behind a text of several lines
+pub record IsShortHeader (bytes : List ℕ) : Type 0 where
+  pub plain : header_bytes (seen part.Plain bytes) ≤ most_header
+  pub whole : header_bytes (seen part.Whole bytes) ≤ most_header

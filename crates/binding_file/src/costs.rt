@@ -3,12 +3,14 @@ ghost use Rattle.std.specs.Prelude.{◌≡◌, ◌≤◌};
 ghost use Rattle.binding_file.specs.Costs.{begun, part_after, seen_as, is_mark, ends_header, is_costly};
 ghost use Rattle.binding_file.specs.Parts.{header_after};
 
+use crate::glances::is_plainly_cheap;
+
 /// The most marks of a text (`.`, `=`, `[`, `{` outside of comments and quoted texts): 16 for each of 65,536 bindings, of
 /// which none needs more than 7.
-const MOST_MARKS: usize = 1_048_576;
+pub(crate) const MOST_MARKS: usize = 1_048_576;
 
 /// The most bytes of a header, as `binding`, between its brackets.
-const MOST_HEADER: usize = 24;
+pub(crate) const MOST_HEADER: usize = 24;
 
 /// Where a byte of a TOML text stands.
 #[derive(Clone, Copy, Debug, PartialEq, Eq)]
@@ -30,8 +32,18 @@ enum Part {
 
 /// Whether the text has more marks than a table of bindings can need, or a longer header. The counts are never below what the
 /// reader of TOML makes of the text: each key has a `=`, and each table a `{`, a `[` or a `.` of its own.
-#[tactic(auto, unfolding(crate::specs::Costs::is_costly))]
 pub(crate) fn is_costly(text: &[u8]) -> bool
+    ensures { result ≡ is_costly text.now }
+{
+    if is_plainly_cheap(text) {
+        return false;
+    }
+    has_too_much(text)
+}
+
+// The same by a look over all bytes, which follows comments and quoted texts.
+#[tactic(auto, unfolding(crate::specs::Costs::is_costly))]
+fn has_too_much(text: &[u8]) -> bool
     ensures { result ≡ is_costly text.now }
 {
     let mut part = Part::Plain;
@@ -102,13 +114,14 @@ fn seen_as(part: Part, byte: u8) -> u8
     }
 }
 
-fn is_mark(seen: u8) -> bool
+pub(crate) fn is_mark(seen: u8) -> bool
     ensures { result ≡ is_mark seen }
 {
-    matches!(seen, b'.' | b'=' | b'[' | b'{')
+    // without a branch, so that a count of them is laid out for many bytes at once
+    (seen == b'.') | (seen == b'=') | (seen == b'[') | (seen == b'{')
 }
 
-fn ends_header(seen: u8) -> bool
+pub(crate) fn ends_header(seen: u8) -> bool
     ensures { result ≡ ends_header seen }
 {
     matches!(seen, b'\n' | b'#' | b',' | b'=' | b'[' | b']' | b'{' | b'}')

@@ -3,6 +3,7 @@
 #![tactic(auto)]
 
 mod costs;
+mod glances;
 mod keys;
 mod laws;
 mod names;

@@ -3,7 +3,7 @@ use Rattle.std.proofs.Common.{◌≡◌, ◌+◌, ◌≤◌, length}
 use Rattle.binding_file.specs.Costs.{seen, marks, has_long_header}
 use Rattle.binding_file.specs.declared.costs.Part.TheVariants as part
 use Rattle.binding_file.proofs.Looks.{long_from}
-use Rattle.binding_file.proofs.costs.is_costly.Given as goal
+use Rattle.binding_file.proofs.costs.has_too_much.Given as goal
 
 abbrev pub invariant-bytes : goal.invariant-bytes
 invariant-bytes l = record {

@@ -1,0 +1,65 @@
+// A glance over a text, which tells of most texts that they cost little, and costs a third of the look over their bytes.
+ghost use Rattle.std.specs.Prelude.{◌≡◌, ◌≤◌, true, false, length};
+ghost use Rattle.binding_file.specs.Costs.{has_long_header, is_costly, marks, seen};
+ghost use Rattle.binding_file.specs.Parts.{IsShortHeader};
+ghost use Rattle.binding_file.specs.declared.costs.Part.{Part as SpecPart};
+
+use crate::costs::{MOST_HEADER, MOST_MARKS, ends_header, is_mark};
+
+/// Whether the text is plainly one that costs little, without a look at where comments and quoted texts begin: it has few marks,
+/// those in such parts included, and each `[` has the end of its header soon behind it, and no quoted text before that.
+#[tactic(auto, using(crate::proofs::FewerMarks::cheap))]
+pub(crate) fn is_plainly_cheap(text: &[u8]) -> bool
+    ensures { result ≡ true → is_costly text.now ≡ false }
+{
+    if count_marks(text) > MOST_MARKS {
+        return false;
+    }
+    has_short_headers(text)
+}
+
+// How many marks there are, wherever they stand.
+fn count_marks(text: &[u8]) -> usize
+    ensures { result ≡ marks text.now }
+{
+    let mut count = 0;
+    let mut rest = text;
+    'bytes: while let [byte, after @ ..] = rest {
+        count += usize::from(is_mark(*byte));
+        rest = after;
+    }
+    count
+}
+
+// Whether each bracket has the end of a header soon behind it.
+fn has_short_headers(text: &[u8]) -> bool
+    ensures { result ≡ true → (p : SpecPart) → has_long_header (seen p text.now) ≡ false }
+{
+    let mut rest = text;
+    'bytes: while let [byte, after @ ..] = rest {
+        if *byte == b'[' && !is_short_header(after) {
+            return false;
+        }
+        rest = after;
+    }
+    true
+}
+
+// Whether a header that begins here ends soon, and before a quoted text begins.
+fn is_short_header(bytes: &[u8]) -> bool
+    ensures { result ≡ true → IsShortHeader bytes.now }
+{
+    let mut count = 0;
+    let mut rest = bytes;
+    'bytes: while let [byte, after @ ..] = rest {
+        if ends_header(*byte) {
+            return true;
+        }
+        if *byte == b'"' || *byte == b'\'' || count == MOST_HEADER {
+            return false;
+        }
+        count += 1;
+        rest = after;
+    }
+    false
+}
