@@ -111,10 +111,20 @@ pub fn ip4(bytes: &[u8]) -> Result<Ip4View<'_>, Ip4Bad>
         return Err(Ip4Bad::TotalLength);
     }
     let header = &bytes[..header_len];
-    if sum16(header) != 0 {
+    if header_sum(header) != 0 {
         return Err(Ip4Bad::Checksum);
     }
     Ok(view_of(header, &bytes[header_len..total_len]))
+}
+
+// The checksum of a header. Most have no options: for those the number of steps is known when this is compiled.
+fn header_sum(header: &[u8]) -> u16
+    ensures { result ≡ checksum header.now }
+{
+    if header.len() == 20 {
+        return sum16(&header[..20]);
+    }
+    sum16(header)
 }
 
 // The fields of a header, whatever they say of its lengths and its checksum.
