@@ -87,6 +87,7 @@ pub struct Head4 {
 }
 
 /// Reads an IPv4 packet (RFC 791, section 3.1). Bytes past its total length are ignored.
+#[inline(always)]
 pub fn ip4(bytes: &[u8]) -> Result<Ip4View<'_>, Ip4Bad>
     ensures reads { Reads4 result (ip4_of bytes.now) }
 

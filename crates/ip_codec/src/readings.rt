@@ -22,6 +22,7 @@ pub struct Unread<'a> {
 
 /// Reads an IPv4 packet as `ip4` does (RFC 791, section 3.1), and keeps the answer with what it says. Bytes past the packet's
 /// total length are left out; bytes that are no packet stay as they are.
+#[inline(always)]
 pub fn read_packet(bytes: &[u8]) -> Result<ReadPacket<'_>, Unread<'_>>
     ensures read { IfOk result (λ packet. ip4_of bytes.now ≡ Ok (packet4 packet.view)) }
     ensures front { IfOk result (λ packet.
