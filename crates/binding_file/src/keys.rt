@@ -1,8 +1,8 @@
 // What one key of a TOML table gives.
 ghost use Rattle.std.specs.Prelude.{◌≡◌, ◌≤◌, IfOk, option_map};
 ghost use Rattle.toml.specs.View.{view, table_view};
-ghost use Rattle.binding_file.specs.Keys.{member_at, required, table_at, text_at, number_at, flag_at, IsAddress6At, IsAddress4At, is_one_of, has_other};
-ghost use Rattle.binding_file.specs.Parts.{value_or_refusal};
+ghost use Rattle.binding_file.specs.Keys.{member_at, required, table_at, number_at, flag_at, IsAddress6At, IsAddress4At, is_one_of, has_other};
+ghost use Rattle.binding_file.specs.Parts.{value_or_refusal, data_of, text_from, number_from, IsAddress6From, IsAddress4From};
 
 use crate::names::{Name, Place};
 use crate::refusals::FileRefused;
@@ -36,19 +36,39 @@ pub(crate) fn table_at(table: &Table, place: Place) -> Result<&Table, FileRefuse
     }
 }
 
-fn text_at(table: &Table, place: Place) -> Result<&str, FileRefused>
-    ensures { value_or_refusal (λ t. t.now) result ≡ text_at (table_view table.now) place }
+/// The text that a place has to have, given what stands there.
+fn text_of(member: Option<&Value>, place: Place) -> Result<&str, FileRefused>
+    ensures { value_or_refusal (λ t. t.now) result ≡ text_from place (data_of member.entry) }
 {
-    match required(table, place)?.as_str() {
+    let Some(value) = member else {
+        return Err(FileRefused::Missing(place));
+    };
+    match value.as_str() {
         Some(text) => Ok(text),
         None => Err(FileRefused::Kind(place)),
+    }
+}
+
+/// The address that a place has to have, given what stands there.
+pub(crate) fn address6_of(member: Option<&Value>, place: Place) -> Result<V6, FileRefused>
+    ensures { IsAddress6From (data_of member.entry) place result }
+{
+    match read_v6(text_of(member, place)?) {
+        Ok(address) => Ok(address),
+        Err(_) => Err(FileRefused::Address(place)),
     }
 }
 
 pub(crate) fn address6_at(table: &Table, place: Place) -> Result<V6, FileRefused>
     ensures { IsAddress6At (table_view table.now) place result }
 {
-    match read_v6(text_at(table, place)?) {
+    address6_of(member_at(table, place), place)
+}
+
+pub(crate) fn address4_of(member: Option<&Value>, place: Place) -> Result<V4, FileRefused>
+    ensures { IsAddress4From (data_of member.entry) place result }
+{
+    match read_v4(text_of(member, place)?) {
         Ok(address) => Ok(address),
         Err(_) => Err(FileRefused::Address(place)),
     }
@@ -57,14 +77,35 @@ pub(crate) fn address6_at(table: &Table, place: Place) -> Result<V6, FileRefused
 pub(crate) fn address4_at(table: &Table, place: Place) -> Result<V4, FileRefused>
     ensures { IsAddress4At (table_view table.now) place result }
 {
-    match read_v4(text_at(table, place)?) {
-        Ok(address) => Ok(address),
-        Err(_) => Err(FileRefused::Address(place)),
+    address4_of(member_at(table, place), place)
+}
+
+/// An integer from 0 to `most`, given what stands at its place.
+#[tactic(auto, unfolding(crate::specs::Parts::number_from))]
+pub(crate) fn number_of(
+    member: Option<&Value>,
+    place: Place,
+    most: u16,
+    default: u16,
+) -> Result<u16, FileRefused>
+    requires { default ≤ most }
+    ensures value { result ≡ number_from place most default (data_of member.entry) }
+    ensures within { IfOk result (λ n. n ≤ most) }
+{
+    let Some(value) = member else {
+        return Ok(default);
+    };
+    let Some(number) = value.as_integer() else {
+        return Err(FileRefused::Kind(place));
+    };
+    match u16::try_from(number) {
+        Ok(number) if number <= most => Ok(number),
+        _ => Err(FileRefused::Range(place)),
     }
 }
 
 /// An integer from 0 to `most`.
-#[tactic(auto, unfolding(crate::specs::Keys::number_at))]
+#[tactic(auto, unfolding(crate::specs::Keys::number_at, crate::specs::Parts::number_from))]
 pub(crate) fn number_at(
     table: &Table,
     place: Place,
@@ -75,16 +116,14 @@ pub(crate) fn number_at(
     ensures value { result ≡ number_at (table_view table.now) place most default }
     ensures within { IfOk result (λ n. n ≤ most) }
 {
-    let Some(value) = member_at(table, place) else {
-        return Ok(default);
-    };
-    let Some(number) = value.as_integer() else {
-        return Err(FileRefused::Kind(place));
-    };
-    match u16::try_from(number) {
-        Ok(number) if number <= most => Ok(number),
-        _ => Err(FileRefused::Range(place)),
-    }
+    number_of(member_at(table, place), place, most, default)
+}
+
+/// An integer from 0 to 255, given what stands at its place.
+pub(crate) fn byte_of(member: Option<&Value>, place: Place, default: u8) -> Result<u8, FileRefused>
+    ensures { result ≡ number_from place 255 default (data_of member.entry) }
+{
+    Ok(number_of(member, place, 255, u16::from(default))? as u8)
 }
 
 /// An integer from 0 to 255.

@@ -3,6 +3,7 @@
 #![tactic(auto)]
 
 mod costs;
+mod element;
 mod glances;
 mod keys;
 mod laws;

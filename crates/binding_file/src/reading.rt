@@ -8,6 +8,7 @@ ghost use Rattle.binding_file.specs.Parts.{IsRead, value_or_refusal};
 ghost use Rattle.binding_file.specs.declared.refusals.FileError.TheVariants as file_error;
 
 use crate::costs::is_costly;
+use crate::element::element_of;
 use crate::keys::{
     address4_at, address6_at, byte_at, flag_at, has_other, member_at, number_at, required, table_at,
 };
@@ -33,8 +34,6 @@ const SOFTWIRE_NAMES: [Name; 9] = [
     Name::ErrorsUp,
     Name::ErrorsDown,
 ];
-
-const BINDING_NAMES: [Name; 5] = [Name::B4, Name::Ipv4, Name::Offset, Name::Length, Name::Psid];
 
 /// The table that a file spells. A refusal is the first in this order: `TooBig`; `NotToml`; of the key `version`
 /// `Missing`, `Kind`, `Version`; `UnknownKey` at the top; of `softwire` `Missing`, `Kind`, then its keys in the order of
@@ -172,51 +171,4 @@ fn bindings_of(alloc: Global, document: &toml::Table) -> Result<Vec<Binding>, Fi
         bindings.push(element_of(at as u32, &values[at])?)?;
     }
     Ok(bindings)
-}
-
-fn element_of(at: u32, value: &Value) -> Result<Binding, FileRefused>
-    ensures { IsElement at (view value.now) result }
-{
-    let Some(table) = value.as_table() else {
-        return Err(FileRefused::Kind(Place::Top(Name::Binding)));
-    };
-    let b4 = address6_at(table, Place::Binding { at, name: Name::B4 })?;
-    let v4 = address4_at(
-        table,
-        Place::Binding {
-            at,
-            name: Name::Ipv4,
-        },
-    )?;
-    port_set_of(at, table, b4, v4)
-}
-
-/// A binding's port set, behind its two addresses.
-#[tactic(auto, unfolding(crate::specs::Files::port_set_of))]
-fn port_set_of(at: u32, table: &toml::Table, b4: V6, v4: V4) -> Result<Binding, FileRefused>
-    ensures { result ≡ port_set_of at (table_view table.now) b4 v4 }
-{
-    let offset = Place::Binding {
-        at,
-        name: Name::Offset,
-    };
-    let length = Place::Binding {
-        at,
-        name: Name::Length,
-    };
-    let psid = Place::Binding {
-        at,
-        name: Name::Psid,
-    };
-    let binding = Binding {
-        b4,
-        v4,
-        offset: byte_at(table, offset, 0)?,
-        length: byte_at(table, length, 0)?,
-        psid: number_at(table, psid, 65535, 0)?,
-    };
-    if has_other(&BINDING_NAMES, table) {
-        return Err(FileRefused::UnknownKey);
-    }
-    Ok(binding)
 }

@@ -2,8 +2,8 @@ use Rattle.std.proofs.Common.{◌≡◌, ◌+◌, ◌≤◌, length}
 use Rattle.binding_file.specs.Costs.{marks}
 use Rattle.binding_file.proofs.glances.count_marks.Given as goal
 
-abbrev pub invariant-bytes : goal.invariant-bytes
-invariant-bytes l = (l.count + marks l.rest ≡ marks l.text) × (l.count + length l.rest ≤ length l.text)
+abbrev pub invariant-pieces : goal.invariant-pieces
+invariant-pieces l = (l.count + marks l.rest ≡ marks l.text) × (l.count + length l.rest ≤ length l.text)
 
-abbrev pub decreases-bytes : goal.decreases-bytes
-decreases-bytes l = length l.rest
+abbrev pub decreases-pieces : goal.decreases-pieces
+decreases-pieces l = length l.rest

@@ -1,11 +1,10 @@
-use Rattle.std.proofs.Common.{◌≡◌, false, length}
-use Rattle.binding_file.specs.Costs.{has_long_header, seen}
-use Rattle.binding_file.specs.declared.costs.Part.{Part}
+use Rattle.std.proofs.Common.{◌≤◌, length}
+use Rattle.binding_file.proofs.Skips.{AreShort}
 use Rattle.binding_file.proofs.glances.has_short_headers.Given as goal
 
 -- what is to come decides
-abbrev pub invariant-bytes : goal.invariant-bytes
-invariant-bytes l = ((p : Part) → has_long_header (seen p l.rest) ≡ false) → (p : Part) → has_long_header (seen p l.text) ≡ false
+abbrev pub invariant-brackets : goal.invariant-brackets
+invariant-brackets l = record { decides : AreShort l.rest → AreShort l.text; room : length l.rest ≤ length l.text }
 
-abbrev pub decreases-bytes : goal.decreases-bytes
-decreases-bytes l = length l.rest
+abbrev pub decreases-brackets : goal.decreases-brackets
+decreases-brackets l = length l.rest

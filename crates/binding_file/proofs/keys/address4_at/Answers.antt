@@ -1,6 +1,6 @@
-use Rattle.std.proofs.Common.{refl, sym}
-use Rattle.binding_file.proofs.Trees.{then_ok}
+use Rattle.std.proofs.Common.{subst}
+use Rattle.binding_file.specs.Parts.{IsAddress4From}
 use Rattle.binding_file.proofs.keys.address4_at.Goals as goal
 
-pub returns-in-Err : goal.returns-in-Err
-returns-in-Err c = then_ok _ c.in_ok-text_at.field-0.now _ _ (sym c.in_ok-text_at.ensures) (refl, c.in-Err.ensures.bad.0 refl)
+pub returns : goal.returns
+returns c = subst (λ d. IsAddress4From d c.args.place c.address4_of.result) c.member_at.ensures c.address4_of.ensures

@@ -1,0 +1,75 @@
+-- Bytes that are no bracket begin no header, in whatever part of a text they stand, and a bracket with a short header behind it begins
+-- none that is long.
+use Rattle.std.proofs.Common.{◌≡◌, ℕ, zero, suc, ◌+◌, ◌<◌, ◌≤◌, ◌==◌, nat_lt, Bool, true, false, ◌&&◌, List, [], ◌∷◌, length, drop, slice_index, refl, sym, subst, arith}
+use Rattle.std.proofs.lemmas.Bool.{le-ltb, eqb-true, false_from_ne_true}
+use Rattle.std.proofs.lemmas.List.{drop_all, drop_more}
+use Rattle.memchr.specs.Find.{Nowhere, NoneBefore, Passes, is_byte}
+use Rattle.binding_file.specs.Costs.{has_long_header, header_bytes, most_header, part_after, seen, seen_as}
+use Rattle.binding_file.specs.Parts.{IsShortHeader}
+use Rattle.binding_file.specs.declared.costs.Part.{Part}
+use Rattle.binding_file.specs.declared.costs.Part.TheVariants as part
+use Rattle.binding_file.proofs.FewerMarks.{neither}
+
+-- no header is long, in whatever part the bytes begin
+abbrev pub AreShort : List ℕ → Type 0
+AreShort bs = (p : Part) → has_long_header (seen p bs) ≡ false
+
+none_short : AreShort []
+none_short p = refl
+
+unseen : (p : Part) (b : ℕ) → (b == 91) ≡ false → (seen_as p b == 91) ≡ false
+unseen part.Plain b other = other
+unseen part.Comment b other = refl
+unseen part.Basic b other = refl
+unseen part.Escaped b other = refl
+unseen part.Literal b other = refl
+unseen part.Closed b other = other
+unseen part.Whole b other = other
+
+first_false : (a b : Bool) → a ≡ false → (a && b) ≡ false
+first_false true b is = absurd cc
+first_false false b is = refl
+
+passed : (b : ℕ) (bs : List ℕ) → (b == 91) ≡ false → AreShort bs → AreShort (b ∷ bs)
+passed b bs other short p =
+    let after : List ℕ = seen (part_after p b) bs in
+    neither (seen_as p b == 91 && nat_lt most_header (header_bytes after)) (has_long_header after)
+    (first_false (seen_as p b == 91) (nat_lt most_header (header_bytes after)) (unseen p b other)) (short (part_after p b))
+
+skipped : (bs : List ℕ) (k : ℕ) → ((j : ℕ) → j < k → (slice_index bs j == 91) ≡ false) → AreShort (drop k bs) → AreShort bs
+skipped bs zero before short = short
+skipped [] (suc k) before short = none_short
+skipped (b ∷ bs) (suc k) before short = passed b bs (before 0 (omega arith)) (skipped bs k (λ j less. before (suc j) (omega (arith, less))) short)
+
+ends_soon : (after : List ℕ) → header_bytes after ≤ most_header → nat_lt most_header (header_bytes after) ≡ false
+ends_soon after few = le-ltb most_header (header_bytes after) few
+
+begun_short : (bs : List ℕ) → IsShortHeader bs → AreShort bs → AreShort (91 ∷ bs)
+begun_short bs header short part.Plain =
+    neither (nat_lt most_header (header_bytes (seen part.Plain bs))) (has_long_header (seen part.Plain bs))
+    (ends_soon (seen part.Plain bs) header.plain) (short part.Plain)
+begun_short bs header short part.Comment = short part.Comment
+begun_short bs header short part.Basic = short part.Basic
+begun_short bs header short part.Escaped = short part.Basic
+begun_short bs header short part.Literal = short part.Literal
+begun_short bs header short part.Closed =
+    neither (nat_lt most_header (header_bytes (seen part.Plain bs))) (has_long_header (seen part.Plain bs))
+    (ends_soon (seen part.Plain bs) header.plain) (short part.Plain)
+begun_short bs header short part.Whole =
+    neither (nat_lt most_header (header_bytes (seen part.Whole bs))) (has_long_header (seen part.Whole bs))
+    (ends_soon (seen part.Whole bs) header.whole) (short part.Whole)
+
+-- without a bracket no header is long
+pub no_bracket : (bs : List ℕ) → Nowhere (Passes (is_byte 91) bs) 0 (length bs) → AreShort bs
+no_bracket bs nowhere =
+    skipped bs (length bs) (λ j less. false_from_ne_true (slice_index bs j == 91) (nowhere j (omega arith) less))
+    (subst AreShort (sym (drop_all (length bs) bs (omega arith))) none_short)
+
+-- up to the first bracket no header is long, and none is where that of the bracket and those behind it are short
+pub first_bracket : (bs : List ℕ) (k : ℕ) → NoneBefore (Passes (is_byte 91) bs) 0 (length bs) k → Passes (is_byte 91) bs k →
+    IsShortHeader (drop (k + 1) bs) → AreShort (drop (k + 1) bs) → AreShort bs
+first_bracket bs k first here header short =
+    let is : slice_index bs k ≡ 91 = eqb-true (slice_index bs k) 91 here in
+    let opened : AreShort (slice_index bs k ∷ drop (k + 1) bs) = subst (λ b. AreShort (b ∷ drop (k + 1) bs)) (sym is) (begun_short (drop (k + 1) bs) header short) in
+    skipped bs k (λ j less. false_from_ne_true (slice_index bs j == 91) (first.before j (omega arith) less))
+    (subst AreShort (sym (drop_more bs k 0 first.high)) opened)
