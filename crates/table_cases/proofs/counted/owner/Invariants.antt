@@ -1,4 +1,4 @@
-use Rattle.table_cases.proofs.lookups.owner.Given as goal
+use Rattle.table_cases.proofs.counted.owner.Given as goal
 
 abbrev pub ghosts-counted_look : goal.ghosts-counted_look
 ghosts-counted_look a = record { name = a.blank.name; parts = a.blank.parts }
