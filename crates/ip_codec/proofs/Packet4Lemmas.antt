@@ -1,5 +1,5 @@
 -- Lemmas on IPv4 packets: a header and a payload that fit each other are read as they stand.
-use Rattle.std.proofs.Common.{nat_lt, ◌==◌, ◌≡◌, ℕ, ◌^◌, Bool, ◌+◌, ◌-◌, ◌*◌, ◌/◌, ◌%◌, ◌<◌, ◌≤◌, List, ◌++◌, length, take, Ok, refl, sym, ◌∙◌, ap, arith, slice_index}
+use Rattle.std.proofs.Common.{nat_lt, ◌==◌, ◌≡◌, ℕ, ◌^◌, Bool, ◌+◌, ◌-◌, ◌*◌, ◌/◌, ◌%◌, ◌<◌, ◌≤◌, List, ◌++◌, length, take, Result, Ok, Err, is_ok, true, refl, sym, ◌∙◌, ap, arith, slice_index}
 use Rattle.std.proofs.lemmas.List.{length-append, length-take-le, get_or_append_left, get_or-take, take_all}
 use Rattle.std.proofs.lemmas.Bool.{le-ltb, ltb-false, eqb-true, or_parts}
 use Rattle.std.proofs.Math.Seq.{take-append_seam, drop-append_seam, take-add}
@@ -11,6 +11,7 @@ use Rattle.aftr_base.specs.Sums.{checksum}
 use Rattle.aftr_base.proofs.NumberLemmas.{length-span}
 use Rattle.aftr_base.proofs.SumLemmas.{checksum-sealed}
 use Rattle.ip_codec.specs.declared.packet4.Head4.{Head4}
+use Rattle.ip_codec.specs.declared.packet4.Ip4Bad.{Ip4Bad}
 use Rattle.ip_codec.specs.Packet4.{Packet4, ip4_of, refusals4, fields4, header_len_of, total_len_of, bit, flag_worth, flags_of, fixed4, header4, made4}
 use Rattle.ip_codec.proofs.FieldLemmas.{span-append, span-take, big_endian-bytes_high_first, big_endian-word_bytes}
 use Rattle.aftr_base.proofs.FirstLemmas.{first_true-Ok, not-false}
@@ -191,3 +192,25 @@ ip4_of-shaped bytes packet is =
           (ap (λ p. p.header) spelt.is) (ap (λ p. p.payload) spelt.is)
           ∙ ap (λ n. take n bytes) total_is;
     }
+
+-- what is known of bytes that are read as some packet, by the lengths that their header says
+pub record IsKnown4 (bytes : List ℕ) (header_len total_len : ℕ) : Type 0 where
+  pub least : 20 ≤ header_len
+  pub order : header_len ≤ total_len
+  pub within : total_len ≤ length bytes
+  pub read : ip4_of bytes ≡ Ok (fields4 (take header_len bytes) (span bytes header_len (total_len - header_len)))
+
+pub ip4_of-known : (bytes : List ℕ) → is_ok (ip4_of bytes) ≡ true → IsKnown4 bytes (header_len_of bytes) (total_len_of bytes)
+ip4_of-known bytes known = by_reading (ip4_of bytes) refl known
+  where
+    by_reading : (read : Result Packet4 Ip4Bad) → ip4_of bytes ≡ read → is_ok read ≡ true → IsKnown4 bytes (header_len_of bytes) (total_len_of bytes)
+    by_reading (Ok packet) is ok =
+        let spelt = ip4_of-Ok bytes packet is in
+        record { least = spelt.least; order = spelt.order; within = spelt.within; read = is ∙ ap Ok spelt.is }
+    by_reading (Err why) is ok = absurd (cc ok)
+
+-- such bytes are read as the fields between those lengths
+pub known_as : (bytes : List ℕ) (header_len total_len : ℕ) (packet : Packet4) → header_len ≡ header_len_of bytes → total_len ≡ total_len_of bytes →
+    is_ok (ip4_of bytes) ≡ true → packet ≡ fields4 (take header_len bytes) (span bytes header_len (total_len - header_len)) → ip4_of bytes ≡ Ok packet
+known_as bytes header_len total_len packet h t known is =
+    (ip4_of-known bytes known).read ∙ ap Ok (sym (is ∙ (λ i. fields4 (take (h i) bytes) (span bytes (h i) (t i - h i)))))

@@ -1,11 +1,14 @@
 // IPv4 packets, read and written.
-ghost use Rattle.std.specs.Prelude.{◌≡◌, ◌+◌, ◌%◌, ◌^◌, ◌<◌, ◌≤◌, ◌++◌, length, take, IfOk, Ok};
+ghost use Rattle.std.specs.Prelude.{◌≡◌, ◌==◌, ◌+◌, ◌-◌, ◌%◌, ◌^◌, ◌<◌, ◌≤◌, ◌++◌, length, take, IfOk, Ok};
 ghost use Rattle.aftr_base.specs.Numbers.{span};
-ghost use Rattle.aftr_base.specs.Sums.{checksum};
+ghost use Rattle.aftr_base.specs.Sums.{checksum, folded, word_sum};
 ghost use Rattle.ip_codec.specs.Packet4.{ip4_of, packet4, Reads4, IsBounded4, fields4, header4, fixed4, flags_of, flag_worth, made4, is_fragment, packet_len};
 
 use aftr_base::{Bytes, OutOfMemory, V4, be16, be32, patch16, put_be16, put_checksum, sum16};
 use std::alloc::Global;
+
+// How many bytes a header without options has (RFC 791, section 3.1).
+const PLAIN_HEADER: usize = 20;
 
 /// An IPv4 packet as it stands in bytes (RFC 791, section 3.1).
 #[derive(Clone, Copy, Debug)]
@@ -112,24 +115,48 @@ pub fn ip4(bytes: &[u8]) -> Result<Ip4View<'_>, Ip4Bad>
         return Err(Ip4Bad::TotalLength);
     }
     let header = &bytes[..header_len];
-    if header_sum(header) != 0 {
+    if !sums_up(header) {
         return Err(Ip4Bad::Checksum);
     }
     Ok(view_of(header, &bytes[header_len..total_len]))
 }
 
-// The checksum of a header. Most have no options: for those the number of steps is known when this is compiled.
-fn header_sum(header: &[u8]) -> u16
-    ensures { result ≡ checksum header.now }
+// Whether a header holds its own checksum. Most have no options, and are summed as five words.
+#[inline(always)]
+fn sums_up(header: &[u8]) -> bool
+    ensures { result ≡ (checksum header.now == 0) }
 {
-    if header.len() == 20 {
-        return sum16(&header[..20]);
+    if header.len() == PLAIN_HEADER {
+        return is_full(plain_sum(header));
     }
-    sum16(header)
+    sum16(header) == 0
+}
+
+// The sum of a header without options, two words of 16 bits at a time. The first of the two counts 65,536 times, and that folds
+// to once.
+#[inline(always)]
+fn plain_sum(header: &[u8]) -> u64
+    requires { length header.now ≡ 20 }
+    ensures { folded result ≡ folded (word_sum header.now) }
+{
+    u64::from(be32(header, 0))
+        + u64::from(be32(header, 4))
+        + u64::from(be32(header, 8))
+        + u64::from(be32(header, 12))
+        + u64::from(be32(header, 16))
+}
+
+// Whether a sum folds to 16 bits that are all set, as that of bytes does which hold their own checksum (RFC 1071).
+#[inline(always)]
+fn is_full(sum: u64) -> bool
+    ensures { result ≡ (65535 - folded sum == 0) }
+{
+    sum != 0 && sum % 65535 == 0
 }
 
 // The fields of a header, whatever they say of its lengths and its checksum.
-fn view_of<'a>(header: &'a [u8], payload: &'a [u8]) -> Ip4View<'a>
+#[inline(always)]
+pub(crate) fn view_of<'a>(header: &'a [u8], payload: &'a [u8]) -> Ip4View<'a>
     requires { 20 ≤ length header.now }
     ensures { packet4 result ≡ fields4 header.now payload.now }
 {

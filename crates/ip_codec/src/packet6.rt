@@ -45,6 +45,7 @@ pub struct Head6 {
 }
 
 /// Reads an IPv6 packet (RFC 8200, section 3). Bytes past its body are ignored.
+#[inline(always)]
 pub fn ip6(bytes: &[u8]) -> Result<Ip6View<'_>, Ip6Bad>
     ensures reads { Reads6 result (ip6_of bytes.now) }
     ensures bounded { IfOk result (λ view. IsBounded6 (packet6 view)) }

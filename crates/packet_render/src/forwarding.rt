@@ -44,11 +44,28 @@ pub(crate) fn push_outward(
     let Some(packet) = packet_of(item) else {
         return Ok(0);
     };
+    let count = push_packet_outward(out, stamp, &packet, mtu)?;
+    Ok(count)
+}
+
+// Puts this packet there as it goes out.
+pub(crate) fn push_packet_outward(
+    out: &mut Vec<u8>,
+    stamp: Stamp,
+    packet: &ReadPacket<'_>,
+    mtu: u16,
+) -> Result<u32, OutOfMemory>
+    requires alive { 1 ≤ packet.now.view.ttl }
+    requires least_mtu { 576 ≤ mtu }
+    ensures pushed { IfOk result (λ count. ArePushed (packet_bytes stamp.form stamp.seconds stamp.fraction)
+        (outward mtu (packet4 packet.now.view)) out.old.items out.new.items count) }
+    ensures few { IfOk result (λ count. count ≤ 128) }
+{
     if packet.view.total_len() <= usize::from(mtu) {
-        let count = push_whole_outward(out, stamp, &packet)?;
+        let count = push_whole_outward(out, stamp, packet)?;
         return Ok(count);
     }
-    let count = push_cut_outward(out, stamp, &packet, mtu)?;
+    let count = push_cut_outward(out, stamp, packet, mtu)?;
     Ok(count)
 }
 

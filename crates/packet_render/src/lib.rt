@@ -8,4 +8,4 @@ mod rendering;
 mod replying;
 mod stamps;
 
-pub use rendering::{MOST_PACKETS, push_packets};
+pub use rendering::{MOST_PACKETS, push_outgoing, push_packets};

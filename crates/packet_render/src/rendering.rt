@@ -1,18 +1,21 @@
 // The packets of a verdict.
-ghost use Rattle.std.specs.Prelude.{◌≡◌, ◌≤◌, ◌++◌, length, IfOk};
+ghost use Rattle.std.specs.Prelude.{◌≡◌, ◌≤◌, ◌++◌, ℕ, Some, length, IfOk};
 ghost use Rattle.std.specs.List.{flat_map};
 ghost use Rattle.capture_io.specs.Packets.{packet_bytes};
+ghost use Rattle.ip_codec.specs.Packet4.{packet4};
 ghost use Rattle.ip_codec.specs.Seen.{seen};
+ghost use Rattle.ip_codec.specs.declared.items.Item.{Item};
 ghost use Rattle.packet_render.specs.Pushed.{ArePushed};
-ghost use Rattle.packet_render.specs.Sent.{sent};
+ghost use Rattle.packet_render.specs.Sent.{packet_of_item, sent};
 ghost use Rattle.verdict_core.specs.Fitting.{Fits, HasRoom};
+ghost use Rattle.verdict_core.specs.declared.verdicts.Verdict.TheVariants as verdict;
 
-use crate::forwarding::{Tunnel, push_inward, push_outward};
+use crate::forwarding::{Tunnel, push_inward, push_outward, push_packet_outward};
 use crate::replying::push_reply;
 use crate::stamps::Stamp;
 use aftr_base::OutOfMemory;
 use capture_io::Written;
-use ip_codec::ItemView;
+use ip_codec::{ItemView, ReadPacket};
 use verdict_core::Verdict;
 
 /// The most packets that are sent for one item: the pieces of an IPv4 packet of 65,535 bytes on a link that takes 576.
@@ -46,6 +49,33 @@ pub fn push_packets(
         fraction,
     };
     let count = push_stamped(out, stamp, item, *verdict, number)?;
+    Ok(count)
+}
+
+/// Puts the packets there that `push_packets` puts for an item with the verdict `Outward` and this IPv4 packet, which is what it
+/// needs of the item.
+pub fn push_outgoing(
+    out: &mut Vec<u8>,
+    form: Written,
+    packet: &ReadPacket<'_>,
+    mtu: u16,
+    seconds: u32,
+    fraction: u32,
+) -> Result<u32, OutOfMemory>
+    requires alive { 1 ≤ packet.now.view.ttl }
+    requires room { 576 ≤ mtu }
+    ensures bytes { IfOk result (λ _. (i : Item) (number : ℕ) → packet_of_item i ≡ Some (packet4 packet.now.view) →
+        out.new.items ≡ out.old.items ++ flat_map (packet_bytes form seconds fraction) (sent i (verdict.Outward mtu) number)) }
+    ensures count { IfOk result (λ count. (i : Item) (number : ℕ) → packet_of_item i ≡ Some (packet4 packet.now.view) →
+        count ≡ length (sent i (verdict.Outward mtu) number)) }
+    ensures few { IfOk result (λ count. count ≤ MOST_PACKETS) }
+{
+    let stamp = Stamp {
+        form,
+        seconds,
+        fraction,
+    };
+    let count = push_packet_outward(out, stamp, packet, mtu)?;
     Ok(count)
 }
 

@@ -1,5 +1,6 @@
 -- Lemmas on the front of a header that is passed on: its checksum, patched, is the one that is computed anew.
-use Rattle.std.proofs.Common.{◌≡◌, ℕ, ◌+◌, ◌-◌, ◌*◌, ◌/◌, ◌%◌, ◌≤◌, List, [], ◌∷◌, ◌++◌, length, take, drop, Ok, sym, ◌∙◌, ap, subst, arith, slice_index, slice_set, append_assoc}
+use Rattle.std.proofs.Common.{◌≡◌, ◌≢◌, refl, ℕ, ◌+◌, ◌-◌, ◌*◌, ◌/◌, ◌%◌, ◌<◌, ◌≤◌, List, [], ◌∷◌, ◌++◌, length, take, drop, Ok, sym, ◌∙◌, ap, subst, arith, slice_index, slice_set, append_assoc}
+use Rattle.std.proofs.lemmas.Bool.{ne_eqb}
 use Rattle.std.proofs.lemmas.List.{get_or_append_left, take_rest}
 use Rattle.aftr_base.specs.Sums.{checksum, folded, patched, sealed, word_sum}
 use Rattle.aftr_base.proofs.SumLemmas.{folded-le, folded_inside, folded_shift}
@@ -23,6 +24,22 @@ patched-same rest was now sum word_was word_sum some changed full =
     ∙ ap folded total
     ∙ folded_shift (rest + now) 2 (λ (z : rest + now ≡ 0). absurd (omega arith)) in
     ap (λ n. 65535 - n) same
+
+folded_some : (sum : ℕ) → sum ≢ 0 → folded sum ≡ (sum - 1) % 65535 + 1
+folded_some sum some = rw (ne_eqb sum 0 some) refl
+
+-- the checksum of a word that is 256 less, by whether more than 16 bits are needed
+pub patched-below : (sum was : ℕ) → 256 ≤ was → was ≤ 65535 → sum + 256 < 65535 → patched sum was (was - 256) ≡ sum + 256
+patched-below sum was least most below =
+    let left : ℕ = 65536 + (65278 - sum) in
+    let terms : (65535 - sum) + (65535 - was) + (was - 256) ≡ left = omega (arith, least, most, below) in
+    ap (λ n. 65535 - folded n) terms ∙ omega (arith, below, folded_some left (λ (e : left ≡ 0). absurd (omega (arith, e))))
+
+pub patched-above : (sum was : ℕ) → 256 ≤ was → was ≤ 65535 → sum ≤ 65535 → 65535 ≤ sum + 256 → patched sum was (was - 256) ≡ sum + 256 - 65535
+patched-above sum was least most small above =
+    let left : ℕ = 130814 - sum in
+    let terms : (65535 - sum) + (65535 - was) + (was - 256) ≡ left = omega (arith, least, most, small, above) in
+    ap (λ n. 65535 - folded n) terms ∙ omega (arith, small, above, folded_some left (λ (e : left ≡ 0). absurd (omega (arith, e, small))))
 
 -- the front with less time to live and the patched checksum, and then the rest, is the header that is passed on
 abbrev IsFront : ℕ → ℕ → List ℕ → Type 0

@@ -1,9 +1,10 @@
 // Packets that are passed on.
-ghost use Rattle.std.specs.Prelude.{◌≡◌, ◌+◌, ◌≤◌, ◌++◌, drop, length, take, IfOk, Ok};
+ghost use Rattle.std.specs.Prelude.{◌≡◌, ℕ, ◌+◌, ◌-◌, ◌≤◌, ◌++◌, drop, length, take, IfOk, Ok};
+ghost use Rattle.aftr_base.specs.Sums.{patched};
 ghost use Rattle.ip_codec.specs.Packet4.{ip4_of, packet4, packet_len};
 ghost use Rattle.softwire_encap.specs.Passing.{lowered, lowered_header, passed};
 
-use aftr_base::{Bytes, OutOfMemory, be16, patch16};
+use aftr_base::{Bytes, OutOfMemory, be16};
 use ip_codec::Ip4View;
 use std::alloc::Global;
 
@@ -96,8 +97,7 @@ fn put_parts(bytes: &mut [u8; 60], first: &[u8], second: &[u8])
     bytes[ADDRESSES..ADDRESSES + second.len()].copy_from_slice(second);
 }
 
-// What stands before the addresses, with the time to live one less. The checksum is patched for the word that has it, which
-// for a header that sums up is the same as computing it anew (RFC 1624, section 3).
+// What stands before the addresses, with the time to live one less, and the checksum patched for that.
 fn lowered_front(p: &Ip4View<'_>) -> [u8; 12]
     requires whole { ip4_of (p.now.header.now ++ p.now.payload.now) ≡ Ok (packet4 p.now) }
     requires alive { 1 ≤ p.now.ttl }
@@ -107,13 +107,24 @@ fn lowered_front(p: &Ip4View<'_>) -> [u8; 12]
 {
     let header = p.header;
     let ttl = p.ttl - 1;
-    let was = u16::from(p.ttl) * 256 + u16::from(p.protocol);
-    let now = u16::from(ttl) * 256 + u16::from(p.protocol);
-    let sum = patch16(be16(header, CHECKSUM), was, now);
+    let sum = patched_sum(be16(header, CHECKSUM));
     let high = (sum / 256) as u8;
     let low = (sum % 256) as u8;
     [
         header[0], header[1], header[2], header[3], header[4], header[5], header[6], header[7],
         ttl, p.protocol, high, low,
     ]
+}
+
+// The checksum once the word of the time to live is 256 less. For a header that sums up it is the one that is computed anew (RFC
+// 1624, section 3); of the two forms of zero it is 0.
+fn patched_sum(sum: u16) -> u16
+    ensures { (was : ℕ) → 256 ≤ was → was ≤ 65535 → result ≡ patched sum was (was - 256) }
+{
+    let more = u32::from(sum) + 256;
+    if more < 65535 {
+        more as u16
+    } else {
+        (more - 65535) as u16
+    }
 }

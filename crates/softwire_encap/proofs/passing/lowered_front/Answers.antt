@@ -1,9 +1,15 @@
 -- The patched checksum is the one computed anew.
-use Rattle.std.proofs.Common.{arith}
-use Rattle.ip_codec.specs.Packet4.{packet4}
+use Rattle.std.proofs.Common.{◌≡◌, ◌+◌, ◌*◌, ◌-◌, ◌∙◌, ap, arith}
+use Rattle.aftr_base.specs.Sums.{patched}
+use Rattle.ip_codec.specs.Packet4.{packet4, word}
 use Rattle.softwire_encap.proofs.FrontLemmas.{front-lowered}
 use Rattle.softwire_encap.proofs.passing.lowered_front.Goals as goal
 
 pub returns-clause-bytes : goal.returns-clause-bytes
 returns-clause-bytes c =
-    front-lowered (packet4 c.args.p.now) c.patch16-sum.result c.requires.whole c.requires.alive (omega arith) (omega arith) (omega arith) (grind arith)
+    let packet = packet4 c.args.p.now in
+    let was = packet.ttl * 256 + packet.protocol in
+    let less : was - 256 ≡ (packet.ttl - 1) * 256 + packet.protocol = omega (arith, c.requires.alive) in
+    front-lowered packet c.patched_sum-sum.result c.requires.whole c.requires.alive (omega arith) (omega arith) (omega arith)
+    (c.patched_sum-sum.ensures was (omega (arith, c.requires.alive)) (omega arith)
+    ∙ (ap (λ n. patched n was (was - 256)) c.be16.ensures ∙ ap (λ n. patched (word packet.header 10) was n) less))
