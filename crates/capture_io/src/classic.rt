@@ -1,5 +1,5 @@
 // Captures of the pcap format, read in rounds.
-ghost use Rattle.std.specs.Prelude.{◌≡◌, ◌+◌, ◌*◌, ◌^◌, ◌<◌, ◌≤◌, [], false, None, All, IfOk, IsErr, IsFalse, IsTrue, length, map, take};
+ghost use Rattle.std.specs.Prelude.{◌≡◌, ◌+◌, ◌*◌, ◌^◌, ◌<◌, ◌≤◌, [], false, None, All, IfOk, IsFalse, IsTrue, length, map, take, vec_capacity};
 ghost use Rattle.aftr_base.specs.Contents.{content, Told};
 ghost use Rattle.aftr_base.specs.Outside.{OnlyReads};
 ghost use Rattle.capture_io.specs.Answers.{is_read_fault};
@@ -15,8 +15,12 @@ use crate::{CaptureError, CaptureReader, Ending, Form, Place, Records, Round, re
 use aftr_base::{Fault, Files, OutOfMemory};
 use std::alloc::Global;
 
-// The least room of a round: records are read by pieces of this many bytes, or more.
-const PIECE: usize = 524_288;
+// The least room of a round.
+const ROOM: usize = 524_288;
+
+// A piece of so many bytes is still in a processor's second-level cache when its records are looked for, beside the bytes of the
+// file that it was copied from.
+const PIECE: usize = 262_144;
 
 const FIRST_RECORD: u64 = 24;
 
@@ -62,7 +66,15 @@ struct Fetched {
     cut: bool,
 }
 
-// Reads behind the first bytes of a buffer until its front says what the next record is.
+/// How many bytes a reader asks for at once, where a round may have so many captured bytes: a piece that stays in a processor's
+/// second-level cache, or, where they are more than one processor's share, as many as they are.
+pub fn piece_of(most_bytes: usize) -> usize
+    ensures { 1 ≤ result }
+{
+    if most_bytes > ROOM { most_bytes } else { PIECE }
+}
+
+// Reads pieces behind the first bytes of a buffer until its front says what the next record is.
 fn fetch<F: Files>(
     alloc: Global,
     files: &mut F,
@@ -72,8 +84,10 @@ fn fetch<F: Files>(
     number: u32,
     buffer: &mut [u8],
     ahead: usize,
+    piece: usize,
 ) -> Result<Fetched, OutOfMemory>
     requires ahead { ahead ≤ length buffer.old }
+    requires some { 1 ≤ piece }
     requires room { 262160 ≤ length buffer.old }
     requires place { at ≤ 2 ^ 62 }
     requires size { length buffer.old ≤ 2 ^ 63 }
@@ -88,7 +102,8 @@ fn fetch<F: Files>(
     let mut filled = ahead;
     'reads: while is_open(big, &buffer[..filled], at, number) {
         let place = at + filled as u64;
-        match files.read(alloc, name, place, &mut buffer[filled..]) {
+        let end = filled + piece.min(buffer.len() - filled);
+        match files.read(alloc, name, place, &mut buffer[filled..end]) {
             Ok(0) => return Ok(Fetched {
                 filled,
                 last: true,
@@ -120,8 +135,10 @@ fn fetch_into<F: Files>(
     number: u32,
     buffer: &mut Vec<u8>,
     ahead: usize,
+    piece: usize,
 ) -> Result<Fetched, OutOfMemory>
     requires ahead { ahead ≤ length buffer.old.items }
+    requires some { 1 ≤ piece }
     requires room { 262160 ≤ length buffer.old.items }
     requires place { at ≤ 2 ^ 62 }
     ensures within { IfOk result (λ fetched. fetched.filled ≤ length buffer.new.items) }
@@ -134,7 +151,7 @@ fn fetch_into<F: Files>(
     ensures size { length buffer.new.items ≡ length buffer.old.items }
 {
     let slice = buffer.as_mut_slice();
-    let fetched = fetch(alloc, files, name, big, at, number, slice, ahead)?;
+    let fetched = fetch(alloc, files, name, big, at, number, slice, ahead, piece)?;
     Ok(fetched)
 }
 
@@ -163,33 +180,32 @@ fn take_fetched(
     number: u32,
     most_bytes: usize,
     places: &mut Vec<Place>,
-) -> Result<Taken, OutOfMemory>
+) -> Taken
     requires none { places.old.items ≡ [] }
+    requires room { 16384 ≤ vec_capacity places.old }
     requires number { number ≤ 2 ^ 31 }
     requires some { 1 ≤ most_bytes }
     requires most { most_bytes ≤ 67108864 }
     requires place { at ≤ 2 ^ 62 }
     requires size { length piece.now ≤ 2 ^ 63 }
     requires decided { IsFalse fetched.cut → IsFalse (is_more (front_in big piece.now fetched.last at number)) }
-    ensures taken { IfOk result (λ taken. AreTaken big piece.now fetched.last at number most_bytes
-        (map (placed piece.now) places.new.items) taken.used taken.number
-        (bytes_captured (map (placed piece.now) places.new.items))) }
-    ensures ended { IfOk result (λ taken. Ended big piece.now fetched.last at taken.used taken.number taken.ending) }
-    ensures some { IfOk result (λ taken. taken.ending ≡ None → 0 < length places.new.items) }
-    ensures within { IfOk result (λ _. All (IsWithin piece.now) places.new.items) }
-    ensures cut { IfOk result (λ taken. is_cut taken.ending ≡ fetched.cut) }
-    ensures stays { IfOk result (λ taken. IsTrue fetched.cut → (taken.used ≡ 0) × (taken.number ≡ number)) }
-    ensures well { IsErr result → IsFalse fetched.cut }
+    ensures taken { AreTaken big piece.now fetched.last at number most_bytes
+        (map (placed piece.now) places.new.items) result.used result.number
+        (bytes_captured (map (placed piece.now) places.new.items)) }
+    ensures ended { Ended big piece.now fetched.last at result.used result.number result.ending }
+    ensures some { result.ending ≡ None → 0 < length places.new.items }
+    ensures within { All (IsWithin piece.now) places.new.items }
+    ensures cut { is_cut result.ending ≡ fetched.cut }
+    ensures stays { IsTrue fetched.cut → (result.used ≡ 0) × (result.number ≡ number) }
 {
     if fetched.cut {
-        return Ok(Taken {
+        return Taken {
             used: 0,
             number,
             ending: Some(Ending::ReadFault),
-        });
+        };
     }
-    let taken = take_records(big, piece, fetched.last, at, number, most_bytes, places)?;
-    Ok(taken)
+    take_records(big, piece, fetched.last, at, number, most_bytes, places)
 }
 
 impl CaptureReader for ClassicReader {
@@ -233,6 +249,7 @@ impl CaptureReader for ClassicReader {
             number,
             &mut buffer,
             ahead,
+            piece_of(most_bytes),
         )?;
         let taken = take_fetched(
             fetched,
@@ -242,7 +259,7 @@ impl CaptureReader for ClassicReader {
             number,
             most_bytes,
             &mut places,
-        )?;
+        );
         self.ahead.clear();
         self.ahead
             .extend_from_slice(&buffer[taken.used..fetched.filled])?;
@@ -262,12 +279,13 @@ impl CaptureReader for ClassicReader {
 // Room for the records of a round, and no records yet. The lists keep what they had.
 fn make_room(buffer: &mut Vec<u8>, places: &mut Vec<Place>, least: usize) -> Result<(), OutOfMemory>
     ensures none { places.new.items ≡ [] }
+    ensures reserved { IfOk result (λ _. 16384 ≤ vec_capacity places.new) }
     ensures piece { IfOk result (λ _. 524288 ≤ length buffer.new.items) }
     ensures room { IfOk result (λ _. least ≤ length buffer.new.items) }
 {
     places.clear();
     places.reserve(MOST_TAKEN)?;
-    let size = least.max(PIECE);
+    let size = least.max(ROOM);
     if buffer.len() < size {
         buffer.resize(size, 0)?;
     }

@@ -1,5 +1,5 @@
 // The records that stand in bytes that were read.
-ghost use Rattle.std.specs.Prelude.{◌≡◌, ◌+◌, ◌^◌, ◌<◌, ◌≤◌, [], None, All, IfOk, IsFalse, IsTrue, false, length, map};
+ghost use Rattle.std.specs.Prelude.{◌≡◌, ◌+◌, ◌^◌, ◌<◌, ◌≤◌, [], None, All, IsFalse, IsTrue, false, length, map, vec_capacity};
 ghost use Rattle.capture_io.specs.Fronts.{front_in, if_last, is_more, place_behind};
 ghost use Rattle.capture_io.specs.Records.{IsWithin, placed};
 ghost use Rattle.capture_io.specs.Rounds.{bytes_captured, is_cut};
@@ -8,7 +8,6 @@ ghost use Rattle.capture_io.specs.Taken.{AreTaken, Ended};
 use crate::record::{HEADER_LEN, Head, MOST_BYTES, MOST_RECORDS};
 use crate::words::word;
 use crate::{CaptureBad, Ending, Place};
-use aftr_base::OutOfMemory;
 
 /// The most records of a round.
 pub const MOST_TAKEN: usize = 16_384;
@@ -33,8 +32,20 @@ fn at_last(last: bool, ending: Front) -> Front
     if last { ending } else { Front::More }
 }
 
-/// What the front says of the record of this number, which stands at the place `at`. `last` says that nothing follows.
+/// What the front says of the record of this number, which stands at the place `at`. `last` says that nothing follows. The order
+/// of the numbers is asked once, and not for each of them.
+#[inline(always)]
 pub fn front_of(big: bool, first: &[u8], last: bool, at: u64, number: u32) -> Front
+    ensures { result ≡ front_in big first.now last at number }
+{
+    if big {
+        return front_by_order(true, first, last, at, number);
+    }
+    front_by_order(false, first, last, at, number)
+}
+
+#[inline(always)]
+fn front_by_order(big: bool, first: &[u8], last: bool, at: u64, number: u32) -> Front
     ensures { result ≡ front_in big first.now last at number }
 {
     if first.is_empty() {
@@ -99,7 +110,7 @@ pub struct Taken {
 }
 
 /// Takes whole records off the front of a piece, which stands at the place `at` of the file, until the rest of it is none, 16,384
-/// are taken, or one brings their captured bytes to `most_bytes`.
+/// are taken, or one brings their captured bytes to `most_bytes`. There is room for their places.
 pub fn take_records(
     big: bool,
     piece: &[u8],
@@ -108,21 +119,22 @@ pub fn take_records(
     number: u32,
     most_bytes: usize,
     places: &mut Vec<Place>,
-) -> Result<Taken, OutOfMemory>
+) -> Taken
     requires none { places.old.items ≡ [] }
+    requires room { 16384 ≤ vec_capacity places.old }
     requires number { number ≤ 2 ^ 31 }
     requires some { 1 ≤ most_bytes }
     requires most { most_bytes ≤ 67108864 }
     requires place { at ≤ 2 ^ 62 }
     requires size { length piece.now ≤ 2 ^ 63 }
     requires decided { IsFalse (is_more (front_in big piece.now last at number)) }
-    ensures taken { IfOk result (λ taken. AreTaken big piece.now last at number most_bytes
-        (map (placed piece.now) places.new.items) taken.used taken.number
-        (bytes_captured (map (placed piece.now) places.new.items))) }
-    ensures ended { IfOk result (λ taken. Ended big piece.now last at taken.used taken.number taken.ending) }
-    ensures some { IfOk result (λ taken. taken.ending ≡ None → 0 < length places.new.items) }
-    ensures within { IfOk result (λ _. All (IsWithin piece.now) places.new.items) }
-    ensures well { IfOk result (λ taken. IsFalse (is_cut taken.ending)) }
+    ensures taken { AreTaken big piece.now last at number most_bytes
+        (map (placed piece.now) places.new.items) result.used result.number
+        (bytes_captured (map (placed piece.now) places.new.items)) }
+    ensures ended { Ended big piece.now last at result.used result.number result.ending }
+    ensures some { result.ending ≡ None → 0 < length places.new.items }
+    ensures within { All (IsWithin piece.now) places.new.items }
+    ensures well { IsFalse (is_cut result.ending) }
 {
     let mut used = 0;
     let mut next = number;
@@ -131,33 +143,33 @@ pub fn take_records(
         let here = at + used as u64;
         let head = match front_of(big, &piece[used..], last, here, next) {
             Front::Whole(head) => head,
-            Front::End => return Ok(Taken {
+            Front::End => return Taken {
                 used,
                 number: next,
                 ending: Some(Ending::End),
-            }),
+            },
             Front::Bad(refusal) => {
-                return Ok(Taken {
+                return Taken {
                     used,
                     number: next,
                     ending: Some(Ending::Bad(refusal)),
-                });
+                };
             }
-            Front::More => return Ok(Taken {
+            Front::More => return Taken {
                 used,
                 number: next,
                 ending: None,
-            }),
+            },
         };
-        places.push(place_of(head, used, here))?;
+        places.push_reserved(place_of(head, used, here));
         let count = head.captured as usize;
         used += HEADER_LEN + count;
         next += 1;
         bytes += count;
     }
-    Ok(Taken {
+    Taken {
         used,
         number: next,
         ending: None,
-    })
+    }
 }

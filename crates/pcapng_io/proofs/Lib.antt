@@ -8,6 +8,7 @@ pub mod KindLemmas
 pub mod OpenLemmas
 pub mod OptionLemmas
 pub mod PieceLemmas
+pub mod PlainLemmas
 pub mod RoundLemmas
 pub mod SpelledLemmas
 pub mod SplitLemmas

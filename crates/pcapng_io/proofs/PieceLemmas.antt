@@ -83,6 +83,20 @@ passed_left seen now bytes number [] (Some refusal) same splits = same ∙ split
 passed_left seen now bytes number (r ∷ rs) e same splits =
     split_on seen splits.0 bytes number r (same ∙ splits.1) rs e (rest_of now splits.0 bytes number r rs e splits.1 splits.2)
 
+-- a packet at the front of the rest of a piece lies in the piece
+pub packet_fits : (now : Seen) (piece : List ℕ) (last : Bool) (used nth : ℕ) (p : Packet) → used ≤ length piece → front_in now (drop used piece) last nth ≡ front.Packet p →
+    used + p.total ≤ length piece
+packet_fits now piece last used nth p within e =
+    let size = sized now (drop used piece) nth (block.Packet p) tt (front_said now (drop used piece) last nth (front.Packet p) e) in
+    omega (arith, size.whole, length-drop used piece, within)
+
+pub place_within : (piece : List ℕ) (p : Packet) (used at : ℕ) (places pushed : List Place) (pl : Place) → pushed ≡ places ++ pl ∷ [] → pl ≡ place_of p used at →
+    used + p.total ≤ length piece → p.start + p.count < p.total → All (IsWithin piece) places → All (IsWithin piece) pushed
+place_within piece p used at places pushed pl items is fits inside each =
+    let same : places ++ place_of p used at ∷ [] ≡ pushed = ap (λ (x : Place). places ++ x ∷ []) (sym is) ∙ sym items in
+    let P : List Place → Type 0 = λ l. All (IsWithin piece) l in
+    subst P same (all_more (IsWithin piece) places (place_of p used at) each (omega (arith, fits, inside)))
+
 module _ (old now : Seen) (piece : List ℕ) (last : Bool) (number most : ℕ) (places : List Place) (used nth total : ℕ)
     (t : AreBlocks old now piece last number most (map (placed piece) places) used nth total) where
   abbrev pub rs : List Rec
@@ -117,9 +131,7 @@ module _ (old now : Seen) (piece : List ℕ) (last : Bool) (number most : ℕ) (
     r = placed piece place
 
     whole : used + p.total ≤ length piece
-    whole =
-        let size = sized now (drop used piece) nth (block.Packet p) tt (front_said now (drop used piece) last nth (front.Packet p) e) in
-        omega (arith, size.whole, length-drop used piece, t.inside)
+    whole = packet_fits now piece last used nth p t.inside e
 
     size : length r.bytes ≡ p.count
     size =
@@ -172,10 +184,7 @@ module _ (old now : Seen) (piece : List ℕ) (last : Bool) (number most : ℕ) (
         subst (λ (x : Known). P pushed x) (sym k) (subst (λ (l : List Place). P l (known_behind now.known p)) same (packet_more few less))
 
     pub packet_within : (pushed : List Place) (pl : Place) → pushed ≡ places ++ pl ∷ [] → pl ≡ place → All (IsWithin piece) places → All (IsWithin piece) pushed
-    packet_within pushed pl items is each =
-        let same : places ++ place ∷ [] ≡ pushed = ap (λ (x : Place). places ++ x ∷ []) (sym is) ∙ sym items in
-        let P : List Place → Type 0 = λ l. All (IsWithin piece) l in
-        subst P same (all_more (IsWithin piece) places place each (omega (arith, whole, sound.inside)))
+    packet_within pushed pl items is each = place_within piece p used now.known.at places pushed pl items is whole sound.inside each
 
     pub packet_inside : used + p.total ≤ length piece
     packet_inside = whole

@@ -92,6 +92,7 @@ pub fn read_enhanced<F: Files>(
     }
 }
 
+#[inline(always)]
 pub fn enhanced_of(
     known: Known,
     interfaces: &[Interface],
@@ -157,15 +158,11 @@ fn time_of(interface: Interface, ticks: u64) -> Time
     match interface.ticks {
         MILLION => time_of_millionths(ticks),
         BILLION => time_of_billionths(ticks),
-        number => Time {
-            seconds: ticks / number,
-            nanos: part_in_nanos(ticks % number, number),
-        },
+        number => time_of_parts(ticks, number),
     }
 }
 
-// These two stand apart, so that each divides by its constant.
-#[inline(never)]
+// Of these three the last two stand apart, so that the first two divide by their constants.
 fn time_of_millionths(ticks: u64) -> Time
     ensures is { result ≡ record { seconds = ticks / 1000000; nanos = ticks % 1000000 * 1000 } }
     ensures few { result.nanos < 1000000000 }
@@ -184,6 +181,18 @@ fn time_of_billionths(ticks: u64) -> Time
     Time {
         seconds: ticks / BILLION,
         nanos: (ticks % BILLION) as u32,
+    }
+}
+
+#[inline(never)]
+fn time_of_parts(ticks: u64, number: u64) -> Time
+    requires { 0 < number }
+    ensures is { result ≡ record { seconds = ticks / number; nanos = ticks % number * 1000000000 / number } }
+    ensures few { result.nanos < 1000000000 }
+{
+    Time {
+        seconds: ticks / number,
+        nanos: part_in_nanos(ticks % number, number),
     }
 }
 

@@ -1,13 +1,13 @@
 // The packets that stand in bytes that were read.
-ghost use Rattle.std.specs.Prelude.{◌≡◌, ◌+◌, ◌^◌, ◌<◌, ◌≤◌, [], None, All, IfErr, IfOk, IsErr, IsFalse, drop, length, map};
+ghost use Rattle.std.specs.Prelude.{◌≡◌, ℕ, ◌+◌, ◌^◌, ◌<◌, ◌≤◌, [], None, All, Bool, IfOk, IsErr, IsFalse, drop, length, map, vec_capacity};
 ghost use Rattle.capture_io.specs.Records.{IsWithin, placed};
 ghost use Rattle.capture_io.specs.Rounds.{bytes_captured, is_cut};
 ghost use Rattle.pcapng_io.specs.Blocks.{interfaces_after, size_of};
 ghost use Rattle.pcapng_io.specs.Pieces.{AreBlocks, Ended, IsOpen, place_of};
-ghost use Rattle.pcapng_io.specs.Seen.{IsSoundSeen, seen_by};
+ghost use Rattle.pcapng_io.specs.Seen.{IsSoundSeen, Seen, seen_by};
 
 use crate::block::{Known, Packet, Passed};
-use crate::fronts::{Front, front_of};
+use crate::fronts::{Front, front_of, plain_packet};
 use crate::interface::Interface;
 use crate::walk::{behind_packet, behind_passed};
 use aftr_base::OutOfMemory;
@@ -31,6 +31,7 @@ pub struct Taken {
 
 /// Takes whole blocks off the front of a piece, which stands where `known` says, until the rest of it is none, or its packets are
 /// 16,384, or one of them brings their captured bytes to `most_bytes`. `interfaces` are those of the section, before and after.
+/// There is room for the places of the packets.
 pub fn take_blocks(
     known: Known,
     interfaces: &mut Vec<Interface>,
@@ -41,6 +42,7 @@ pub fn take_blocks(
     places: &mut Vec<Place>,
 ) -> Result<Taken, OutOfMemory>
     requires none { places.old.items ≡ [] }
+    requires room { 16384 ≤ vec_capacity places.old }
     requires number { number ≤ 2 ^ 31 }
     requires some { 1 ≤ most_bytes }
     requires most { most_bytes ≤ 67108864 }
@@ -57,6 +59,7 @@ pub fn take_blocks(
     ensures within { IfOk result (λ _. All (IsWithin piece.now) places.new.items) }
     ensures well { IfOk result (λ taken. IsFalse (is_cut taken.ending)) }
     ensures counted { All (λ interface. 0 < interface.ticks) interfaces.new.items }
+    ensures room { 16384 ≤ vec_capacity places.new }
 {
     let mut here = known;
     let mut used = 0;
@@ -65,11 +68,18 @@ pub fn take_blocks(
     'blocks: while places.len() < MOST_RECORDS && bytes < most_bytes {
         match front_of(here, interfaces, &piece[used..], last, next) {
             Front::Packet(packet) => {
-                places.push(place_of(packet, used, here.at))?;
-                used += packet.total as usize;
-                here = behind_packet(here, packet);
-                next += 1;
-                bytes += packet.count as usize;
+                places.push_reserved(place_of(packet, used, here.at));
+                let first = Run {
+                    used: used + packet.total as usize,
+                    known: behind_packet(here, packet),
+                    number: next + 1,
+                    bytes: bytes + packet.count as usize,
+                };
+                let run = take_plain(first, interfaces, piece, most_bytes, places);
+                used = run.used;
+                here = run.known;
+                next = run.number;
+                bytes = run.bytes;
             }
             Front::Passed(passed) => {
                 pass(interfaces, passed)?;
@@ -104,6 +114,58 @@ pub fn take_blocks(
         number: next,
         ending: None,
     })
+}
+
+// How far packets were taken: what `Taken` says, and how many bytes of them were captured.
+#[derive(Clone, Copy)]
+struct Run {
+    used: usize,
+    known: Known,
+    number: u32,
+    bytes: usize,
+}
+
+// Takes plain packets off the piece, from behind those that were taken on, until something else stands there or the round is full.
+// It stands apart, so that its loop has the registers for itself.
+#[inline(never)]
+fn take_plain(
+    before: Run,
+    interfaces: &[Interface],
+    piece: &[u8],
+    most_bytes: usize,
+    places: &mut Vec<Place>,
+) -> Run
+    requires inside { before.used ≤ length piece.now }
+    requires number { before.number ≤ 2 ^ 31 }
+    requires most { most_bytes ≤ 67108864 }
+    requires size { length piece.now ≤ 2 ^ 63 }
+    requires counted { All (λ interface. 0 < interface.ticks) interfaces.now }
+    requires room { 16384 ≤ vec_capacity places.old }
+    ensures taken { (old : Seen) (last : Bool) (number : ℕ) →
+        AreBlocks old (seen_by before.known interfaces.now) piece.now last number most_bytes
+        (map (placed piece.now) places.old.items) before.used before.number before.bytes →
+        AreBlocks old (seen_by result.known interfaces.now) piece.now last number most_bytes
+        (map (placed piece.now) places.new.items) result.used result.number result.bytes }
+    ensures within { All (IsWithin piece.now) places.old.items → All (IsWithin piece.now) places.new.items }
+    ensures inside { result.used ≤ length piece.now }
+    ensures forward { before.used ≤ result.used }
+    ensures room { 16384 ≤ vec_capacity places.new }
+{
+    let mut run = before;
+    'packets: while places.len() < MOST_RECORDS && run.bytes < most_bytes {
+        let packet = match plain_packet(run.known, interfaces, &piece[run.used..], run.number) {
+            Some(packet) => packet,
+            None => return run,
+        };
+        places.push_reserved(place_of(packet, run.used, run.known.at));
+        run = Run {
+            used: run.used + packet.total as usize,
+            known: behind_packet(run.known, packet),
+            number: run.number + 1,
+            bytes: run.bytes + packet.count as usize,
+        };
+    }
+    run
 }
 
 fn place_of(packet: Packet, from: usize, at: u64) -> Place

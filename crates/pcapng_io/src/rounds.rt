@@ -1,5 +1,5 @@
 // A pcapng file, read in rounds.
-ghost use Rattle.std.specs.Prelude.{◌≡◌, ◌+◌, ◌^◌, ◌<◌, ◌≤◌, [], None, All, IfOk, IsErr, IsTrue, IsFalse, drop, length, take};
+ghost use Rattle.std.specs.Prelude.{◌≡◌, ◌+◌, ◌^◌, ◌<◌, ◌≤◌, [], None, All, IfOk, IsErr, IsTrue, IsFalse, drop, length, take, vec_capacity};
 ghost use Rattle.capture_io.specs.Fronts.{IsStart};
 ghost use Rattle.capture_io.specs.Records.{IsWithin};
 ghost use Rattle.capture_io.specs.Rounds.{is_cut, IsCount, IsPlaced};
@@ -15,7 +15,7 @@ use crate::interface::Interface;
 use crate::pieces::{MOST_RECORDS, Taken, take_blocks};
 use crate::window::Window;
 use aftr_base::{Fault, Files, OutOfMemory};
-use capture_io::{CaptureReader, Ending, Form, Place, Records, Round};
+use capture_io::{CaptureReader, Ending, Form, Place, Records, Round, piece_of};
 use std::alloc::Global;
 
 /// The reader reads the file in order and each place once, and a block that is longer than a piece into a longer buffer.
@@ -90,6 +90,7 @@ fn find_packets<F: Files>(
     places: &mut Vec<Place>,
 ) -> Result<Taken, OutOfMemory>
     requires none { places.old.items ≡ [] }
+    requires room { 16384 ≤ vec_capacity places.old }
     requires number { number ≤ 2 ^ 31 }
     requires some { 1 ≤ most_bytes }
     requires most { most_bytes ≤ 67108864 }
@@ -123,7 +124,7 @@ fn find_packets<F: Files>(
         }
         window.pass(taken.used);
         here = taken.known;
-        match window.read_more(alloc, files, name, here.at) {
+        match window.read_more(alloc, files, name, here.at, piece_of(most_bytes)) {
             Ok(()) => {}
             Err(Fault::Failed) => return Ok(Taken {
                 used: 0,

@@ -10,8 +10,8 @@ use capture_io::{Place, Records};
 use std::alloc::Global;
 use std::marker::Model;
 
-// A file is read by pieces of this many bytes.
-const PIECE: usize = 524_288;
+// The least room of a buffer, and the most bytes that are read at once.
+const ROOM: usize = 524_288;
 
 /// The bytes of a file from a place on that were read and are not used yet, and whether nothing stands behind them. They stand at
 /// the front of one buffer.
@@ -38,7 +38,7 @@ impl Window {
     pub fn of(mut buffer: Vec<u8>, ahead: &[u8]) -> Result<Window, OutOfMemory>
         ensures { IfOk result (λ window. window ≡ record { bytes = ahead.now; last = false }) }
     {
-        let size = ahead.len().max(PIECE);
+        let size = ahead.len().max(ROOM);
         if buffer.len() < size {
             buffer.resize(size, 0)?;
         }
@@ -74,16 +74,19 @@ impl Window {
         }
     }
 
-    /// Reads a piece behind the bytes, of which the first stands at the place `at`. The buffer grows where it is full, to twice
-    /// its length. However long it is, no more than a piece is read behind a block, so that little is kept for the next round.
+    /// Reads a piece of so many bytes at most behind the bytes, of which the first stands at the place `at`. The buffer grows where
+    /// it is full, to twice its length. However long it is, no more than its least room is read at once, so that little is kept for
+    /// the next round.
     pub fn read_more<F: Files>(
         &mut self,
         alloc: Global,
         files: &mut F,
         name: &str,
         at: u64,
+        piece: usize,
     ) -> Result<(), Fault>
-        requires { at + length self.old.bytes < 2 ^ 63 }
+        requires place { at + length self.old.bytes < 2 ^ 63 }
+        requires some { 1 ≤ piece }
         ensures told { IfOk result (λ _. IsMore (F.outside files.old).held name.now at self.old self.new) }
         ensures longer { IfOk result (λ _. IsFalse self.new.last → length self.old.bytes < length self.new.bytes) }
         ensures least { length self.old.bytes ≤ length self.new.bytes }
@@ -93,7 +96,15 @@ impl Window {
     {
         grow(&mut self.buffer, self.filled)?;
         let place = at + self.filled as u64;
-        let count = read_behind(alloc, files, name, place, &mut self.buffer, self.filled)?;
+        let count = read_behind(
+            alloc,
+            files,
+            name,
+            place,
+            &mut self.buffer,
+            self.filled,
+            piece,
+        )?;
         self.filled += count;
         self.last = count == 0;
         Ok(())
@@ -135,7 +146,7 @@ fn grow(buffer: &mut Vec<u8>, filled: usize) -> Result<(), OutOfMemory>
     ensures size { filled ≤ length buffer.new.items }
 {
     if filled == buffer.len() {
-        let more = filled.max(PIECE);
+        let more = filled.max(ROOM);
         buffer.resize(filled + more, 0)?;
     }
     Ok(())
@@ -149,8 +160,10 @@ fn read_behind<F: Files>(
     place: u64,
     buffer: &mut Vec<u8>,
     filled: usize,
+    piece: usize,
 ) -> Result<usize, Fault>
-    requires { filled < length buffer.old.items }
+    requires room { filled < length buffer.old.items }
+    requires some { 1 ≤ piece }
     ensures front { take filled buffer.new.items ≡ take filled buffer.old.items }
     ensures size { length buffer.new.items ≡ length buffer.old.items }
     ensures within { IfOk result (λ count. filled + count ≤ length buffer.old.items) }
@@ -160,7 +173,7 @@ fn read_behind<F: Files>(
     ensures reads { OnlyReads (has_failed result) name.now (λ at. at ≡ place) (F.outside files.old) (F.outside files.new) }
 {
     let slice = buffer.as_mut_slice();
-    let count = read_into(alloc, files, name, place, slice, filled)?;
+    let count = read_into(alloc, files, name, place, slice, filled, piece)?;
     Ok(count)
 }
 
@@ -171,8 +184,10 @@ fn read_into<F: Files>(
     place: u64,
     buffer: &mut [u8],
     filled: usize,
+    piece: usize,
 ) -> Result<usize, Fault>
-    requires { filled < length buffer.old }
+    requires room { filled < length buffer.old }
+    requires some { 1 ≤ piece }
     ensures front { take filled buffer.new ≡ take filled buffer.old }
     ensures size { length buffer.new ≡ length buffer.old }
     ensures within { IfOk result (λ count. filled + count ≤ length buffer.old) }
@@ -181,7 +196,7 @@ fn read_into<F: Files>(
         (λ m. count ≡ 0 → drop place (content m name.now) ≡ [])) }
     ensures reads { OnlyReads (has_failed result) name.now (λ at. at ≡ place) (F.outside files.old) (F.outside files.new) }
 {
-    let end = filled + PIECE.min(buffer.len() - filled);
+    let end = filled + piece.min(ROOM).min(buffer.len() - filled);
     let count = files.read(alloc, name, place, &mut buffer[filled..end])?;
     Ok(count)
 }

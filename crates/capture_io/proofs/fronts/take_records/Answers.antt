@@ -22,7 +22,8 @@ records-preserved c =
     let whole = front_of_rest c.args.big c.args.piece.now c.args.last c.args.at c.records.used c.records.next (front.Whole c.in-Whole.head) (sym c.front_of.ensures ∙ c.in-Whole.is) in
     record {
       taken = pushed_taken c.args.big c.args.piece.now c.args.last c.args.at c.args.number c.args.most_bytes c.records.places.items c.records.used c.records.next c.records.bytes c.in-Whole.head
-          c.records.invariant.taken whole c.push.new.self.items c.place_of.result c.in_ok-push.ensures.items c.place_of.ensures (grind (arith, nat_tests)) (grind (arith, nat_tests));
+          c.records.invariant.taken whole c.push_reserved.new.self.items c.place_of.result c.push_reserved.ensures.items c.place_of.ensures (grind (arith, nat_tests)) (grind (arith, nat_tests));
       within = pushed_within c.args.big c.args.piece.now c.args.last c.args.at c.args.number c.args.most_bytes c.records.places.items c.records.used c.records.next c.records.bytes c.in-Whole.head
-          c.records.invariant.taken whole c.push.new.self.items c.place_of.result c.in_ok-push.ensures.items c.place_of.ensures c.records.invariant.within;
+          c.records.invariant.taken whole c.push_reserved.new.self.items c.place_of.result c.push_reserved.ensures.items c.place_of.ensures c.records.invariant.within;
+      room = omega (arith, c.push_reserved.ensures.capacity, c.records.invariant.room);
     }

@@ -13,6 +13,7 @@ reads-init g c = record {
   outside = refl;
   search = search_begins (g.F.Files.outside c.args.files.now).held c.args.name.now (seen_by c.args.known c.args.interfaces.now.items) c.args.window.now c.args.number c.requires.begins c.requires.sound;
   none = c.requires.none;
+  room = c.requires.room;
 }
 
 pub returns-then-is_done-clause-told : goal.returns-then-is_done-clause-told
@@ -43,6 +44,7 @@ reads-preserved g c =
       search = goes_on held (g.F.Files.outside c.reads.files).held c.args.name.now old now later c.args.window.now.bytes c.reads.window c.pass.new.self c.read_more.new.self c.args.number c.args.most_bytes places taken
           (ap (λ (o : Outside). o.held) c.reads.invariant.outside) c.reads.invariant.search t none c.pass.ensures.bytes c.pass.ensures.last c.in-Ok.ensures.told;
       none = none;
+      room = c.in_ok-taken.ensures.room;
     }
 
 pub returns-in-Err-Failed-clause-told : goal.returns-in-Err-Failed-clause-told

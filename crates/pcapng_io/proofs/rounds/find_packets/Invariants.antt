@@ -1,5 +1,5 @@
 -- What was passed, and what was read ahead.
-use Rattle.std.proofs.Common.{◌≡◌, ◌+◌, ◌-◌, ◌^◌, [], length, if◌then◌else◌}
+use Rattle.std.proofs.Common.{◌≡◌, ◌+◌, ◌-◌, ◌^◌, ◌≤◌, [], length, if◌then◌else◌, vec_capacity}
 use Rattle.pcapng_io.specs.Seen.{seen_by}
 use Rattle.pcapng_io.proofs.WindowLemmas.{IsSearch}
 use Rattle.pcapng_io.proofs.rounds.find_packets.Given as goal
@@ -10,6 +10,7 @@ invariant-reads g l = let f = g.F.Files in record {
   search : IsSearch (f.outside l.initial.files).held l.name (seen_by l.fn.known l.initial.interfaces.items) (seen_by l.here l.interfaces.items)
       l.initial.window.bytes l.window l.number;
   none : l.places.items ≡ [];
+  room : 16384 ≤ vec_capacity l.places;
 }
 
 abbrev pub decreases-reads : goal.decreases-reads

@@ -11,25 +11,25 @@ use Rattle.capture_io.proofs.classic.ClassicReaderCaptureReader.read_round.Goals
 pub returns-clause-count : goal.returns-clause-count
 returns-clause-count g c =
     let buffer = c.deref-2.result.now in
-    let places = c.take_fetched.new.places.items in
+    let places = c.take_fetched-taken.new.places.items in
     round_count c.args.self.now.form.big buffer c.in_ok-fetched.fetched.filled c.in_ok-fetched.fetched.last c.args.self.now.at c.args.number c.args.most_bytes
-    places c.in_ok-taken.taken.used c.in_ok-taken.taken.number c.in_ok-taken.taken.ending c.of.result
-    c.in_ok-taken.ensures.taken c.in_ok-taken.ensures.within (c.of.ensures ∙ ap (λ l. map (placed l) places) (sym c.deref-2.ensures.value)) c.in_ok-taken.ensures.some
+    places c.take_fetched-taken.result.used c.take_fetched-taken.result.number c.take_fetched-taken.result.ending c.of.result
+    c.take_fetched-taken.ensures.taken c.take_fetched-taken.ensures.within (c.of.ensures ∙ ap (λ l. map (placed l) places) (sym c.deref-2.ensures.value)) c.take_fetched-taken.ensures.some
 
 pub returns-clause-placed : goal.returns-clause-placed
 returns-clause-placed g c =
     let buffer = c.deref-2.result.now in
-    let places = c.take_fetched.new.places.items in
+    let places = c.take_fetched-taken.new.places.items in
     round_placed c.args.self.now.form.big buffer c.in_ok-fetched.fetched.filled c.in_ok-fetched.fetched.last c.args.self.now.at c.args.number c.args.most_bytes
-    places c.in_ok-taken.taken.used c.in_ok-taken.taken.number c.in_ok-taken.taken.ending c.of.result
-    c.in_ok-taken.ensures.taken c.in_ok-taken.ensures.within (c.of.ensures ∙ ap (λ l. map (placed l) places) (sym c.deref-2.ensures.value))
+    places c.take_fetched-taken.result.used c.take_fetched-taken.result.number c.take_fetched-taken.result.ending c.of.result
+    c.take_fetched-taken.ensures.taken c.take_fetched-taken.ensures.within (c.of.ensures ∙ ap (λ l. map (placed l) places) (sym c.deref-2.ensures.value))
 
 pub returns-clause-told : goal.returns-clause-told
 returns-clause-told g c =
     let buffer = c.deref-2.result.now in
-    let places = c.take_fetched.new.places.items in
+    let places = c.take_fetched-taken.new.places.items in
     let filled = c.in_ok-fetched.fetched.filled in
-    let used = c.in_ok-taken.taken.used in
+    let used = c.take_fetched-taken.result.used in
     let ahead = take c.len-ahead.result c.put_front.new.buffer.items in
     let held = (g.F.Files.outside c.args.files.now).held in
     let start : ahead ≡ c.args.self.now.ahead.items =
@@ -40,17 +40,17 @@ returns-clause-told g c =
     let tail : c.extend_from_slice.new.self.items ≡ take (filled - used) (drop used buffer) =
     c.in_ok-extend_from_slice.ensures.items ∙ ((λ i. c.clear.ensures.items i ++ take (filled - used) (drop used (c.deref-3.ensures.value i))) ∙ ap (λ l. take (filled - used) (drop used l)) (sym c.deref-2.ensures.value)) in
     round_told c.args.self.now.form.big buffer filled c.in_ok-fetched.fetched.last c.args.self.now.at c.args.number c.args.most_bytes
-    places used c.in_ok-taken.taken.number c.in_ok-taken.taken.ending c.of.result
-    c.in_ok-taken.ensures.taken c.in_ok-taken.ensures.within (c.of.ensures ∙ ap (λ l. map (placed l) places) (sym c.deref-2.ensures.value))
+    places used c.take_fetched-taken.result.number c.take_fetched-taken.result.ending c.of.result
+    c.take_fetched-taken.ensures.taken c.take_fetched-taken.ensures.within (c.of.ensures ∙ ap (λ l. map (placed l) places) (sym c.deref-2.ensures.value))
     held c.args.name.now c.args.self.now.ahead.items ahead c.extend_from_slice.new.self.items
-    start (tail ∙ behind_taken buffer filled used c.in_ok-taken.ensures.taken.inside)
-    c.in_ok-taken.ensures.ended read
+    start (tail ∙ behind_taken buffer filled used c.take_fetched-taken.ensures.taken.inside)
+    c.take_fetched-taken.ensures.ended read
 
 pub returns-clause-reads : goal.returns-clause-reads
 returns-clause-reads g c =
     let buffer = c.deref-2.result.now in
     let filled = c.in_ok-fetched.fetched.filled in
-    let used = c.in_ok-taken.taken.used in
+    let used = c.take_fetched-taken.result.used in
     let ahead = take c.len-ahead.result c.put_front.new.buffer.items in
     let held = (g.F.Files.outside c.args.files.now).held in
     let at = c.args.self.now.at in
@@ -64,9 +64,9 @@ returns-clause-reads g c =
     let size : length (take filled buffer) ≡ filled = length-take-le filled buffer within in
     let open_at : c.in_ok-fetched.fetched.cut ≡ true → is_more (front_in big (take filled buffer) false at c.args.number) ≡ true =
     λ cut. subst (λ (l : List ℕ). is_more (front_in big (take filled l) false at c.args.number) ≡ true) (sym c.deref-2.ensures.value) (c.in_ok-fetched.ensures.cut cut) in
-    round_reads (is_cut c.in_ok-taken.taken.ending) c.in_ok-fetched.fetched.cut c.args.name.now (λ place. place ≡ at + filled)
-    (IsInNext c.args.name.now (λ bytes. IsStart c.args.self.now.ahead.items (drop at bytes)) (left_at big (at + used)) (at + used) held c.in_ok-taken.taken.number)
-    (g.F.Files.outside c.args.files.now) (g.F.Files.outside c.fetch_into.new.files) c.in_ok-taken.ensures.cut
-    (λ cut place is. cut_inside held c.args.name.now c.args.self.now.ahead.items ahead (take filled buffer) big c.in_ok-fetched.fetched.last at c.args.number used c.in_ok-taken.taken.number place
-    (c.in_ok-taken.ensures.stays cut).0 (c.in_ok-taken.ensures.stays cut).1 (is ∙ ap (λ n. at + n) (sym size)) start (open_at cut) read)
+    round_reads (is_cut c.take_fetched-taken.result.ending) c.in_ok-fetched.fetched.cut c.args.name.now (λ place. place ≡ at + filled)
+    (IsInNext c.args.name.now (λ bytes. IsStart c.args.self.now.ahead.items (drop at bytes)) (left_at big (at + used)) (at + used) held c.take_fetched-taken.result.number)
+    (g.F.Files.outside c.args.files.now) (g.F.Files.outside c.fetch_into.new.files) c.take_fetched-taken.ensures.cut
+    (λ cut place is. cut_inside held c.args.name.now c.args.self.now.ahead.items ahead (take filled buffer) big c.in_ok-fetched.fetched.last at c.args.number used c.take_fetched-taken.result.number place
+    (c.take_fetched-taken.ensures.stays cut).0 (c.take_fetched-taken.ensures.stays cut).1 (is ∙ ap (λ n. at + n) (sym size)) start (open_at cut) read)
     c.in_ok-fetched.ensures.reads
