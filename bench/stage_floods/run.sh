@@ -1,6 +1,6 @@
 #!/usr/bin/env bash
-# Times a stage over packets that wait for nothing and over floods of fragments: builds the program in a temporary repository,
-# which proves it first, and runs it, on all processors and on one of them, where its threads are worked one after the other.
+# Times a stage over packets that wait for nothing and over floods of fragments, the latter by four threads and by one: builds the
+# program in a temporary repository, which proves it first, and runs it. It says too how many of the entries are equal.
 # The crates are those of this repository, or of the one that is named.
 #     bench/stage_floods/run.sh [REPOSITORY]
 set -e
@@ -15,11 +15,12 @@ for crate in aftr_base ip_codec capture_io ipv6_chain reassembly_lane item_stage
     cp -r "$top/crates/$crate" "$repository/crates/"
 done
 bench="$repository/crates/stage_bench"
-mkdir -p "$bench/src" "$bench/proofs/rounds/round_of"
+mkdir -p "$bench/src" "$bench/proofs/rounds/round_of" "$bench/proofs/take_parts"
 cp "$here/program/main.rt.txt" "$bench/src/main.rt"
 cp "$here/program/rounds.rt.txt" "$bench/src/rounds.rt"
 cp "$here/program/proofs/PlaceLemmas.antt.txt" "$bench/proofs/PlaceLemmas.antt"
 cp "$here/program/proofs/round_of.antt.txt" "$bench/proofs/rounds/round_of/Invariants.antt"
+cp "$here/program/proofs/take_parts.antt.txt" "$bench/proofs/take_parts/Invariants.antt"
 printf 'mod PlaceLemmas\n' > "$bench/proofs/Lib.antt"
 for crate in aftr_base ip_codec capture_io ipv6_chain reassembly_lane item_stage; do
     grep "^$crate:" "$top/crates.txt"
@@ -28,7 +29,4 @@ printf 'stage_bench: aftr_base capture_io item_stage\n' >> "$repository/crates.t
 (cd "$bench" && rt run > "$work/build.txt" 2>&1) || true
 program="$bench/out/stage_bench"
 [ -x "$program" ] || { tail "$work/build.txt"; exit 1; }
-echo "on all processors:"
 "$program"
-echo "on one:"
-taskset -c 0 "$program"

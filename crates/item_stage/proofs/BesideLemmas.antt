@@ -1,8 +1,7 @@
 -- A round row by row gives what its records give one by one.
-use Rattle.std.proofs.Common.{◌≡◌, ℕ, suc, ◌%◌, ◌<◌, Bool, true, false, List, [], ◌∷◌, Option, Some, None, refl, sym, ◌∙◌, ap, arith}
+use Rattle.std.proofs.Common.{◌≡◌, ℕ, suc, ◌%◌, ◌<◌, true, List, [], ◌∷◌, None, refl, ◌∙◌, ap, arith}
 use Rattle.std.specs.Prelude.{nat_lt}
 use Rattle.std.proofs.lemmas.Bool.{lt-ltb}
-use Rattle.std.proofs.Math.Nat.{mod-lt}
 use Rattle.capture_io.specs.Record.{nanoseconds}
 use Rattle.capture_io.specs.declared.forms.Form.{Form}
 use Rattle.capture_io.specs.declared.forms.Rec.{Rec}
@@ -11,8 +10,7 @@ use Rattle.reassembly_lane.specs.declared.answer.Answer.{Answer}
 use Rattle.reassembly_lane.specs.declared.answer.Answer.TheVariants as answer
 use Rattle.item_stage.specs.Alone.{Alone, Inside, Told, Fragment, Ready, Downstream, Outside, Carries, alone_of}
 use Rattle.item_stage.specs.Beside.{Half, between, carried_on, down_op, down_ops, entries_left, entry_left, half, half_stepped, inner_op, inner_ops, outer_op, outer_ops, row_halves, row_left, row_stepped}
-use Rattle.item_stage.specs.Fragments.{by_outer_key, lane_of}
-use Rattle.item_stage.specs.Turns.{Turn, arriving, entries_from, inside_turn, outer_fed, outer_turn, rows_after, turn, turn_of, with_inner}
+use Rattle.item_stage.specs.Turns.{Turn, entries_from, inside_turn, outer_fed, outer_turn, rows_after, turn_of, with_inner}
 use Rattle.item_stage.specs.declared.entries.Entry.{Entry}
 use Rattle.item_stage.specs.declared.rows.Rows.{Rows}
 

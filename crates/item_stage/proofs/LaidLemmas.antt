@@ -1,11 +1,10 @@
 -- Marks of three rows, laid over one another, give the entries.
-use Rattle.std.proofs.Common.{◌≡◌, ℕ, zero, suc, ◌<◌, List, [], ◌∷◌, length, drop, Option, Some, None, refl, sym, ◌∙◌, ap, arith, subst}
+use Rattle.std.proofs.Common.{◌≡◌, ℕ, zero, suc, ◌<◌, List, [], ◌∷◌, length, drop, Option, Some, None, refl, sym, ◌∙◌, ap, arith}
 use Rattle.std.specs.Prelude.{All, slice_index_or}
-use Rattle.std.proofs.lemmas.List.{length-map}
 use Rattle.capture_io.specs.declared.forms.Form.{Form}
 use Rattle.capture_io.specs.declared.forms.Rec.{Rec}
 use Rattle.reassembly_lane.specs.Contexts.{Partial}
-use Rattle.item_stage.specs.Alone.{Alone, Inside, Told, Fragment, Ready, Downstream, Outside, Carries, alone_of, item_alone, item_of}
+use Rattle.item_stage.specs.Alone.{Alone, Ready, Downstream, Outside, Carries, alone_of, item_alone, item_of}
 use Rattle.item_stage.specs.Beside.{Half, Op, between, down_ops, entries_left, entry_left, entry_of, half_in, half_of, halves_in, inner_ops, laid, laid_one, outer_ops, row_halves, row_left, row_stepped}
 use Rattle.item_stage.specs.Heads.{EachContext, EachLane}
 use Rattle.item_stage.specs.Marks.{entries_by, entry_by, marked}

@@ -1,10 +1,10 @@
 -- A row lane by lane: each lane with its own records alone leaves what the row does.
-use Rattle.std.proofs.Common.{◌≡◌, ◌≢◌, ℕ, zero, suc, ◌<◌, Bool, true, false, ◌==◌, if◌then◌else◌, List, [], ◌∷◌, length, drop, Option, Some, None, refl, sym, ◌∙◌, ap, arith, subst}
+use Rattle.std.proofs.Common.{◌≡◌, ◌≢◌, ℕ, suc, ◌<◌, Bool, true, false, ◌==◌, if◌then◌else◌, List, [], ◌∷◌, length, drop, Option, Some, refl, sym, ◌∙◌, ap, arith, subst}
 use Rattle.std.specs.Prelude.{nat_lt, slice_index_or, slice_set}
 use Rattle.std.proofs.lemmas.Bool.{eqb-false, eqb-true, lt-ltb, ltb-false}
 use Rattle.std.proofs.lemmas.List.{get_or-set_same, get_or-set_other, length-set}
 use Rattle.reassembly_lane.specs.Contexts.{Partial}
-use Rattle.item_stage.specs.Beside.{Half, Op, Stepped, half_stepped, lane_halves, lane_left, row_halves, row_left, row_stepped}
+use Rattle.item_stage.specs.Beside.{Half, Op, Stepped, lane_halves, lane_left, row_left, row_stepped}
 use Rattle.item_stage.specs.Tracks.{AreLeft}
 use Rattle.item_stage.specs.Waiting.{Waiting, lane_at}
 

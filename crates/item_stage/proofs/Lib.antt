@@ -10,4 +10,6 @@ mod OrderLemmas
 mod RowLemmas
 mod RunLemmas
 mod StepLemmas
+mod TellingLemmas
 mod TrackLemmas
+mod WholeLemmas

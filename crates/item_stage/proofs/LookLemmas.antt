@@ -1,5 +1,5 @@
 -- What a look at a few bytes says of all of them.
-use Rattle.std.proofs.Common.{◌≡◌, ℕ, ◌+◌, ◌%◌, ◌≤◌, Bool, true, false, not, ◌||◌, ◌==◌, List, [], ◌++◌, length, take, drop, refl, sym, ◌∙◌, ap, arith, Result, Ok, Err, slice_index, subst, Option, None}
+use Rattle.std.proofs.Common.{◌≡◌, ℕ, ◌%◌, ◌≤◌, Bool, true, false, not, ◌||◌, ◌==◌, List, [], length, take, drop, refl, sym, ◌∙◌, ap, arith, Result, Ok, Err, slice_index, subst, Option, None}
 use Rattle.std.specs.Prelude.{nat_lt}
 use Rattle.std.proofs.lemmas.Bool.{le-ltb, eqb-true, or_parts}
 use Rattle.std.proofs.lemmas.Bool.Decides.{nat_tests}
@@ -85,7 +85,7 @@ headers_uncut outer next bytes whole = by_number (next == 4) refl
     by_number true is = rw (is) (tunnel_uncut outer bytes (four.ip4_of bytes) (whole (eqb-true next 4 is)))
     by_number false is = by_others (next == 58) refl is
 
-ends_at_once : (outer : Outer) (next : ℕ) (body : List ℕ) → is_extension next ≡ false →
+pub ends_at_once : (outer : Outer) (next : ℕ) (body : List ℕ) → is_extension next ≡ false →
     by_chain outer body (chain_of next body start.Packet) ≡ Carries (behind_headers outer next body)
 ends_at_once outer next body other =
     let tests = or_parts (is_skipped next) (next == 44) other in

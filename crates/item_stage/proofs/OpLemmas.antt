@@ -1,24 +1,22 @@
 -- What stands at an index of the operations of records.
-use Rattle.std.proofs.Common.{◌≡◌, ℕ, zero, suc, ◌+◌, ◌<◌, List, [], ◌∷◌, length, Option, Some, None, refl, sym, ◌∙◌, ap, arith, subst, slice_get, get_or, map}
-use Rattle.std.proofs.lemmas.List.{length-map}
+use Rattle.std.proofs.Common.{◌≡◌, ℕ, zero, suc, ◌+◌, ◌<◌, List, [], ◌∷◌, length, Option, Some, refl, sym, ◌∙◌, ap, arith, slice_get, get_or}
 use Rattle.std.specs.Option.{option_map}
 use Rattle.std.specs.Prelude.{unwrap_or}
 use Rattle.std.proofs.lemmas.Option.{slice_get-get_or, slice_get-map}
 use Rattle.capture_io.specs.Record.{nanoseconds}
 use Rattle.capture_io.specs.declared.forms.Form.{Form}
 use Rattle.capture_io.specs.declared.forms.Rec.{Rec}
-use Rattle.reassembly_lane.specs.Contexts.{Partial}
 use Rattle.item_stage.specs.Alone.{Alone, alone_of}
-use Rattle.item_stage.specs.Beside.{Half, IsTaken, Op, between, down_op, down_ops, halves_in, half_in, inner_op, inner_ops, outer_op, outer_ops}
+use Rattle.item_stage.specs.Beside.{Half, Op, between, down_op, down_ops, halves_in, half_in, inner_op, inner_ops, outer_op, outer_ops}
 use Rattle.item_stage.specs.declared.keys.DownKey.{DownKey}
 use Rattle.item_stage.specs.declared.keys.InnerKey.{InnerKey}
 use Rattle.item_stage.specs.declared.keys.OuterKey.{OuterKey}
 use Rattle.item_stage.specs.declared.marks.Mark.{Mark}
 
-abbrev blank : Rec
+abbrev pub blank : Rec
 blank = record { seconds = 0; fraction = 0; bytes = []; next_at = 0 }
 
-some_same : {A : Type 0} (a b : A) → Some a ≡ Some b → a ≡ b
+pub some_same : {A : Type 0} (a b : A) → Some a ≡ Some b → a ≡ b
 some_same a b e = ap (λ o. unwrap_or o a) e
 
 -- ---- outer
@@ -26,7 +24,7 @@ pub length_outer : (form : Form) (number : ℕ) (records : List Rec) → length 
 length_outer form number [] = refl
 length_outer form number (r ∷ rs) = ap suc (length_outer form (suc number) rs)
 
-at_outer : (form : Form) (number : ℕ) (records : List Rec) (index : ℕ) (r : Rec) → slice_get records index ≡ Some r →
+pub at_outer : (form : Form) (number : ℕ) (records : List Rec) (index : ℕ) (r : Rec) → slice_get records index ≡ Some r →
     slice_get (outer_ops form number records) index ≡ Some (outer_op (nanoseconds form r.seconds r.fraction) (number + index) (alone_of form r.bytes))
 at_outer form number [] index r there = cc
 at_outer form number (s ∷ rs) zero r there =
@@ -47,21 +45,12 @@ module _ (form : Form) (start : ℕ) (records : List Rec) (index time number : �
       (λ i. outer_op (time_is r here i) (number_is i) (alone_is r here i))
       ∙ some_same (outer_op (nanoseconds form r.seconds r.fraction) (start + index) (alone_of form r.bytes)) op (sym (at_outer form start records index r here) ∙ there)
 
-pub outer_lane_is : (form : Form) (start : ℕ) (records : List Rec) (index : ℕ) (alone : Alone) (op : Op OuterKey) (lane : ℕ) → slice_get (outer_ops form start records) index ≡ Some op → index < length records →
-    ((r : Rec) → slice_get records index ≡ Some r → alone ≡ alone_of form r.bytes) → ((time number : ℕ) → (outer_op time number alone).0 ≡ lane) → op.0 ≡ lane
-outer_lane_is form start records index alone op lane there within alone_is goes =
-    let r = get_or records index blank in
-    let time = nanoseconds form r.seconds r.fraction in
-    let found : slice_get records index ≡ Some r = slice_get-get_or records index blank within in
-    let same : (q : Rec) → slice_get records index ≡ Some q → time ≡ nanoseconds form q.seconds q.fraction = λ q here. ap (λ (x : Rec). nanoseconds form x.seconds x.fraction) (some_same r q (sym found ∙ here)) in
-    sym (ap (λ (o : Op OuterKey). o.0) (outer_is form start records index time (start + index) alone op there within same refl alone_is)) ∙ goes time (start + index)
-
 -- ---- down
 pub length_down : (form : Form) (number : ℕ) (records : List Rec) → length (down_ops form number records) ≡ length records
 length_down form number [] = refl
 length_down form number (r ∷ rs) = ap suc (length_down form (suc number) rs)
 
-at_down : (form : Form) (number : ℕ) (records : List Rec) (index : ℕ) (r : Rec) → slice_get records index ≡ Some r →
+pub at_down : (form : Form) (number : ℕ) (records : List Rec) (index : ℕ) (r : Rec) → slice_get records index ≡ Some r →
     slice_get (down_ops form number records) index ≡ Some (down_op (nanoseconds form r.seconds r.fraction) (number + index) (alone_of form r.bytes))
 at_down form number [] index r there = cc
 at_down form number (s ∷ rs) zero r there =
@@ -82,22 +71,13 @@ module _ (form : Form) (start : ℕ) (records : List Rec) (index time number : �
       (λ i. down_op (time_is r here i) (number_is i) (alone_is r here i))
       ∙ some_same (down_op (nanoseconds form r.seconds r.fraction) (start + index) (alone_of form r.bytes)) op (sym (at_down form start records index r here) ∙ there)
 
-pub down_lane_is : (form : Form) (start : ℕ) (records : List Rec) (index : ℕ) (alone : Alone) (op : Op DownKey) (lane : ℕ) → slice_get (down_ops form start records) index ≡ Some op → index < length records →
-    ((r : Rec) → slice_get records index ≡ Some r → alone ≡ alone_of form r.bytes) → ((time number : ℕ) → (down_op time number alone).0 ≡ lane) → op.0 ≡ lane
-down_lane_is form start records index alone op lane there within alone_is goes =
-    let r = get_or records index blank in
-    let time = nanoseconds form r.seconds r.fraction in
-    let found : slice_get records index ≡ Some r = slice_get-get_or records index blank within in
-    let same : (q : Rec) → slice_get records index ≡ Some q → time ≡ nanoseconds form q.seconds q.fraction = λ q here. ap (λ (x : Rec). nanoseconds form x.seconds x.fraction) (some_same r q (sym found ∙ here)) in
-    sym (ap (λ (o : Op DownKey). o.0) (down_is form start records index time (start + index) alone op there within same refl alone_is)) ∙ goes time (start + index)
-
 -- ---- inner
 pub length_inner : (form : Form) (number : ℕ) (records : List Rec) (halves : List (Option Half)) → length halves ≡ length records → length (inner_ops form number records halves) ≡ length records
 length_inner form number [] halves same = refl
 length_inner form number (r ∷ rs) [] same = absurd (omega (arith, same))
 length_inner form number (r ∷ rs) (h ∷ hs) same = ap suc (length_inner form (suc number) rs hs (omega (arith, same)))
 
-at_inner : (form : Form) (number : ℕ) (records : List Rec) (halves : List (Option Half)) (index : ℕ) (r : Rec) (h : Option Half) → slice_get records index ≡ Some r → slice_get halves index ≡ Some h →
+pub at_inner : (form : Form) (number : ℕ) (records : List Rec) (halves : List (Option Half)) (index : ℕ) (r : Rec) (h : Option Half) → slice_get records index ≡ Some r → slice_get halves index ≡ Some h →
     slice_get (inner_ops form number records halves) index ≡ Some (inner_op (nanoseconds form r.seconds r.fraction) (number + index) (between (alone_of form r.bytes) h))
 at_inner form number [] halves index r h there also = cc
 at_inner form number (s ∷ rs) [] index r h there also = cc
@@ -110,7 +90,7 @@ at_inner form number (s ∷ rs) (g ∷ hs) (suc index) r h there also =
     let next : suc number + index ≡ number + suc index = omega arith in
     at_inner form (suc number) rs hs index r h there also ∙ ap (λ (n : ℕ). Some (inner_op (nanoseconds form r.seconds r.fraction) n (between (alone_of form r.bytes) h))) next
 
-half_there : (slots : List (Option Mark)) (index : ℕ) (slot : Option Mark) → index < length slots → slot ≡ get_or slots index slot → slice_get (halves_in slots) index ≡ Some (half_in slot)
+pub half_there : (slots : List (Option Mark)) (index : ℕ) (slot : Option Mark) → index < length slots → slot ≡ get_or slots index slot → slice_get (halves_in slots) index ≡ Some (half_in slot)
 half_there slots index slot within read =
     slice_get-map half_in slots index
     ∙ (ap (λ o. option_map half_in o) (slice_get-get_or slots index slot within) ∙ ap (λ (s : Option Mark). Some (half_in s)) (sym read))
@@ -126,13 +106,3 @@ module _ (form : Form) (start : ℕ) (records : List Rec) (slots : List (Option 
       (λ i. inner_op (time_is r here i) (number_is i) (between (alone_is r here i) (half_in slot)))
       ∙ some_same (inner_op (nanoseconds form r.seconds r.fraction) (start + index) (between (alone_of form r.bytes) (half_in slot))) op
       (sym (at_inner form start records (halves_in slots) index r (half_in slot) here (half_there slots index slot (omega (arith, within, same)) read)) ∙ there)
-
-pub inner_lane_is : (form : Form) (start : ℕ) (records : List Rec) (slots : List (Option Mark)) (slot : Option Mark) (index : ℕ) (alone : Alone) (op : Op InnerKey) (lane : ℕ) →
-    slice_get (inner_ops form start records (halves_in slots)) index ≡ Some op → index < length records → length slots ≡ length records → slot ≡ get_or slots index slot →
-    ((r : Rec) → slice_get records index ≡ Some r → alone ≡ alone_of form r.bytes) → ((time number : ℕ) → (inner_op time number (between alone (half_in slot))).0 ≡ lane) → op.0 ≡ lane
-inner_lane_is form start records slots slot index alone op lane there within count read alone_is goes =
-    let r = get_or records index blank in
-    let time = nanoseconds form r.seconds r.fraction in
-    let found : slice_get records index ≡ Some r = slice_get-get_or records index blank within in
-    let same : (q : Rec) → slice_get records index ≡ Some q → time ≡ nanoseconds form q.seconds q.fraction = λ q here. ap (λ (x : Rec). nanoseconds form x.seconds x.fraction) (some_same r q (sym found ∙ here)) in
-    sym (ap (λ (o : Op InnerKey). o.0) (inner_is form start records slots slot index time (start + index) alone op there within count read same refl alone_is)) ∙ goes time (start + index)

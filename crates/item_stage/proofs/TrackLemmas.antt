@@ -1,5 +1,5 @@
 -- A lane takes its records one by one, and tracks are put together again.
-use Rattle.std.proofs.Common.{◌≡◌, ℕ, zero, suc, ◌+◌, ◌<◌, ◌≤◌, Bool, true, false, ◌==◌, if◌then◌else◌, List, [], ◌∷◌, ◌++◌, length, drop, take, set, map, Option, Some, None, refl, sym, ◌∙◌, ap, arith, subst, append_assoc, slice_get, get_or}
+use Rattle.std.proofs.Common.{◌≡◌, ℕ, zero, suc, ◌+◌, ◌<◌, ◌≤◌, Bool, true, false, ◌==◌, if◌then◌else◌, List, [], ◌∷◌, ◌++◌, length, drop, take, set, map, Option, Some, refl, sym, ◌∙◌, ap, arith, subst, append_assoc, slice_get, get_or}
 use Rattle.std.specs.Option.{option_map}
 use Rattle.std.specs.Prelude.{nat_lt}
 use Rattle.std.proofs.lemmas.Bool.{ltb-false, ltb-true}
@@ -7,7 +7,7 @@ use Rattle.std.proofs.lemmas.List.{append-nil, map-append, get_or-map, length-ma
 use Rattle.std.proofs.Math.ListN as lists
 use Rattle.std.proofs.lemmas.Option.{slice_get-get_or, slice_get-map, get_or_from_slice_get}
 use Rattle.reassembly_lane.specs.Contexts.{Partial}
-use Rattle.item_stage.specs.Beside.{Half, HasGone, Op, Stepped, half_in, halves_in, laid, lane_halves, lane_left, laid_one, lanes_in, passing, half_stepped, row_halves, row_stepped}
+use Rattle.item_stage.specs.Beside.{Half, HasGone, Op, half_in, halves_in, laid, lane_halves, lane_left, laid_one, lanes_in, passing, half_stepped, row_halves, row_stepped}
 use Rattle.item_stage.specs.Tracks.{AreLeft, halves_told}
 use Rattle.item_stage.proofs.LaneLemmas.{left_more, left_past, own_first}
 use Rattle.item_stage.specs.Waiting.{Waiting, lane_at}
@@ -207,21 +207,3 @@ module _ {K : Type 0} (first lanes : List (List (K × Partial))) (before tracks 
   tracks_swapped =
       map-set (λ (t : Track K). t.lane) tracks i after
       ∙ swap_more (map (λ (t : Track K). t.lane) before) first (map (λ (t : Track K). t.lane) tracks) lanes i after.lane lane tracks_are lanes_are inner within lane_is
-
--- ---- the lanes that records go to, one more
-take_there : {A : Type 0} (xs : List A) (index : ℕ) (x : A) → slice_get xs index ≡ Some x → take (suc index) xs ≡ take index xs ++ x ∷ []
-take_there [] index x there = cc
-take_there (y ∷ xs) zero x there = let same : y ≡ x = cc in ap (λ z. z ∷ []) same
-take_there (y ∷ xs) (suc index) x there = ap (λ l. y ∷ l) (take_there xs index x there)
-
-pub numbers_more : {K : Type 0} (ops : List (Op K)) (index value : ℕ) (numbers pushed : List ℕ) → index < length ops → ((op : Op K) → slice_get ops index ≡ Some op → op.0 ≡ value) →
-    pushed ≡ numbers ++ value ∷ [] → numbers ≡ lanes_in (take index ops) → pushed ≡ lanes_in (take (index + 1) ops)
-numbers_more {K} ops index value numbers pushed within goes push so_far =
-    let op : Op K = get_or ops index passing in
-    let there : slice_get ops index ≡ Some (get_or ops index passing) = slice_get-get_or ops index passing within in
-    let later : suc index ≡ index + 1 = omega arith in
-    push
-    ∙ ((λ i. so_far i ++ sym (goes (get_or ops index passing) there) i ∷ [])
-    ∙ (sym (map-append (λ (o : Op K). o.0) (take index ops) (get_or ops index passing ∷ []))
-    ∙ (ap lanes_in (sym (take_there ops index (get_or ops index passing) there))
-    ∙ ap (λ (n : ℕ). lanes_in (take n ops)) later)))

@@ -3,9 +3,11 @@ pub mod Beside
 pub mod Fragments
 pub mod Heads
 pub mod Items
+pub mod Lanes
 pub mod Looks
 pub mod Marks
 pub mod Ordered
+pub mod Packets
 pub mod Rejoined
 pub mod Shown
 pub mod Stages

@@ -1,5 +1,5 @@
 -- Tracks: the lanes of a row, each with the marks of its records.
-use Rattle.std.specs.Prelude.{◌≡◌, ℕ, ◌<◌, false, List, [], Option, All, length, map, slice_index_or}
+use Rattle.std.specs.Prelude.{◌≡◌, ℕ, ◌+◌, ◌<◌, false, List, [], Option, All, length, map, slice_index_or}
 use Rattle.reassembly_lane.specs.Contexts.{Partial}
 use Rattle.item_stage.specs.Beside.{Half, HasRun, Op, halves_in, lane_halves, row_left}
 use Rattle.item_stage.specs.Waiting.{Waiting, lane_at}
@@ -17,6 +17,11 @@ pub record HasTaken {K : Type 0} (ops : List (Op K)) (keeps : List (K × Partial
 
 abbrev pub HasRunUnless : {K : Type 0} → List (Op K) → (List (K × Partial) → Type 0) → ℕ → Track K → Track K → Type 0
 HasRunUnless ops keeps number old new = new.failed ≡ false → HasTaken ops keeps number old new
+
+-- neighbouring tracks have, of which the first is that of the lane with a number
+pub record AreRun {K : Type 0} (ops : List (Op K)) (keeps : List (K × Partial) → Type 0) (number : ℕ) (old new : List (Track K)) : Type 0 where
+  pub count : length new ≡ length old
+  pub each : (place : ℕ) (d : Track K) → place < length old → HasRunUnless ops keeps (number + place) (slice_index_or old place d) (slice_index_or new place d)
 
 -- what the tracks' records left, lane by lane
 abbrev pub halves_told : {K : Type 0} → List (Track K) → List (List (Option Half))

@@ -74,8 +74,8 @@ fn read_frame<'a>(frame: Frame<'a>) -> Alone<'a>
     }
 }
 
-// An IPv4 packet from outside.
-fn read_outside(bytes: &[u8]) -> Alone<'_>
+/// An IPv4 packet from outside.
+pub(crate) fn read_outside(bytes: &[u8]) -> Alone<'_>
     ensures { shown result ≡ from_outside (ip4_of bytes.now) }
 {
     match read_packet(bytes) {
@@ -89,7 +89,7 @@ fn read_outside(bytes: &[u8]) -> Alone<'_>
     }
 }
 
-pub(crate) fn rule_of_refusal(why: Ip4Bad) -> Rule
+fn rule_of_refusal(why: Ip4Bad) -> Rule
     ensures { refused_outside why ≡ result }
 {
     match why {
@@ -100,8 +100,8 @@ pub(crate) fn rule_of_refusal(why: Ip4Bad) -> Rule
     }
 }
 
-// An IPv6 packet.
-fn read_tunnel(bytes: &[u8]) -> Alone<'_>
+/// An IPv6 packet.
+pub(crate) fn read_tunnel(bytes: &[u8]) -> Alone<'_>
     ensures { shown result ≡ from_tunnel (ip6_of bytes.now) }
 {
     match ip6(bytes) {
@@ -121,7 +121,7 @@ pub(crate) fn outer_fields(packet: &Ip6View<'_>) -> Outer
     }
 }
 
-pub(crate) fn read_chain(outer: Outer, next: u8, body: &[u8]) -> Alone<'_>
+fn read_chain(outer: Outer, next: u8, body: &[u8]) -> Alone<'_>
     ensures { shown result ≡ by_chain outer body.now (chain_of next body.now Packet) }
 {
     match walk(next, body, Start::Packet) {

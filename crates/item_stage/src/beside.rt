@@ -1,16 +1,18 @@
 // A round row by row, the lanes of a row beside one another.
-ghost use Rattle.std.specs.Prelude.{◌≡◌, ◌+◌, ◌^◌, ◌≤◌, All, IfOk, None, length};
+ghost use Rattle.std.specs.Prelude.{◌≡◌, ◌+◌, ◌^◌, ◌<◌, ◌≤◌, All, IfOk, None, length};
 ghost use Rattle.item_stage.specs.Beside.{down_ops, halves_in, inner_ops, laid, outer_ops, row_halves, row_left};
 ghost use Rattle.item_stage.specs.Heads.{EachLane, HaveHeaders};
 ghost use Rattle.item_stage.specs.Marks.{entries_by};
 ghost use Rattle.item_stage.specs.Turns.{entries_from, rows_after};
 
 use crate::keys::{DownKey, InnerKey, OuterKey};
+use crate::lanes::Reading;
 use crate::marks::Slot;
 use crate::row::Row;
 use crate::row_steps::{DownSteps, InnerSteps, OuterSteps, Taken};
 use crate::rows::Rows;
-use crate::tracks::lay;
+use crate::telling::{THREADS, tell_beside, tell_each};
+use crate::tracks::{go_nowhere, lay};
 use aftr_base::OutOfMemory;
 use capture_io::{Form, Records};
 use std::alloc::Global;
@@ -28,6 +30,20 @@ fn no_marks(alloc: Global, count: usize) -> Result<Vec<Slot>, OutOfMemory>
     Ok(slots)
 }
 
+// By how many threads the lanes in the inner row are told: by one where the outer row left nothing, since all are read then.
+fn threads_for(slots: &[Slot]) -> usize
+    ensures { 0 < result }
+{
+    let mut index = 0;
+    'slots: while index < slots.len() {
+        if slots[index].get().is_some() {
+            return THREADS;
+        }
+        index += 1;
+    }
+    1
+}
+
 fn take_outer<R: Threads + Sync>(
     rt: &R,
     alloc: Global,
@@ -40,13 +56,14 @@ fn take_outer<R: Threads + Sync>(
     ensures laid { IfOk result (λ out. halves_in out.items ≡ laid (halves_in slots.items) (row_halves row.old (outer_ops taken.entry.form taken.entry.start taken.entry.records.now))) }
     ensures count { IfOk result (λ out. length out.items ≡ length slots.items) }
 {
-    let mut run = row.run(rt, alloc, &OuterSteps(taken))?;
-    let out = lay(
-        alloc,
-        run.tracks.as_mut_slice(),
-        run.numbers.as_slice(),
-        slots,
-    )?;
+    let steps = OuterSteps(taken);
+    let told = tell_each(alloc, &steps)?;
+    let lanes = told.as_slice();
+    if go_nowhere(lanes) {
+        return Ok(slots);
+    }
+    let mut tracks = row.run(rt, alloc, &steps, lanes)?;
+    let out = lay(alloc, tracks.as_mut_slice(), lanes, slots)?;
     Ok(out)
 }
 
@@ -65,17 +82,15 @@ fn take_inner<R: Threads + Sync>(
     ensures count { IfOk result (λ out. length out.items ≡ length slots.items) }
     ensures headers { IfOk result (λ _. EachLane row.new) }
 {
-    let steps = InnerSteps {
-        taken,
-        slots: slots.as_slice(),
-    };
-    let mut run = row.run(rt, alloc, &steps)?;
-    let out = lay(
-        alloc,
-        run.tracks.as_mut_slice(),
-        run.numbers.as_slice(),
-        slots,
-    )?;
+    let left = slots.as_slice();
+    let steps = InnerSteps { taken, slots: left };
+    let told = tell_beside(rt, alloc, &steps, threads_for(left))?;
+    let lanes = told.as_slice();
+    if go_nowhere(lanes) {
+        return Ok(slots);
+    }
+    let mut tracks = row.run(rt, alloc, &steps, lanes)?;
+    let out = lay(alloc, tracks.as_mut_slice(), lanes, slots)?;
     Ok(out)
 }
 
@@ -93,13 +108,14 @@ fn take_down<R: Threads + Sync>(
     ensures count { IfOk result (λ out. length out.items ≡ length slots.items) }
     ensures headers { IfOk result (λ _. EachLane row.new) }
 {
-    let mut run = row.run(rt, alloc, &DownSteps(taken))?;
-    let out = lay(
-        alloc,
-        run.tracks.as_mut_slice(),
-        run.numbers.as_slice(),
-        slots,
-    )?;
+    let steps = DownSteps(taken);
+    let told = tell_each(alloc, &steps)?;
+    let lanes = told.as_slice();
+    if go_nowhere(lanes) {
+        return Ok(slots);
+    }
+    let mut tracks = row.run(rt, alloc, &steps, lanes)?;
+    let out = lay(alloc, tracks.as_mut_slice(), lanes, slots)?;
     Ok(out)
 }
 
@@ -120,10 +136,12 @@ pub(crate) fn take_beside<R: Threads + Sync>(
     ensures count { IfOk result (λ marks. length marks.items ≡ length records.now) }
     ensures rows { IfOk result (λ _. rows.new ≡ rows_after form rows.old start records.now) }
 {
+    let lanes = tell_beside(rt, alloc, &Reading { form, records }, THREADS)?;
     let taken = Taken {
         form,
         records,
         start,
+        lanes: lanes.as_slice(),
     };
     let none = no_marks(alloc, records.len())?;
     let outer = take_outer(rt, alloc, taken, &mut rows.outer, none)?;

@@ -9,14 +9,17 @@ mod entries;
 mod joining;
 mod keys;
 mod lane_steps;
+mod lanes;
 mod looking;
 mod marks;
+mod packets;
 mod reading;
 mod rounds;
 mod row;
 mod row_steps;
 mod rows;
 mod stage;
+mod telling;
 mod tracks;
 mod turns;
 

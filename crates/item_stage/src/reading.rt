@@ -1,18 +1,17 @@
 // The item of one record.
-ghost use Rattle.std.specs.Prelude.{◌≡◌};
+ghost use Rattle.std.specs.Prelude.{◌≡◌, true};
 ghost use Rattle.capture_io.specs.Frames.{said};
 ghost use Rattle.ip_codec.specs.Packet4.{ip4_of};
 ghost use Rattle.ip_codec.specs.Packet6.{ip6_of};
 ghost use Rattle.ip_codec.specs.Seen.{seen};
-ghost use Rattle.item_stage.specs.Alone.{by_chain, from_outside, from_tunnel, in_frame, in_tunnel, item_alone, item_of, told_item};
+ghost use Rattle.item_stage.specs.Alone.{from_outside, from_tunnel, in_frame, item_alone, item_of};
+ghost use Rattle.item_stage.specs.Looks.{carries_whole, is_whole};
 ghost use Rattle.item_stage.specs.Shown.{shown};
-ghost use Rattle.ipv6_chain.specs.Chains.{chain_of};
-ghost use Rattle.ipv6_chain.specs.declared.headers.Start.TheVariants.{Packet};
 
-use crate::alone::{Alone, IPV4_IN_IPV6, outer_fields, read_chain, rule_of_refusal};
+use crate::alone::{Alone, IPV4_IN_IPV6, outer_fields, read_outside, read_tunnel};
 use crate::marks::told_view;
 use capture_io::{Form, Frame, frame_of};
-use ip_codec::{ItemView, Outer, Rule, ip6, read_packet};
+use ip_codec::{ItemView, Rule, ip4, ip6, known_packet};
 
 /// The item of a record's bytes where no other record came, in a capture of this form: a fragment is `Held`. What it
 /// carries is read once, and stands where it was.
@@ -22,6 +21,7 @@ pub fn read_item(form: Form, bytes: &[u8]) -> ItemView<'_>
     item_in_frame(frame_of(form.link, bytes))
 }
 
+#[inline(always)]
 fn item_in_frame<'a>(frame: Frame<'a>) -> ItemView<'a>
     ensures { seen result ≡ item_alone (in_frame (said frame.entry)) }
 {
@@ -33,53 +33,88 @@ fn item_in_frame<'a>(frame: Frame<'a>) -> ItemView<'a>
     }
 }
 
-// An IPv4 packet from outside.
+// An IPv4 packet from outside: mostly a whole one.
+#[inline(always)]
 fn item_outside(bytes: &[u8]) -> ItemView<'_>
     ensures { seen result ≡ item_alone (from_outside (ip4_of bytes.now)) }
 {
-    match read_packet(bytes) {
-        Ok(packet) => {
-            if packet.view.is_fragment() {
-                return ItemView::Held;
-            }
-            ItemView::Down { packet }
-        }
-        Err(unread) => ItemView::Bad(rule_of_refusal(unread.why)),
+    if is_whole(bytes) {
+        return whole_outside(bytes);
+    }
+    other_outside(bytes)
+}
+
+#[inline(always)]
+fn whole_outside(bytes: &[u8]) -> ItemView<'_>
+    requires { is_whole (ip4_of bytes.now) ≡ true }
+    ensures { seen result ≡ item_alone (from_outside (ip4_of bytes.now)) }
+{
+    ItemView::Down {
+        packet: known_packet(bytes),
     }
 }
 
-// An IPv6 packet.
+#[cold]
+#[inline(never)]
+fn other_outside(bytes: &[u8]) -> ItemView<'_>
+    ensures { seen result ≡ item_alone (from_outside (ip4_of bytes.now)) }
+{
+    alone_view(read_outside(bytes))
+}
+
+// An IPv6 packet: mostly with a whole IPv4 packet at once behind its fixed header.
+#[inline(always)]
 fn item_in_tunnel(bytes: &[u8]) -> ItemView<'_>
     ensures { seen result ≡ item_alone (from_tunnel (ip6_of bytes.now)) }
 {
+    if carries_whole(bytes) {
+        return whole_in_tunnel(bytes);
+    }
+    other_in_tunnel(bytes)
+}
+
+#[inline(always)]
+fn whole_in_tunnel(bytes: &[u8]) -> ItemView<'_>
+    requires { carries_whole (ip6_of bytes.now) ≡ true }
+    ensures { seen result ≡ item_alone (from_tunnel (ip6_of bytes.now)) }
+{
     match ip6(bytes) {
-        Ok(packet) => item_behind(outer_fields(&packet), packet.next, packet.body),
-        Err(_) => ItemView::Bad(Rule::Ip6Malformed),
+        Ok(packet) => ItemView::Up {
+            outer: outer_fields(&packet),
+            inner: known_packet(packet.body),
+        },
+        Err(_) => unreachable!(),
     }
 }
 
-// What stands behind the fixed header: mostly an IPv4 packet at once.
-fn item_behind(outer: Outer, next: u8, body: &[u8]) -> ItemView<'_>
-    ensures { seen result ≡ item_alone (by_chain outer body.now (chain_of next body.now Packet)) }
+/// The item of an IPv6 packet.
+#[cold]
+#[inline(never)]
+pub(crate) fn other_in_tunnel(bytes: &[u8]) -> ItemView<'_>
+    ensures { seen result ≡ item_alone (from_tunnel (ip6_of bytes.now)) }
 {
-    if next == IPV4_IN_IPV6 {
-        return item_carried(outer, body);
-    }
-    alone_view(read_chain(outer, next, body))
+    alone_view(read_tunnel(bytes))
 }
 
-// A packet in the tunnel.
-fn item_carried(outer: Outer, bytes: &[u8]) -> ItemView<'_>
-    ensures { seen result ≡ told_item (in_tunnel outer bytes.now (ip4_of bytes.now)) }
+// Whether the bytes are an IPv6 packet with a whole IPv4 packet at once behind its fixed header.
+#[inline(always)]
+fn carries_whole(bytes: &[u8]) -> bool
+    ensures { result ≡ carries_whole (ip6_of bytes.now) }
 {
-    match read_packet(bytes) {
-        Ok(inner) => {
-            if inner.view.is_fragment() {
-                return ItemView::Held;
-            }
-            ItemView::Up { outer, inner }
-        }
-        Err(inner) => ItemView::UpUnread { outer, inner },
+    match ip6(bytes) {
+        Ok(packet) => packet.next == IPV4_IN_IPV6 && is_whole(packet.body),
+        Err(_) => false,
+    }
+}
+
+// Whether the bytes are an IPv4 packet that is no fragment.
+#[inline(always)]
+fn is_whole(bytes: &[u8]) -> bool
+    ensures { result ≡ is_whole (ip4_of bytes.now) }
+{
+    match ip4(bytes) {
+        Ok(packet) => !packet.is_fragment(),
+        Err(_) => false,
     }
 }
 

@@ -4,9 +4,10 @@ ghost use Rattle.ip_codec.specs.Seen.{seen};
 ghost use Rattle.ip_codec.specs.declared.items.Item.{Item as Whole};
 
 use crate::marks::Slot;
+use crate::packets::{packet_of, read_known};
 use crate::reading::read_item;
 use capture_io::{Form, Records};
-use ip_codec::ItemView;
+use ip_codec::{ItemView, ReadPacket};
 use std::marker::Model;
 
 /// The items of a round's records. Asking for one changes nothing, so many threads can ask at once, each for any of them.
@@ -48,7 +49,10 @@ impl<'a> Model for Items<'a> {
 
 impl<'a> Items<'a> {
     ghost use Rattle.std.specs.Option.{option_map};
+    ghost use Rattle.std.specs.Prelude.{is_some, true};
+    ghost use Rattle.ip_codec.specs.Packet4.{packet4};
     ghost use Rattle.item_stage.specs.Marks.{entries_by};
+    ghost use Rattle.item_stage.specs.Packets.{packet_at};
 
     /// The entries of these records, in a capture of this form, by their marks.
     pub(crate) fn of(form: Form, records: &'a Records, marks: Vec<Slot>) -> Self
@@ -70,6 +74,18 @@ impl<'a> Items<'a> {
         match self.marks[index].get() {
             Some(mark) => mark.ended.as_slice(),
             None => &[],
+        }
+    }
+
+    /// The IPv4 packet of the item at this index, which is known to have one. It is found without reading the item anew.
+    pub fn packet(&self, index: usize) -> ReadPacket<'_>
+        requires inside { index < length self.now }
+        requires known { is_some (packet_at self.now index) ≡ true }
+        ensures { packet_at self.now index ≡ Some (packet4 result.view) }
+    {
+        match self.marks[index].get() {
+            Some(mark) => packet_of(&mark.became.item()),
+            None => read_known(self.form, self.records.get(index).bytes),
         }
     }
 }

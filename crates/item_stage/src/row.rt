@@ -6,7 +6,7 @@ ghost use Rattle.item_stage.specs.Waiting.{no_row, numbers_in, row_fed, row_turn
 ghost use Rattle.reassembly_lane.specs.Lanes.{arrival};
 
 use crate::keys::LANES;
-use crate::tracks::{LaneSteps, Run, run_row};
+use crate::tracks::{LaneSteps, Track, run_lanes};
 use aftr_base::{Numbers, OutOfMemory};
 use reassembly_lane::{Fed, Lane, Piece};
 use std::alloc::Global;
@@ -69,19 +69,20 @@ impl<K: Ord + Copy + Drop + Send> Row<K> {
     ghost use Rattle.item_stage.specs.Beside.{lanes_in};
     ghost use Rattle.item_stage.specs.Tracks.{IsRowRun};
 
-    /// Takes the records of a round, several lanes at once.
+    /// Takes the records of a round, which go to these lanes, several lanes at once.
     pub(crate) fn run<R: Threads + Sync, S: LaneSteps<K> + Sync>(
         &mut self,
         rt: &R,
         alloc: Global,
         steps: &S,
-    ) -> Result<Run<K>, OutOfMemory>
-        requires { All (S.keeps steps.now) self.old }
-        ensures numbers { IfOk result (λ run. run.numbers.items ≡ lanes_in (S.ops steps.now)) }
-        ensures run { IfOk result (λ run. IsRowRun (S.ops steps.now) (S.keeps steps.now) self.old self.new run.tracks.items) }
-        ensures tracks { IfOk result (λ run. length run.tracks.items ≡ lane_count) }
+        lanes: &[u8],
+    ) -> Result<Vec<Track<K>>, OutOfMemory>
+        requires lanes { lanes.now ≡ lanes_in (S.ops steps.now) }
+        requires keeps { All (S.keeps steps.now) self.old }
+        ensures run { IfOk result (λ tracks. IsRowRun (S.ops steps.now) (S.keeps steps.now) self.old self.new tracks.items) }
+        ensures tracks { IfOk result (λ tracks. length tracks.items ≡ lane_count) }
     {
-        run_row(rt, alloc, steps, &mut self.lanes)
+        run_lanes(rt, alloc, steps, lanes, &mut self.lanes)
     }
 }
 

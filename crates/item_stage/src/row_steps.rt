@@ -1,12 +1,16 @@
 // The records of a round, row by row.
-ghost use Rattle.std.specs.Prelude.{◌≡◌, ◌+◌, ◌^◌, ◌≤◌, ◌<◌, ℕ, List, None, length};
-ghost use Rattle.item_stage.specs.Beside.{became_inside, between, down_op, half_in, inner_op, inside_op, outer_op};
-ghost use Rattle.item_stage.specs.Shown.{shown, shown_inside};
+ghost use Rattle.std.specs.Prelude.{◌≡◌, ◌+◌, ◌^◌, ◌≤◌, ◌<◌, ℕ, length};
+ghost use Rattle.item_stage.specs.Alone.{Alone};
+ghost use Rattle.item_stage.specs.Beside.{became_inside, between, half_in, inner_op, inside_op};
+ghost use Rattle.item_stage.specs.Lanes.{all_lanes, lanes_of};
+ghost use Rattle.item_stage.specs.Shown.{shown};
 
-use crate::alone::{Alone, Inside, behind_fragment, read_alone};
-use crate::keys::{DownKey, InnerKey, LANES, OuterKey, lane_of};
+use crate::alone::{Alone as ReadAlone, behind_fragment, read_alone};
+use crate::keys::{DownKey, InnerKey, OuterKey};
 use crate::lane_steps::{take_down, take_inner, take_outer};
+use crate::lanes::{Lanes, NONE, inside_lane};
 use crate::marks::{Became, Mark, Slot};
+use crate::telling::Tells;
 use crate::tracks::LaneSteps;
 use crate::turns::Moment;
 use aftr_base::OutOfMemory;
@@ -20,11 +24,14 @@ pub(crate) struct Taken<'a> {
     pub(crate) form: Form,
     pub(crate) records: &'a Records,
     pub(crate) start: u32,
+    /// Where each of them goes.
+    pub(crate) lanes: &'a [Lanes],
     pub(crate) ghost few: { start + length records.now ≤ 2 ^ 31 },
+    pub(crate) ghost read: { lanes.now ≡ all_lanes form records.now },
 }
 
 impl<'a> Taken<'a> {
-    ghost use Rattle.std.specs.Prelude.{Some, slice_get};
+    ghost use Rattle.std.specs.Prelude.{Some, slice_get, slice_index_or};
     ghost use Rattle.capture_io.specs.Record.{nanoseconds};
     ghost use Rattle.capture_io.specs.declared.forms.Rec.{Rec as Record};
     ghost use Rattle.item_stage.specs.Alone.{alone_of};
@@ -42,46 +49,20 @@ impl<'a> Taken<'a> {
         }
     }
 
+    /// The lanes that it goes to, where the outer row leaves nothing of it.
+    fn lanes(&self, index: usize) -> Lanes
+        requires { index < length self.now.records.now }
+        ensures { result ≡ slice_index_or self.now.lanes.now index result }
+    {
+        self.lanes[index]
+    }
+
     /// What it is by itself.
-    fn alone(&self, index: usize) -> Alone<'a>
+    fn alone(&self, index: usize) -> ReadAlone<'a>
         requires { index < length self.now.records.now }
         ensures { (r : Record) → slice_get self.now.records.now index ≡ Some r → shown result ≡ alone_of self.now.form r.bytes }
     {
         read_alone(self.form, self.records.get(index).bytes)
-    }
-}
-
-/// No lane.
-const NONE: u8 = LANES as u8;
-
-fn outer_lane(alone: &Alone<'_>) -> u8
-    ensures { (time number : ℕ) → (outer_op time number (shown alone.now)).0 ≡ result }
-{
-    match alone {
-        Alone::Outside(cut) => lane_of(cut.id) as u8,
-        Alone::Ready(_) => NONE,
-        Alone::Downstream(_) => NONE,
-        Alone::Carries(_) => NONE,
-    }
-}
-
-fn down_lane(alone: &Alone<'_>) -> u8
-    ensures { (time number : ℕ) → (down_op time number (shown alone.now)).0 ≡ result }
-{
-    match alone {
-        Alone::Downstream(packet) => lane_of(u32::from(packet.view.id)) as u8,
-        Alone::Ready(_) => NONE,
-        Alone::Outside(_) => NONE,
-        Alone::Carries(_) => NONE,
-    }
-}
-
-fn inside_lane(inside: &Inside<'_>) -> u8
-    ensures { (time number : ℕ) (ended : List ℕ) → (inside_op time number ended (shown_inside inside.now)).0 ≡ result }
-{
-    match inside {
-        Inside::Fragment { packet, .. } => lane_of(u32::from(packet.view.id)) as u8,
-        Inside::Told(_) => NONE,
     }
 }
 
@@ -101,23 +82,13 @@ fn marked_lane(mark: &Mark) -> u8
     }
 }
 
-fn unmarked_lane(alone: &Alone<'_>) -> u8
-    ensures { (time number : ℕ) → (inner_op time number (between (shown alone.now) None)).0 ≡ result }
-{
-    match alone {
-        Alone::Carries(inside) => inside_lane(inside),
-        Alone::Ready(_) => NONE,
-        Alone::Outside(_) => NONE,
-        Alone::Downstream(_) => NONE,
-    }
-}
-
-fn inner_lane(alone: &Alone<'_>, slot: &Slot) -> u8
-    ensures { (time number : ℕ) → (inner_op time number (between (shown alone.now) (half_in slot.now))).0 ≡ result }
+// The lane in the inner row of a record with these lanes, of which the outer row left this.
+fn inner_lane(lanes: Lanes, slot: &Slot) -> u8
+    ensures { (alone : Alone) → lanes ≡ lanes_of alone → (time number : ℕ) → (inner_op time number (between alone (half_in slot.now))).0 ≡ result }
 {
     match slot.get() {
         Some(mark) => marked_lane(mark),
-        None => unmarked_lane(alone),
+        None => lanes.inner,
     }
 }
 
@@ -125,20 +96,26 @@ fn inner_lane(alone: &Alone<'_>, slot: &Slot) -> u8
 #[derive(Clone, Copy)]
 pub(crate) struct OuterSteps<'a>(pub(crate) Taken<'a>);
 
+impl<'a> Tells<u8> for OuterSteps<'a> {
+    ghost use Rattle.item_stage.specs.Beside.{lanes_in, outer_ops};
+
+    ghost told = { λ s. lanes_in (outer_ops s.0.form s.0.start s.0.records.now) };
+
+    fn len(&self) -> usize {
+        self.0.records.len()
+    }
+
+    fn tell(&self, index: usize) -> u8 {
+        self.0.lanes(index).outer
+    }
+}
+
 impl<'a> LaneSteps<OuterKey> for OuterSteps<'a> {
     ghost use Rattle.item_stage.specs.Beside.{outer_ops};
 
     ghost ops = { λ s. outer_ops s.0.form s.0.start s.0.records.now };
 
     ghost keeps = { λ s lane. Unit {0} };
-
-    fn len(&self) -> usize {
-        self.0.records.len()
-    }
-
-    fn lane(&self, index: usize) -> u8 {
-        outer_lane(&self.0.alone(index))
-    }
 
     fn step(
         &self,
@@ -155,6 +132,20 @@ impl<'a> LaneSteps<OuterKey> for OuterSteps<'a> {
 #[derive(Clone, Copy)]
 pub(crate) struct DownSteps<'a>(pub(crate) Taken<'a>);
 
+impl<'a> Tells<u8> for DownSteps<'a> {
+    ghost use Rattle.item_stage.specs.Beside.{down_ops, lanes_in};
+
+    ghost told = { λ s. lanes_in (down_ops s.0.form s.0.start s.0.records.now) };
+
+    fn len(&self) -> usize {
+        self.0.records.len()
+    }
+
+    fn tell(&self, index: usize) -> u8 {
+        self.0.lanes(index).down
+    }
+}
+
 impl<'a> LaneSteps<DownKey> for DownSteps<'a> {
     ghost use Rattle.item_stage.specs.Beside.{down_ops};
     ghost use Rattle.item_stage.specs.Heads.{EachContext};
@@ -162,14 +153,6 @@ impl<'a> LaneSteps<DownKey> for DownSteps<'a> {
     ghost ops = { λ s. down_ops s.0.form s.0.start s.0.records.now };
 
     ghost keeps = { λ s lane. EachContext lane };
-
-    fn len(&self) -> usize {
-        self.0.records.len()
-    }
-
-    fn lane(&self, index: usize) -> u8 {
-        down_lane(&self.0.alone(index))
-    }
 
     fn step(
         &self,
@@ -201,6 +184,20 @@ impl<'a> InnerSteps<'a> {
     }
 }
 
+impl<'a> Tells<u8> for InnerSteps<'a> {
+    ghost use Rattle.item_stage.specs.Beside.{halves_in, inner_ops, lanes_in};
+
+    ghost told = { λ s. lanes_in (inner_ops s.taken.form s.taken.start s.taken.records.now (halves_in s.slots.now)) };
+
+    fn len(&self) -> usize {
+        self.taken.records.len()
+    }
+
+    fn tell(&self, index: usize) -> u8 {
+        inner_lane(self.taken.lanes(index), self.slot(index))
+    }
+}
+
 impl<'a> LaneSteps<InnerKey> for InnerSteps<'a> {
     ghost use Rattle.item_stage.specs.Beside.{halves_in, inner_ops};
     ghost use Rattle.item_stage.specs.Heads.{EachContext};
@@ -208,14 +205,6 @@ impl<'a> LaneSteps<InnerKey> for InnerSteps<'a> {
     ghost ops = { λ s. inner_ops s.taken.form s.taken.start s.taken.records.now (halves_in s.slots.now) };
 
     ghost keeps = { λ s lane. EachContext lane };
-
-    fn len(&self) -> usize {
-        self.taken.records.len()
-    }
-
-    fn lane(&self, index: usize) -> u8 {
-        inner_lane(&self.taken.alone(index), self.slot(index))
-    }
 
     fn step(
         &self,

@@ -1,24 +1,24 @@
 // The lanes of a row beside one another, each with its own records.
-ghost use Rattle.std.specs.Prelude.{◌≡◌, ◌<◌, ◌≤◌, ◌∷◌, ℕ, List, [], Option, Some, All, IfOk, length, false, map, slice_get, slice_index_or, slice_set, true};
-ghost use Rattle.std.specs.Thread.{IsSync};
+ghost use Rattle.std.specs.Prelude.{◌≡◌, ◌+◌, ◌<◌, ◌≤◌, ◌∷◌, ℕ, List, [], Option, Some, All, IfOk, length, false, map, slice_get, slice_index_or, slice_set, true};
+ghost use Rattle.std.specs.Thread.{IsSend, IsSync};
 ghost use Rattle.item_stage.specs.Beside.{HasGone, HasRun, Half, IsTaken, Op, half_in, halves_in, laid, lanes_in, row_halves};
 ghost use Rattle.item_stage.specs.Fragments.{lane_count};
-ghost use Rattle.item_stage.specs.Tracks.{AreLeft, HasRunUnless, IsReady, IsRowRun, halves_told};
+ghost use Rattle.item_stage.specs.Tracks.{AreLeft, AreRun, HasRunUnless, IsReady, IsRowRun, halves_told};
 ghost use Rattle.item_stage.specs.Waiting.{Waiting};
 ghost use Rattle.reassembly_lane.specs.Contexts.{Partial};
 
 use crate::keys::LANES;
 use crate::marks::Slot;
+use crate::telling::THREADS;
 use aftr_base::OutOfMemory;
 use reassembly_lane::Lane;
 use std::alloc::Global;
 use std::collections::VecDeque;
 use std::mem::swap;
-use std::thread;
-use std::thread::Threads;
+use std::thread::{Threads, join_mut};
 
-/// In how many threads the lanes of a row are worked at once.
-const THREADS: usize = 4;
+/// How many lanes of a row one thread works, one after the other.
+const LANES_EACH: usize = LANES / THREADS;
 
 /// What the records of a round do in the lanes of one row.
 pub(crate) trait LaneSteps<K: Ord> {
@@ -27,15 +27,6 @@ pub(crate) trait LaneSteps<K: Ord> {
 
     /// What is true of every lane.
     ghost keeps: { Self → List (K × Partial) → Type 0 };
-
-    /// How many records there are.
-    fn len(&self) -> usize
-        ensures { result ≡ length (ops self.now) };
-
-    /// The lane of the record at an index: 16 where it goes to none.
-    fn lane(&self, index: usize) -> u8
-        requires { index < length (ops self.now) }
-        ensures { (op : Op K) → slice_get (ops self.now) index ≡ Some op → op.0 ≡ result };
 
     /// Takes the record at an index in its lane.
     fn step(&self, alloc: Global, index: usize, lane: &mut Lane<K>) -> Result<Slot, OutOfMemory>
@@ -120,42 +111,86 @@ fn run_track<K: Ord, S: LaneSteps<K>>(
     track.failed = done.is_err();
 }
 
-// In how many threads a row is worked: in none but this one where no record goes to its lanes.
-fn threads_for(lanes: &[u8]) -> usize
-    ensures { 0 < result }
+// Runs neighbouring tracks one after the other. The first is that of the lane with this number.
+fn run_some<K: Ord, S: LaneSteps<K>>(
+    alloc: Global,
+    steps: &S,
+    lanes: &[u8],
+    number: usize,
+    tracks: &mut [Track<K>],
+)
+    requires lanes { lanes.now ≡ lanes_in (S.ops steps.now) }
+    requires ready { All (IsReady (S.keeps steps.now)) tracks.old }
+    requires inside { number + length tracks.old ≤ lane_count }
+    ensures { AreRun (S.ops steps.now) (S.keeps steps.now) number tracks.old tracks.new }
 {
     let mut index = 0;
-    'records: while index < lanes.len() {
-        if usize::from(lanes[index]) < LANES {
-            return THREADS;
-        }
+    'tracks: while index < tracks.len() {
+        run_track(alloc, steps, lanes, number + index, &mut tracks[index]);
         index += 1;
     }
-    1
 }
 
-// All tracks, several at once.
+// The first tracks run in a new thread, and the others beside them.
+#[cycle(beside)]
+fn run_beside<R: Threads + Sync, K: Ord + Send, S: LaneSteps<K> + Sync>(
+    rt: &R,
+    first: &mut [Track<K>],
+    others: &mut [Track<K>],
+    alloc: Global,
+    steps: &S,
+    lanes: &[u8],
+    number: usize,
+    behind: usize,
+)
+    requires lanes { lanes.now ≡ lanes_in (S.ops steps.now) }
+    requires first { All (IsReady (S.keeps steps.now)) first.old }
+    requires others { All (IsReady (S.keeps steps.now)) others.old }
+    requires first_inside { number + length first.old ≤ lane_count }
+    requires others_inside { behind + length others.old ≤ lane_count }
+    ensures first { AreRun (S.ops steps.now) (S.keeps steps.now) number first.old first.new }
+    ensures others { AreRun (S.ops steps.now) (S.keeps steps.now) behind others.old others.new }
+{
+    let mut one = move ||
+        requires { IsSync S.row × ((lanes.now ≡ lanes_in (S.ops steps.now)) × (All (IsReady (S.keeps steps.now)) first.now × (number + length first.now ≤ lane_count))) }
+        ensures { AreRun (S.ops steps.entry.now) (S.keeps steps.entry.now) number first.entry.now first.exit.now }
+    { run_some(alloc, steps, lanes, number, first) };
+    let mut rest = move ||
+        requires { IsSync R.row × (IsSync S.row × (IsSend K.row × ((lanes.now ≡ lanes_in (S.ops steps.now)) × (All (IsReady (S.keeps steps.now)) others.now × (behind + length others.now ≤ lane_count))))) }
+        ensures { AreRun (S.ops steps.entry.now) (S.keeps steps.entry.now) behind others.entry.now others.exit.now }
+    { run_tracks(rt, alloc, steps, lanes, behind, others) };
+    join_mut(rt, &mut one, &mut rest);
+}
+
+// All tracks, some in each thread. One thread makes all the others: what a thread makes that was just made itself begins late.
+#[cycle(beside)]
 fn run_tracks<R: Threads + Sync, K: Ord + Send, S: LaneSteps<K> + Sync>(
     rt: &R,
     alloc: Global,
     steps: &S,
     lanes: &[u8],
+    number: usize,
     tracks: &mut [Track<K>],
 )
     requires lanes { lanes.now ≡ lanes_in (S.ops steps.now) }
     requires ready { All (IsReady (S.keeps steps.now)) tracks.old }
-    ensures run { (place : ℕ) (d : Track K) → place < length tracks.old →
-        HasRunUnless (S.ops steps.now) (S.keeps steps.now) place (slice_index_or tracks.old place d) (slice_index_or tracks.new place d) }
-    ensures count { length tracks.new ≡ length tracks.old }
+    requires inside { number + length tracks.old ≤ lane_count }
+    ensures { AreRun (S.ops steps.now) (S.keeps steps.now) number tracks.old tracks.new }
 {
-    thread::for_each_mut(
+    if tracks.len() <= LANES_EACH {
+        run_some(alloc, steps, lanes, number, tracks);
+        return;
+    }
+    let (first, others) = tracks.split_at_mut(LANES_EACH);
+    run_beside(
         rt,
-        tracks,
-        threads_for(lanes),
-        &|place, track: &mut Track<K>|
-            requires { IsSync S.row × ((lanes.now ≡ lanes_in (S.ops steps.now)) × IsReady (S.keeps steps.now) track.old) }
-            ensures { HasRunUnless (S.ops steps.entry.now) (S.keeps steps.entry.now) place track.old track.new }
-        { run_track(alloc, steps, lanes, place, track) },
+        first,
+        others,
+        alloc,
+        steps,
+        lanes,
+        number,
+        number + LANES_EACH,
     );
 }
 
@@ -212,6 +247,20 @@ pub(crate) fn lay<K: Ord>(
     Ok(out)
 }
 
+/// Whether no record goes to a lane.
+pub(crate) fn go_nowhere(lanes: &[u8]) -> bool
+    ensures { result ≡ true → All (λ lane. lane_count ≤ lane) lanes.now }
+{
+    let mut index = 0;
+    'records: while index < lanes.len() {
+        if usize::from(lanes[index]) < LANES {
+            return false;
+        }
+        index += 1;
+    }
+    true
+}
+
 // Whether no track wanted memory.
 fn none_failed<K: Ord>(tracks: &[Track<K>]) -> bool
     ensures { result ≡ true → All (λ t. t.failed ≡ false) tracks.now }
@@ -261,7 +310,7 @@ fn run_lent<R: Threads + Sync, K: Ord + Send, S: LaneSteps<K> + Sync>(
     ensures tracks { length tracks.new ≡ lane_count }
 {
     swap_lanes(lanes, tracks);
-    run_tracks(rt, alloc, steps, numbers, tracks);
+    run_tracks(rt, alloc, steps, numbers, 0, tracks);
     let whole = none_failed(tracks);
     swap_lanes(lanes, tracks);
     whole
@@ -294,44 +343,4 @@ pub(crate) fn run_lanes<R: Threads + Sync, K: Ord + Drop + Send, S: LaneSteps<K>
         return Ok(tracks);
     }
     Err(OutOfMemory)
-}
-
-/// What a row left of the records of a round: the tracks of its lanes, and the lane that each record went to.
-#[derive(Drop)]
-pub(crate) struct Run<K: Ord> {
-    pub(crate) tracks: Vec<Track<K>>,
-    pub(crate) numbers: Vec<u8>,
-}
-
-// The lane that each record goes to.
-fn numbers_of<K: Ord, S: LaneSteps<K>>(alloc: Global, steps: &S) -> Result<Vec<u8>, OutOfMemory>
-    ensures { IfOk result (λ numbers. numbers.items ≡ lanes_in (S.ops steps.now)) }
-{
-    let count = steps.len();
-    let mut numbers = Vec::with_capacity(alloc, count)?;
-    let mut index = 0;
-    'records: while index < count {
-        numbers.push(steps.lane(index))?;
-        index += 1;
-    }
-    Ok(numbers)
-}
-
-/// Takes the records of a round in the lanes of a row.
-pub(crate) fn run_row<R: Threads + Sync, K: Ord + Drop + Send, S: LaneSteps<K> + Sync>(
-    rt: &R,
-    alloc: Global,
-    steps: &S,
-    lanes: &mut Vec<Lane<K>>,
-) -> Result<Run<K>, OutOfMemory>
-    requires keeps { All (S.keeps steps.now) lanes.old.items }
-    requires lanes { length lanes.old.items ≡ lane_count }
-    ensures numbers { IfOk result (λ run. run.numbers.items ≡ lanes_in (S.ops steps.now)) }
-    ensures run { IfOk result (λ run. IsRowRun (S.ops steps.now) (S.keeps steps.now) lanes.old.items lanes.new.items run.tracks.items) }
-    ensures tracks { IfOk result (λ run. length run.tracks.items ≡ lane_count) }
-    ensures lanes { length lanes.new.items ≡ lane_count }
-{
-    let numbers = numbers_of(alloc, steps)?;
-    let tracks = run_lanes(rt, alloc, steps, numbers.as_slice(), lanes)?;
-    Ok(Run { tracks, numbers })
 }

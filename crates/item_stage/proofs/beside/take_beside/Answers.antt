@@ -1,4 +1,4 @@
-use Rattle.std.proofs.Common.{◌∙◌, sym}
+use Rattle.std.proofs.Common.{◌∙◌}
 use Rattle.item_stage.proofs.LaidLemmas.{marks_beside, rows_same}
 use Rattle.item_stage.proofs.beside.take_beside.Goals as goal
 

@@ -1,18 +1,28 @@
-use Rattle.std.proofs.Common.{ap, arith, length}
-use Rattle.std.proofs.lemmas.List.{length-map}
+use Rattle.std.proofs.Common.{◌∙◌, ap, arith, length, sym}
 use Rattle.item_stage.specs.Beside.{down_ops}
-use Rattle.item_stage.proofs.OpLemmas.{length_down}
 use Rattle.item_stage.proofs.LaidLemmas.{all_of_each, each_of_all}
+use Rattle.item_stage.proofs.OpLemmas.{length_down}
+use Rattle.item_stage.proofs.TellingLemmas.{count_down, row_stays, slots_stay}
 use Rattle.item_stage.proofs.beside.take_down.Goals as goal
 
 pub lay-requires-clause-same : goal.lay-requires-clause-same
 lay-requires-clause-same g c =
     let t = c.args.taken in
-    let ops = down_ops t.form t.start t.records.now in
-    omega (arith, c.requires.same, ap length c.as_slice.ensures.value, ap length c.in_ok-run.ensures.numbers, length-map ops (λ o. o.0), length_down t.form t.start t.records.now)
+    omega (arith, c.requires.same, ap length c.as_slice-lanes.ensures.value, ap length c.in_ok-told.ensures, count_down t.form t.start t.records.now)
 
-pub run-requires-after_bounds : goal.run-requires-after_bounds
-run-requires-after_bounds g c κs within = all_of_each c.args.row.now c.requires.headers
+pub run-requires-clause-keeps : goal.run-requires-clause-keeps
+run-requires-clause-keeps g c κs within = all_of_each c.args.row.now c.requires.headers
+
+pub returns-then-go_nowhere-clause-row : goal.returns-then-go_nowhere-clause-row
+returns-then-go_nowhere-clause-row g c =
+    let t = c.args.taken in
+    row_stays c.args.row.now (down_ops t.form t.start t.records.now) c.as_slice-lanes.result.now (c.as_slice-lanes.ensures.value ∙ c.in_ok-told.ensures) (c.go_nowhere.ensures c.if-go_nowhere.true)
+
+pub returns-then-go_nowhere-clause-laid : goal.returns-then-go_nowhere-clause-laid
+returns-then-go_nowhere-clause-laid g c =
+    let t = c.args.taken in
+    slots_stay c.args.row.now (down_ops t.form t.start t.records.now) c.as_slice-lanes.result.now (c.as_slice-lanes.ensures.value ∙ c.in_ok-told.ensures) (c.go_nowhere.ensures c.if-go_nowhere.true)
+    c.args.slots.items (c.requires.same ∙ sym (length_down t.form t.start t.records.now))
 
 pub returns-clause-headers : goal.returns-clause-headers
-returns-clause-headers g c = each_of_all c.run.new.self c.in_ok-run.ensures.run.kept
+returns-clause-headers g c = each_of_all c.run.new.self c.in_ok-tracks.ensures.run.kept

@@ -1,4 +1,4 @@
-use Rattle.std.proofs.Common.{◌≡◌, ap, arith, refl}
+use Rattle.std.proofs.Common.{arith, refl}
 use Rattle.std.specs.Prelude.{slice_index_or}
 use Rattle.item_stage.proofs.TrackLemmas.{popped}
 use Rattle.item_stage.proofs.tracks.next_slot.Goals as goal

@@ -1,4 +1,3 @@
-use Rattle.std.proofs.Common.{◌∙◌, sym}
 use Rattle.item_stage.proofs.LentLemmas.{lent_ready, lent_run}
 use Rattle.item_stage.proofs.tracks.run_lent.Goals as goal
 
@@ -9,4 +8,4 @@ run_tracks-requires-clause-ready g c κs within =
 pub returns-clause-run : goal.returns-clause-run
 returns-clause-run g c whole =
     lent_run (g.S.LaneSteps.ops c.args.steps.now) (g.S.LaneSteps.keeps c.args.steps.now) c.args.lanes.now c.swap_lanes-2.new.lanes c.swap_lanes.new.tracks c.run_tracks.new.tracks c.swap_lanes-2.new.tracks
-    c.swap_lanes.ensures.tracks c.run_tracks.ensures.run (c.none_failed-whole.ensures whole) c.swap_lanes-2.ensures.lanes c.swap_lanes-2.ensures.slots c.requires.lanes c.run_tracks.ensures.count
+    c.swap_lanes.ensures.tracks c.run_tracks.ensures (c.none_failed-whole.ensures whole) c.swap_lanes-2.ensures.lanes c.swap_lanes-2.ensures.slots c.requires.lanes

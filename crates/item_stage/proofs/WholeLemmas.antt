@@ -1,0 +1,118 @@
+-- Records that carry a whole packet.
+use Rattle.std.proofs.Common.{◌≡◌, ◌==◌, ℕ, Bool, true, false, not, ◌&&◌, List, refl, sym, ◌∙◌, ap, Option, Some, is_some, Result, Ok, Err, is_ok, slice_get}
+use Rattle.std.specs.Prelude.{option_and_then}
+use Rattle.std.proofs.lemmas.Bool.{and_parts, eqb-true}
+use Rattle.ip_codec.proofs.Packet4Lemmas.{ip4_of-alone}
+use Rattle.ip_codec.specs.Packet4 as four
+use Rattle.ip_codec.specs.Packet6 as six
+use Rattle.ip_codec.specs.declared.items.Item.{Item}
+use Rattle.ip_codec.specs.declared.items.Item.TheVariants as item
+use Rattle.ip_codec.specs.declared.items.Outer.{Outer}
+use Rattle.ip_codec.specs.declared.packet4.Ip4Bad.{Ip4Bad}
+use Rattle.ip_codec.specs.declared.packet6.Ip6Bad.{Ip6Bad}
+use Rattle.ipv6_chain.specs.Chains.{chain_of}
+use Rattle.ipv6_chain.specs.declared.headers.Start.TheVariants as start
+use Rattle.item_stage.specs.Alone.{Alone, behind_headers, by_chain, from_outside, from_tunnel, in_tunnel, item_alone, outer_of, told_item}
+use Rattle.item_stage.specs.Items.{items_in}
+use Rattle.item_stage.specs.Looks.{carries_whole, is_extension, is_whole}
+use Rattle.item_stage.specs.declared.entries.Entry.{Entry}
+use Rattle.item_stage.specs.Packets.{if_packet, packet_at, packet_in}
+use Rattle.item_stage.proofs.LookLemmas.{ends_at_once}
+
+not-true : (test : Bool) → not test ≡ true → test ≡ false
+not-true true is = absurd cc
+not-true false is = refl
+
+pub whole_reads : (read : Result four.Packet4 Ip4Bad) → is_whole read ≡ true → is_ok read ≡ true
+whole_reads (Ok packet) whole = refl
+whole_reads (Err why) whole = absurd cc
+
+uncut : (packet : four.Packet4) (read : Result four.Packet4 Ip4Bad) → read ≡ Ok packet → is_whole read ≡ true → four.is_fragment packet ≡ false
+uncut packet read is whole = not-true (four.is_fragment packet) (sym (ap is_whole is) ∙ whole)
+
+-- ---- its item
+pub outside_whole : (packet : four.Packet4) (read : Result four.Packet4 Ip4Bad) → read ≡ Ok packet → is_whole read ≡ true →
+    item_alone (from_outside read) ≡ item.Down (four.whole4 packet)
+outside_whole packet read is whole =
+    ap (λ (r : Result four.Packet4 Ip4Bad). item_alone (from_outside r)) is ∙ rw (uncut packet read is whole) refl
+
+carried_whole : (outer : Outer) (bytes : List ℕ) (packet : four.Packet4) (read : Result four.Packet4 Ip4Bad) → read ≡ Ok packet → is_whole read ≡ true →
+    told_item (in_tunnel outer bytes read) ≡ item.Up outer (four.whole4 packet)
+carried_whole outer bytes packet read is whole =
+    ap (λ (r : Result four.Packet4 Ip4Bad). told_item (in_tunnel outer bytes r)) is ∙ rw (uncut packet read is whole) refl
+
+-- an IPv4 packet at once behind the fixed header
+at_once : (outer : Outer) (next : ℕ) (body : List ℕ) → next ≡ 4 →
+    item_alone (by_chain outer body (chain_of next body start.Packet)) ≡ told_item (in_tunnel outer body (four.ip4_of body))
+at_once outer next body is =
+    ap item_alone (ends_at_once outer next body (ap is_extension is)) ∙ ap (λ (n : ℕ). told_item (behind_headers outer n body)) is
+
+pub tunnel_at_once : (outer : six.Packet6) (read : Result six.Packet6 Ip6Bad) → read ≡ Ok outer → outer.next ≡ 4 →
+    item_alone (from_tunnel read) ≡ told_item (in_tunnel (outer_of outer) outer.body (four.ip4_of outer.body))
+tunnel_at_once outer read is next =
+    ap (λ (r : Result six.Packet6 Ip6Bad). item_alone (from_tunnel r)) is ∙ at_once (outer_of outer) outer.next outer.body next
+
+pub carries_parts : (outer : six.Packet6) (read : Result six.Packet6 Ip6Bad) → read ≡ Ok outer → carries_whole read ≡ true →
+    (outer.next ≡ 4) × (is_whole (four.ip4_of outer.body) ≡ true)
+carries_parts outer read is carries =
+    let both = and_parts (outer.next == 4) (is_whole (four.ip4_of outer.body)) (sym (ap carries_whole is) ∙ carries) in (eqb-true outer.next 4 both.0, both.1)
+
+pub tunnel_whole_item : (outer : six.Packet6) (packet : four.Packet4) (read : Result six.Packet6 Ip6Bad) → read ≡ Ok outer → carries_whole read ≡ true →
+    four.ip4_of outer.body ≡ Ok packet → item_alone (from_tunnel read) ≡ item.Up (outer_of outer) (four.whole4 packet)
+tunnel_whole_item outer packet read is carries inner =
+    let parts = carries_parts outer read is carries in
+    tunnel_at_once outer read is parts.0 ∙ carried_whole (outer_of outer) outer.body packet (four.ip4_of outer.body) inner parts.1
+
+-- ---- an item that is known to have a packet
+abbrev good : four.Packet4 → Result four.Packet4 Ip4Bad
+good packet = Ok packet
+
+pub record IsReadAs (read : Result four.Packet4 Ip4Bad) (found : Option four.Packet4) : Type 0 where
+  pub reads : is_ok read ≡ true
+  pub is : (packet : four.Packet4) → read ≡ Ok packet → found ≡ Some packet
+
+alike : (packet p : four.Packet4) → good packet ≡ good p → Some packet ≡ Some p
+alike packet p same = let also : packet ≡ p = cc in ap (λ (q : four.Packet4). Some q) also
+
+own : (bytes : List ℕ) (packet : four.Packet4) → four.ip4_of bytes ≡ Ok packet → if_packet (four.ip4_of (four.whole4 packet)) ≡ Some packet
+own bytes packet is = ap if_packet (ip4_of-alone bytes packet is)
+
+pub outside_known : (bytes : List ℕ) → is_some (packet_in (item_alone (from_outside (four.ip4_of bytes)))) ≡ true →
+    IsReadAs (four.ip4_of bytes) (packet_in (item_alone (from_outside (four.ip4_of bytes))))
+outside_known bytes known = by_reading (four.ip4_of bytes) refl known
+  where
+    found : Result four.Packet4 Ip4Bad → Option four.Packet4
+    found read = packet_in (item_alone (from_outside read))
+
+    by_fragment : (packet : four.Packet4) → four.ip4_of bytes ≡ Ok packet → (cut : Bool) → four.is_fragment packet ≡ cut → is_some (found (Ok packet)) ≡ true →
+        found (Ok packet) ≡ Some packet
+    by_fragment packet is true cut some = let none : is_some (found (Ok packet)) ≡ false = rw (cut) refl in absurd (cc (none, some))
+    by_fragment packet is false cut some = rw (cut) (own bytes packet is)
+
+    by_reading : (read : Result four.Packet4 Ip4Bad) → four.ip4_of bytes ≡ read → is_some (found read) ≡ true → IsReadAs read (found read)
+    by_reading (Ok packet) is some = record { reads = refl; is = λ p same. by_fragment packet is (four.is_fragment packet) refl some ∙ alike packet p same }
+    by_reading (Err why) is some = absurd (cc some)
+
+pub tunnel_known : (outer : Outer) (bytes : List ℕ) → is_some (packet_in (told_item (in_tunnel outer bytes (four.ip4_of bytes)))) ≡ true →
+    IsReadAs (four.ip4_of bytes) (packet_in (told_item (in_tunnel outer bytes (four.ip4_of bytes))))
+tunnel_known outer bytes known = by_reading (four.ip4_of bytes) refl known
+  where
+    found : Result four.Packet4 Ip4Bad → Option four.Packet4
+    found read = packet_in (told_item (in_tunnel outer bytes read))
+
+    by_fragment : (packet : four.Packet4) → four.ip4_of bytes ≡ Ok packet → (cut : Bool) → four.is_fragment packet ≡ cut → is_some (found (Ok packet)) ≡ true →
+        found (Ok packet) ≡ Some packet
+    by_fragment packet is true cut some = let none : is_some (found (Ok packet)) ≡ false = rw (cut) refl in absurd (cc (none, some))
+    by_fragment packet is false cut some = rw (cut) (own bytes packet is)
+
+    by_reading : (read : Result four.Packet4 Ip4Bad) → four.ip4_of bytes ≡ read → is_some (found read) ≡ true → IsReadAs read (found read)
+    by_reading (Ok packet) is some = record { reads = refl; is = λ p same. by_fragment packet is (four.is_fragment packet) refl some ∙ alike packet p same }
+    by_reading (Err why) is some =
+        let none : is_some (found (Err why)) ≡ false = ap (λ (r : Result four.Packet4 Ip4Bad). is_some (if_packet r)) is in absurd (cc (none, some))
+
+-- ---- by the index
+pub packet_by : (es : List Entry) (index : ℕ) (i : Item) → slice_get (items_in es) index ≡ Some i → packet_at es index ≡ packet_in i
+packet_by es index i there = ap (λ (o : Option Item). option_and_then packet_in o) there
+
+pub known_by : (es : List Entry) (index : ℕ) (i : Item) → slice_get (items_in es) index ≡ Some i → is_some (packet_at es index) ≡ true → is_some (packet_in i) ≡ true
+known_by es index i there known = sym (ap (λ (o : Option four.Packet4). is_some o) (packet_by es index i there)) ∙ known

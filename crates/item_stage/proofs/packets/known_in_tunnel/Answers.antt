@@ -1,0 +1,16 @@
+use Rattle.std.proofs.Common.{◌≡◌, ◌∙◌, ap, sym, is_some, true}
+use Rattle.ip_codec.specs.Packet4 as four
+use Rattle.ip_codec.specs.Packet6 as six
+use Rattle.ip_codec.specs.declared.items.Item.{Item}
+use Rattle.item_stage.specs.Alone.{in_tunnel, outer_of, told_item}
+use Rattle.item_stage.specs.Packets.{packet_in}
+use Rattle.item_stage.proofs.WholeLemmas.{tunnel_at_once, tunnel_known}
+use Rattle.item_stage.proofs.packets.known_in_tunnel.Goals as goal
+
+pub known_packet-requires : goal.known_packet-requires
+known_packet-requires c =
+    let outer = six.packet6 c.in-Ok.packet in
+    let at_once = tunnel_at_once outer (six.ip6_of c.args.bytes.now) c.in-Ok.ensures.reads c.if-packet-eq-IPV4_IN_IPV6.true in
+    let known : is_some (packet_in (told_item (in_tunnel (outer_of outer) outer.body (four.ip4_of outer.body)))) ≡ true =
+    sym (ap (λ (i : Item). is_some (packet_in i)) at_once) ∙ c.requires in
+    (tunnel_known (outer_of outer) outer.body known).reads
