@@ -9,7 +9,7 @@ use Rattle.area_swap.specs.Views.{unpacked, acting, reading, asking}
 use Rattle.area_swap.specs.Rule.{Sees}
 use Rattle.area_swap.specs.Answers.{HoldsNow, HasMoved}
 use Rattle.area_swap.specs.SeatSteps.{Stepped, Seated, LookedAt, Entered, Confirmed, LeftIt}
-use Rattle.area_swap.specs.Values.{HoldsAtMost, IsWorker}
+use Rattle.area_swap.specs.Values.{HoldsAtMost, IsRowOf, IsWorker}
 
 same_looked : (s : ActorState) (v w : ℕ) → s ≡ Looked v → s ≡ Looked w → v ≡ w
 same_looked s v w e k = let both : Looked v ≡ Looked w = sym e ∙ k in cc
@@ -133,7 +133,8 @@ module _ {st1 st2 st3 : Stepped} {m0 m1 m2 m3 : Seated} {n1 n2 n3 : ℕ} (k1 : L
         let P : Seated → Type 0 = λ m. HasMoved (unpacked n1).version (unpacked n3).version m0.0 m.0 in
         subst P (sym left_view) (has_moved m0.0 (unpacked n1) (unpacked n3) k1.sees second_look idle other)
 
-    pub worker_again : (held : ℕ) → IsWorker m0.0 → m0.1 ≡ [] → IsWorker m4.0 × HoldsAtMost held m4.0 × (m4.1 ≡ [])
-    worker_again held w bare =
-        let P : Seated → Type 0 = λ m. IsWorker m.0 × HoldsAtMost held m.0 × (m.1 ≡ []) in
-        subst P (sym left_view) (record { shared = w.shared; no_desk = w.no_desk }, inl refl, bare)
+    pub worker_again : (held row : ℕ) → IsWorker m0.0 → m0.1 ≡ [] → IsRowOf held row m0.0
+        → IsWorker m4.0 × HoldsAtMost held m4.0 × (m4.1 ≡ []) × IsRowOf held row m4.0
+    worker_again held row w bare begins =
+        let P : Seated → Type 0 = λ m. IsWorker m.0 × HoldsAtMost held m.0 × (m.1 ≡ []) × IsRowOf held row m.0 in
+        subst P (sym left_view) (record { shared = w.shared; no_desk = w.no_desk }, inl refl, bare, begins)

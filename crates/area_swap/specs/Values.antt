@@ -1,12 +1,13 @@
 -- What contracts see of the areas and of a seat.
 use Rattle.std.specs.Prelude.{◌≡◌, ℕ, ◌+◌, ◌%◌, ◌<◌, ◌≤◌, ◌⊎◌, false, true, length}
 use Rattle.atomic_table.specs.Seated.{TableId}
-use Rattle.swap_core.specs.Plans.{Tables}
+use Rattle.swap_core.specs.Plans.{Tables, width}
 use Rattle.swap_core.specs.States.{newcomer}
 use Rattle.swap_core.specs.Sound.{IsAtWork}
 use Rattle.swap_core.specs.declared.actors.ActorState.TheVariants.{Idle, Holds}
 use Rattle.swap_core.specs.declared.actors.DeskState.TheVariants.{Resting, Ready, Writing}
 use Rattle.area_swap.specs.declared.board.View.{View}
+use Rattle.area_swap.specs.Places.{row_place}
 use Rattle.area_swap.specs.Views.{held_table, held_version, next_of}
 
 -- which words they are, and the tables that come into force in them
@@ -62,6 +63,10 @@ pub record IsWorker (v : View) : Type 0 where
 -- between two calls it is idle, or holds this version
 abbrev pub HoldsAtMost : ℕ → View → Type 0
 HoldsAtMost held v = IsIdle v ⊎ (v.actor.state ≡ Holds (held % 2) held)
+
+-- the row of this version's area begins there
+abbrev pub IsRowOf : ℕ → ℕ → View → Type 0
+IsRowOf held row v = row ≡ row_place (width v.plan) (held % 2)
 
 -- What holds of the desk between two calls. It is no worker; there are at most 256 tables, one for each point and one more, and
 -- a next one where it is at work.

@@ -1,12 +1,13 @@
 -- What a seat knows, and how each of its moves changes that.
 use Rattle.std.specs.Prelude.{◌≡◌, ℕ, ◌+◌, ◌*◌, ◌/◌, ◌%◌, ◌<◌, ◌≤◌, ◌⊎◌, true, false, List, [], ◌++◌, length, max}
-use Rattle.swap_core.specs.Plans.{Tables, table}
+use Rattle.swap_core.specs.Plans.{Tables, table, width}
 use Rattle.swap_core.specs.States.{CoreState, newcomer, in_state}
 use Rattle.swap_core.specs.declared.actors.ActorState.{ActorState}
 use Rattle.swap_core.specs.declared.actors.ActorState.TheVariants.{Asks, Holds}
 use Rattle.swap_core.specs.declared.actors.DeskState.TheVariants.{Resting}
 use Rattle.area_swap.specs.declared.answers.Seen.{Seen}
 use Rattle.area_swap.specs.declared.board.View.{View}
+use Rattle.area_swap.specs.Places.{row_place}
 
 -- the version word: the version in the high 32 bits, the number of records drawn in the low ones
 abbrev pub packed : Seen → ℕ
@@ -131,6 +132,10 @@ held_version v = version_in v.actor.state
 -- the words of the table that is held
 abbrev pub held_table : View → List ℕ
 held_table v = table v.plan (held_version v)
+
+-- where the row of the held version's area begins
+abbrev pub held_row : View → ℕ
+held_row v = row_place (width v.plan) (held_version v % 2)
 
 -- the table that comes next, by the number of points
 abbrev pub next_of : View → List ℕ

@@ -70,7 +70,7 @@ impl Areas {
             table,
             long: _,
         } = self;
-        let WorkerSeat { mut place, held: _ } = seat;
+        let WorkerSeat { mut place, .. } = seat;
         let Desk {
             place: desk_place,
             points,

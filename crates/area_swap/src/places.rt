@@ -8,6 +8,9 @@ const GAP: usize = 16;
 /// The version and the number of records drawn.
 pub(crate) const VERSION_PLACE: usize = GAP;
 
+/// Where the row of the first area begins.
+pub(crate) const FIRST_ROW: usize = 4 * GAP;
+
 /// Where the claims on an area are counted.
 pub(crate) fn claims_at(area: usize) -> usize
     requires { area < 2 }
@@ -22,7 +25,7 @@ pub(crate) fn row_at(long: usize, area: usize) -> usize
     requires one_of_two { area < 2 }
     ensures { result ≡ row_place long area }
 {
-    4 * GAP + area * (long + GAP)
+    FIRST_ROW + area * (long + GAP)
 }
 
 /// How many words there are, if rows have so many.

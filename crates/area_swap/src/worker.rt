@@ -5,12 +5,12 @@ ghost use Rattle.swap_core.specs.declared.actors.ActorState.TheVariants.{Idle};
 ghost use Rattle.area_swap.specs.Answers.{Claimed, Drawn, RunDrawn};
 ghost use Rattle.area_swap.specs.Rule.{Moment, Sees};
 ghost use Rattle.area_swap.specs.Values.{HasWholeShare, HoldsOne, HoldsStill, IsIdle, IsOf, IsWorker};
-ghost use Rattle.area_swap.specs.Views.{acting, held_table, held_version, kept_half, new_half, reading, together, unpacked};
+ghost use Rattle.area_swap.specs.Views.{acting, held_row, held_table, held_version, kept_half, new_half, reading, together, unpacked};
 
 use crate::answers::{Claim, Draw, DrawRun, Seen};
 use crate::areas::Areas;
 use crate::board::Place;
-use crate::places::{VERSION_PLACE, claims_at, row_at};
+use crate::places::{FIRST_ROW, VERSION_PLACE, claims_at, row_at};
 use crate::plays::{Confirm, Enter, Exchange, Glance, Halves, Leave, Look, ReadWord, Together};
 use std::marker::Model;
 
@@ -21,17 +21,19 @@ pub struct WorkerSeat {
     pub(crate) place: Place,
     /// The version that it holds, where it holds one.
     pub(crate) held: u32,
+    /// Where the row of that version's area begins: a word of the held table is found in one addition.
+    pub(crate) row: usize,
 }
 
 impl Model for WorkerSeat {
     ghost use Rattle.std.specs.Prelude.{◌≡◌, []};
-    ghost use Rattle.area_swap.specs.Values.{HoldsAtMost, IsWorker, SeatValue};
+    ghost use Rattle.area_swap.specs.Values.{HoldsAtMost, IsRowOf, IsWorker, SeatValue};
 
     ghost Value = { SeatValue };
 
     ghost view = { λ s. record { table_id = s.place.table_id; known = s.place.me.0 } };
 
-    ghost invariant = { λ s. IsWorker s.place.me.0 × HoldsAtMost s.held s.place.me.0 × (s.place.me.1 ≡ []) };
+    ghost invariant = { λ s. IsWorker s.place.me.0 × HoldsAtMost s.held s.place.me.0 × (s.place.me.1 ≡ []) × IsRowOf s.held s.row s.place.me.0 };
 }
 
 impl WorkerSeat {
@@ -42,7 +44,19 @@ impl WorkerSeat {
         ensures areas { result.table_id ≡ place.table_id }
         ensures known { result.known ≡ place.me.0 }
     {
-        WorkerSeat { place, held: 0 }
+        WorkerSeat {
+            place,
+            held: 0,
+            row: FIRST_ROW,
+        }
+    }
+
+    /// Where the words of the held table begin in the areas.
+    pub fn row(&self) -> usize
+        requires { HoldsOne self.now.known }
+        ensures { result ≡ held_row self.now.known }
+    {
+        self.row
     }
 }
 
@@ -128,7 +142,7 @@ impl Areas {
         ensures areas { IsOf self.now seat.new }
         ensures seat { seat.new.known ≡ together seat.old.known other.known }
     {
-        let WorkerSeat { place, held: _ } = other;
+        let WorkerSeat { place, .. } = other;
         self.table
             .shared
             .join_seat::<Together>(&mut seat.place, place);
@@ -151,6 +165,7 @@ impl Areas {
         let found = after % 2;
         if found == area {
             seat.held = after;
+            seat.row = row_at(self.long, found as usize);
             return Claim::Held { version: after };
         }
         shared.fetch_sub::<Leave>(&mut seat.place, claims, 1);
@@ -168,7 +183,22 @@ impl Areas {
         ensures seat { seat.new.known ≡ record seat.old.known { reads = seat.old.known.reads + 1 } }
         ensures rule { Moment seat.new.known }
     {
-        let row = row_at(self.long, (seat.held % 2) as usize);
+        let row = seat.row();
+        self.word_from(seat, row, j)
+    }
+
+    /// Word j of the held table, whose words begin at this row: whoever reads many words asks the seat for the row once.
+    pub fn word_from(&self, seat: &mut WorkerSeat, row: usize, j: u32) -> u64
+        requires areas { IsOf self.now seat.old }
+        requires holding { HoldsOne seat.old.known }
+        requires row { row ≡ held_row seat.old.known }
+        requires inside { j < length (held_table seat.old.known) }
+        ensures areas { IsOf self.now seat.new }
+        ensures holding { HoldsStill seat.old.known seat.new.known }
+        ensures word { result ≡ slice_index (held_table seat.old.known) j }
+        ensures seat { seat.new.known ≡ record seat.old.known { reads = seat.old.known.reads + 1 } }
+        ensures rule { Moment seat.new.known }
+    {
         self.table
             .shared
             .load::<ReadWord>(&mut seat.place, row + j as usize)

@@ -40,6 +40,7 @@ const IDENTIFIER: usize = 4;
 /// The key of a packet from a subscriber: its source port, or the identifier of an ICMP echo. An ICMP error has the
 /// destination port of the packet that it quotes, which came to the subscriber. Protocols without ports ask for the
 /// whole address.
+#[inline(always)]
 pub fn key_up(p: &Ip4View<'_>) -> Key
     ensures { result ≡ upstream_key (packet4 p.now) }
 {
@@ -49,6 +50,7 @@ pub fn key_up(p: &Ip4View<'_>) -> Key
 /// The key of a packet to a subscriber: its destination port, or the identifier of an ICMP echo. An ICMP error has the
 /// source port of the packet that it quotes, which came from the subscriber (RFC 7596, section 8.1). Protocols without
 /// ports ask for the whole address.
+#[inline(always)]
 pub fn key_down(p: &Ip4View<'_>) -> Key
     ensures { result ≡ downstream_key (packet4 p.now) }
 {
@@ -70,6 +72,7 @@ pub fn quoted_destination(quoted: &Embedded<'_>) -> Option<Want>
 }
 
 // The key by the port at a place of the payload, and for an ICMP error at a place of the quoted payload.
+#[inline(always)]
 fn key_at(p: &Ip4View<'_>, at: usize, quoted_at: usize) -> Key
     requires within { at ≤ 2 }
     requires quoted_within { quoted_at ≤ 2 }
@@ -94,6 +97,7 @@ fn key_of(want: Option<Want>) -> Key
 }
 
 // The key of an ICMP message, by the port at a place of the quoted payload.
+#[inline(never)]
 fn icmp_key(message: &[u8], at: usize) -> Key
     requires { at ≤ 2 }
     ensures { result ≡ icmp_key (icmp4_of message.now) at }

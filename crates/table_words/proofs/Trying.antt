@@ -304,6 +304,10 @@ pub if_none : (o : Option V6) (P : V6 → Type 0) → o ≡ None → IfSome o P
 if_none None P e = tt
 if_none (Some b4) P e = absurd (none-some b4 (sym e))
 
+pub if_mapped : (o : Option V6) (P Q : Type 0) → (P → Q) → IfSome o (λ _. P) → IfSome o (λ _. Q)
+if_mapped None P Q f h = tt
+if_mapped (Some b4) P Q f h = f h
+
 pub span_rest : (words : List ℕ) (from to at : ℕ) → IsEntryRange words from to → at ≤ to → IsEntryRange words at to
 span_rest words from to at s l = record { ordered = l; few = s.few; within = s.within; ascending = s.ascending; rising = s.rising; shapes = s.shapes }
 

@@ -58,7 +58,9 @@ pub(crate) fn key_of(first: u64, want: Want) -> Option<u64>
     let least = first - first % 0x1_0000;
     match want {
         Want::Port(port) => {
-            let shape = shape_of(offset, length).ok()?;
+            let Ok(shape) = shape_of(offset, length) else {
+                unreachable!()
+            };
             Some(least + u64::from(psid_of(shape, port)?))
         }
         Want::Whole if offset == 0 && length == 0 => Some(least),

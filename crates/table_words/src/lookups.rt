@@ -1,5 +1,5 @@
 // What the words of a table say of an address.
-ghost use Rattle.std.specs.Prelude.{◌≡◌, ◌+◌, ◌-◌, ◌≤◌, IfSome};
+ghost use Rattle.std.specs.Prelude.{◌≡◌, ◌+◌, ◌-◌, ◌<◌, ◌≤◌, IfSome};
 ghost use Rattle.binding_rules.specs.Bindings.{bound};
 ghost use Rattle.binding_rules.specs.Tables.{BindingTable};
 ghost use Rattle.binding_rules.specs.declared.settings.Edition.TheVariants as edition;
@@ -7,13 +7,14 @@ ghost use Rattle.table_words.specs.Answers.{first_b4, has_v4, has_binding, tunne
 ghost use Rattle.table_words.specs.Bounds.{found_bound, look_bound, most_shapes, group_digits};
 ghost use Rattle.table_words.specs.Layout.{IsCompiled, AreCompiled};
 ghost use Rattle.table_words.specs.Reads.{read_more};
+ghost use Rattle.table_words.specs.Spans.{IsEntryRange, IsIndexGroup};
 
 use crate::counter::Steps;
 use crate::destination::Destination;
 use crate::entries::first_word;
 use crate::owners::{destination_alike, owner_like};
 use crate::reader::Words;
-use crate::searches::{group_of, lower_bound};
+use crate::searches::{Span, group_of, lower_bound};
 use aftr_base::{V4, V6};
 use binding_rules::Want;
 use std::sync::ledger::Ledger;
@@ -27,6 +28,7 @@ const ONE_SHAPE: u64 = 0;
 /// their addresses, and at most G different shapes at one address, it reads at most `G * (2 * B + 4) + B + 4` words, and B
 /// fewer where it finds an owner, and where G is 1 as it is in every table of edition One. It reads at least one word,
 /// whatever the table has.
+#[inline(always)]
 pub fn destination_of<W: Words, L: Ledger>(
     words: &mut W,
     v4: V4,
@@ -46,6 +48,37 @@ pub fn destination_of<W: Words, L: Ledger>(
     ensures rises { steps.old + 1 ≤ steps.new }
 {
     let group = group_of(words, v4, steps);
+    if group.from >= group.to {
+        return Destination::Unbound;
+    }
+    destination_among(words, group, v4, want, steps)
+}
+
+// The same among the entries that agree with the address in its top 16 bits, where there are some. Two words were read to
+// find them.
+#[inline(never)]
+fn destination_among<W: Words, L: Ledger>(
+    words: &mut W,
+    group: Span,
+    v4: V4,
+    want: Want,
+    steps: &mut Steps<L>,
+) -> Destination
+    requires compiled { AreCompiled (W.list words.old) }
+    requires some { group.from < group.to }
+    requires span { IsEntryRange (W.list words.old) group.from group.to }
+    requires group { (t : BindingTable) → IsCompiled t (W.list words.old) → IsIndexGroup t (W.list words.old) v4.0 group.from group.to }
+    ensures address { (t : BindingTable) → IsCompiled t (W.list words.old) → has_binding result ≡ has_v4 t.bindings v4 }
+    ensures owner { (t : BindingTable) → IsCompiled t (W.list words.old) → tunnel_of result ≡ first_b4 (bound t.bindings v4 want) }
+    ensures bound { (t : BindingTable) → IsCompiled t (W.list words.old) → steps.new + 2 ≤ steps.old + look_bound t.bindings }
+    ensures found { IfSome (tunnel_of result) (λ _. (t : BindingTable) → IsCompiled t (W.list words.old) → steps.new + 2 ≤ steps.old + found_bound t.bindings) }
+    ensures one_shape { (t : BindingTable) → IsCompiled t (W.list words.old) → most_shapes t.bindings ≡ 1 → steps.new + 2 ≤ steps.old + found_bound t.bindings }
+    ensures edition_one { (t : BindingTable) → IsCompiled t (W.list words.old) → t.edition ≡ edition.One → steps.new + 2 ≤ steps.old + found_bound t.bindings }
+    ensures list { W.list words.new ≡ W.list words.old }
+    ensures reads { W.reads words.new ≡ read_more (W.reads words.old) (steps.new - steps.old) }
+    ensures goes { W.goes words.old words.new }
+    ensures rises { steps.old + 1 ≤ steps.new }
+{
     if words.word(5, steps) == ONE_SHAPE {
         return destination_alike(words, group.from, group.to, v4, want, steps);
     }
@@ -73,6 +106,7 @@ pub fn destination_of<W: Words, L: Ledger>(
 /// The tunnel's end of the one binding of the table with this address that owns the port, or, for `Whole`, whose offset
 /// and length are both 0; None exactly where the table has none. The condition and the words read are those of
 /// `destination_of`.
+#[inline(always)]
 pub fn look<W: Words, L: Ledger>(
     words: &mut W,
     v4: V4,

@@ -25,6 +25,7 @@ pub(crate) fn destination_alike<W: Words, L: Ledger>(
     steps: &mut Steps<L>,
 ) -> Destination
     requires span { IsEntryRange (W.list words.old) from to }
+    requires some { from < to }
     requires alike { AreAlike (W.list words.old) from to v4.0 }
     ensures address { TellsAddress (W.list words.old) from to v4.0 (has_binding result) }
     ensures owner { IfSome (tunnel_of result) (λ b4. IsTunnelOfOwner (W.list words.old) from to v4.0 want b4.0) }
@@ -35,9 +36,6 @@ pub(crate) fn destination_alike<W: Words, L: Ledger>(
     ensures goes { W.goes words.old words.new }
     ensures later { steps.old ≤ steps.new }
 {
-    if from >= to {
-        return Destination::Unbound;
-    }
     let guess = guess_of(words, from, to, v4, steps);
     let near = Reach {
         low: from,

@@ -1,7 +1,8 @@
 -- Which of the lists laid end to end decides, by what the code found in each.
-use Rattle.std.proofs.Common.{◌≡◌, ℕ, Bool, List, ◌++◌, Option, Some, None, Ok, refl, ap, sym, ◌∙◌, subst}
+use Rattle.std.proofs.Common.{◌≡◌, ℕ, Bool, true, false, not, if◌then◌else◌, List, ◌++◌, Option, Some, None, Ok, refl, ap, sym, ◌∙◌, subst}
 use Rattle.aftr_base.specs.declared.numbers.V6.{V6}
 use Rattle.binding_rules.specs.Tables.{BindingTable}
+use Rattle.binding_rules.specs.declared.settings.Softwire.{Softwire}
 use Rattle.icmp_codec.specs.Message6.{icmp6_of}
 use Rattle.icmp_relay.specs.Quotes.{TunnelQuote}
 use Rattle.ip_codec.specs.Packet4.{Packet4}
@@ -11,15 +12,38 @@ use Rattle.port_locate.specs.Keys.{downstream_key, upstream_key}
 use Rattle.port_locate.specs.declared.keys.Key.{Key}
 use Rattle.table_words.specs.Answers.{has_binding, tunnel_of}
 use Rattle.table_words.specs.declared.destination.Destination.{Destination}
+use Rattle.verdict_core.specs.Answers.{ends_at, is_used_up, not_sender, used_up, way_back}
 use Rattle.verdict_core.specs.Lines.{Line, verdict_in}
 use Rattle.verdict_core.specs.Verdicts.{down_lines, down_refusals, down_ways, error_lines, hairpin_lines, is_bound_address, lines, message_refusals, onward_lines, outward_lines, owner_end, quote_lines, quote_refusals, quoted_destination, quoted_source, receiver_lines, relay_lines, sender_lines, ttl_lines, up_lines, up_refusals}
 use Rattle.verdict_core.specs.declared.verdicts.Verdict.{Verdict}
 use Rattle.verdict_core.proofs.Firsts.{decided_before, decided_behind}
 
 -- what is no value is none
-pub none_of : (o : Option Verdict) → ((v : Verdict) → o ≡ Some v → ⊥) → o ≡ None
+pub none_of : {X : Type 0} (o : Option X) → ((x : X) → o ≡ Some x → ⊥) → o ≡ None
 none_of None not_some = refl
-none_of (Some v) not_some = absurd (not_some v refl)
+none_of (Some x) not_some = absurd (not_some x refl)
+
+-- a list of one line decides where its condition is true, and else it does not
+one_decides : (b : Bool) (v : Verdict) → b ≡ true → (if b then Some v else None) ≡ Some v
+one_decides true v is = refl
+one_decides false v is = absurd cc
+
+one_passes : (b : Bool) (v : Verdict) → b ≡ false → (if b then Some v else None) ≡ None
+one_passes true v is = absurd cc
+one_passes false v is = refl
+
+module _ (s : Softwire) (outer : Outer) where
+  pub other_sender : (end : Option V6) → not (ends_at end outer.src.0) ≡ true → verdict_in (sender_lines s outer end) ≡ Some (not_sender s outer)
+  other_sender end is = one_decides (not (ends_at end outer.src.0)) (not_sender s outer) is
+
+  pub its_sender : (end : Option V6) → not (ends_at end outer.src.0) ≡ false → verdict_in (sender_lines s outer end) ≡ None
+  its_sender end is = one_passes (not (ends_at end outer.src.0)) (not_sender s outer) is
+
+  pub last_hop : (p : Packet4) → is_used_up p ≡ true → verdict_in (ttl_lines s outer p) ≡ Some (used_up s (way_back s outer) p)
+  last_hop p is = one_decides (is_used_up p) (used_up s (way_back s outer) p) is
+
+  pub more_hops : (p : Packet4) → is_used_up p ≡ false → verdict_in (ttl_lines s outer p) ≡ None
+  more_hops p is = one_passes (is_used_up p) (used_up s (way_back s outer) p) is
 
 module _ (t : BindingTable) (p : Packet4) (k : Key) (k_is : k ≡ downstream_key p) (v : Verdict) where
   down_whole : verdict_in (down_refusals t.softwire p k ++ down_ways t.softwire p (owner_end t p.dst k)) ≡ Some v →

@@ -3,6 +3,7 @@ pub mod Firsts
 pub mod Good
 pub mod Items
 pub mod Joins
+pub mod Looks
 pub mod Owned
 pub mod Permits
 pub mod Relaying

@@ -24,6 +24,8 @@ const LEAST_MTU: u32 = 1280;
 
 const GREATEST_MTU: u32 = 65_575;
 
+// Drops are rare, and a verdict has many words: what answers them is kept out of the way of packets that pass.
+#[inline(never)]
 pub fn silent(why: Rule) -> Verdict
     ensures { result ≡ silent why }
 {
@@ -56,6 +58,7 @@ pub fn way_back(settings: &Softwire, outer: &Outer) -> Path
 }
 
 // The sender does not own its source.
+#[inline(never)]
 pub fn not_sender(settings: &Softwire, outer: &Outer) -> Verdict
     ensures { result ≡ not_sender settings.now outer.now }
 {
@@ -74,6 +77,7 @@ fn tells_subscriber(settings: &Softwire, outer: &Outer) -> bool
 }
 
 // Nobody owns the destination.
+#[inline(never)]
 pub fn no_owner(settings: &Softwire, why: Rule, path: Path, packet: &Ip4View<'_>) -> Verdict
     ensures { result ≡ no_owner settings.now why path (packet4 packet.now) }
 {
@@ -91,6 +95,7 @@ fn tells_sender(settings: &Softwire, packet: &Ip4View<'_>) -> bool
 }
 
 // The time to live is used up.
+#[inline(never)]
 pub fn used_up(settings: &Softwire, path: Path, packet: &Ip4View<'_>) -> Verdict
     ensures { result ≡ used_up settings.now path (packet4 packet.now) }
 {
@@ -102,6 +107,7 @@ pub fn used_up(settings: &Softwire, path: Path, packet: &Ip4View<'_>) -> Verdict
 }
 
 // The packet is larger than this and must not be cut.
+#[inline(never)]
 pub fn too_large(settings: &Softwire, room: u16, path: Path, packet: &Ip4View<'_>) -> Verdict
     ensures { result ≡ too_large settings.now room path (packet4 packet.now) }
 {

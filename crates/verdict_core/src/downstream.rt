@@ -1,9 +1,11 @@
 // The verdict on a packet from the IPv4 network.
 ghost use Rattle.std.specs.Prelude.{◌≡◌, ℕ, ◌+◌, ◌-◌, ◌==◌, ◌≤◌, not, ◌&&◌, Some, Ok};
+ghost use Rattle.std.specs.Option.{option_map};
 ghost use Rattle.binding_rules.specs.Tables.{BindingTable, binding_table};
 ghost use Rattle.ip_codec.specs.Packet4.{packet4};
 ghost use Rattle.table_words.specs.Layout.{IsCompiled, AreCompiled};
 ghost use Rattle.table_words.specs.Reads.{read_more};
+ghost use Rattle.verdict_core.specs.Answers.{silent};
 ghost use Rattle.verdict_core.specs.Bounds.{IsLook};
 ghost use Rattle.verdict_core.specs.Lines.{verdict_in};
 ghost use Rattle.verdict_core.specs.Verdicts.{down_lines, down_refusals, down_ways};
@@ -11,7 +13,7 @@ ghost use Rattle.verdict_core.specs.Verdicts.{down_lines, down_refusals, down_wa
 use crate::answers::{
     inward, inward_room, is_too_large, is_used_up, no_owner, silent, too_large, used_up,
 };
-use crate::owners::owner_end;
+use crate::owners::{owner_end, read_count};
 use crate::verdicts::{Path, Verdict};
 use aftr_base::V6;
 use binding_rules::Softwire;
@@ -22,6 +24,7 @@ use table_words::{Steps, Words};
 
 const ICMP: u8 = 1;
 
+#[inline(never)]
 pub fn judge_down<W: Words, L: Ledger>(
     words: &mut W,
     settings: &Softwire,
@@ -34,30 +37,31 @@ pub fn judge_down<W: Words, L: Ledger>(
     ensures list { W.list words.new ≡ W.list words.old }
     ensures reads { W.reads words.new ≡ read_more (W.reads words.old) (steps.new - steps.old) }
     ensures goes { W.goes words.old words.new }
-    ensures later { steps.old ≤ steps.new }
+    ensures rises { steps.old + 1 ≤ steps.new }
     ensures bound { (t : BindingTable) → IsCompiled t (W.list words.old) → (n : ℕ) → IsLook t n → steps.new ≤ steps.old + n }
 {
     let key = key_down(packet);
-    if let Some(refused) = down_refusal(settings, packet, key) {
-        return refused;
+    if let Some(why) = down_refusal(settings, packet, key) {
+        read_count(words, steps);
+        return silent(why);
     }
     let end = owner_end(words, packet.dst, key, steps);
     down_way(settings, packet, end)
 }
 
 // What needs no search.
-fn down_refusal(settings: &Softwire, packet: &Ip4View<'_>, key: Key) -> Option<Verdict>
-    ensures { verdict_in (down_refusals settings.now (packet4 packet.now) key) ≡ result }
+fn down_refusal(settings: &Softwire, packet: &Ip4View<'_>, key: Key) -> Option<Rule>
+    ensures { verdict_in (down_refusals settings.now (packet4 packet.now) key) ≡ option_map silent result }
 {
     if packet.dst == settings.own {
-        return Some(silent(Rule::ToSelf));
+        return Some(Rule::ToSelf);
     }
     if is_kept_out(settings, packet) {
-        return Some(silent(Rule::IcmpOff));
+        return Some(Rule::IcmpOff);
     }
     match key {
-        Key::IcmpBad => Some(silent(Rule::IcmpBad)),
-        Key::NoPort => Some(silent(Rule::NoPort)),
+        Key::IcmpBad => Some(Rule::IcmpBad),
+        Key::NoPort => Some(Rule::NoPort),
         Key::At(_) => None,
     }
 }

@@ -16,6 +16,7 @@ ghost use Rattle.verdict_core.specs.Verdicts.{Judged, lines, verdict_of};
 use crate::answers::silent;
 use crate::downstream::judge_down;
 use crate::messages::{judge_error, judge_six, message_refusal};
+use crate::owners::read_count;
 use crate::upstream::{judge_unread, judge_up};
 use crate::verdicts::Verdict;
 use aftr_base::V6;
@@ -23,9 +24,6 @@ use binding_rules::Softwire;
 use ip_codec::ItemView;
 use std::sync::ledger::Ledger;
 use table_words::{Steps, Words, softwire};
-
-// Where the words of a table have the number of its bindings.
-const COUNT: u32 = 0;
 
 /// The verdict on an item under a table, the one that the lines allow (RFC 7596, section 6.2). The condition is that the
 /// words are compiled from a table. It takes no memory.
@@ -105,11 +103,12 @@ pub fn judge_with<W: Words, L: Ledger>(
     ensures one_shape { (t : BindingTable) → IsCompiled t (W.list words.old) → most_shapes t.bindings ≡ 1 → steps.new ≤ steps.old + judge_with_bound (found_bound t.bindings) }
     ensures edition_one { (t : BindingTable) → IsCompiled t (W.list words.old) → t.edition ≡ edition.One → steps.new ≤ steps.old + judge_with_bound (found_bound t.bindings) }
 {
-    judge_asked(words, settings, item, steps)
+    judge_under(words, settings, item, steps)
 }
 
-// Reads a word, and judges under these settings and the rest of the table.
-fn judge_asked<W: Words, L: Ledger>(
+// The verdict under these settings and the rest of the table, each kind of item by its own lines. Where nothing is looked up,
+// the number of bindings is read.
+fn judge_under<W: Words, L: Ledger>(
     words: &mut W,
     settings: &Softwire,
     item: &ItemView<'_>,
@@ -125,59 +124,28 @@ fn judge_asked<W: Words, L: Ledger>(
     ensures rises { AsksTable (seen item.now) → steps.old + 1 ≤ steps.new }
     ensures bound { (t : BindingTable) → IsCompiled t (W.list words.old) → (n : ℕ) → IsLook t n → steps.new ≤ steps.old + judge_with_bound n }
 {
-    ask(words, item, steps);
-    judge_under(words, settings, item, steps)
-}
-
-// Reads the number of bindings: whoever is judged under a table has read one of its words.
-fn ask<W: Words, L: Ledger>(words: &mut W, item: &ItemView<'_>, steps: &mut Steps<L>)
-    requires { AreCompiled (W.list words.old) }
-    ensures list { W.list words.new ≡ W.list words.old }
-    ensures reads { W.reads words.new ≡ read_more (W.reads words.old) (steps.new - steps.old) }
-    ensures goes { W.goes words.old words.new }
-    ensures later { steps.old ≤ steps.new }
-    ensures rises { AsksTable (seen item.now) → steps.old + 1 ≤ steps.new }
-    ensures few { steps.new ≤ steps.old + 1 }
-{
-    match item {
-        ItemView::Held => {}
-        ItemView::Bad(_) => {}
-        _ => {
-            words.word(COUNT, steps);
-        }
-    }
-}
-
-// The verdict under these settings and the rest of the table, each kind of item by its own lines.
-fn judge_under<W: Words, L: Ledger>(
-    words: &mut W,
-    settings: &Softwire,
-    item: &ItemView<'_>,
-    steps: &mut Steps<L>,
-) -> Verdict
-    requires { AreCompiled (W.list words.old) }
-    ensures verdict { (t : BindingTable) → IsCompiled t (W.list words.old) →
-        verdict_in (lines (binding_table t.edition settings.now t.bindings) (seen item.now)) ≡ Some result }
-    ensures list { W.list words.new ≡ W.list words.old }
-    ensures reads { W.reads words.new ≡ read_more (W.reads words.old) (steps.new - steps.old) }
-    ensures goes { W.goes words.old words.new }
-    ensures later { steps.old ≤ steps.new }
-    ensures bound { (t : BindingTable) → IsCompiled t (W.list words.old) → (n : ℕ) → IsLook t n → steps.new ≤ steps.old + 2 * n }
-{
     match item {
         ItemView::Held => Verdict::Held,
         ItemView::Bad(why) => silent(*why),
         ItemView::Down { packet } => judge_down(words, settings, &packet.view, steps),
         ItemView::Up { outer, inner } => judge_up(words, settings, outer, &inner.view, steps),
-        ItemView::UpUnread { outer, inner } => judge_unread(settings, outer, inner.why),
-        ItemView::Six { dst } => judge_six(settings, *dst),
+        ItemView::UpUnread { outer, inner } => {
+            read_count(words, steps);
+            judge_unread(settings, outer, inner.why)
+        }
+        ItemView::Six { dst } => {
+            read_count(words, steps);
+            judge_six(settings, *dst)
+        }
         ItemView::Six58 { src, dst, message } => {
+            read_count(words, steps);
             judge_message(words, settings, *src, *dst, message, steps)
         }
     }
 }
 
 // The verdict on an ICMPv6 message.
+#[inline(never)]
 fn judge_message<W: Words, L: Ledger>(
     words: &mut W,
     settings: &Softwire,

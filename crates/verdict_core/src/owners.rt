@@ -12,7 +12,22 @@ use port_locate::Key;
 use std::sync::ledger::Ledger;
 use table_words::{Destination, Steps, Words, destination_of, has_address, look};
 
-// The tunnel's end of the one binding that owns what the key asks for at the address.
+// Where the words of a table have the number of its bindings.
+const COUNT: u32 = 0;
+
+// Reads the number of bindings, where nothing is looked up: whoever is judged under a table has read one of its words.
+pub fn read_count<W: Words, L: Ledger>(words: &mut W, steps: &mut Steps<L>)
+    requires { AreCompiled (W.list words.old) }
+    ensures list { W.list words.new ≡ W.list words.old }
+    ensures reads { W.reads words.new ≡ read_more (W.reads words.old) (steps.new - steps.old) }
+    ensures goes { W.goes words.old words.new }
+    ensures steps { steps.new ≡ steps.old + 1 }
+{
+    words.word(COUNT, steps);
+}
+
+// The tunnel's end of the one binding that owns what the key asks for at the address. It reads a word at least.
+#[inline(always)]
 pub fn owner_end<W: Words, L: Ledger>(
     words: &mut W,
     address: V4,
@@ -24,17 +39,31 @@ pub fn owner_end<W: Words, L: Ledger>(
     ensures list { W.list words.new ≡ W.list words.old }
     ensures reads { W.reads words.new ≡ read_more (W.reads words.old) (steps.new - steps.old) }
     ensures goes { W.goes words.old words.new }
-    ensures later { steps.old ≤ steps.new }
+    ensures rises { steps.old + 1 ≤ steps.new }
     ensures bound { (t : BindingTable) → IsCompiled t (W.list words.old) → (n : ℕ) → IsLook t n → steps.new ≤ steps.old + n }
 {
     match key {
         Key::At(want) => look(words, address, want, steps),
-        Key::NoPort => None,
-        Key::IcmpBad => None,
+        Key::NoPort => nobody(words, steps),
+        Key::IcmpBad => nobody(words, steps),
     }
 }
 
+// Nobody owns what cannot be owned.
+fn nobody<W: Words, L: Ledger>(words: &mut W, steps: &mut Steps<L>) -> Option<V6>
+    requires { AreCompiled (W.list words.old) }
+    ensures answer { result ≡ None }
+    ensures list { W.list words.new ≡ W.list words.old }
+    ensures reads { W.reads words.new ≡ read_more (W.reads words.old) (steps.new - steps.old) }
+    ensures goes { W.goes words.old words.new }
+    ensures steps { steps.new ≡ steps.old + 1 }
+{
+    read_count(words, steps);
+    None
+}
+
 // Whether some binding has the address, and the tunnel's end of the one that owns what the key asks for.
+#[inline(always)]
 pub fn owner_at<W: Words, L: Ledger>(
     words: &mut W,
     address: V4,

@@ -1,19 +1,20 @@
 // The verdict on a packet from a subscriber.
-ghost use Rattle.std.specs.Prelude.{◌≡◌, ℕ, ◌+◌, ◌*◌, ◌-◌, ◌≤◌, true, Some, None, Ok, Err};
+ghost use Rattle.std.specs.Prelude.{◌≡◌, ℕ, ◌+◌, ◌*◌, ◌-◌, ◌≤◌, not, true, Some, None, Ok, Err};
+ghost use Rattle.std.specs.Option.{option_map};
 ghost use Rattle.binding_rules.specs.Tables.{BindingTable, binding_table};
 ghost use Rattle.ip_codec.specs.Packet4.{packet4};
-ghost use Rattle.table_words.specs.Answers.{has_binding, tunnel_of};
 ghost use Rattle.table_words.specs.Layout.{IsCompiled, AreCompiled};
 ghost use Rattle.table_words.specs.Reads.{read_more};
-ghost use Rattle.verdict_core.specs.Bounds.{IsLook};
+ghost use Rattle.verdict_core.specs.Answers.{ends_at, silent};
+ghost use Rattle.verdict_core.specs.Bounds.{IsLook, judge_with_bound};
 ghost use Rattle.verdict_core.specs.Lines.{verdict_in};
-ghost use Rattle.verdict_core.specs.Verdicts.{hairpin_lines, outward_lines, sender_lines, ttl_lines, up_lines, up_refusals};
+ghost use Rattle.verdict_core.specs.Verdicts.{hairpin_lines, outward_lines, up_lines, up_refusals};
 
 use crate::answers::{
     ends_at, inward, inward_room, is_too_large, is_used_up, no_owner, not_sender, silent,
     too_large, used_up, way_back,
 };
-use crate::owners::{owner_at, owner_end};
+use crate::owners::{owner_at, owner_end, read_count};
 use crate::verdicts::Verdict;
 use aftr_base::V6;
 use binding_rules::Softwire;
@@ -22,6 +23,7 @@ use port_locate::{Key, key_down, key_up};
 use std::sync::ledger::Ledger;
 use table_words::{Destination, Steps, Words};
 
+#[inline(never)]
 pub fn judge_up<W: Words, L: Ledger>(
     words: &mut W,
     settings: &Softwire,
@@ -35,26 +37,28 @@ pub fn judge_up<W: Words, L: Ledger>(
     ensures list { W.list words.new ≡ W.list words.old }
     ensures reads { W.reads words.new ≡ read_more (W.reads words.old) (steps.new - steps.old) }
     ensures goes { W.goes words.old words.new }
-    ensures later { steps.old ≤ steps.new }
-    ensures bound { (t : BindingTable) → IsCompiled t (W.list words.old) → (n : ℕ) → IsLook t n → steps.new ≤ steps.old + 2 * n }
+    ensures rises { steps.old + 1 ≤ steps.new }
+    ensures bound { (t : BindingTable) → IsCompiled t (W.list words.old) → (n : ℕ) → IsLook t n → steps.new ≤ steps.old + judge_with_bound n }
 {
     let key = key_up(packet);
-    if let Some(refused) = up_refusal(settings, outer, key) {
-        return refused;
+    if let Some(why) = up_refusal(settings, outer, key) {
+        read_count(words, steps);
+        return silent(why);
     }
     let end = owner_end(words, packet.src, key, steps);
-    if let Some(refused) = sender_refusal(settings, outer, end) {
-        return refused;
+    if is_foreign(outer, end) {
+        return not_sender(settings, outer);
     }
-    if let Some(dropped) = ttl_refusal(settings, outer, packet) {
-        return dropped;
+    if is_used_up(packet) {
+        return used_up(settings, way_back(settings, outer), packet);
     }
     let asked = key_down(packet);
     let destination = owner_at(words, packet.dst, asked, steps);
-    if let Some(turned) = hairpin(settings, outer, packet, destination) {
-        return turned;
+    match destination {
+        Destination::Unbound => outward(settings, outer, packet),
+        Destination::Unowned => turned_to_nobody(settings, outer, packet),
+        Destination::Owned(to) => turned(settings, outer, packet, to),
     }
-    outward(settings, outer, packet)
 }
 
 // The verdict where the inner bytes are no IPv4 packet.
@@ -71,56 +75,28 @@ pub fn judge_unread(settings: &Softwire, outer: &Outer, refusal: Ip4Bad) -> Verd
 }
 
 // What needs no search.
-fn up_refusal(settings: &Softwire, outer: &Outer, key: Key) -> Option<Verdict>
-    ensures { verdict_in (up_refusals settings.now outer.now key) ≡ result }
+fn up_refusal(settings: &Softwire, outer: &Outer, key: Key) -> Option<Rule>
+    ensures { verdict_in (up_refusals settings.now outer.now key) ≡ option_map silent result }
 {
     if outer.dst != settings.aftr {
-        return Some(silent(Rule::NotOurs));
+        return Some(Rule::NotOurs);
     }
     match key {
-        Key::IcmpBad => Some(silent(Rule::IcmpBad)),
-        Key::NoPort => Some(silent(Rule::NoPort)),
+        Key::IcmpBad => Some(Rule::IcmpBad),
+        Key::NoPort => Some(Rule::NoPort),
         Key::At(_) => None,
     }
 }
 
-// By the tunnel's end of the source's owner.
-fn sender_refusal(settings: &Softwire, outer: &Outer, end: Option<V6>) -> Option<Verdict>
-    ensures { verdict_in (sender_lines settings.now outer.now end) ≡ result }
+// Whether the packet came through another tunnel than that of its source's owner.
+fn is_foreign(outer: &Outer, end: Option<V6>) -> bool
+    ensures { result ≡ not (ends_at end outer.now.src.0) }
 {
-    if ends_at(end, outer.src) {
-        None
-    } else {
-        Some(not_sender(settings, outer))
-    }
+    !ends_at(end, outer.src)
 }
 
-fn ttl_refusal(settings: &Softwire, outer: &Outer, packet: &Ip4View<'_>) -> Option<Verdict>
-    ensures { verdict_in (ttl_lines settings.now outer.now (packet4 packet.now)) ≡ result }
-{
-    if is_used_up(packet) {
-        Some(used_up(settings, way_back(settings, outer), packet))
-    } else {
-        None
-    }
-}
-
-// From subscriber to subscriber, by what the table has of the destination.
-fn hairpin(
-    settings: &Softwire,
-    outer: &Outer,
-    packet: &Ip4View<'_>,
-    destination: Destination,
-) -> Option<Verdict>
-    ensures { verdict_in (hairpin_lines settings.now outer.now (packet4 packet.now) (has_binding destination) (tunnel_of destination)) ≡ result }
-{
-    match destination {
-        Destination::Unbound => None,
-        Destination::Unowned => Some(turned_to_nobody(settings, outer, packet)),
-        Destination::Owned(to) => Some(turned(settings, outer, packet, to)),
-    }
-}
-
+// From subscriber to subscriber, where nobody owns the destination.
+#[inline(never)]
 fn turned_to_nobody(settings: &Softwire, outer: &Outer, packet: &Ip4View<'_>) -> Verdict
     ensures { verdict_in (hairpin_lines settings.now outer.now (packet4 packet.now) true None) ≡ Some result }
 {
@@ -135,6 +111,8 @@ fn turned_to_nobody(settings: &Softwire, outer: &Outer, packet: &Ip4View<'_>) ->
     )
 }
 
+// The same, where the owner's tunnel ends there.
+#[inline(never)]
 fn turned(settings: &Softwire, outer: &Outer, packet: &Ip4View<'_>, to: V6) -> Verdict
     ensures { verdict_in (hairpin_lines settings.now outer.now (packet4 packet.now) true (Some to)) ≡ Some result }
 {

@@ -7,7 +7,7 @@ ghost use Rattle.verdict_core.specs.Fitting.{AsksTable};
 ghost use Rattle.verdict_core.specs.Verdicts.{verdict_of};
 ghost use Rattle.area_swap.specs.Reading.{OnlyReads};
 ghost use Rattle.area_swap.specs.Values.{HoldsOne, IsOf};
-ghost use Rattle.area_swap.specs.Views.{held_table};
+ghost use Rattle.area_swap.specs.Views.{held_row, held_table};
 
 use area_swap::{Areas, WorkerSeat};
 use binding_rules::Softwire;
@@ -16,12 +16,14 @@ use std::sync::ledger::Ledger;
 use table_words::{Steps, Words, softwire};
 use verdict_core::{Verdict, judge_with};
 
-/// The words of the table that a seat holds, read through the areas.
+/// The words of the table that a seat holds, read through the areas from the row where they begin.
 #[derive(Drop)]
 pub struct HeldArea<'a> {
     areas: &'a Areas,
     seat: &'a mut WorkerSeat,
+    row: usize,
     ghost held: { IsOf areas.now seat.now × HoldsOne seat.now.known },
+    ghost begins: { row ≡ held_row seat.now.known },
 }
 
 impl<'a> Words for HeldArea<'a> {
@@ -42,7 +44,7 @@ impl<'a> Words for HeldArea<'a> {
 
     fn word<L: Ledger>(&mut self, j: u32, steps: &mut Steps<L>) -> u64 {
         steps.tick();
-        self.areas.word(self.seat, j)
+        self.areas.word_from(self.seat, self.row, j)
     }
 }
 
@@ -58,7 +60,8 @@ pub(crate) fn held_settings<L: Ledger>(
     ensures reads { OnlyReads seat.old seat.new }
     ensures value { (t : BindingTable) → IsCompiled t (held_table seat.old.known) → result ≡ t.softwire }
 {
-    let mut held = HeldArea { areas, seat };
+    let row = seat.row();
+    let mut held = HeldArea { areas, seat, row };
     softwire(&mut held, steps)
 }
 
@@ -78,6 +81,7 @@ pub(crate) fn judge_held<L: Ledger>(
     ensures value { (t : BindingTable) → IsCompiled t (held_table seat.old.known) → result ≡ verdict_of t (seen item.now) }
     ensures rises { AsksTable (seen item.now) → seat.old.known.reads + 1 ≤ seat.new.known.reads }
 {
-    let mut held = HeldArea { areas, seat };
+    let row = seat.row();
+    let mut held = HeldArea { areas, seat, row };
     judge_with(&mut held, settings, item, steps)
 }

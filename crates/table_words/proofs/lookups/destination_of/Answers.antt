@@ -1,265 +1,71 @@
-use Rattle.std.proofs.Common.{◌≡◌, true, refl, ◌≢◌, ◌+◌, ◌-◌, ◌*◌, ◌/◌, ◌%◌, ◌≤◌, List, ℕ, length, subst, sym, ap, ◌∙◌, arith}
-use Rattle.std.specs.Prelude.{IfSome, IfNone, slice_index}
-use Rattle.table_words.specs.Answers.{has_binding, tunnel_of}
-use Rattle.table_words.specs.Bounds.{group_digits, found_bound}
-use Rattle.table_words.specs.Spans.{first_at, IsBoundary, IsEntryRange, IsFound, IsNotFound, AreAlike, IsTunnelOfOwner, HasNoOwner, TellsAddress}
-use Rattle.table_words.proofs.Addresses.{address_told, address_at}
-use Rattle.table_words.proofs.TwoShapes.{are_alike, not_one_shape, not_edition_one}
+use Rattle.std.proofs.Common.{false, None, ℕ, ◌-◌, List, subst, sym, arith}
+use Rattle.table_words.specs.Answers.{tunnel_of}
+use Rattle.table_words.specs.Layout.{IsCompiled}
+use Rattle.table_words.specs.Spans.{IsEntryRange, IsIndexGroup}
+use Rattle.table_words.proofs.Addresses.{address_told}
 use Rattle.table_words.proofs.Halving.{reads_on}
-use Rattle.table_words.proofs.Trying.{tried_none, none_left, address_left, none_cost, search_cost, rest_small, tried_more, found_here, found_cost, if_some, if_none, span_rest, next_fits, above_address, found_below, alike_answer, alike_cost}
+use Rattle.table_words.proofs.Trying.{alike_answer, if_mapped}
 use Rattle.table_words.proofs.lookups.destination_of.Goals as goal
 
-pub destination_alike-requires-clause-alike : goal.destination_alike-requires-clause-alike
-destination_alike-requires-clause-alike g c =
+pub returns-then-group-clause-address : goal.returns-then-group-clause-address
+returns-then-group-clause-address g c = λ t h.
     let grouped = c.group_of-group.ensures in
-    let read = c.word.ensures in
-    let table = c.requires.of_table in
-    let told = sym read.value ∙ c.if-word-eq-ONE_SHAPE.true in
-    let none = sym (ap (λ (ws : List ℕ). slice_index ws 5) grouped.list) ∙ told in
-    subst (λ (ws : List ℕ). AreAlike ws c.group_of-group.result.from c.group_of-group.result.to c.args.v4.0) (sym (read.list ∙ grouped.list))
-    (are_alike c.requires.table (g.W.Words.list c.args.words.now) table none c.args.v4.0 _ _ (grouped.group c.requires.table table))
+    address_told t (g.W.Words.list c.args.words.now) h c.args.v4 c.group_of-group.result.from c.group_of-group.result.to (grouped.group t h) false
+    (λ e l m. absurd (omega (arith, c.if-group.true)))
 
-pub returns-then-word-eq-ONE_SHAPE-clause-address : goal.returns-then-word-eq-ONE_SHAPE-clause-address
-returns-then-word-eq-ONE_SHAPE-clause-address g c = λ t h.
+pub returns-then-group-clause-owner : goal.returns-then-group-clause-owner
+returns-then-group-clause-owner g c = λ t h.
     let grouped = c.group_of-group.ensures in
-    let from = c.group_of-group.result.from in
-    let to = c.group_of-group.result.to in
-    let b = has_binding c.destination_alike.result in
-    let told = subst (λ (ws : List ℕ). TellsAddress ws from to c.args.v4.0 b) (c.word.ensures.list ∙ grouped.list) c.destination_alike.ensures.address in
-    address_told t (g.W.Words.list c.args.words.now) h c.args.v4 from to (grouped.group t h) b told
+    alike_answer t (g.W.Words.list c.args.words.now) h c.args.v4 c.args.want c.group_of-group.result.from c.group_of-group.result.to (grouped.group t h) None tt
+    (λ e x l m. absurd (omega (arith, c.if-group.true)))
 
-pub returns-then-word-eq-ONE_SHAPE-clause-owner : goal.returns-then-word-eq-ONE_SHAPE-clause-owner
-returns-then-word-eq-ONE_SHAPE-clause-owner g c = λ t h.
+pub destination_among-requires-clause-span : goal.destination_among-requires-clause-span
+destination_among-requires-clause-span g c =
     let grouped = c.group_of-group.ensures in
-    let list = c.word.ensures.list ∙ grouped.list in
-    let from = c.group_of-group.result.from in
-    let to = c.group_of-group.result.to in
-    let a = c.args.v4.0 in
-    let o = tunnel_of c.destination_alike.result in
-    let owner = subst (λ (ws : List ℕ). IfSome o (λ b4. IsTunnelOfOwner ws from to a c.args.want b4.0)) list c.destination_alike.ensures.owner in
-    let none = subst (λ (ws : List ℕ). IfNone o (HasNoOwner ws from to a c.args.want)) list c.destination_alike.ensures.none in
-    alike_answer t (g.W.Words.list c.args.words.now) h c.args.v4 c.args.want from to (grouped.group t h) o owner none
+    subst (λ (ws : List ℕ). IsEntryRange ws c.group_of-group.result.from c.group_of-group.result.to) (sym grouped.list) grouped.span
 
-pub returns-then-word-eq-ONE_SHAPE-clause-bound : goal.returns-then-word-eq-ONE_SHAPE-clause-bound
-returns-then-word-eq-ONE_SHAPE-clause-bound g c = λ t h.
-    let few = c.destination_alike.ensures.bound (group_digits t.bindings) (c.group_of-group.ensures.group t h).size in
-    omega (arith, few, alike_cost t, found_below t, c.word.ensures.steps, c.group_of-group.ensures.steps)
-
-pub returns-then-word-eq-ONE_SHAPE-clause-found : goal.returns-then-word-eq-ONE_SHAPE-clause-found
-returns-then-word-eq-ONE_SHAPE-clause-found g c = if_some (tunnel_of c.destination_alike.result) _ (λ t h.
-    let few = c.destination_alike.ensures.bound (group_digits t.bindings) (c.group_of-group.ensures.group t h).size in
-    omega (arith, few, alike_cost t, c.word.ensures.steps, c.group_of-group.ensures.steps))
-
-pub returns-then-word-eq-ONE_SHAPE-clause-one_shape : goal.returns-then-word-eq-ONE_SHAPE-clause-one_shape
-returns-then-word-eq-ONE_SHAPE-clause-one_shape g c = λ t h one.
-    let few = c.destination_alike.ensures.bound (group_digits t.bindings) (c.group_of-group.ensures.group t h).size in
-    omega (arith, few, alike_cost t, c.word.ensures.steps, c.group_of-group.ensures.steps)
-
-pub returns-then-word-eq-ONE_SHAPE-clause-edition_one : goal.returns-then-word-eq-ONE_SHAPE-clause-edition_one
-returns-then-word-eq-ONE_SHAPE-clause-edition_one g c = λ t h one.
-    let few = c.destination_alike.ensures.bound (group_digits t.bindings) (c.group_of-group.ensures.group t h).size in
-    omega (arith, few, alike_cost t, c.word.ensures.steps, c.group_of-group.ensures.steps)
-
-pub returns-then-word-eq-ONE_SHAPE-clause-goes : goal.returns-then-word-eq-ONE_SHAPE-clause-goes
-returns-then-word-eq-ONE_SHAPE-clause-goes g c =
-    let on = g.met.W.Words.goes_on in
-    on _ _ _ (on _ _ _ c.group_of-group.ensures.goes c.word.ensures.goes) c.destination_alike.ensures.goes
-
-pub shapes-init : goal.shapes-init
-shapes-init g c =
+pub destination_among-requires-clause-group : goal.destination_among-requires-clause-group
+destination_among-requires-clause-group g c = λ t h.
     let grouped = c.group_of-group.ensures in
-    let read = c.word.ensures in
-    let words = g.W.Words.list c.args.words.now in
-    record {
-      span = grouped.span;
-      tried = rw c.from-address.ensures
-          (tried_none words c.args.v4 c.args.want c.group_of-group.result.from c.group_of-group.result.to _ (omega (arith, grouped.steps, read.steps)) grouped.group);
-      unowned = refl;
-      come = ap (λ (n : ℕ). n * 4294967296) c.from-address.ensures;
-      list = read.list ∙ grouped.list;
-      reads = reads_on _ _ _ 2 1 _ (omega (arith, grouped.steps, read.steps)) grouped.reads read.reads;
-      goes = g.met.W.Words.goes_on _ _ _ grouped.goes read.goes;
-      rises = omega (arith, grouped.steps, read.steps);
-    }
+    subst (λ (ws : List ℕ). IsIndexGroup t ws c.args.v4.0 c.group_of-group.result.from c.group_of-group.result.to) (sym grouped.list)
+    (grouped.group t (subst (λ (ws : List ℕ). IsCompiled t ws) grouped.list h))
 
-pub lower_bound-from-requires : goal.lower_bound-from-requires
-lower_bound-from-requires g c =
-    subst (λ (ws : List ℕ). IsEntryRange ws c.shapes.from c.group_of-group.result.to) (sym c.shapes.invariant.list) c.shapes.invariant.span
+pub returns-clause-address : goal.returns-clause-address
+returns-clause-address g c = λ t h.
+    let here = subst (λ (ws : List ℕ). IsCompiled t ws) (sym c.group_of-group.ensures.list) h in
+    c.destination_among.ensures.address t here
 
-pub returns-then-from-group : goal.returns-then-from-group
-returns-then-from-group g c =
-    let i = c.shapes.invariant in
-    let bounded = c.lower_bound-from.ensures in
-    let words = g.W.Words.list c.args.words.now in
-    let first = c.group_of-group.result.from in
-    let to = c.group_of-group.result.to in
-    let at = c.lower_bound-from.result in
-    let spent = c.shapes.steps - c.args.steps.now in
-    let told = c.word.ensures.value ∙ ap (λ (ws : List ℕ). slice_index ws 5) c.group_of-group.ensures.list in
-    let place = subst (λ (ws : List ℕ). IsBoundary ws c.shapes.from to c.shapes.least at) i.list bounded.place in
-    record {
-      address = λ t h. address_told t words h c.args.v4 first to (c.group_of-group.ensures.group t h) (has_binding c.shapes.answer)
-          (address_left words c.args.v4 c.args.want first to c.shapes.from c.shapes.least spent at i.tried i.span place (has_binding c.shapes.answer) i.come
-          (λ e l m. absurd (omega (arith, c.if-from-group.true))));
-      owner = λ t h. i.unowned ∙ sym (none_left words c.args.v4 c.args.want first to c.shapes.from c.shapes.least spent at i.tried i.span place t h
-          (λ e l m. absurd (omega (arith, c.if-from-group.true))));
-      bound = λ t h.
-          let cost = search_cost words c.args.v4 c.args.want first to c.shapes.from c.shapes.least spent at i.tried i.span place t h _ bounded.cost in
-          let most = none_cost words c.args.v4 c.args.want first to c.shapes.from c.shapes.least spent at i.tried i.span place t h
-          (c.lower_bound-from.new.steps - c.args.steps.now) (omega (arith, cost, bounded.later, i.rises)) in
-          omega (arith, most, bounded.later, i.rises);
-      found = if_none (tunnel_of c.shapes.answer) _ i.unowned;
-      one_shape = λ t h one. not_one_shape t words h c.word.result told c.if-word-eq-ONE_SHAPE.false one c.lower_bound-from.new.steps (c.args.steps.now + found_bound t.bindings);
-      edition_one = λ t h one. not_edition_one t words h c.word.result told c.if-word-eq-ONE_SHAPE.false one c.lower_bound-from.new.steps (c.args.steps.now + found_bound t.bindings);
-      list = bounded.list ∙ i.list;
-      reads = reads_on _ _ _ spent _ _ (omega (arith, bounded.later, i.rises)) i.reads bounded.reads;
-      goes = g.met.W.Words.goes_on _ _ _ i.goes bounded.goes;
-      rises = omega (arith, bounded.later, i.rises);
-    }
+pub returns-clause-owner : goal.returns-clause-owner
+returns-clause-owner g c = λ t h.
+    let here = subst (λ (ws : List ℕ). IsCompiled t ws) (sym c.group_of-group.ensures.list) h in
+    c.destination_among.ensures.owner t here
 
-pub returns-then-first-address : goal.returns-then-first-address
-returns-then-first-address g c =
-    let i = c.shapes.invariant in
-    let bounded = c.lower_bound-from.ensures in
-    let read = c.first_word-first.ensures in
-    let words = g.W.Words.list c.args.words.now in
-    let first = c.group_of-group.result.from in
-    let to = c.group_of-group.result.to in
-    let at = c.lower_bound-from.result in
-    let spent = c.shapes.steps - c.args.steps.now in
-    let told = c.word.ensures.value ∙ ap (λ (ws : List ℕ). slice_index ws 5) c.group_of-group.ensures.list in
-    let place = subst (λ (ws : List ℕ). IsBoundary ws c.shapes.from to c.shapes.least at) i.list bounded.place in
-    let word = read.value ∙ ap (λ (ws : List ℕ). first_at ws at) (bounded.list ∙ i.list) in
-    let other : c.first_word-first.result / 4294967296 ≢ c.args.v4.0 = λ e. c.if-first-address.true (e ∙ sym c.from-address.ensures) in
-    record {
-      address = λ t h. address_told t words h c.args.v4 first to (c.group_of-group.ensures.group t h) (has_binding c.shapes.answer)
-          (address_left words c.args.v4 c.args.want first to c.shapes.from c.shapes.least spent at i.tried i.span place (has_binding c.shapes.answer) i.come
-          (λ e l m. above_address (first_at words at) (first_at words e) c.args.v4.0 c.shapes.least (i.span.ascending at e l m)
-          (place.above at (omega arith) c.if-from-group.false) i.tried.at_least (rw (← word) other)));
-      owner = λ t h. i.unowned ∙ sym (none_left words c.args.v4 c.args.want first to c.shapes.from c.shapes.least spent at i.tried i.span place t h
-          (λ e l m. above_address (first_at words at) (first_at words e) c.args.v4.0 c.shapes.least (i.span.ascending at e l m)
-          (place.above at (omega arith) c.if-from-group.false) i.tried.at_least (rw (← word) other)));
-      bound = λ t h.
-          let cost = search_cost words c.args.v4 c.args.want first to c.shapes.from c.shapes.least spent at i.tried i.span place t h _ bounded.cost in
-          let most = none_cost words c.args.v4 c.args.want first to c.shapes.from c.shapes.least spent at i.tried i.span place t h
-          (c.first_word-first.new.steps - c.args.steps.now) (omega (arith, cost, bounded.later, i.rises, read.steps)) in
-          omega (arith, most, bounded.later, i.rises, read.steps);
-      found = if_none (tunnel_of c.shapes.answer) _ i.unowned;
-      one_shape = λ t h one. not_one_shape t words h c.word.result told c.if-word-eq-ONE_SHAPE.false one c.first_word-first.new.steps (c.args.steps.now + found_bound t.bindings);
-      edition_one = λ t h one. not_edition_one t words h c.word.result told c.if-word-eq-ONE_SHAPE.false one c.first_word-first.new.steps (c.args.steps.now + found_bound t.bindings);
-      list = read.list ∙ bounded.list ∙ i.list;
-      reads = reads_on _ _ _ (c.lower_bound-from.new.steps - c.args.steps.now) 1 _ (omega (arith, bounded.later, i.rises, read.steps))
-          (reads_on _ _ _ spent _ _ (omega (arith, bounded.later, i.rises)) i.reads bounded.reads) read.reads;
-      goes = g.met.W.Words.goes_on _ _ _ (g.met.W.Words.goes_on _ _ _ i.goes bounded.goes) read.goes;
-      rises = omega (arith, bounded.later, i.rises, read.steps);
-    }
+pub returns-clause-bound : goal.returns-clause-bound
+returns-clause-bound g c = λ t h.
+    let here = subst (λ (ws : List ℕ). IsCompiled t ws) (sym c.group_of-group.ensures.list) h in
+    omega (arith, c.destination_among.ensures.bound t here, c.group_of-group.ensures.steps)
 
-pub first_word-first-requires-clause-within : goal.first_word-first-requires-clause-within
-first_word-first-requires-clause-within g c =
-    let i = c.shapes.invariant in
-    let size = ap length (c.lower_bound-from.ensures.list ∙ i.list) in
-    omega (arith, size, i.span.within, c.if-from-group.false)
+pub returns-clause-found : goal.returns-clause-found
+returns-clause-found g c =
+    if_mapped (tunnel_of c.destination_among.result) _ _
+    (λ small t h.
+    let here = subst (λ (ws : List ℕ). IsCompiled t ws) (sym c.group_of-group.ensures.list) h in
+    omega (arith, small t here, c.group_of-group.ensures.steps)) c.destination_among.ensures.found
 
-pub owner_like-requires-clause-span : goal.owner_like-requires-clause-span
-owner_like-requires-clause-span g c =
-    let i = c.shapes.invariant in
-    let list = c.first_word-first.ensures.list ∙ c.lower_bound-from.ensures.list ∙ i.list in
-    subst (λ (ws : List ℕ). IsEntryRange ws c.lower_bound-from.result c.group_of-group.result.to) (sym list)
-    (span_rest _ c.shapes.from _ _ i.span (omega (arith, c.if-from-group.false)))
+pub returns-clause-one_shape : goal.returns-clause-one_shape
+returns-clause-one_shape g c = λ t h one.
+    let here = subst (λ (ws : List ℕ). IsCompiled t ws) (sym c.group_of-group.ensures.list) h in
+    omega (arith, c.destination_among.ensures.one_shape t here one, c.group_of-group.ensures.steps)
 
-pub returns-in-Some : goal.returns-in-Some
-returns-in-Some g c =
-    let i = c.shapes.invariant in
-    let bounded = c.lower_bound-from.ensures in
-    let read = c.first_word-first.ensures in
-    let tested = c.owner_like.ensures in
-    let words = g.W.Words.list c.args.words.now in
-    let first = c.group_of-group.result.from in
-    let to = c.group_of-group.result.to in
-    let at = c.lower_bound-from.result in
-    let spent = c.shapes.steps - c.args.steps.now in
-    let told = c.word.ensures.value ∙ ap (λ (ws : List ℕ). slice_index ws 5) c.group_of-group.ensures.list in
-    let word = c.first_word-first.result in
-    let list = read.list ∙ bounded.list ∙ i.list in
-    let place = subst (λ (ws : List ℕ). IsBoundary ws c.shapes.from to c.shapes.least at) i.list bounded.place in
-    let word_is = read.value ∙ ap (λ (ws : List ℕ). first_at ws at) (bounded.list ∙ i.list) in
-    let address : word / 4294967296 ≡ c.args.v4.0 = c.if-first-address.false ∙ c.from-address.ensures in
-    let found = subst (λ (ws : List ℕ). IsFound ws at to word c.args.want c.in-Some.end.0) list c.in-Some.ensures.owner in
-    let now = c.owner_like.new.steps - c.args.steps.now in
-    record {
-      address = λ t h. address_told t words h c.args.v4 first to (c.group_of-group.ensures.group t h) true
-          (address_at words first to c.args.v4.0 at word (omega (arith, i.tried.within, place.from_on)) c.if-from-group.false word_is address);
-      owner = λ t h. sym (found_here words c.args.v4 c.args.want first to c.shapes.from c.shapes.least spent at i.tried i.span place c.if-from-group.false word word_is address t h
-          c.in-Some.end found);
-      bound = λ t h.
-          let cost = search_cost words c.args.v4 c.args.want first to c.shapes.from c.shapes.least spent at i.tried i.span place t h _ bounded.cost in
-          let small = rest_small words c.args.v4 c.args.want first to c.shapes.from c.shapes.least spent at i.tried i.span place t h in
-          let tries = tested.bound (group_digits t.bindings) small in
-          let most = found_cost words c.args.v4 c.args.want first to c.shapes.from c.shapes.least spent at i.tried i.span place c.if-from-group.false word word_is address t h
-          now (omega (arith, cost, tries, bounded.later, i.rises, read.steps, tested.later)) in
-          omega (arith, most, found_below t, bounded.later, i.rises, read.steps, tested.later);
-      found = λ t h.
-          let cost = search_cost words c.args.v4 c.args.want first to c.shapes.from c.shapes.least spent at i.tried i.span place t h _ bounded.cost in
-          let small = rest_small words c.args.v4 c.args.want first to c.shapes.from c.shapes.least spent at i.tried i.span place t h in
-          let tries = tested.bound (group_digits t.bindings) small in
-          let most = found_cost words c.args.v4 c.args.want first to c.shapes.from c.shapes.least spent at i.tried i.span place c.if-from-group.false word word_is address t h
-          now (omega (arith, cost, tries, bounded.later, i.rises, read.steps, tested.later)) in
-          omega (arith, most, bounded.later, i.rises, read.steps, tested.later);
-      one_shape = λ t h one. not_one_shape t words h c.word.result told c.if-word-eq-ONE_SHAPE.false one c.owner_like.new.steps (c.args.steps.now + found_bound t.bindings);
-      edition_one = λ t h one. not_edition_one t words h c.word.result told c.if-word-eq-ONE_SHAPE.false one c.owner_like.new.steps (c.args.steps.now + found_bound t.bindings);
-      list = tested.list ∙ list;
-      reads = reads_on _ _ _ (c.first_word-first.new.steps - c.args.steps.now) _ _ (omega (arith, bounded.later, i.rises, read.steps, tested.later))
-          (reads_on _ _ _ (c.lower_bound-from.new.steps - c.args.steps.now) 1 _ (omega (arith, bounded.later, i.rises, read.steps))
-          (reads_on _ _ _ spent _ _ (omega (arith, bounded.later, i.rises)) i.reads bounded.reads) read.reads) tested.reads;
-      goes = g.met.W.Words.goes_on _ _ _ (g.met.W.Words.goes_on _ _ _ (g.met.W.Words.goes_on _ _ _ i.goes bounded.goes) read.goes) tested.goes;
-      rises = omega (arith, bounded.later, i.rises, read.steps, tested.later);
-    }
+pub returns-clause-edition_one : goal.returns-clause-edition_one
+returns-clause-edition_one g c = λ t h one.
+    let here = subst (λ (ws : List ℕ). IsCompiled t ws) (sym c.group_of-group.ensures.list) h in
+    omega (arith, c.destination_among.ensures.edition_one t here one, c.group_of-group.ensures.steps)
 
-pub overflow_add-least : goal.overflow_add-least
-overflow_add-least g c =
-    let i = c.shapes.invariant in
-    let at = c.lower_bound-from.result in
-    let words = g.W.Words.list c.args.words.now in
-    let word_is = c.first_word-first.ensures.value ∙ ap (λ (ws : List ℕ). first_at ws at) (c.lower_bound-from.ensures.list ∙ i.list) in
-    let shape = i.span.shapes at c.if-from-group.false in
-    let small : c.first_word-first.result / 16777216 % 256 ≤ 15 = rw word_is shape.offset_fits in
-    let fits = next_fits c.first_word-first.result c.args.v4.0 (omega arith) (c.if-first-address.false ∙ c.from-address.ensures) small in
-    omega (arith, fits)
+pub returns-clause-reads : goal.returns-clause-reads
+returns-clause-reads g c =
+    reads_on _ _ _ 2 (c.destination_among.new.steps - c.group_of-group.new.steps) _
+    (omega (arith, c.group_of-group.ensures.steps, c.destination_among.ensures.rises)) c.group_of-group.ensures.reads c.destination_among.ensures.reads
 
-pub shapes-preserved : goal.shapes-preserved
-shapes-preserved g c =
-    let i = c.shapes.invariant in
-    let bounded = c.lower_bound-from.ensures in
-    let read = c.first_word-first.ensures in
-    let tested = c.owner_like.ensures in
-    let words = g.W.Words.list c.args.words.now in
-    let first = c.group_of-group.result.from in
-    let to = c.group_of-group.result.to in
-    let at = c.lower_bound-from.result in
-    let spent = c.shapes.steps - c.args.steps.now in
-    let word = c.first_word-first.result in
-    let list = read.list ∙ bounded.list ∙ i.list in
-    let place = subst (λ (ws : List ℕ). IsBoundary ws c.shapes.from to c.shapes.least at) i.list bounded.place in
-    let word_is = read.value ∙ ap (λ (ws : List ℕ). first_at ws at) (bounded.list ∙ i.list) in
-    let address : word / 4294967296 ≡ c.args.v4.0 = c.if-first-address.false ∙ c.from-address.ensures in
-    let not_found : IsNotFound words at to word c.args.want =
-    subst (λ (ws : List ℕ). IsNotFound ws at to word c.args.want) list c.in_default.ensures.none in
-    record {
-      span = span_rest _ c.shapes.from _ _ i.span (omega (arith, c.if-from-group.false));
-      tried = tried_more words c.args.v4 c.args.want first to c.shapes.from c.shapes.least spent at i.tried i.span place c.if-from-group.false word word_is address
-          (c.owner_like.new.steps - c.args.steps.now)
-          (λ t h.
-          let cost = search_cost words c.args.v4 c.args.want first to c.shapes.from c.shapes.least spent at i.tried i.span place t h _ bounded.cost in
-          let small = rest_small words c.args.v4 c.args.want first to c.shapes.from c.shapes.least spent at i.tried i.span place t h in
-          let tries = c.in_default.ensures.bound_none (group_digits t.bindings) small in
-          omega (arith, cost, tries, bounded.later, i.rises, read.steps, tested.later))
-          not_found;
-      unowned = refl;
-      come = address_at words first to c.args.v4.0 at word (omega (arith, i.tried.within, place.from_on)) c.if-from-group.false word_is address;
-      list = tested.list ∙ list;
-      reads = reads_on _ _ _ (c.first_word-first.new.steps - c.args.steps.now) _ _ (omega (arith, bounded.later, i.rises, read.steps, tested.later))
-          (reads_on _ _ _ (c.lower_bound-from.new.steps - c.args.steps.now) 1 _ (omega (arith, bounded.later, i.rises, read.steps))
-          (reads_on _ _ _ spent _ _ (omega (arith, bounded.later, i.rises)) i.reads bounded.reads) read.reads) tested.reads;
-      goes = g.met.W.Words.goes_on _ _ _ (g.met.W.Words.goes_on _ _ _ (g.met.W.Words.goes_on _ _ _ i.goes bounded.goes) read.goes) tested.goes;
-      rises = omega (arith, bounded.later, i.rises, read.steps, tested.later);
-    }
+pub returns-clause-goes : goal.returns-clause-goes
+returns-clause-goes g c = g.met.W.Words.goes_on _ _ _ c.group_of-group.ensures.goes c.destination_among.ensures.goes

@@ -7,7 +7,7 @@ pub returns-in_default-clause-bound : goal.returns-in_default-clause-bound
 returns-in_default-clause-bound g c = λ d l.
     let guessed = c.guess_of-guess.ensures in
     let searched = c.spot_of.ensures in
-    one_search (c.args.to - c.args.from) d _ c.guess_of-guess.new.steps _ (omega (arith, c.if-from-to.false)) l guessed.later guessed.cost guessed.few searched.later searched.cost
+    one_search (c.args.to - c.args.from) d _ c.guess_of-guess.new.steps _ (omega (arith, c.requires.some)) l guessed.later guessed.cost guessed.few searched.later searched.cost
 
 pub returns-in_default-key_of-clause-none : goal.returns-in_default-key_of-clause-none
 returns-in_default-key_of-clause-none g c =
@@ -22,7 +22,7 @@ pub returns-in_default-key_of-clause-bound : goal.returns-in_default-key_of-clau
 returns-in_default-key_of-clause-bound g c = λ d l.
     let guessed = c.guess_of-guess.ensures in
     let searched = c.spot_of.ensures in
-    one_search (c.args.to - c.args.from) d _ c.guess_of-guess.new.steps _ (omega (arith, c.if-from-to.false)) l guessed.later guessed.cost guessed.few searched.later searched.cost
+    one_search (c.args.to - c.args.from) d _ c.guess_of-guess.new.steps _ (omega (arith, c.requires.some)) l guessed.later guessed.cost guessed.few searched.later searched.cost
 
 pub spot_of-requires-2-clause-span : goal.spot_of-requires-2-clause-span
 spot_of-requires-2-clause-span g c =
@@ -53,7 +53,7 @@ returns-in_default-spot_of-clause-bound g c = λ d l.
     let spot = c.in-Some.ensures.spot in
     let again = c.spot_of-2.ensures in
     let most : c.spot_of-2.new.steps + 2 ≤ c.args.steps.now + 2 * d + 5 =
-    two_searches (c.args.to - c.args.from) d _ c.guess_of-guess.new.steps _ (omega (arith, c.if-from-to.false)) l guessed.later guessed.cost guessed.few searched.later
+    two_searches (c.args.to - c.args.from) d _ c.guess_of-guess.new.steps _ (omega (arith, c.requires.some)) l guessed.later guessed.cost guessed.few searched.later
     (c.in-Some.spot.high - c.in-Some.spot.low) (c.reach_of_key.result.high - c.reach_of_key.result.low) c.spot_of-2.new.steps
     (omega (arith, spot.low_on, spot.before_high)) (omega (arith, reach.from_on, reach.up_to)) c.in-Some.ensures.halved again.later again.cost in
     omega (arith, most)
@@ -66,7 +66,7 @@ returns-clause-bound g c = λ d l.
     let spot = c.in-Some.ensures.spot in
     let again = c.spot_of-2.ensures in
     let most : c.spot_of-2.new.steps + 2 ≤ c.args.steps.now + 2 * d + 5 =
-    two_searches (c.args.to - c.args.from) d _ c.guess_of-guess.new.steps _ (omega (arith, c.if-from-to.false)) l guessed.later guessed.cost guessed.few searched.later
+    two_searches (c.args.to - c.args.from) d _ c.guess_of-guess.new.steps _ (omega (arith, c.requires.some)) l guessed.later guessed.cost guessed.few searched.later
     (c.in-Some.spot.high - c.in-Some.spot.low) (c.reach_of_key.result.high - c.reach_of_key.result.low) c.spot_of-2.new.steps
     (omega (arith, spot.low_on, spot.before_high)) (omega (arith, reach.from_on, reach.up_to)) c.in-Some.ensures.halved again.later again.cost in
     omega (arith, most, c.tunnel_end.ensures.steps)

@@ -37,7 +37,7 @@ returns-clause-verdict g c = λ t h.
 pub returns-clause-reads : goal.returns-clause-reads
 returns-clause-reads g c =
     reads_on _ _ _ (c.owner_end-end.new.steps - c.args.steps.now) (c.owner_at-source.new.steps - c.owner_end-end.new.steps) _
-    (omega (arith, c.owner_end-end.ensures.later, c.owner_at-source.ensures.later)) c.owner_end-end.ensures.reads c.owner_at-source.ensures.reads
+    (omega (arith, c.owner_end-end.ensures.rises, c.owner_at-source.ensures.later)) c.owner_end-end.ensures.reads c.owner_at-source.ensures.reads
 
 pub returns-clause-goes : goal.returns-clause-goes
 returns-clause-goes g c = g.met.W.Words.goes_on _ _ _ c.owner_end-end.ensures.goes c.owner_at-source.ensures.goes

@@ -1,80 +1,109 @@
-use Rattle.std.proofs.Common.{ℕ, ◌-◌, List, subst, sym, arith, ◌∙◌}
+use Rattle.std.proofs.Common.{ℕ, ◌-◌, List, Some, refl, ap, subst, sym, arith, ◌∙◌}
+use Rattle.std.specs.Option.{option_map}
 use Rattle.binding_rules.specs.Tables.{binding_table}
 use Rattle.ip_codec.specs.Packet4.{packet4}
+use Rattle.table_words.specs.Answers.{has_binding, tunnel_of}
 use Rattle.table_words.specs.Layout.{IsCompiled}
+use Rattle.table_words.specs.declared.destination.Destination.{Destination}
+use Rattle.table_words.specs.declared.destination.Destination.TheVariants as destination
 use Rattle.table_words.proofs.Laws.{reads_on}
-use Rattle.verdict_core.proofs.Joins.{none_of, up_not_sender, up_out, up_refused, up_turned, up_used_up}
+use Rattle.verdict_core.specs.Answers.{silent, used_up}
+use Rattle.verdict_core.specs.declared.verdicts.Path.{Path}
+use Rattle.verdict_core.proofs.Joins.{its_sender, last_hop, more_hops, none_of, other_sender, up_not_sender, up_out, up_refused, up_turned, up_used_up}
 use Rattle.verdict_core.proofs.upstream.judge_up.Goals as goal
 
 pub returns-in-Some-clause-verdict : goal.returns-in-Some-clause-verdict
 returns-in-Some-clause-verdict g c = λ t h.
     up_refused (binding_table t.edition c.args.settings.now t.bindings) c.args.outer.now (packet4 c.args.packet.now) _ c.key_up-key.ensures _
-    (c.up_refusal.ensures ∙ c.in-Some.is)
+    (c.up_refusal.ensures ∙ ap (option_map silent) c.in-Some.is ∙ ap Some (sym c.silent.ensures))
 
-pub returns-in-Some-sender_refusal-clause-verdict : goal.returns-in-Some-sender_refusal-clause-verdict
-returns-in-Some-sender_refusal-clause-verdict g c = λ t h.
+pub returns-then-is_foreign-clause-verdict : goal.returns-then-is_foreign-clause-verdict
+returns-then-is_foreign-clause-verdict g c = λ t h.
     up_not_sender (binding_table t.edition c.args.settings.now t.bindings) c.args.outer.now (packet4 c.args.packet.now) _ c.key_up-key.ensures _
-    (c.up_refusal.ensures ∙ none_of _ c.in_default.not-Some) _ (c.owner_end-end.ensures.answer t h)
-    (c.sender_refusal.ensures ∙ c.in-Some-sender_refusal.is)
+    (c.up_refusal.ensures ∙ ap (option_map silent) (none_of _ c.in_default.not-Some)) _ (c.owner_end-end.ensures.answer t h)
+    (other_sender c.args.settings.now c.args.outer.now _ (sym c.is_foreign.ensures ∙ c.if-is_foreign.true) ∙ ap Some (sym c.not_sender.ensures))
 
-pub returns-in-Some-ttl_refusal-clause-verdict : goal.returns-in-Some-ttl_refusal-clause-verdict
-returns-in-Some-ttl_refusal-clause-verdict g c = λ t h.
+pub returns-then-is_used_up-clause-verdict : goal.returns-then-is_used_up-clause-verdict
+returns-then-is_used_up-clause-verdict g c = λ t h.
     up_used_up (binding_table t.edition c.args.settings.now t.bindings) c.args.outer.now (packet4 c.args.packet.now) _ c.key_up-key.ensures _
-    (c.up_refusal.ensures ∙ none_of _ c.in_default.not-Some) _ (c.owner_end-end.ensures.answer t h)
-    (c.sender_refusal.ensures ∙ none_of _ c.in_default-sender_refusal.not-Some)
-    (c.ttl_refusal.ensures ∙ c.in-Some-ttl_refusal.is)
+    (c.up_refusal.ensures ∙ ap (option_map silent) (none_of _ c.in_default.not-Some)) _ (c.owner_end-end.ensures.answer t h)
+    (its_sender c.args.settings.now c.args.outer.now _ (sym c.is_foreign.ensures ∙ c.if-is_foreign.false))
+    (last_hop c.args.settings.now c.args.outer.now (packet4 c.args.packet.now) (sym c.is_used_up.ensures ∙ c.if-is_used_up.true) ∙ ap Some (sym (c.used_up.ensures ∙ ap (λ (way : Path). used_up c.args.settings.now way (packet4 c.args.packet.now)) c.way_back.ensures)))
 
-pub returns-in-Some-hairpin-clause-verdict : goal.returns-in-Some-hairpin-clause-verdict
-returns-in-Some-hairpin-clause-verdict g c = λ t h.
-    let here = subst (λ (ws : List ℕ). IsCompiled t ws) (sym c.owner_end-end.ensures.list) h in
-    up_turned (binding_table t.edition c.args.settings.now t.bindings) c.args.outer.now (packet4 c.args.packet.now) _ c.key_up-key.ensures _
-    (c.up_refusal.ensures ∙ none_of _ c.in_default.not-Some) _ (c.owner_end-end.ensures.answer t h)
-    (c.sender_refusal.ensures ∙ none_of _ c.in_default-sender_refusal.not-Some)
-    (c.ttl_refusal.ensures ∙ none_of _ c.in_default-ttl_refusal.not-Some)
-    _ c.key_down-asked.ensures _ (c.owner_at-destination.ensures.bound_address t here) (c.owner_at-destination.ensures.end t here)
-    (c.hairpin.ensures ∙ c.in-Some-hairpin.is)
-
-pub returns-in-Some-hairpin-clause-reads : goal.returns-in-Some-hairpin-clause-reads
-returns-in-Some-hairpin-clause-reads g c =
-    reads_on _ _ _ (c.owner_end-end.new.steps - c.args.steps.now) (c.owner_at-destination.new.steps - c.owner_end-end.new.steps) _
-    (omega (arith, c.owner_end-end.ensures.later, c.owner_at-destination.ensures.later)) c.owner_end-end.ensures.reads c.owner_at-destination.ensures.reads
-
-pub returns-in-Some-hairpin-clause-goes : goal.returns-in-Some-hairpin-clause-goes
-returns-in-Some-hairpin-clause-goes g c = g.met.W.Words.goes_on _ _ _ c.owner_end-end.ensures.goes c.owner_at-destination.ensures.goes
-
-pub returns-in-Some-hairpin-clause-bound : goal.returns-in-Some-hairpin-clause-bound
-returns-in-Some-hairpin-clause-bound g c = λ t h n w.
-    let here = subst (λ (ws : List ℕ). IsCompiled t ws) (sym c.owner_end-end.ensures.list) h in
-    omega (arith, c.owner_end-end.ensures.bound t h n w, c.owner_at-destination.ensures.bound t here n w)
-
-pub returns-in-Some-sender_refusal-clause-bound : goal.returns-in-Some-sender_refusal-clause-bound
-returns-in-Some-sender_refusal-clause-bound g c = λ t h n w. omega (arith, c.owner_end-end.ensures.bound t h n w)
-
-pub returns-in-Some-ttl_refusal-clause-bound : goal.returns-in-Some-ttl_refusal-clause-bound
-returns-in-Some-ttl_refusal-clause-bound g c = λ t h n w. omega (arith, c.owner_end-end.ensures.bound t h n w)
-
-pub returns-clause-verdict : goal.returns-clause-verdict
-returns-clause-verdict g c = λ t h.
+pub returns-in-Unbound-clause-verdict : goal.returns-in-Unbound-clause-verdict
+returns-in-Unbound-clause-verdict g c = λ t h.
     let here = subst (λ (ws : List ℕ). IsCompiled t ws) (sym c.owner_end-end.ensures.list) h in
     up_out (binding_table t.edition c.args.settings.now t.bindings) c.args.outer.now (packet4 c.args.packet.now) _ c.key_up-key.ensures _
-    (c.up_refusal.ensures ∙ none_of _ c.in_default.not-Some) _ (c.owner_end-end.ensures.answer t h)
-    (c.sender_refusal.ensures ∙ none_of _ c.in_default-sender_refusal.not-Some)
-    (c.ttl_refusal.ensures ∙ none_of _ c.in_default-ttl_refusal.not-Some)
-    _ c.key_down-asked.ensures _ (c.owner_at-destination.ensures.bound_address t here) (c.owner_at-destination.ensures.end t here)
-    (c.hairpin.ensures ∙ none_of _ c.in_default-hairpin.not-Some) c.outward.ensures
+    (c.up_refusal.ensures ∙ ap (option_map silent) (none_of _ c.in_default.not-Some)) _ (c.owner_end-end.ensures.answer t h)
+    (its_sender c.args.settings.now c.args.outer.now _ (sym c.is_foreign.ensures ∙ c.if-is_foreign.false)) (more_hops c.args.settings.now c.args.outer.now (packet4 c.args.packet.now) (sym c.is_used_up.ensures ∙ c.if-is_used_up.false))
+    _ c.key_down-asked.ensures destination.Unbound
+    (ap has_binding (sym c.in-Unbound.is) ∙ c.owner_at-destination.ensures.bound_address t here)
+    (ap tunnel_of (sym c.in-Unbound.is) ∙ c.owner_at-destination.ensures.end t here)
+    refl c.outward.ensures
 
-pub returns-clause-reads : goal.returns-clause-reads
-returns-clause-reads g c =
+pub returns-in-Unbound-clause-reads : goal.returns-in-Unbound-clause-reads
+returns-in-Unbound-clause-reads g c =
     reads_on _ _ _ (c.owner_end-end.new.steps - c.args.steps.now) (c.owner_at-destination.new.steps - c.owner_end-end.new.steps) _
-    (omega (arith, c.owner_end-end.ensures.later, c.owner_at-destination.ensures.later)) c.owner_end-end.ensures.reads c.owner_at-destination.ensures.reads
+    (omega (arith, c.owner_end-end.ensures.rises, c.owner_at-destination.ensures.later)) c.owner_end-end.ensures.reads c.owner_at-destination.ensures.reads
 
-pub returns-clause-goes : goal.returns-clause-goes
-returns-clause-goes g c = g.met.W.Words.goes_on _ _ _ c.owner_end-end.ensures.goes c.owner_at-destination.ensures.goes
+pub returns-in-Unbound-clause-goes : goal.returns-in-Unbound-clause-goes
+returns-in-Unbound-clause-goes g c = g.met.W.Words.goes_on _ _ _ c.owner_end-end.ensures.goes c.owner_at-destination.ensures.goes
 
-pub returns-clause-bound : goal.returns-clause-bound
-returns-clause-bound g c = λ t h n w.
+pub returns-in-Unbound-clause-bound : goal.returns-in-Unbound-clause-bound
+returns-in-Unbound-clause-bound g c = λ t h n w.
     let here = subst (λ (ws : List ℕ). IsCompiled t ws) (sym c.owner_end-end.ensures.list) h in
     omega (arith, c.owner_end-end.ensures.bound t h n w, c.owner_at-destination.ensures.bound t here n w)
 
-pub returns-in-Some-clause-goes : goal.returns-in-Some-clause-goes
-returns-in-Some-clause-goes g c = g.met.W.Words.stays _
+pub returns-in-Unowned-clause-verdict : goal.returns-in-Unowned-clause-verdict
+returns-in-Unowned-clause-verdict g c = λ t h.
+    let here = subst (λ (ws : List ℕ). IsCompiled t ws) (sym c.owner_end-end.ensures.list) h in
+    up_turned (binding_table t.edition c.args.settings.now t.bindings) c.args.outer.now (packet4 c.args.packet.now) _ c.key_up-key.ensures _
+    (c.up_refusal.ensures ∙ ap (option_map silent) (none_of _ c.in_default.not-Some)) _ (c.owner_end-end.ensures.answer t h)
+    (its_sender c.args.settings.now c.args.outer.now _ (sym c.is_foreign.ensures ∙ c.if-is_foreign.false)) (more_hops c.args.settings.now c.args.outer.now (packet4 c.args.packet.now) (sym c.is_used_up.ensures ∙ c.if-is_used_up.false))
+    _ c.key_down-asked.ensures destination.Unowned
+    (ap has_binding (sym c.in-Unowned.is) ∙ c.owner_at-destination.ensures.bound_address t here)
+    (ap tunnel_of (sym c.in-Unowned.is) ∙ c.owner_at-destination.ensures.end t here)
+    c.turned_to_nobody.ensures
+
+pub returns-in-Unowned-clause-reads : goal.returns-in-Unowned-clause-reads
+returns-in-Unowned-clause-reads g c =
+    reads_on _ _ _ (c.owner_end-end.new.steps - c.args.steps.now) (c.owner_at-destination.new.steps - c.owner_end-end.new.steps) _
+    (omega (arith, c.owner_end-end.ensures.rises, c.owner_at-destination.ensures.later)) c.owner_end-end.ensures.reads c.owner_at-destination.ensures.reads
+
+pub returns-in-Unowned-clause-goes : goal.returns-in-Unowned-clause-goes
+returns-in-Unowned-clause-goes g c = g.met.W.Words.goes_on _ _ _ c.owner_end-end.ensures.goes c.owner_at-destination.ensures.goes
+
+pub returns-in-Unowned-clause-bound : goal.returns-in-Unowned-clause-bound
+returns-in-Unowned-clause-bound g c = λ t h n w.
+    let here = subst (λ (ws : List ℕ). IsCompiled t ws) (sym c.owner_end-end.ensures.list) h in
+    omega (arith, c.owner_end-end.ensures.bound t h n w, c.owner_at-destination.ensures.bound t here n w)
+
+pub returns-in-Owned-clause-verdict : goal.returns-in-Owned-clause-verdict
+returns-in-Owned-clause-verdict g c = λ t h.
+    let here = subst (λ (ws : List ℕ). IsCompiled t ws) (sym c.owner_end-end.ensures.list) h in
+    up_turned (binding_table t.edition c.args.settings.now t.bindings) c.args.outer.now (packet4 c.args.packet.now) _ c.key_up-key.ensures _
+    (c.up_refusal.ensures ∙ ap (option_map silent) (none_of _ c.in_default.not-Some)) _ (c.owner_end-end.ensures.answer t h)
+    (its_sender c.args.settings.now c.args.outer.now _ (sym c.is_foreign.ensures ∙ c.if-is_foreign.false)) (more_hops c.args.settings.now c.args.outer.now (packet4 c.args.packet.now) (sym c.is_used_up.ensures ∙ c.if-is_used_up.false))
+    _ c.key_down-asked.ensures (destination.Owned c.in-Owned.to)
+    (ap has_binding (sym c.in-Owned.is) ∙ c.owner_at-destination.ensures.bound_address t here)
+    (ap tunnel_of (sym c.in-Owned.is) ∙ c.owner_at-destination.ensures.end t here)
+    c.turned.ensures
+
+pub returns-in-Owned-clause-reads : goal.returns-in-Owned-clause-reads
+returns-in-Owned-clause-reads g c =
+    reads_on _ _ _ (c.owner_end-end.new.steps - c.args.steps.now) (c.owner_at-destination.new.steps - c.owner_end-end.new.steps) _
+    (omega (arith, c.owner_end-end.ensures.rises, c.owner_at-destination.ensures.later)) c.owner_end-end.ensures.reads c.owner_at-destination.ensures.reads
+
+pub returns-in-Owned-clause-goes : goal.returns-in-Owned-clause-goes
+returns-in-Owned-clause-goes g c = g.met.W.Words.goes_on _ _ _ c.owner_end-end.ensures.goes c.owner_at-destination.ensures.goes
+
+pub returns-in-Owned-clause-bound : goal.returns-in-Owned-clause-bound
+returns-in-Owned-clause-bound g c = λ t h n w.
+    let here = subst (λ (ws : List ℕ). IsCompiled t ws) (sym c.owner_end-end.ensures.list) h in
+    omega (arith, c.owner_end-end.ensures.bound t h n w, c.owner_at-destination.ensures.bound t here n w)
+
+pub returns-then-is_foreign-clause-bound : goal.returns-then-is_foreign-clause-bound
+returns-then-is_foreign-clause-bound g c = λ t h n w. omega (arith, c.owner_end-end.ensures.bound t h n w)
+
+pub returns-then-is_used_up-clause-bound : goal.returns-then-is_used_up-clause-bound
+returns-then-is_used_up-clause-bound g c = λ t h n w. omega (arith, c.owner_end-end.ensures.bound t h n w)

@@ -56,7 +56,7 @@ pub invariant_of-seat-2 : goal.invariant_of-seat-2
 invariant_of-seat-2 c =
     let other : (unpacked c.load-2.result).version % 2 ≢ (unpacked c.load.result).version % 2 =
     λ e. c.if-found-area.false (ap (λ (s : Seen). s.version % 2) c.halves-after.ensures ∙ e ∙ ap (λ (s : Seen). s.version % 2) (sym c.halves-before.ensures)) in
-    worker_again c.load.ensures.2 c.fetch_add.ensures.2 c.load-2.ensures.2 c.fetch_sub.ensures.2 other _ c.seat.invariant.0 c.seat.invariant.2
+    worker_again c.load.ensures.2 c.fetch_add.ensures.2 c.load-2.ensures.2 c.fetch_sub.ensures.2 other _ _ c.seat.invariant.0 c.seat.invariant.2 c.seat.invariant.3
 
 pub returns-clause-claimed : goal.returns-clause-claimed
 returns-clause-claimed c =

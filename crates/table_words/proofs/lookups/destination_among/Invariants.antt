@@ -3,12 +3,12 @@ use Rattle.table_words.specs.Answers.{has_binding, tunnel_of}
 use Rattle.table_words.specs.Reads.{read_more}
 use Rattle.table_words.specs.Spans.{IsEntryRange}
 use Rattle.table_words.specs.Tried.{AreTried, HasCome}
-use Rattle.table_words.proofs.lookups.destination_of.Given as goal
+use Rattle.table_words.proofs.lookups.destination_among.Given as goal
 
 abbrev pub invariant-shapes : goal.invariant-shapes
 invariant-shapes g l = record {
   span : IsEntryRange (g.W.Words.list l.fn.words) l.from l.group.to;
-  tried : AreTried (g.W.Words.list l.fn.words) l.fn.v4.0 l.fn.want l.group.from l.group.to l.from l.least (l.steps - l.fn.steps);
+  tried : AreTried (g.W.Words.list l.fn.words) l.fn.v4.0 l.fn.want l.group.from l.group.to l.from l.least (l.steps + 2 - l.fn.steps);
   unowned : tunnel_of l.answer ≡ None;
   come : HasCome (g.W.Words.list l.fn.words) l.group.from l.group.to l.fn.v4.0 l.least (has_binding l.answer);
   list : g.W.Words.list l.words ≡ g.W.Words.list l.fn.words;
