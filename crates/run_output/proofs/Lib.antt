@@ -5,6 +5,7 @@ mod JoinLemmas
 mod LateLemmas
 mod LimitLemmas
 mod MarkLemmas
+mod OutLemmas
 mod PartLemmas
 mod RoundLemmas
 mod SomeLemmas

@@ -6,7 +6,7 @@ use Rattle.std.proofs.lemmas.List.{drop-drop, drop_min, length-drop, length-take
 use Rattle.std.proofs.lemmas.List.Concat.{flat_map-append}
 use Rattle.capture_io.specs.declared.written.Written.{Written}
 use Rattle.aftr_text.specs.declared.summaries.Totals.{Totals}
-use Rattle.run_output.specs.Cells.{ArePartsUnless, Cell, IsMore, IsPart, chunk, counted, lines_of, packets_of}
+use Rattle.run_output.specs.Cells.{ArePartsFrom, ArePartsUnless, Cell, IsMore, IsPart, IsPartUnless, chunk, counted, lines_of, packets_of}
 use Rattle.run_output.specs.Counting.{IsWithin, no_totals}
 use Rattle.run_output.specs.Rendering.{lines_in, packets_in}
 use Rattle.run_output.specs.declared.parts.Part.{Part}
@@ -37,6 +37,24 @@ chunks_join f g size (p ∷ parts) cs each few =
     (omega (arith, few, more, length-drop size cs)) in
     ap (λ l. l ++ flat_map g parts) here ∙ (ap (λ l. flat_map f (take size cs) ++ l) rest
     ∙ (sym (flat_map-append f (take size cs) (drop size cs)) ∙ ap (flat_map f) (take-append-drop size cs)))
+
+-- ---- the parts from a place on
+pub from_first : (w : Written) (size : ℕ) (cs : List Cell) (parts : List Part) → ArePartsFrom w size 0 cs parts → ArePartsUnless w size cs parts
+from_first w size cs parts are place d inside =
+    let same : 0 + place ≡ place = omega arith in
+    subst (λ (n : ℕ). IsPartUnless w (chunk size n cs) (slice_index_or parts place d)) same (are place d inside)
+
+pub parts_none : (w : Written) (size from : ℕ) (cs : List Cell) (parts : List Part) → length parts ≡ 0 → ArePartsFrom w size from cs parts
+parts_none w size from cs parts none place d inside = absurd (omega (arith, none, inside))
+
+pub parts_joined : (w : Written) (size from : ℕ) (cs : List Cell) (first : Part) (others : List Part) → IsPartUnless w (chunk size from cs) first →
+    ArePartsFrom w size (from + 1) cs others → ArePartsFrom w size from cs (first ∷ others)
+parts_joined w size from cs first others here rest zero d inside =
+    let same : from ≡ from + 0 = omega arith in
+    subst (λ (n : ℕ). IsPartUnless w (chunk size n cs) first) same here
+parts_joined w size from cs first others here rest (suc k) d inside =
+    let same : from + 1 + k ≡ from + suc k = omega arith in
+    subst (λ (n : ℕ). IsPartUnless w (chunk size n cs) (slice_index_or others k d)) same (rest k d (omega (arith, inside)))
 
 -- what each part holds, where memory was wanted in none
 pub part_is : (w : Written) (size : ℕ) (cs : List Cell) (parts : List Part) → ArePartsUnless w size cs parts → All (λ (p : Part). p.failed ≡ false) parts →

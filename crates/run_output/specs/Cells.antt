@@ -1,6 +1,6 @@
 -- The records of a round, each with all that its rendering needs, and what they write by themselves. No public contract cites
 -- this.
-use Rattle.std.specs.Prelude.{◌≡◌, ℕ, ◌+◌, ◌*◌, ◌^◌, ◌<◌, ◌≤◌, Bool, true, false, not, if◌then◌else◌, List, [], ◌∷◌, ◌++◌, length, take, drop, flat_map, get_or, slice_index_or, string_bytes, Option}
+use Rattle.std.specs.Prelude.{◌≡◌, ℕ, ◌+◌, ◌*◌, ◌^◌, ◌<◌, ◌≤◌, Bool, true, false, not, if◌then◌else◌, List, [], ◌∷◌, ◌++◌, length, take, drop, flat_map, get_or, slice_get, slice_index_or, string_bytes, Option, Some}
 use Rattle.aftr_text.specs.declared.summaries.Totals.{Totals}
 use Rattle.aftr_text.specs.Lines.{ended_text}
 use Rattle.capture_io.specs.Packets.{packet_bytes}
@@ -11,6 +11,7 @@ use Rattle.capture_io.specs.declared.records.RecordView.{RecordView}
 use Rattle.capture_io.specs.declared.written.Written.{Written}
 use Rattle.error_limit.specs.Limits.{Bucket}
 use Rattle.ip_codec.specs.declared.items.Item.{Item}
+use Rattle.item_stage.specs.Items.{items_in}
 use Rattle.item_stage.specs.declared.entries.Entry.{Entry}
 use Rattle.run_output.specs.Counting.{IsWithin, no_totals, with_record}
 use Rattle.run_output.specs.Limiting.{WasAsked, tells}
@@ -18,6 +19,7 @@ use Rattle.run_output.specs.Outputs.{record_text, sent_unless}
 use Rattle.run_output.specs.Rendering.{AreFitting}
 use Rattle.worker_gate.specs.declared.outcomes.Outcome.{Outcome}
 use Rattle.run_output.specs.declared.parts.Part.{Part}
+use Rattle.verdict_core.specs.Fitting.{Fits}
 use Rattle.verdict_core.specs.declared.verdicts.Verdict.{Verdict}
 
 pub record Cell : Type 0 where
@@ -91,6 +93,10 @@ IsPartUnless w cs p = p.failed ≡ false → IsPart w cs p
 abbrev pub ArePartsUnless : Written → ℕ → List Cell → List Part → Type 0
 ArePartsUnless w size cs parts = (place : ℕ) (d : Part) → place < length parts → IsPartUnless w (chunk size place cs) (slice_index_or parts place d)
 
+-- the same of the parts from a place on
+abbrev pub ArePartsFrom : Written → ℕ → ℕ → List Cell → List Part → Type 0
+ArePartsFrom w size from cs parts = (place : ℕ) (d : Part) → place < length parts → IsPartUnless w (chunk size (from + place) cs) (slice_index_or parts place d)
+
 -- Whoever adds the counts of parts of these records one after another has counted the records of the first i of them, and what is
 -- left gives the whole.
 pub record AreCounted (size : ℕ) (cs : List Cell) (number i : ℕ) (before now : Totals) : Type 0 where
@@ -100,17 +106,21 @@ pub record AreCounted (size : ℕ) (cs : List Cell) (number i : ℕ) (before now
   pub totals : counted now (drop (i * size) cs) ≡ counted before cs
 
 -- a record by what is seen of it
-abbrev pub shown : ℕ → RecordView → Item → List ℕ → Outcome → Bool → Cell
-shown number r i ended o limited = record {
+abbrev pub shown : ℕ → RecordView → Entry → Outcome → Bool → Cell
+shown number r e o limited = record {
   number = number;
   seconds = r.seconds;
   fraction = r.fraction;
-  ended = ended;
-  item = i;
+  ended = e.ended;
+  item = e.item;
   version = o.version;
   verdict = o.verdict;
   limited = limited;
 }
+
+-- the verdict fits the item at this index
+abbrev pub FitsAt : List Entry → ℕ → Verdict → Type 0
+FitsAt entries index v = (i : Item) → slice_get (items_in entries) index ≡ Some i → Fits i v
 
 -- a part with what one record more writes
 pub record IsMore (w : Written) (c : Cell) (old new : Part) : Type 0 where

@@ -1,17 +1,20 @@
 // What a round of records writes.
-ghost use Rattle.std.specs.Prelude.{◌≡◌, ◌≤◌, ◌<◌, ◌+◌, ◌-◌, ◌*◌, ◌++◌, ◌^◌, ℕ, List, [], IfOk, IfErr, false, flat_map, drop, length, string_bytes, take};
+ghost use Rattle.std.specs.Prelude.{◌≡◌, ◌≤◌, ◌<◌, ◌+◌, ◌-◌, ◌*◌, ◌++◌, ◌^◌, ℕ, List, [], IfOk, IfErr, false, flat_map, drop, length, slice_get, string_bytes, take, Some};
 ghost use Rattle.std.specs.Thread.{IsSync};
 ghost use Rattle.capture_io.specs.declared.forms.Rec.{Rec as Record};
 ghost use Rattle.capture_io.specs.Packets.{packet_bytes};
-ghost use Rattle.ip_codec.specs.Seen.{seen};
+ghost use Rattle.ip_codec.specs.declared.items.Item.{Item};
+ghost use Rattle.item_stage.specs.Items.{items_in};
 ghost use Rattle.item_stage.specs.declared.entries.Entry.{Entry};
+ghost use Rattle.packet_render.specs.Sent.{sent};
 ghost use Rattle.aftr_text.specs.Lines.{ended_text};
-ghost use Rattle.run_output.specs.Cells.{ArePartsUnless, AreReady, IsMore, IsPart, IsPartUnless, cells, chunk, counted, shown};
+ghost use Rattle.run_output.specs.Cells.{ArePartsFrom, ArePartsUnless, AreReady, FitsAt, IsMore, IsPart, IsPartUnless, cells, chunk, counted, shown};
 ghost use Rattle.run_output.specs.Counting.{IsWithin, with_record};
 ghost use Rattle.run_output.specs.Limiting.{HasAsked, IsLimited, rate_of};
 ghost use Rattle.run_output.specs.Outputs.{Course, record_text, sent_unless};
 ghost use Rattle.run_output.specs.Rendering.{AreFitting, IsCourseOf, IsRendered};
-ghost use Rattle.verdict_core.specs.Fitting.{Fits, HasRoom};
+ghost use Rattle.verdict_core.specs.Fitting.{HasRoom};
+ghost use Rattle.verdict_core.specs.declared.verdicts.Verdict.TheVariants as verdict;
 
 use crate::counting::{count_parts, count_record};
 use crate::limits::mark_limited;
@@ -21,11 +24,9 @@ use aftr_base::OutOfMemory;
 use aftr_text::Totals;
 use capture_io::{Form, RecordView, Records, Written};
 use error_limit::{Limiter, one_marking};
-use ip_codec::ItemView;
 use item_stage::{Items, RoundItems};
-use packet_render::push_packets;
-use std::thread;
-use std::thread::Threads;
+use packet_render::{push_outgoing, push_packets};
+use std::thread::{Threads, join_mut};
 use verdict_core::Verdict;
 use worker_gate::{Outcome, Outcomes};
 
@@ -118,25 +119,80 @@ fn render_each<R: Threads + Sync>(
 )
     requires ready { AreReady start records.now items.now outcomes.now limited.now }
     requires size { size ≤ 2 ^ 31 }
-    requires some { 0 < length parts.old }
     requires few { length parts.old ≤ 16 }
     ensures parts { ArePartsUnless written size (cells start records.now items.now outcomes.now limited.now) parts.new }
     ensures count { length parts.new ≡ length parts.old }
 {
-    let threads = parts.len();
-    thread::for_each_mut(
-        rt,
-        parts,
-        threads,
-        &|place, part: &mut Part|
-            requires { (place < 16) × ((size ≤ 2 ^ 31) × AreReady start records.now items.now outcomes.now limited.now) }
-            ensures { IsPartUnless written (chunk size place (cells start records.entry.now items.entry.now outcomes.entry.now limited.entry.now)) part.new }
-        {
-            render_part(
-                written, start, records, items, outcomes, limited, size, place, part,
-            )
-        },
+    render_from(
+        rt, written, start, records, items, outcomes, limited, size, 0, parts,
     );
+}
+
+// The same from the part at a place on. One thread makes all the others: what a thread makes that was just made itself begins late.
+#[cycle(beside)]
+fn render_from<R: Threads + Sync>(
+    rt: &R,
+    written: Written,
+    start: u32,
+    records: &Records,
+    items: &Items<'_>,
+    outcomes: &Outcomes<'_>,
+    limited: &[bool],
+    size: usize,
+    place: usize,
+    parts: &mut [Part],
+)
+    requires ready { AreReady start records.now items.now outcomes.now limited.now }
+    requires size { size ≤ 2 ^ 31 }
+    requires few { place + length parts.old ≤ 16 }
+    ensures parts { ArePartsFrom written size place (cells start records.now items.now outcomes.now limited.now) parts.new }
+    ensures count { length parts.new ≡ length parts.old }
+{
+    let Some((first, others)) = parts.split_first_mut() else {
+        return;
+    };
+    if others.is_empty() {
+        render_part(
+            written, start, records, items, outcomes, limited, size, place, first,
+        );
+    } else {
+        render_beside(
+            rt, written, start, records, items, outcomes, limited, size, place, first, others,
+        );
+    }
+}
+
+// Renders the first part in a new thread, and the others beside it.
+#[cycle(beside)]
+fn render_beside<R: Threads + Sync>(
+    rt: &R,
+    written: Written,
+    start: u32,
+    records: &Records,
+    items: &Items<'_>,
+    outcomes: &Outcomes<'_>,
+    limited: &[bool],
+    size: usize,
+    place: usize,
+    first: &mut Part,
+    others: &mut [Part],
+)
+    requires ready { AreReady start records.now items.now outcomes.now limited.now }
+    requires size { size ≤ 2 ^ 31 }
+    requires few { place + 1 + length others.old ≤ 16 }
+    ensures first { IsPartUnless written (chunk size place (cells start records.now items.now outcomes.now limited.now)) first.new }
+    ensures others { ArePartsFrom written size (place + 1) (cells start records.now items.now outcomes.now limited.now) others.new }
+    ensures count { length others.new ≡ length others.old }
+{
+    let mut one = ||
+        requires { (place < 16) × ((size ≤ 2 ^ 31) × AreReady start records.now items.now outcomes.now limited.now) }
+        ensures { IsPartUnless written (chunk size place (cells start records.entry.now items.entry.now outcomes.entry.now limited.entry.now)) first.exit.now }
+    { render_part(written, start, records, items, outcomes, limited, size, place, first) };
+    let mut rest = ||
+        requires { IsSync R.row × ((place + 1 + length others.now ≤ 16) × ((size ≤ 2 ^ 31) × AreReady start records.now items.now outcomes.now limited.now)) }
+        ensures { ArePartsFrom written size (place + 1) (cells start records.entry.now items.entry.now outcomes.entry.now limited.entry.now) others.exit.now × (length others.exit.now ≡ length others.entry.now) }
+    { render_from(rt, written, start, records, items, outcomes, limited, size, place + 1, others) };
+    join_mut(rt, &mut one, &mut rest);
 }
 
 // Renders the records of one part, which has `size` of them where so many are left.
@@ -186,14 +242,13 @@ fn render_records(
     let mut i = from;
     'records: while i < to {
         let record = records.get(i);
-        let item = items.item(i);
-        let outcome = *outcomes.get(i);
+        let outcome = outcomes.get(i);
         render_record(
             written,
             start + i as u32,
             &record,
-            &item,
-            items.ended(i),
+            items,
+            i,
             outcome,
             limited[i],
             part,
@@ -203,22 +258,24 @@ fn render_records(
     Ok(())
 }
 
-// Puts what one record writes behind what a part holds, and counts it.
+// Puts what the record at an index of its round writes behind what a part holds, and counts it.
 fn render_record(
     written: Written,
     number: u32,
     rec: &RecordView<'_>,
-    item: &ItemView<'_>,
-    ended: &[u32],
-    outcome: Outcome,
+    items: &Items<'_>,
+    index: usize,
+    outcome: &Outcome,
     limited: bool,
     part: &mut Part,
 ) -> Result<(), OutOfMemory>
-    requires fits { Fits (seen item.now) outcome.verdict }
-    requires room { HasRoom outcome.verdict }
+    requires inside { index < length items.now }
+    requires fits { FitsAt items.now index outcome.now.verdict }
+    requires room { HasRoom outcome.now.verdict }
     requires within { IsWithin part.old.counted part.old.counted.records }
     requires few { part.old.counted.records < 2 ^ 31 }
-    ensures more { IfOk result (λ _. IsMore written (shown number rec.now (seen item.now) ended.now outcome limited) part.old part.new) }
+    ensures more { IfOk result (λ _. (entry : Entry) → slice_get items.now index ≡ Some entry →
+        IsMore written (shown number rec.now entry outcome.now limited) part.old part.new) }
     ensures within { IfOk result (λ _. IsWithin part.new.counted part.new.counted.records) }
 {
     let count = push_sent(
@@ -226,11 +283,12 @@ fn render_record(
         written,
         number,
         rec,
-        item,
-        outcome.verdict,
+        items,
+        index,
+        &outcome.verdict,
         limited,
     )?;
-    push_ended_lines(&mut part.lines, true, ended)?;
+    push_ended_lines(&mut part.lines, true, items.ended(index))?;
     push_record_line(
         &mut part.lines,
         limited,
@@ -243,33 +301,71 @@ fn render_record(
     Ok(())
 }
 
-// Puts the packets of one record behind others: none where its error is kept back.
+// Puts the packets of one record behind others: none where its error is kept back. Of a packet that goes out no more of the item
+// is asked for than the packet.
 fn push_sent(
     packets: &mut Vec<u8>,
     written: Written,
     number: u32,
     rec: &RecordView<'_>,
-    item: &ItemView<'_>,
-    verdict: Verdict,
+    items: &Items<'_>,
+    index: usize,
+    verdict: &Verdict,
     limited: bool,
 ) -> Result<u32, OutOfMemory>
-    requires fits { Fits (seen item.now) verdict }
-    requires room { HasRoom verdict }
-    ensures bytes { IfOk result (λ _. packets.new.items ≡ packets.old.items
-        ++ flat_map (packet_bytes written rec.now.seconds rec.now.fraction) (sent_unless limited (seen item.now) verdict number)) }
-    ensures count { IfOk result (λ count. count ≡ length (sent_unless limited (seen item.now) verdict number)) }
+    requires inside { index < length items.now }
+    requires fits { FitsAt items.now index verdict.now }
+    requires room { HasRoom verdict.now }
+    ensures bytes { IfOk result (λ _. (i : Item) → slice_get (items_in items.now) index ≡ Some i → packets.new.items ≡ packets.old.items
+        ++ flat_map (packet_bytes written rec.now.seconds rec.now.fraction) (sent_unless limited i verdict.now number)) }
+    ensures count { IfOk result (λ count. (i : Item) → slice_get (items_in items.now) index ≡ Some i → count ≡ length (sent_unless limited i verdict.now number)) }
     ensures few { IfOk result (λ count. count ≤ 128) }
 {
     if limited {
         return Ok(0);
     }
-    push_packets(
+    if let Verdict::Outward { mtu } = *verdict {
+        let count = push_out(packets, written, rec, items, index, mtu)?;
+        return Ok(count);
+    }
+    let item = items.item(index);
+    let count = push_packets(
         packets,
         written,
-        item,
-        &verdict,
+        &item,
+        verdict,
         number,
         rec.seconds,
         rec.fraction,
-    )
+    )?;
+    Ok(count)
+}
+
+// Puts the packets of a record there whose packet goes out.
+fn push_out(
+    packets: &mut Vec<u8>,
+    written: Written,
+    rec: &RecordView<'_>,
+    items: &Items<'_>,
+    index: usize,
+    mtu: u16,
+) -> Result<u32, OutOfMemory>
+    requires inside { index < length items.now }
+    requires fits { FitsAt items.now index (verdict.Outward mtu) }
+    requires room { 576 ≤ mtu }
+    ensures bytes { IfOk result (λ _. (i : Item) (number : ℕ) → slice_get (items_in items.now) index ≡ Some i → packets.new.items ≡ packets.old.items
+        ++ flat_map (packet_bytes written rec.now.seconds rec.now.fraction) (sent i (verdict.Outward mtu) number)) }
+    ensures count { IfOk result (λ count. (i : Item) (number : ℕ) → slice_get (items_in items.now) index ≡ Some i → count ≡ length (sent i (verdict.Outward mtu) number)) }
+    ensures few { IfOk result (λ count. count ≤ 128) }
+{
+    let packet = items.packet(index);
+    let count = push_outgoing(
+        packets,
+        written,
+        &packet,
+        mtu,
+        rec.seconds,
+        rec.fraction,
+    )?;
+    Ok(count)
 }

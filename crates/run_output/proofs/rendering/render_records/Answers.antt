@@ -1,17 +1,15 @@
 use Rattle.std.proofs.Common.{◌≡◌, ◌<◌, ◌≤◌, ◌+◌, Bool, List, false, length, arith}
 use Rattle.std.specs.Prelude.{slice_index_or}
 use Rattle.capture_io.specs.Records as records
-use Rattle.ip_codec.specs.Seen.{seen}
 use Rattle.run_output.specs.Cells.{Cell, cells, shown}
 use Rattle.worker_gate.specs.declared.outcomes.Outcome.{Outcome}
-use Rattle.run_output.proofs.CellLemmas.{cell_there, cells_length, mark_read}
+use Rattle.run_output.proofs.CellLemmas.{cell_there, entry_there, cells_length, mark_read}
 use Rattle.run_output.proofs.PartLemmas.{begun_last, begun_more}
 use Rattle.run_output.proofs.rendering.render_records.Goals as goal
 
 pub render_record-requires-clause-fits : goal.render_record-requires-clause-fits
-render_record-requires-clause-fits c =
-    c.requires.ready.fitting.fits c.records.i (c.get-outcome.result.now) (seen c.item-item.result)
-    c.get-outcome.ensures c.item-item.ensures
+render_record-requires-clause-fits c = λ i there.
+    c.requires.ready.fitting.fits c.records.i (c.get-outcome.result.now) i c.get-outcome.ensures there
 
 pub render_record-requires-clause-room : goal.render_record-requires-clause-room
 render_record-requires-clause-room c =
@@ -24,15 +22,16 @@ records-preserved c =
     let l : Bool = slice_index_or c.args.limited.now c.records.i false in
     let marked : c.records.i < length c.args.limited.now = omega (arith, c.requires.ready.marked, c.requires.inside, c.records-test.true) in
     let all : List Cell = cells c.args.start c.args.records.now c.args.items.now c.args.outcomes.now c.args.limited.now in
-    let cell : Cell = shown (c.args.start + c.records.i) c.get-record.result (seen c.item-item.result) c.ended.result.now o l in
+    let entry = entry_there c.args.items.now c.records.i (omega (arith, c.requires.ready.same, c.requires.inside, c.records-test.true)) in
+    let cell : Cell = shown (c.args.start + c.records.i) c.get-record.result entry.0 o l in
     let there = cell_there c.args.start c.args.records.now c.args.items.now c.args.outcomes.now c.args.limited.now c.records.i
-    (records.seen c.get-record.result) (seen c.item-item.result) c.ended.result.now o l
-    c.get-record.ensures c.item-item.ensures c.ended.ensures c.get-outcome.ensures (mark_read c.args.limited.now c.records.i false marked) in
+    (records.seen c.get-record.result) entry.0 o l
+    c.get-record.ensures entry.1 c.get-outcome.ensures (mark_read c.args.limited.now c.records.i false marked) in
     record {
       after = omega arith;
       before = omega arith;
       begun = begun_more c.args.written all c.args.from c.args.to c.records.i cell c.records.part c.render_record.new.part
-          c.records.invariant.after c.records-test.true there c.in_ok-render_record.ensures.more c.in_ok-render_record.ensures.within c.records.invariant.begun;
+          c.records.invariant.after c.records-test.true there (c.in_ok-render_record.ensures.more entry.0 entry.1) c.in_ok-render_record.ensures.within c.records.invariant.begun;
     }
 
 pub returns : goal.returns
