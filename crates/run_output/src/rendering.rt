@@ -187,11 +187,28 @@ fn render_beside<R: Threads + Sync>(
     let mut one = ||
         requires { (place < 16) × ((size ≤ 2 ^ 31) × AreReady start records.now items.now outcomes.now limited.now) }
         ensures { IsPartUnless written (chunk size place (cells start records.entry.now items.entry.now outcomes.entry.now limited.entry.now)) first.exit.now }
-    { render_part(written, start, records, items, outcomes, limited, size, place, first) };
+    {
+        render_part(
+            written, start, records, items, outcomes, limited, size, place, first,
+        )
+    };
     let mut rest = ||
         requires { IsSync R.row × ((place + 1 + length others.now ≤ 16) × ((size ≤ 2 ^ 31) × AreReady start records.now items.now outcomes.now limited.now)) }
         ensures { ArePartsFrom written size (place + 1) (cells start records.entry.now items.entry.now outcomes.entry.now limited.entry.now) others.exit.now × (length others.exit.now ≡ length others.entry.now) }
-    { render_from(rt, written, start, records, items, outcomes, limited, size, place + 1, others) };
+    {
+        render_from(
+            rt,
+            written,
+            start,
+            records,
+            items,
+            outcomes,
+            limited,
+            size,
+            place + 1,
+            others,
+        )
+    };
     join_mut(rt, &mut one, &mut rest);
 }
 
@@ -359,13 +376,6 @@ fn push_out(
     ensures few { IfOk result (λ count. count ≤ 128) }
 {
     let packet = items.packet(index);
-    let count = push_outgoing(
-        packets,
-        written,
-        &packet,
-        mtu,
-        rec.seconds,
-        rec.fraction,
-    )?;
+    let count = push_outgoing(packets, written, &packet, mtu, rec.seconds, rec.fraction)?;
     Ok(count)
 }
