@@ -21,8 +21,12 @@ use std::fs::OpenOptions;
 use std::io::{Read, Seek, SeekFrom, Write};
 use std::rt::Files as FileSystem;
 
-// How many bytes are read ahead at once.
+// The most bytes that are read ahead at once.
 const WINDOW: usize = 1 << 20;
+
+// So many are read ahead at first, and each time twice as many as before: who reads a header and then goes on by large reads has not
+// read more ahead than a page.
+const FIRST: usize = 1 << 12;
 
 // A read of so many bytes or more that finds none read ahead goes past the window, straight to where they are wanted.
 const DIRECT: usize = 1 << 18;
@@ -38,6 +42,8 @@ struct Reader<F: Drop> {
     window: Vec<u8>,
     start: u64,
     ahead: usize,
+    // so many are read ahead the next time
+    next: usize,
 }
 
 impl<F: Read + Seek + Drop> Reader<F> {
@@ -50,7 +56,7 @@ impl<F: Read + Seek + Drop> Reader<F> {
     ) -> Result<Reader<F>, Fault> {
         let window = match before {
             Some(reader) => reader.window,
-            None => vec![in alloc; 0; WINDOW]?,
+            None => Vec::new(alloc),
         };
         Ok(Reader {
             name: String::from_str(alloc, name)?,
@@ -59,6 +65,7 @@ impl<F: Read + Seek + Drop> Reader<F> {
             window,
             start: 0,
             ahead: 0,
+            next: FIRST,
         })
     }
 
@@ -84,13 +91,18 @@ impl<F: Read + Seek + Drop> Reader<F> {
     // Reads the window again, from a place on.
     fn refill(&mut self, at: u64) -> Result<(), Fault> {
         self.ahead = 0;
+        if self.window.len() < self.next {
+            self.window.resize(self.next, 0)?;
+        }
         self.go_to(at)?;
-        let Ok(count) = self.file.read(self.window.as_mut_slice()) else {
+        let wanted = self.next.min(self.window.len());
+        let Ok(count) = self.file.read(&mut self.window[..wanted]) else {
             return Err(Fault::Failed);
         };
         self.place = at.checked_add(count as u64);
         self.start = at;
         self.ahead = count;
+        self.next = wanted.saturating_mul(2).min(WINDOW);
         Ok(())
     }
 

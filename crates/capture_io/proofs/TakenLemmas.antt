@@ -28,7 +28,7 @@ one_all P x p = λ k d within. let first : k ≡ 0 = omega arith in subst (λ (i
 pub all_more : {X : Type 0} (P : X → Type 0) (xs : List X) (x : X) → All P xs → P x → All P (xs ++ x ∷ [])
 all_more P xs x each p = All-append P xs (x ∷ []) each (one_all P x p)
 
-length_more : {X : Type 0} (xs : List X) (x : X) → length (xs ++ x ∷ []) ≡ length xs + 1
+pub length_more : {X : Type 0} (xs : List X) (x : X) → length (xs ++ x ∷ []) ≡ length xs + 1
 length_more xs x = length-append xs (x ∷ [])
 
 but_last : (rs : List Rec) (r : Rec) → all_but_last (rs ++ r ∷ []) ≡ rs
@@ -133,14 +133,15 @@ module _ (big : Bool) (piece : List ℕ) (last : Bool) (at number most : ℕ) (p
         sizes = all_more (λ x. length x.bytes ≤ 262144) rs r t.sizes (omega (arith, size, small));
       })
 
-  -- the same, as the code pushes it
-  pub pushed_taken : (pushed : List Place) (pl : Place) → pushed ≡ places ++ pl ∷ [] → pl ≡ place → length places < 16384 → total < most →
-      AreTaken big piece last at number most (map (placed piece) pushed) (used + (16 + head.captured)) (nth + 1) (total + head.captured)
-  pushed_taken pushed pl items is few less =
-      let P : List Place → ℕ → Type 0 = λ l n. AreTaken big piece last at number most (map (placed piece) l) n (nth + 1) (total + head.captured) in
+  -- the same, as the code pushes it and counts
+  pub pushed_taken : (pushed : List Place) (pl : Place) (more : ℕ) → pushed ≡ places ++ pl ∷ [] → pl ≡ place → length places < 16384 → total < most → more ≡ nth + 1 →
+      AreTaken big piece last at number most (map (placed piece) pushed) (used + (16 + head.captured)) more (total + head.captured)
+  pushed_taken pushed pl more items is few less next =
+      let P : List Place → ℕ → ℕ → Type 0 = λ l n m. AreTaken big piece last at number most (map (placed piece) l) n m (total + head.captured) in
       let same : places ++ place ∷ [] ≡ pushed = ap (λ (x : Place). places ++ x ∷ []) (sym is) ∙ sym items in
       let far : used + 16 + head.captured ≡ used + (16 + head.captured) = omega arith in
-      subst (λ (n : ℕ). P pushed n) far (subst (λ (l : List Place). P l (used + 16 + head.captured)) same (taken_more few less))
+      subst (λ (m : ℕ). P pushed (used + (16 + head.captured)) m) (sym next)
+      (subst (λ (n : ℕ). P pushed n (nth + 1)) far (subst (λ (l : List Place). P l (used + 16 + head.captured) (nth + 1)) same (taken_more few less)))
 
   pub pushed_within : (pushed : List Place) (pl : Place) → pushed ≡ places ++ pl ∷ [] → pl ≡ place → All (IsWithin piece) places → All (IsWithin piece) pushed
   pushed_within pushed pl items is each =
@@ -152,6 +153,11 @@ module _ (big : Bool) (piece : List ℕ) (last : Bool) (at number most : ℕ) (p
 pub front_of_rest : (big : Bool) (piece : List ℕ) (last : Bool) (at used nth : ℕ) (said : Front) →
     front_in big (take (length piece - used) (drop used piece)) last (at + used) nth ≡ said → front_in big (drop used piece) last (at + used) nth ≡ said
 front_of_rest big piece last at used nth said e = ap (λ (l : List ℕ). front_in big l last (at + used) nth) (sym (take_rest piece used)) ∙ e
+
+-- what it says under a number that is the same
+pub renumbered : (big : Bool) (piece : List ℕ) (last : Bool) (at used nth mth : ℕ) (said : Front) → nth ≡ mth →
+    front_in big (take (length piece - used) (drop used piece)) last (at + used) nth ≡ said → front_in big (take (length piece - used) (drop used piece)) last (at + used) mth ≡ said
+renumbered big piece last at used nth mth said same e = ap (λ (n : ℕ). front_in big (take (length piece - used) (drop used piece)) last (at + used) n) (sym same) ∙ e
 
 pub said_at : (big : Bool) (piece : List ℕ) (last : Bool) (all : List ℕ) (at used nth : ℕ) (said : Front) → used ≤ length piece → IsFront piece last (drop at all) →
     front_in big (take (length piece - used) (drop used piece)) last (at + used) nth ≡ said → Tells (at + used) (drop used piece) said (next_in big (drop (at + used) all) (at + used) nth)

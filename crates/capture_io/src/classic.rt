@@ -31,6 +31,8 @@ pub struct ClassicReader {
     at: u64,
     // what was read already of the bytes from `at` on
     ahead: Vec<u8>,
+    // what was looked at ahead of its time, which says nothing
+    touched: u8,
 }
 
 impl ClassicReader {
@@ -51,6 +53,7 @@ impl ClassicReader {
             form,
             at: FIRST_RECORD,
             ahead: Vec::new(alloc),
+            touched: 0,
         })
     }
 }
@@ -203,6 +206,7 @@ fn take_fetched(
             used: 0,
             number,
             ending: Some(Ending::ReadFault),
+            touched: 0,
         };
     }
     take_records(big, piece, fetched.last, at, number, most_bytes, places)
@@ -264,6 +268,7 @@ impl CaptureReader for ClassicReader {
         self.ahead
             .extend_from_slice(&buffer[taken.used..fetched.filled])?;
         self.at += taken.used as u64;
+        self.touched = taken.touched;
         Ok(Round {
             records: Records::of(buffer, places),
             number: taken.number,
