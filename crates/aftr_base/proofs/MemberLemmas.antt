@@ -1,5 +1,5 @@
 -- Lemmas on the members of a list, and on what is said of an option.
-use Rattle.std.proofs.Common.{◌≡◌, suc, ◌+◌, Bool, false, List, ◌∷◌, Contains, Option, Some, None, refl, arith}
+use Rattle.std.proofs.Common.{◌≡◌, suc, false, List, ◌∷◌, Contains, Option, Some, None, refl, arith}
 use Rattle.std.specs.Prelude.{is_some, IfNone}
 use Rattle.std.proofs.lemmas.Bool.{true≢false}
 

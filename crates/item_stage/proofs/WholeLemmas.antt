@@ -1,5 +1,5 @@
 -- Records that carry a whole packet.
-use Rattle.std.proofs.Common.{◌≡◌, ◌==◌, ℕ, Bool, true, false, not, ◌&&◌, List, refl, sym, ◌∙◌, ap, Option, Some, is_some, Result, Ok, Err, is_ok, slice_get}
+use Rattle.std.proofs.Common.{◌≡◌, ◌==◌, ℕ, Bool, true, false, not, List, refl, sym, ◌∙◌, ap, Option, Some, is_some, Result, Ok, Err, is_ok, slice_get}
 use Rattle.std.specs.Prelude.{option_and_then}
 use Rattle.std.proofs.lemmas.Bool.{and_parts, eqb-true}
 use Rattle.ip_codec.proofs.Packet4Lemmas.{ip4_of-alone}
@@ -12,7 +12,7 @@ use Rattle.ip_codec.specs.declared.packet4.Ip4Bad.{Ip4Bad}
 use Rattle.ip_codec.specs.declared.packet6.Ip6Bad.{Ip6Bad}
 use Rattle.ipv6_chain.specs.Chains.{chain_of}
 use Rattle.ipv6_chain.specs.declared.headers.Start.TheVariants as start
-use Rattle.item_stage.specs.Alone.{Alone, behind_headers, by_chain, from_outside, from_tunnel, in_tunnel, item_alone, outer_of, told_item}
+use Rattle.item_stage.specs.Alone.{behind_headers, by_chain, from_outside, from_tunnel, in_tunnel, item_alone, outer_of, told_item}
 use Rattle.item_stage.specs.Items.{items_in}
 use Rattle.item_stage.specs.Looks.{carries_whole, is_extension, is_whole}
 use Rattle.item_stage.specs.declared.entries.Entry.{Entry}

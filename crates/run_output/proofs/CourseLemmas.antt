@@ -1,5 +1,5 @@
 -- What the records of a round write is what a course writes that has their outcomes and their marks.
-use Rattle.std.proofs.Common.{◌≡◌, ℕ, zero, suc, ◌+◌, ◌<◌, ◌≤◌, Bool, true, false, not, if◌then◌else◌, List, [], ◌∷◌, ◌++◌, length, drop, flat_map, get_or, Option, Some, None, slice_get, sym, ◌∙◌, ap, refl, subst, arith}
+use Rattle.std.proofs.Common.{◌≡◌, ℕ, suc, ◌+◌, Bool, true, false, not, if◌then◌else◌, List, [], ◌∷◌, ◌++◌, length, drop, flat_map, get_or, Some, slice_get, sym, ◌∙◌, ap, refl, subst, arith}
 use Rattle.aftr_text.specs.declared.summaries.Totals.{Totals}
 use Rattle.aftr_text.specs.Lines.{ended_text}
 use Rattle.capture_io.specs.Packets.{packet_bytes}

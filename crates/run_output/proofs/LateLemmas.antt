@@ -1,12 +1,11 @@
 -- Which tables do not come into force: those whose windows open behind the last record.
-use Rattle.std.proofs.Common.{◌≡◌, ◌↔◌, inl, inr, ℕ, zero, suc, ◌+◌, ◌-◌, ◌<◌, ◌≤◌, Bool, cond, nat_le, List, [], ◌∷◌, length, count_by, get_or, slice_index, Option, Some, None, slice_get, ap, refl, arith, le-leb}
+use Rattle.std.proofs.Common.{◌≡◌, inl, inr, ℕ, zero, suc, ◌+◌, ◌-◌, ◌<◌, ◌≤◌, Bool, cond, nat_le, List, [], ◌∷◌, length, count_by, get_or, None, slice_get, ap, refl, arith, le-leb}
 use Rattle.std.proofs.lemmas.Bool.{cases_lt}
 use Rattle.std.proofs.lemmas.List.Sums.{sum_by-cons}
-use Rattle.swap_core.specs.Plans.{IsPlan, Tables, always, window}
+use Rattle.swap_core.specs.Plans.{IsPlan, Tables, always}
 use Rattle.swap_core.specs.Points.{AreAllPoints}
 use Rattle.swap_core.specs.declared.plan.Window.{Window}
 use Rattle.run_output.specs.Laws.{LateIsNotReached}
-use Rattle.run_output.specs.Versions.{point_of}
 
 -- the windows open in order
 opens_later : (p : Tables) → IsPlan p → (i d : ℕ) → i + d < length p.windows → (get_or p.windows i always).earliest ≤ (get_or p.windows (i + d) always).earliest

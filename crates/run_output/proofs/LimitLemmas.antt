@@ -1,5 +1,5 @@
 -- Which records are limited, round by round and over a whole run.
-use Rattle.std.proofs.Common.{◌≡◌, ℕ, zero, suc, ◌+◌, ◌<◌, ◌≤◌, ◌↔◌, ◌==◌, Bool, true, false, not, List, [], ◌∷◌, ◌++◌, length, drop, take, map, get_or, Option, Some, None, slice_get, sym, ◌∙◌, ap, refl, subst, arith, append_assoc, append-nil}
+use Rattle.std.proofs.Common.{◌≡◌, ℕ, zero, suc, ◌+◌, ◌↔◌, Bool, true, false, not, List, [], ◌∷◌, ◌++◌, length, drop, take, get_or, Option, Some, None, slice_get, sym, ◌∙◌, ap, refl, subst, arith, append_assoc, append-nil}
 use Rattle.std.specs.Prelude.{replicate}
 use Rattle.std.proofs.lemmas.List.{drop_all, drop_at, get_or_append_left, length-append, length-map, map-append, take-append-le}
 use Rattle.capture_io.specs.Record.{nanoseconds}
@@ -10,7 +10,7 @@ use Rattle.ip_codec.specs.declared.items.Item.{Item}
 use Rattle.item_stage.specs.Items.{items_in}
 use Rattle.item_stage.specs.declared.entries.Entry.{Entry}
 use Rattle.run_output.specs.Cells.{AreMarked, HasMarked, limited_by, times_by}
-use Rattle.run_output.specs.Laws.{IsLimitedAs, LimitsAreSome, LimitsBegin}
+use Rattle.run_output.specs.Laws.{LimitsBegin}
 use Rattle.run_output.specs.Limiting.{AreSent, HasAsked, IsLimited, Told, WasAsked, passed_in, rate_of, tells, times_of, told_from, told_if}
 use Rattle.run_output.specs.Outputs.{Course, verdict_at}
 use Rattle.run_output.specs.Rendering.{HasOutcomes, IsCourseOf}

@@ -1,5 +1,5 @@
 -- The parts of a round, one behind the other.
-use Rattle.std.proofs.Common.{◌≡◌, ℕ, zero, suc, ◌+◌, ◌*◌, ◌<◌, ◌≤◌, ◌-◌, min, Bool, false, List, [], ◌∷◌, ◌++◌, All, length, drop, take, flat_map, get_or, sym, ◌∙◌, ap, refl, subst, arith, append_assoc, append-nil}
+use Rattle.std.proofs.Common.{◌≡◌, ℕ, zero, suc, ◌+◌, ◌*◌, ◌<◌, ◌≤◌, ◌-◌, min, Bool, false, List, [], ◌∷◌, ◌++◌, All, length, drop, take, flat_map, sym, ◌∙◌, ap, refl, subst, arith, append_assoc, append-nil}
 use Rattle.std.specs.Prelude.{IfOk, Result, Ok, Err, is_err, slice_index_or, string_bytes}
 use Rattle.aftr_base.specs.declared.lists.OutOfMemory.{OutOfMemory}
 use Rattle.std.proofs.lemmas.List.{drop-drop, drop_min, length-drop, length-take-le, take-append-drop, take_min}

@@ -1,16 +1,15 @@
 -- There is a course that keeps back just the errors that a limiter did not let through.
-use Rattle.std.proofs.Common.{◌≡◌, ℕ, zero, suc, ◌+◌, ◌<◌, ◌≤◌, ◌==◌, Bool, true, false, not, if◌then◌else◌, List, [], ◌∷◌, ◌++◌, length, map, Option, Some, None, slice_get, sym, ◌∙◌, ap, refl, subst, arith}
+use Rattle.std.proofs.Common.{◌≡◌, ℕ, zero, suc, ◌+◌, ◌<◌, ◌≤◌, ◌==◌, Bool, true, false, not, if◌then◌else◌, List, [], ◌∷◌, ◌++◌, length, map, Some, slice_get, sym, ◌∙◌, ap, refl, subst, arith}
 use Rattle.std.proofs.lemmas.Bool.{ne_eqb, eq-eqb}
 use Rattle.std.proofs.lemmas.List.{length-map}
 use Rattle.capture_io.specs.Record.{nanoseconds}
 use Rattle.capture_io.specs.declared.forms.Form.{Form}
 use Rattle.capture_io.specs.declared.forms.Rec.{Rec}
-use Rattle.error_limit.specs.Limits.{Bucket}
 use Rattle.ip_codec.specs.declared.items.Item.{Item}
 use Rattle.item_stage.specs.Items.{items_in}
 use Rattle.item_stage.specs.declared.entries.Entry.{Entry}
-use Rattle.run_output.specs.Laws.{IsLimitedAs, IsSameBut, LimitsAreSome}
-use Rattle.run_output.specs.Limiting.{AreSent, HasAsked, IsLimited, Told, WasAsked, passed_in, rate_of, tells, times_of, told_from, told_if}
+use Rattle.run_output.specs.Laws.{LimitsAreSome}
+use Rattle.run_output.specs.Limiting.{AreSent, Told, passed_in, rate_of, tells, times_of, told_from, told_if}
 use Rattle.run_output.specs.Outputs.{Course, verdict_at}
 use Rattle.run_output.proofs.LimitLemmas.{asked_sent, sent_size}
 

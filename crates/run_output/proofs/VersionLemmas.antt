@@ -1,5 +1,5 @@
 -- The lines of tables, load by load.
-use Rattle.std.proofs.Common.{◌≡◌, ◌⊎◌, inl, inr, ℕ, zero, suc, ◌+◌, ◌-◌, ◌<◌, ◌≤◌, Bool, true, false, not, List, [], ◌∷◌, ◌++◌, length, take, drop, flat_map, Option, Some, None, slice_get, sym, ◌∙◌, ap, refl, subst, arith, append_assoc, append-nil}
+use Rattle.std.proofs.Common.{◌≡◌, inl, inr, ℕ, zero, suc, ◌+◌, ◌-◌, ◌<◌, ◌≤◌, Bool, true, false, not, List, [], ◌∷◌, ◌++◌, length, take, drop, Option, Some, None, slice_get, sym, ◌∙◌, ap, refl, subst, arith, append_assoc, append-nil}
 use Rattle.std.specs.Option.{is_some}
 use Rattle.std.specs.Prelude.{slice_index_or}
 use Rattle.std.proofs.lemmas.Bool.{cases_lt}
@@ -7,7 +7,7 @@ use Rattle.std.proofs.lemmas.List.{drop_all, length-drop, take_all}
 use Rattle.aftr_text.specs.declared.jobs.LoadWords.{LoadWords}
 use Rattle.reload_plan.specs.declared.loads.Slot.{Slot}
 use Rattle.reload_plan.specs.declared.loads.Slot.TheVariants as slot
-use Rattle.run_output.specs.Versions.{AreTold, EndsInForce, IsInForce, IsTold, NamedSlot, NoneIsDue, between, load_lines, named, point_of, slot_text, version_text}
+use Rattle.run_output.specs.Versions.{AreTold, EndsInForce, IsTold, NamedSlot, NoneIsDue, between, load_lines, named, point_of, slot_text, version_text}
 
 abbrev pub IsRefused : Slot → Type 0
 IsRefused (slot.Refused cause) = Unit {0}

@@ -1,8 +1,7 @@
 -- The header goes before the message, whose quote is the tunnel's header and the front of the inner packet.
-use Rattle.std.proofs.Common.{◌≡◌, ◌+◌, ◌-◌, ◌++◌, length, take, min, ap, ◌∙◌, arith}
+use Rattle.std.proofs.Common.{◌≡◌, ◌+◌, ◌++◌, length, ap, ◌∙◌, arith}
 use Rattle.std.proofs.lemmas.List.{length-append}
 use Rattle.icmp_codec.specs.Message6.{icmp6_bytes}
-use Rattle.ip_codec.specs.Packet6.{bytes6}
 use Rattle.icmp_errors.specs.Policy6.{header6_bytes, policy6, policy_head, quoted_head}
 use Rattle.icmp_errors.proofs.PushLemmas.{on_success, policy6-parts, pushed, tunnel_fronts}
 use Rattle.icmp_errors.proofs.PolicyLemmas.{policy6-sizes, policy6-tells}

@@ -1,5 +1,5 @@
 -- What is appended to nothing.
-use Rattle.std.proofs.Common.{◌≡◌, List, ℕ, [], ◌++◌, sym, ◌∙◌, ap, subst}
+use Rattle.std.proofs.Common.{◌≡◌, List, ℕ, ◌++◌, sym, ◌∙◌, ap, subst}
 use Rattle.icmp_errors.specs.Policy6.{TellsPolicy, policy6}
 use Rattle.icmp_errors.proofs.PushLemmas.{appended_ok}
 use Rattle.icmp_errors.proofs.policy6.source_policy6.Goals as goal

@@ -1,5 +1,5 @@
 -- A header that was passed gives the chain of what follows it.
-use Rattle.std.proofs.Common.{◌≡◌, ◌+◌, ◌-◌, length, take, drop, refl, sym, ap, ◌∙◌, arith}
+use Rattle.std.proofs.Common.{◌-◌, length, take, drop, refl, sym, ap, ◌∙◌, arith}
 use Rattle.std.proofs.lemmas.List.{take_rest, length-drop}
 use Rattle.ipv6_chain.proofs.ChainLemmas.{chain-on}
 use Rattle.ipv6_chain.proofs.headers.walk.Goals as goal

@@ -1,4 +1,4 @@
-use Rattle.std.proofs.Common.{◌∙◌, sym}
+use Rattle.std.proofs.Common.{sym}
 use Rattle.ip_codec.specs.Packet4 as four
 use Rattle.item_stage.proofs.WholeLemmas.{outside_whole, whole_reads}
 use Rattle.item_stage.proofs.reading.whole_outside.Goals as goal

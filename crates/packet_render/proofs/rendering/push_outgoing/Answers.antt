@@ -1,5 +1,4 @@
 -- What is recorded of the packet is what is recorded of each item that has it.
-use Rattle.std.proofs.Common.{◌∙◌, ap, sym}
 use Rattle.capture_io.specs.Packets.{packet_bytes}
 use Rattle.ip_codec.specs.Packet4.{packet4}
 use Rattle.packet_render.specs.Sent.{outward, packet_of_item}

@@ -1,4 +1,4 @@
-use Rattle.std.proofs.Common.{◌≡◌, ℕ, ◌+◌, ◌-◌, ◌^◌, ◌≤◌, List, length}
+use Rattle.std.proofs.Common.{ℕ, ◌+◌, ◌-◌, ◌^◌, ◌≤◌, List, length}
 use Rattle.capture_io.specs.declared.written.Written.{Written}
 use Rattle.run_output.specs.Cells.{AreCounted, ArePartsUnless, Cell}
 use Rattle.run_output.specs.Counting.{IsWithin}

@@ -1,5 +1,5 @@
 use Rattle.std.proofs.Common.{◌≡◌, ℕ, suc, ◌+◌, ◌++◌, Bool, [], ◌∷◌, List, not, true, sym, ◌∙◌, ap, refl, subst, arith, length-append}
-use Rattle.std.specs.Prelude.{slice_index_or, length}
+use Rattle.std.specs.Prelude.{length}
 use Rattle.capture_io.specs.Records as records
 use Rattle.run_output.specs.Cells.{HasMarked}
 use Rattle.run_output.specs.Limiting.{WasAsked, tells}

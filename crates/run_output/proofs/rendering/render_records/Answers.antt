@@ -1,4 +1,4 @@
-use Rattle.std.proofs.Common.{◌≡◌, ◌<◌, ◌≤◌, ◌+◌, Bool, List, false, length, arith}
+use Rattle.std.proofs.Common.{◌≡◌, ◌<◌, ◌+◌, Bool, List, false, length, arith}
 use Rattle.std.specs.Prelude.{slice_index_or}
 use Rattle.capture_io.specs.Records as records
 use Rattle.run_output.specs.Cells.{Cell, cells, shown}

@@ -1,7 +1,6 @@
-use Rattle.std.proofs.Common.{◌≡◌, ℕ, ◌+◌, ◌*◌, ◌≤◌, ◌^◌, Bool, false, List, All, length, ap, sym, ◌∙◌, subst, arith}
+use Rattle.std.proofs.Common.{◌≡◌, ℕ, ◌*◌, ◌≤◌, Bool, false, List, All, length, ap, sym, subst, arith}
 use Rattle.run_output.specs.Cells.{AreCounted, ArePartsUnless, AreReady, Cell, HasMarked, cells}
 use Rattle.run_output.specs.declared.parts.Part.{Part}
-use Rattle.run_output.proofs.CellLemmas.{cells_length}
 use Rattle.run_output.proofs.LimitLemmas.{asked_more}
 use Rattle.run_output.proofs.RoundLemmas.{IsDone, all_cells, covered, round_rendered, round_within}
 use Rattle.run_output.proofs.rendering.render_round.Given as given

@@ -1,4 +1,4 @@
-use Rattle.std.proofs.Common.{◌≡◌, ◌-◌, ◌≤◌, length}
+use Rattle.std.proofs.Common.{◌-◌, ◌≤◌, length}
 use Rattle.run_output.specs.Versions.{AreTold, EndsInForce}
 use Rattle.run_output.proofs.VersionLemmas.{AreRefused}
 use Rattle.run_output.proofs.versions.last_in_force.Given as goal

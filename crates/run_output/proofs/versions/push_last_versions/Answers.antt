@@ -1,4 +1,4 @@
-use Rattle.std.proofs.Common.{◌≡◌, ◌++◌, List, drop, length, subst, arith, sym}
+use Rattle.std.proofs.Common.{◌≡◌, ◌++◌, List, length, subst, sym}
 use Rattle.std.specs.Prelude.{IfOk, string_bytes}
 use Rattle.run_output.specs.Versions.{NamedSlot, load_lines, named}
 use Rattle.run_output.proofs.VersionLemmas.{named_length, to_the_end}

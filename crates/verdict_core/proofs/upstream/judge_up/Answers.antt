@@ -4,7 +4,6 @@ use Rattle.binding_rules.specs.Tables.{binding_table}
 use Rattle.ip_codec.specs.Packet4.{packet4}
 use Rattle.table_words.specs.Answers.{has_binding, tunnel_of}
 use Rattle.table_words.specs.Layout.{IsCompiled}
-use Rattle.table_words.specs.declared.destination.Destination.{Destination}
 use Rattle.table_words.specs.declared.destination.Destination.TheVariants as destination
 use Rattle.table_words.proofs.Laws.{reads_on}
 use Rattle.verdict_core.specs.Answers.{silent, used_up}

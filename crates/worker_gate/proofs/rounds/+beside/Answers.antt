@@ -1,4 +1,3 @@
-use Rattle.std.proofs.Common.{All}
 use Rattle.worker_gate.specs.declared.worker.Worker.{Worker}
 use Rattle.worker_gate.specs.Gathering.{IsOfRound}
 use Rattle.worker_gate.proofs.Hands.{first_and_others}

@@ -1,5 +1,5 @@
 -- The first of the pieces that were left is written.
-use Rattle.std.proofs.Common.{◌≡◌, ◌+◌, ◌-◌, ◌<◌, length, take, drop, nat_lt, refl, ◌∙◌, ap, arith}
+use Rattle.std.proofs.Common.{◌≡◌, ◌+◌, ◌-◌, ◌<◌, length, take, drop, nat_lt, refl, ap, arith}
 use Rattle.std.proofs.lemmas.List.{length-drop}
 use Rattle.ip_codec.specs.Packet4.{packet4}
 use Rattle.fragmenter.specs.Pieces4.{piece4, room4}

@@ -1,9 +1,8 @@
-use Rattle.std.proofs.Common.{◌≡◌, ◌∙◌, ap, arith, refl, slice_get, Some, sym}
+use Rattle.std.proofs.Common.{◌∙◌, ap, arith, refl, sym}
 use Rattle.std.specs.Option.{option_map}
 use Rattle.capture_io.specs.Records as records
 use Rattle.ip_codec.specs.Seen.{seen}
 use Rattle.item_stage.specs.Alone.{item_of}
-use Rattle.item_stage.specs.Items.{items_in}
 use Rattle.item_stage.proofs.MarkLemmas.{item_alone_there, item_by_mark, within_marks, within_records}
 use Rattle.item_stage.proofs.WholeLemmas.{known_by, packet_by}
 use Rattle.item_stage.proofs.rounds.Items.packet.Goals as goal
