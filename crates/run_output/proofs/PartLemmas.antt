@@ -1,5 +1,5 @@
 -- The parts of a round, one behind the other.
-use Rattle.std.proofs.Common.{◌≡◌, ℕ, zero, suc, ◌+◌, ◌*◌, ◌<◌, ◌≤◌, ◌-◌, min, Bool, false, List, [], ◌∷◌, ◌++◌, All, length, drop, take, flat_map, sym, ◌∙◌, ap, refl, subst, arith, append_assoc, append-nil}
+use Rattle.std.proofs.Common.{◌≡◌, ℕ, suc, ◌+◌, ◌*◌, ◌<◌, ◌≤◌, ◌-◌, min, Bool, false, List, [], ◌∷◌, ◌++◌, All, length, drop, take, flat_map, sym, ◌∙◌, ap, refl, subst, arith, append_assoc, append-nil}
 use Rattle.std.specs.Prelude.{IfOk, Result, Ok, Err, is_err, slice_index_or, string_bytes}
 use Rattle.aftr_base.specs.declared.lists.OutOfMemory.{OutOfMemory}
 use Rattle.std.proofs.lemmas.List.{drop-drop, drop_min, length-drop, length-take-le, take-append-drop, take_min}
@@ -43,18 +43,6 @@ pub from_first : (w : Written) (size : ℕ) (cs : List Cell) (parts : List Part)
 from_first w size cs parts are place d inside =
     let same : 0 + place ≡ place = omega arith in
     subst (λ (n : ℕ). IsPartUnless w (chunk size n cs) (slice_index_or parts place d)) same (are place d inside)
-
-pub parts_none : (w : Written) (size from : ℕ) (cs : List Cell) (parts : List Part) → length parts ≡ 0 → ArePartsFrom w size from cs parts
-parts_none w size from cs parts none place d inside = absurd (omega (arith, none, inside))
-
-pub parts_joined : (w : Written) (size from : ℕ) (cs : List Cell) (first : Part) (others : List Part) → IsPartUnless w (chunk size from cs) first →
-    ArePartsFrom w size (from + 1) cs others → ArePartsFrom w size from cs (first ∷ others)
-parts_joined w size from cs first others here rest zero d inside =
-    let same : from ≡ from + 0 = omega arith in
-    subst (λ (n : ℕ). IsPartUnless w (chunk size n cs) first) same here
-parts_joined w size from cs first others here rest (suc k) d inside =
-    let same : from + 1 + k ≡ from + suc k = omega arith in
-    subst (λ (n : ℕ). IsPartUnless w (chunk size n cs) (slice_index_or others k d)) same (rest k d (omega (arith, inside)))
 
 -- what each part holds, where memory was wanted in none
 pub part_is : (w : Written) (size : ℕ) (cs : List Cell) (parts : List Part) → ArePartsUnless w size cs parts → All (λ (p : Part). p.failed ≡ false) parts →

@@ -7,11 +7,12 @@ use Rattle.capture_io.specs.declared.forms.Rec.{Rec}
 use Rattle.capture_io.specs.declared.written.Written.{Written}
 use Rattle.error_limit.specs.Limits.{Bucket}
 use Rattle.item_stage.specs.declared.entries.Entry.{Entry}
-use Rattle.run_output.specs.Cells.{AreCounted, ArePartsUnless, AreReady, Cell, HasMarked, cells}
+use Rattle.run_output.specs.Cells.{AreCounted, ArePartsUnless, AreReady, Cell, HasMarked, IsFitting, cells, cells_in}
 use Rattle.run_output.specs.Counting.{IsWithin}
 use Rattle.run_output.specs.Limiting.{IsLimited, rate_of}
 use Rattle.run_output.specs.Outputs.{Course}
 use Rattle.run_output.specs.Rendering.{IsCourseOf, IsRendered}
+use Rattle.run_output.specs.declared.rounds.Round.{Round}
 use Rattle.worker_gate.specs.declared.outcomes.Outcome.{Outcome}
 use Rattle.run_output.specs.declared.parts.Part.{Part}
 use Rattle.run_output.proofs.CellLemmas.{cells_length}
@@ -35,6 +36,9 @@ pub all_cells : (start : ℕ) (records : List Rec) (entries : List Entry) (os : 
     length (cells start records entries os limited) ≡ length records
 all_cells start records entries os limited ready =
     cells_length start records entries os limited ready.same (omega (arith, ready.fitting.count, ready.same)) ready.marked
+
+pub round_cells : (r : Round) → IsFitting r → length (cells_in r) ≡ length r.records.now
+round_cells r fitting = all_cells r.start r.records.now r.items.now r.outcomes.now r.limited.now (record { same = r.same; marked = r.marked; few = r.few; fitting = fitting })
 
 pub round_within : (form : Form) (w : Written) (start : ℕ) (records : List Rec) (entries : List Entry) (os : List Outcome) (old new : Option Bucket) (limited : List Bool) (parts : List Part) (before now : Totals) →
     IsDone form w start records entries os old new limited parts before now → IsWithin now (start + length records)

@@ -19,6 +19,7 @@ use Rattle.run_output.specs.Outputs.{record_text, sent_unless}
 use Rattle.run_output.specs.Rendering.{AreFitting}
 use Rattle.worker_gate.specs.declared.outcomes.Outcome.{Outcome}
 use Rattle.run_output.specs.declared.parts.Part.{Part}
+use Rattle.run_output.specs.declared.rounds.Round.{Round}
 use Rattle.verdict_core.specs.Fitting.{Fits}
 use Rattle.verdict_core.specs.declared.verdicts.Verdict.{Verdict}
 
@@ -48,6 +49,14 @@ cell_of number r e o limited = record {
 abbrev pub cells : ℕ → List Rec → List Entry → List Outcome → List Bool → List Cell
 cells number (r ∷ rs) (e ∷ es) (o ∷ os) (l ∷ ls) = cell_of number r e o l ∷ cells (number + 1) rs es os ls
 cells number _ _ _ _ = []
+
+-- those of a round
+abbrev pub cells_in : Round → List Cell
+cells_in r = cells r.start r.records.now r.items.now r.outcomes.now r.limited.now
+
+-- each record of the round has an outcome that fits its item
+abbrev pub IsFitting : Round → Type 0
+IsFitting r = AreFitting r.items.now r.outcomes.now
 
 abbrev pub packets_sent : Cell → List (List ℕ)
 packets_sent c = sent_unless c.limited c.item c.verdict c.number

@@ -8,6 +8,7 @@ mod limits;
 mod lines;
 mod parts;
 mod rendering;
+mod rounds;
 mod versions;
 
 pub use laws::{

@@ -1,5 +1,5 @@
 // What a round of records writes.
-ghost use Rattle.std.specs.Prelude.{◌≡◌, ◌≤◌, ◌<◌, ◌+◌, ◌-◌, ◌*◌, ◌++◌, ◌^◌, ℕ, List, [], IfOk, IfErr, false, flat_map, drop, length, slice_get, string_bytes, take, Some};
+ghost use Rattle.std.specs.Prelude.{◌≡◌, ◌≤◌, ◌<◌, ◌+◌, ◌-◌, ◌*◌, ◌++◌, ◌^◌, ℕ, List, [], IfOk, IfErr, false, flat_map, drop, length, slice_get, slice_index_or, string_bytes, take, Some};
 ghost use Rattle.std.specs.Thread.{IsSync};
 ghost use Rattle.capture_io.specs.declared.forms.Rec.{Rec as Record};
 ghost use Rattle.capture_io.specs.Packets.{packet_bytes};
@@ -8,7 +8,7 @@ ghost use Rattle.item_stage.specs.Items.{items_in};
 ghost use Rattle.item_stage.specs.declared.entries.Entry.{Entry};
 ghost use Rattle.packet_render.specs.Sent.{sent};
 ghost use Rattle.aftr_text.specs.Lines.{ended_text};
-ghost use Rattle.run_output.specs.Cells.{ArePartsFrom, ArePartsUnless, AreReady, FitsAt, IsMore, IsPart, IsPartUnless, cells, chunk, counted, shown};
+ghost use Rattle.run_output.specs.Cells.{ArePartsFrom, ArePartsUnless, FitsAt, IsMore, IsPart, IsPartUnless, IsFitting, cells_in, chunk, shown};
 ghost use Rattle.run_output.specs.Counting.{IsWithin, with_record};
 ghost use Rattle.run_output.specs.Limiting.{HasAsked, IsLimited, rate_of};
 ghost use Rattle.run_output.specs.Outputs.{Course, record_text, sent_unless};
@@ -20,6 +20,7 @@ use crate::counting::{count_parts, count_record};
 use crate::limits::mark_limited;
 use crate::lines::{push_ended_lines, push_record_line};
 use crate::parts::{Part, Rendered};
+use crate::rounds::Round;
 use aftr_base::OutOfMemory;
 use aftr_text::Totals;
 use capture_io::{Form, RecordView, Records, Written};
@@ -65,100 +66,56 @@ pub fn render_round<R: Threads + Sync>(
     one_marking();
     let Rendered { parts, limited } = rendered;
     mark_limited(form, records, outcomes, limit, limited)?;
-    let size = records.len().div_ceil(parts.len());
-    render_parts(
-        rt, written, start, records, items, outcomes, limited, size, parts,
-    );
-    count_parts(parts, totals)?;
-    Ok(())
-}
-
-// Renders all parts.
-fn render_parts<R: Threads + Sync>(
-    rt: &R,
-    written: Written,
-    start: u32,
-    records: &Records,
-    items: &Items<'_>,
-    outcomes: &Outcomes<'_>,
-    limited: &[bool],
-    size: usize,
-    parts: &mut Vec<Part>,
-)
-    requires ready { AreReady start records.now items.now outcomes.now limited.now }
-    requires size { size ≤ 2 ^ 31 }
-    requires some { 0 < length parts.old.items }
-    requires few { length parts.old.items ≤ 16 }
-    ensures parts { ArePartsUnless written size (cells start records.now items.now outcomes.now limited.now) parts.new.items }
-    ensures count { length parts.new.items ≡ length parts.old.items }
-{
-    render_each(
-        rt,
+    let round = Round {
         written,
         start,
         records,
         items,
         outcomes,
-        limited,
-        size,
-        parts.as_mut_slice(),
-    );
+        limited: limited.as_slice(),
+        size: records.len().div_ceil(parts.len()),
+    };
+    render_parts(rt, &round, parts);
+    count_parts(parts, totals)?;
+    Ok(())
+}
+
+// Renders all parts.
+fn render_parts<R: Threads + Sync>(rt: &R, round: &Round<'_>, parts: &mut Vec<Part>)
+    requires fitting { IsFitting round.now }
+    requires some { 0 < length parts.old.items }
+    requires few { length parts.old.items ≤ 16 }
+    ensures parts { ArePartsUnless round.now.written round.now.size (cells_in round.now) parts.new.items }
+    ensures count { length parts.new.items ≡ length parts.old.items }
+{
+    render_each(rt, round, parts.as_mut_slice());
 }
 
 // Renders each part by a thread of its own.
-fn render_each<R: Threads + Sync>(
-    rt: &R,
-    written: Written,
-    start: u32,
-    records: &Records,
-    items: &Items<'_>,
-    outcomes: &Outcomes<'_>,
-    limited: &[bool],
-    size: usize,
-    parts: &mut [Part],
-)
-    requires ready { AreReady start records.now items.now outcomes.now limited.now }
-    requires size { size ≤ 2 ^ 31 }
+fn render_each<R: Threads + Sync>(rt: &R, round: &Round<'_>, parts: &mut [Part])
+    requires fitting { IsFitting round.now }
     requires few { length parts.old ≤ 16 }
-    ensures parts { ArePartsUnless written size (cells start records.now items.now outcomes.now limited.now) parts.new }
+    ensures parts { ArePartsUnless round.now.written round.now.size (cells_in round.now) parts.new }
     ensures count { length parts.new ≡ length parts.old }
 {
-    render_from(
-        rt, written, start, records, items, outcomes, limited, size, 0, parts,
-    );
+    render_from(rt, round, 0, parts);
 }
 
 // The same from the part at a place on. One thread makes all the others: what a thread makes that was just made itself begins late.
 #[cycle(beside)]
-fn render_from<R: Threads + Sync>(
-    rt: &R,
-    written: Written,
-    start: u32,
-    records: &Records,
-    items: &Items<'_>,
-    outcomes: &Outcomes<'_>,
-    limited: &[bool],
-    size: usize,
-    place: usize,
-    parts: &mut [Part],
-)
-    requires ready { AreReady start records.now items.now outcomes.now limited.now }
-    requires size { size ≤ 2 ^ 31 }
+fn render_from<R: Threads + Sync>(rt: &R, round: &Round<'_>, place: usize, parts: &mut [Part])
+    requires fitting { IsFitting round.now }
     requires few { place + length parts.old ≤ 16 }
-    ensures parts { ArePartsFrom written size place (cells start records.now items.now outcomes.now limited.now) parts.new }
+    ensures parts { ArePartsFrom round.now.written round.now.size place (cells_in round.now) parts.new }
     ensures count { length parts.new ≡ length parts.old }
 {
     let Some((first, others)) = parts.split_first_mut() else {
         return;
     };
     if others.is_empty() {
-        render_part(
-            written, start, records, items, outcomes, limited, size, place, first,
-        );
+        render_part(round, place, first);
     } else {
-        render_beside(
-            rt, written, start, records, items, outcomes, limited, size, place, first, others,
-        );
+        render_beside(rt, round, place, first, others);
     }
 }
 
@@ -166,110 +123,59 @@ fn render_from<R: Threads + Sync>(
 #[cycle(beside)]
 fn render_beside<R: Threads + Sync>(
     rt: &R,
-    written: Written,
-    start: u32,
-    records: &Records,
-    items: &Items<'_>,
-    outcomes: &Outcomes<'_>,
-    limited: &[bool],
-    size: usize,
+    round: &Round<'_>,
     place: usize,
     first: &mut Part,
     others: &mut [Part],
 )
-    requires ready { AreReady start records.now items.now outcomes.now limited.now }
-    requires size { size ≤ 2 ^ 31 }
+    requires fitting { IsFitting round.now }
     requires few { place + 1 + length others.old ≤ 16 }
-    ensures first { IsPartUnless written (chunk size place (cells start records.now items.now outcomes.now limited.now)) first.new }
-    ensures others { ArePartsFrom written size (place + 1) (cells start records.now items.now outcomes.now limited.now) others.new }
+    ensures first { IsPartUnless round.now.written (chunk round.now.size place (cells_in round.now)) first.new }
+    ensures others { ArePartsFrom round.now.written round.now.size (place + 1) (cells_in round.now) others.new }
     ensures count { length others.new ≡ length others.old }
 {
     let mut one = ||
-        requires { (place < 16) × ((size ≤ 2 ^ 31) × AreReady start records.now items.now outcomes.now limited.now) }
-        ensures { IsPartUnless written (chunk size place (cells start records.entry.now items.entry.now outcomes.entry.now limited.entry.now)) first.exit.now }
-    {
-        render_part(
-            written, start, records, items, outcomes, limited, size, place, first,
-        )
-    };
+        requires { (place < 16) × IsFitting round.now }
+        ensures { IsPartUnless round.entry.now.written (chunk round.entry.now.size place (cells_in round.entry.now)) first.exit.now }
+    { render_part(round, place, first) };
     let mut rest = ||
-        requires { IsSync R.row × ((place + 1 + length others.now ≤ 16) × ((size ≤ 2 ^ 31) × AreReady start records.now items.now outcomes.now limited.now)) }
-        ensures { ArePartsFrom written size (place + 1) (cells start records.entry.now items.entry.now outcomes.entry.now limited.entry.now) others.exit.now × (length others.exit.now ≡ length others.entry.now) }
-    {
-        render_from(
-            rt,
-            written,
-            start,
-            records,
-            items,
-            outcomes,
-            limited,
-            size,
-            place + 1,
-            others,
-        )
-    };
+        requires { IsSync R.row × ((place + 1 + length others.now ≤ 16) × IsFitting round.now) }
+        ensures { ArePartsFrom round.entry.now.written round.entry.now.size (place + 1) (cells_in round.entry.now) others.exit.now × (length others.exit.now ≡ length others.entry.now) }
+    { render_from(rt, round, place + 1, others) };
     join_mut(rt, &mut one, &mut rest);
 }
 
-// Renders the records of one part, which has `size` of them where so many are left.
-fn render_part(
-    written: Written,
-    start: u32,
-    records: &Records,
-    items: &Items<'_>,
-    outcomes: &Outcomes<'_>,
-    limited: &[bool],
-    size: usize,
-    place: usize,
-    part: &mut Part,
-)
-    requires ready { AreReady start records.now items.now outcomes.now limited.now }
-    requires size { size ≤ 2 ^ 31 }
+// Renders the records of one part.
+fn render_part(round: &Round<'_>, place: usize, part: &mut Part)
+    requires fitting { IsFitting round.now }
     requires place { place < 16 }
-    ensures { IsPartUnless written (chunk size place (cells start records.now items.now outcomes.now limited.now)) part.new }
+    ensures { IsPartUnless round.now.written (chunk round.now.size place (cells_in round.now)) part.new }
 {
     part.clear();
-    let from = (place * size).min(records.len());
-    let to = (from + size).min(records.len());
-    let done = render_records(
-        written, start, records, items, outcomes, limited, from, to, part,
-    );
+    let from = (place * round.size).min(round.records.len());
+    let to = (from + round.size).min(round.records.len());
+    let done = render_records(round, from, to, part);
     part.failed = done.is_err();
 }
 
 // Renders the records from a place on and before another, behind nothing.
 fn render_records(
-    written: Written,
-    start: u32,
-    records: &Records,
-    items: &Items<'_>,
-    outcomes: &Outcomes<'_>,
-    limited: &[bool],
+    round: &Round<'_>,
     from: usize,
     to: usize,
     part: &mut Part,
 ) -> Result<(), OutOfMemory>
-    requires ready { AreReady start records.now items.now outcomes.now limited.now }
+    requires fitting { IsFitting round.now }
     requires order { from ≤ to }
-    requires inside { to ≤ length records.now }
-    requires empty { IsPart written [] part.old }
-    ensures { IfOk result (λ _. IsPart written (take (to - from) (drop from (cells start records.now items.now outcomes.now limited.now))) part.new) }
+    requires inside { to ≤ length round.now.records.now }
+    requires empty { IsPart round.now.written [] part.old }
+    ensures { IfOk result (λ _. IsPart round.now.written (take (to - from) (drop from (cells_in round.now))) part.new) }
 {
     let mut i = from;
     'records: while i < to {
-        let record = records.get(i);
-        let outcome = outcomes.get(i);
-        render_record(
-            written,
-            start + i as u32,
-            &record,
-            items,
-            i,
-            outcome,
-            limited[i],
-            part,
-        )?;
+        let record = round.records.get(i);
+        let outcome = round.outcomes.get(i);
+        render_record(round, i, &record, outcome, part)?;
         i += 1;
     }
     Ok(())
@@ -277,35 +183,33 @@ fn render_records(
 
 // Puts what the record at an index of its round writes behind what a part holds, and counts it.
 fn render_record(
-    written: Written,
-    number: u32,
-    rec: &RecordView<'_>,
-    items: &Items<'_>,
+    round: &Round<'_>,
     index: usize,
+    rec: &RecordView<'_>,
     outcome: &Outcome,
-    limited: bool,
     part: &mut Part,
 ) -> Result<(), OutOfMemory>
-    requires inside { index < length items.now }
-    requires fits { FitsAt items.now index outcome.now.verdict }
+    requires inside { index < length round.now.records.now }
+    requires fits { FitsAt round.now.items.now index outcome.now.verdict }
     requires room { HasRoom outcome.now.verdict }
     requires within { IsWithin part.old.counted part.old.counted.records }
     requires few { part.old.counted.records < 2 ^ 31 }
-    ensures more { IfOk result (λ _. (entry : Entry) → slice_get items.now index ≡ Some entry →
-        IsMore written (shown number rec.now entry outcome.now limited) part.old part.new) }
+    ensures more { IfOk result (λ _. (entry : Entry) → slice_get round.now.items.now index ≡ Some entry →
+        IsMore round.now.written (shown (round.now.start + index) rec.now entry outcome.now (slice_index_or round.now.limited.now index false)) part.old part.new) }
     ensures within { IfOk result (λ _. IsWithin part.new.counted part.new.counted.records) }
 {
+    let number = round.start + index as u32;
+    let limited = round.limited[index];
     let count = push_sent(
         &mut part.packets,
-        written,
+        round,
         number,
-        rec,
-        items,
         index,
+        rec,
         &outcome.verdict,
         limited,
     )?;
-    push_ended_lines(&mut part.lines, true, items.ended(index))?;
+    push_ended_lines(&mut part.lines, true, round.items.ended(index))?;
     push_record_line(
         &mut part.lines,
         limited,
@@ -322,33 +226,33 @@ fn render_record(
 // is asked for than the packet.
 fn push_sent(
     packets: &mut Vec<u8>,
-    written: Written,
+    round: &Round<'_>,
     number: u32,
-    rec: &RecordView<'_>,
-    items: &Items<'_>,
     index: usize,
+    rec: &RecordView<'_>,
     verdict: &Verdict,
     limited: bool,
 ) -> Result<u32, OutOfMemory>
-    requires inside { index < length items.now }
-    requires fits { FitsAt items.now index verdict.now }
+    requires inside { index < length round.now.records.now }
+    requires fits { FitsAt round.now.items.now index verdict.now }
     requires room { HasRoom verdict.now }
-    ensures bytes { IfOk result (λ _. (i : Item) → slice_get (items_in items.now) index ≡ Some i → packets.new.items ≡ packets.old.items
-        ++ flat_map (packet_bytes written rec.now.seconds rec.now.fraction) (sent_unless limited i verdict.now number)) }
-    ensures count { IfOk result (λ count. (i : Item) → slice_get (items_in items.now) index ≡ Some i → count ≡ length (sent_unless limited i verdict.now number)) }
+    ensures bytes { IfOk result (λ _. (i : Item) → slice_get (items_in round.now.items.now) index ≡ Some i → packets.new.items ≡ packets.old.items
+        ++ flat_map (packet_bytes round.now.written rec.now.seconds rec.now.fraction) (sent_unless limited i verdict.now number)) }
+    ensures count { IfOk result (λ count. (i : Item) → slice_get (items_in round.now.items.now) index ≡ Some i →
+        count ≡ length (sent_unless limited i verdict.now number)) }
     ensures few { IfOk result (λ count. count ≤ 128) }
 {
     if limited {
         return Ok(0);
     }
     if let Verdict::Outward { mtu } = *verdict {
-        let count = push_out(packets, written, rec, items, index, mtu)?;
+        let count = push_out(packets, round, index, rec, mtu)?;
         return Ok(count);
     }
-    let item = items.item(index);
+    let item = round.items.item(index);
     let count = push_packets(
         packets,
-        written,
+        round.written,
         &item,
         verdict,
         number,
@@ -361,21 +265,27 @@ fn push_sent(
 // Puts the packets of a record there whose packet goes out.
 fn push_out(
     packets: &mut Vec<u8>,
-    written: Written,
-    rec: &RecordView<'_>,
-    items: &Items<'_>,
+    round: &Round<'_>,
     index: usize,
+    rec: &RecordView<'_>,
     mtu: u16,
 ) -> Result<u32, OutOfMemory>
-    requires inside { index < length items.now }
-    requires fits { FitsAt items.now index (verdict.Outward mtu) }
+    requires inside { index < length round.now.records.now }
+    requires fits { FitsAt round.now.items.now index (verdict.Outward mtu) }
     requires room { 576 ≤ mtu }
-    ensures bytes { IfOk result (λ _. (i : Item) (number : ℕ) → slice_get (items_in items.now) index ≡ Some i → packets.new.items ≡ packets.old.items
-        ++ flat_map (packet_bytes written rec.now.seconds rec.now.fraction) (sent i (verdict.Outward mtu) number)) }
-    ensures count { IfOk result (λ count. (i : Item) (number : ℕ) → slice_get (items_in items.now) index ≡ Some i → count ≡ length (sent i (verdict.Outward mtu) number)) }
+    ensures bytes { IfOk result (λ _. (i : Item) (number : ℕ) → slice_get (items_in round.now.items.now) index ≡ Some i → packets.new.items ≡ packets.old.items
+        ++ flat_map (packet_bytes round.now.written rec.now.seconds rec.now.fraction) (sent i (verdict.Outward mtu) number)) }
+    ensures count { IfOk result (λ count. (i : Item) (number : ℕ) → slice_get (items_in round.now.items.now) index ≡ Some i → count ≡ length (sent i (verdict.Outward mtu) number)) }
     ensures few { IfOk result (λ count. count ≤ 128) }
 {
-    let packet = items.packet(index);
-    let count = push_outgoing(packets, written, &packet, mtu, rec.seconds, rec.fraction)?;
+    let packet = round.items.packet(index);
+    let count = push_outgoing(
+        packets,
+        round.written,
+        &packet,
+        mtu,
+        rec.seconds,
+        rec.fraction,
+    )?;
     Ok(count)
 }

@@ -11,7 +11,7 @@ returns-in-Outward-clause-bytes c = λ i there.
     let same : sent_unless c.args.limited i c.args.verdict.now c.args.number ≡ sent i (verdict.Outward c.in-Outward.mtu) c.args.number =
     λ j. sent_unless (c.if-limited.false j) i (c.in-Outward.is j) c.args.number in
     c.in_ok-count.ensures.bytes i c.args.number there
-    ∙ ap (λ (l : List (List ℕ)). c.args.packets.now.items ++ flat_map (packet_bytes c.args.written c.args.rec.now.seconds c.args.rec.now.fraction) l) (sym same)
+    ∙ ap (λ (l : List (List ℕ)). c.args.packets.now.items ++ flat_map (packet_bytes c.args.round.now.written c.args.rec.now.seconds c.args.rec.now.fraction) l) (sym same)
 
 pub returns-in-Outward-clause-count : goal.returns-in-Outward-clause-count
 returns-in-Outward-clause-count c = λ i there.

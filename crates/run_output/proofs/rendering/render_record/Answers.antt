@@ -1,6 +1,6 @@
 -- What a record writes is what its entry does.
-use Rattle.std.proofs.Common.{◌≡◌, ◌++◌, ◌∙◌, List, ℕ, true, ap, append_assoc, flat_map, length}
-use Rattle.std.specs.Prelude.{string_bytes}
+use Rattle.std.proofs.Common.{◌≡◌, ◌+◌, ◌++◌, ◌∙◌, Bool, List, ℕ, false, true, ap, append_assoc, flat_map, length}
+use Rattle.std.specs.Prelude.{slice_index_or, string_bytes}
 use Rattle.aftr_text.specs.Lines.{ended_text}
 use Rattle.run_output.specs.Counting.{with_record}
 use Rattle.run_output.specs.Outputs.{record_text, sent_unless}
@@ -9,12 +9,15 @@ use Rattle.run_output.proofs.rendering.render_record.Goals as goal
 
 pub returns-clause-more : goal.returns-clause-more
 returns-clause-more c = λ entry there.
+    let round = c.args.round.now in
+    let number : ℕ = round.start + c.args.index in
+    let limited : Bool = slice_index_or round.limited.now c.args.index false in
     let o = c.args.outcome.now in
     let old = c.args.part.now in
-    let text : ℕ → List ℕ = λ packets. record_text c.args.limited c.args.number o.version o.verdict packets in
-    let item = item_there c.args.items.now c.args.index entry there in
-    let ended = ended_there c.args.items.now c.args.index entry c.ended.result.now c.ended.ensures there in
-    let count : c.in_ok-count.count ≡ length (sent_unless c.args.limited entry.item o.verdict c.args.number) = c.in_ok-count.ensures.count entry.item item in
+    let text : ℕ → List ℕ = λ packets. record_text limited number o.version o.verdict packets in
+    let item = item_there round.items.now c.args.index entry there in
+    let ended = ended_there round.items.now c.args.index entry c.ended.result.now c.ended.ensures there in
+    let count : c.in_ok-count.count ≡ length (sent_unless limited entry.item o.verdict number) = c.in_ok-count.ensures.count entry.item item in
     record {
       packets = c.in_ok-count.ensures.bytes entry.item item;
       lines = c.in_ok-push_record_line.ensures

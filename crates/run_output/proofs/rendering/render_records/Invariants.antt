@@ -1,5 +1,5 @@
 use Rattle.std.proofs.Common.{◌-◌, ◌≤◌}
-use Rattle.run_output.specs.Cells.{cells}
+use Rattle.run_output.specs.Cells.{cells_in}
 use Rattle.run_output.proofs.PartLemmas.{HasBegun}
 use Rattle.run_output.proofs.rendering.render_records.Given as goal
 
@@ -7,7 +7,7 @@ abbrev pub invariant-records : goal.invariant-records
 invariant-records l = record {
   after : l.from ≤ l.i;
   before : l.i ≤ l.to;
-  begun : HasBegun l.written (cells l.start l.records l.items l.outcomes l.limited) l.from l.to l.i l.part;
+  begun : HasBegun l.round.written (cells_in l.round) l.from l.to l.i l.part;
 }
 
 abbrev pub decreases-records : goal.decreases-records

@@ -1,0 +1,25 @@
+// A round of records, as its parts are rendered from it.
+ghost use Rattle.std.specs.Prelude.{◌≡◌, ◌+◌, ◌^◌, ◌≤◌, length};
+
+use capture_io::{Records, Written};
+use item_stage::Items;
+use worker_gate::Outcomes;
+
+/// The records of a round, and all that their rendering needs of them.
+#[derive(Clone, Copy)]
+pub(crate) struct Round<'a> {
+    pub(crate) written: Written,
+    /// The number of the first record.
+    pub(crate) start: u32,
+    pub(crate) records: &'a Records,
+    pub(crate) items: &'a Items<'a>,
+    pub(crate) outcomes: &'a Outcomes<'a>,
+    /// Which of the records have an error that is kept back.
+    pub(crate) limited: &'a [bool],
+    /// How many records a part has, where so many are left.
+    pub(crate) size: usize,
+    pub(crate) ghost same: { length items.now ≡ length records.now },
+    pub(crate) ghost marked: { length limited.now ≡ length records.now },
+    pub(crate) ghost few: { start + length records.now ≤ 2 ^ 31 },
+    pub(crate) ghost small: { size ≤ 2 ^ 31 },
+}
