@@ -1,16 +1,16 @@
--- What is told of records part by part, and the lanes that they go to.
-use Rattle.std.proofs.Common.{◌≡◌, ℕ, suc, ◌+◌, ◌-◌, ◌<◌, ◌≤◌, List, [], ◌∷◌, ◌++◌, length, drop, take, Option, Some, None, refl, sym, ◌∙◌, ap, arith, subst, append_assoc, slice_get, get_or, drop-drop, take-add, take_all}
+-- What is told of records one by one, and the lanes that they go to.
+use Rattle.std.proofs.Common.{◌≡◌, ℕ, suc, ◌+◌, ◌<◌, ◌≤◌, List, [], ◌∷◌, ◌++◌, length, take, Option, Some, None, refl, sym, ◌∙◌, ap, arith, subst, slice_get, get_or, take-add}
 use Rattle.std.specs.Option.{option_map}
-use Rattle.std.specs.Prelude.{All}
+use Rattle.std.specs.Prelude.{All, unwrap_or}
 use Rattle.std.proofs.lemmas.Bool.{le-ltb}
-use Rattle.std.proofs.lemmas.List.{append-nil, length-map}
+use Rattle.std.proofs.lemmas.List.{length-map}
 use Rattle.std.proofs.lemmas.Option.{get_or_from_slice_get, slice_get-get_or, slice_get-map}
 use Rattle.capture_io.specs.Record.{nanoseconds}
 use Rattle.capture_io.specs.declared.forms.Form.{Form}
 use Rattle.capture_io.specs.declared.forms.Rec.{Rec}
 use Rattle.item_stage.specs.Alone.{Alone, Inside, Told, Fragment, Ready, Downstream, Outside, Carries, alone_of}
-use Rattle.item_stage.specs.Beside.{Half, Op, between, down_op, down_ops, half_in, halves_in, inner_op, inner_ops, inside_op, laid, lanes_in, outer_op, outer_ops, row_halves, row_left, row_stepped}
-use Rattle.item_stage.specs.Lanes.{all_lanes, inside_lane, lanes_of}
+use Rattle.item_stage.specs.Beside.{Half, Op, became_inside, between, down_op, down_ops, half_in, halves_in, inner_op, inner_ops, inside_op, laid, lanes_in, outer_op, outer_ops, row_halves, row_left, row_stepped}
+use Rattle.item_stage.specs.Lanes.{all_lanes, inside_lane, lanes_of, mark_lane}
 use Rattle.item_stage.specs.Waiting.{Waiting}
 use Rattle.item_stage.specs.declared.keys.DownKey.{DownKey}
 use Rattle.item_stage.specs.declared.keys.InnerKey.{InnerKey}
@@ -20,40 +20,13 @@ use Rattle.item_stage.specs.declared.marks.Mark.{Mark}
 use Rattle.item_stage.proofs.OpLemmas.{at_down, at_inner, at_outer, blank, half_there, length_down, length_inner, length_outer}
 use Rattle.item_stage.proofs.TrackLemmas.{drop_there}
 
--- ---- parts of a list
+-- one more of a list was told
 module _ {T : Type 0} where
-  next_told : (told : List T) (index to : ℕ) (x : T) → slice_get told index ≡ Some x → index < to → take (to - index) (drop index told) ≡ x ∷ take (to - (index + 1)) (drop (index + 1) told)
-  next_told told index to x there within =
-      let more : to - index ≡ suc (to - (index + 1)) = omega (arith, within) in
-      let later : suc index ≡ index + 1 = omega arith in
-      ap (λ (n : ℕ). take n (drop index told)) more
-      ∙ (ap (λ (l : List T). take (suc (to - (index + 1))) l) (drop_there told index x there)
-      ∙ ap (λ (n : ℕ). x ∷ take (to - (index + 1)) (drop n told)) later)
-
-  pub told_more : (told out pushed whole : List T) (index to : ℕ) (x : T) → slice_get told index ≡ Some x → index < to → pushed ≡ out ++ x ∷ [] →
-      out ++ take (to - index) (drop index told) ≡ whole → pushed ++ take (to - (index + 1)) (drop (index + 1) told) ≡ whole
-  told_more told out pushed whole index to x there within push so_far =
-      let left = take (to - (index + 1)) (drop (index + 1) told) in
-      ap (λ (l : List T). l ++ left) push
-      ∙ (append_assoc out (x ∷ []) left ∙ (ap (λ (l : List T). out ++ l) (sym (next_told told index to x there within)) ∙ so_far))
-
-  pub told_all : (told out whole : List T) (index to : ℕ) → to ≤ index → out ++ take (to - index) (drop index told) ≡ whole → out ≡ whole
-  told_all told out whole index to past so_far =
-      let none : to - index ≡ 0 = omega (arith, past) in
-      sym (append-nil out) ∙ (ap (λ (n : ℕ). out ++ take n (drop index told)) (sym none) ∙ so_far)
-
-  pub told_both : (told first rest : List T) (from middle to : ℕ) → from ≤ middle → middle ≤ to → first ≡ take (middle - from) (drop from told) → rest ≡ take (to - middle) (drop middle told) →
-      first ++ rest ≡ take (to - from) (drop from told)
-  told_both told first rest from middle to before behind first_is rest_is =
-      let place : from + (middle - from) ≡ middle = omega (arith, before) in
-      let whole : (middle - from) + (to - middle) ≡ to - from = omega (arith, before, behind) in
-      (λ i. first_is i ++ rest_is i)
-      ∙ (ap (λ (n : ℕ). take (middle - from) (drop from told) ++ take (to - middle) (drop n told)) (sym place)
-      ∙ (ap (λ (l : List T). take (middle - from) (drop from told) ++ take (to - middle) l) (sym (drop-drop (middle - from) from told))
-      ∙ (sym (take-add (middle - from) (to - middle) (drop from told)) ∙ ap (λ (n : ℕ). take n (drop from told)) whole)))
-
-  pub told_whole : (told : List T) (count : ℕ) → count ≡ length told → take (count - 0) (drop 0 told) ≡ told
-  told_whole told count is = let all : length told ≤ count - 0 = omega (arith, is) in take_all (count - 0) told all
+  pub told_more : (told out pushed : List T) (index : ℕ) (x : T) → slice_get told index ≡ Some x → pushed ≡ out ++ x ∷ [] → out ≡ take index told → pushed ≡ take (index + 1) told
+  told_more told out pushed index x there push so_far =
+      push
+      ∙ (ap (λ (l : List T). l ++ x ∷ []) so_far
+      ∙ (ap (λ (l : List T). take index told ++ take 1 l) (sym (drop_there told index x there)) ∙ sym (take-add index 1 told)))
 
 -- ---- the lanes of a record
 outer_goes : (time number : ℕ) (alone : Alone) → (outer_op time number alone).0 ≡ (lanes_of alone).outer
@@ -68,15 +41,21 @@ down_goes time number (Downstream key part) = refl
 down_goes time number (Outside outer key part) = refl
 down_goes time number (Carries inside) = refl
 
-pub inside_goes : (time number : ℕ) (ended : List ℕ) (inside : Inside) → (inside_op time number ended inside).0 ≡ inside_lane inside
+inside_goes : (time number : ℕ) (ended : List ℕ) (inside : Inside) → (inside_op time number ended inside).0 ≡ inside_lane inside
 inside_goes time number ended (Told told) = refl
 inside_goes time number ended (Fragment outer key part) = refl
 
-pub inner_goes : (time number : ℕ) (alone : Alone) → (inner_op time number (between alone None)).0 ≡ (lanes_of alone).inner
+inner_goes : (time number : ℕ) (alone : Alone) → (inner_op time number (between alone None)).0 ≡ (lanes_of alone).inner
 inner_goes time number (Ready ready) = refl
 inner_goes time number (Downstream key part) = refl
 inner_goes time number (Outside outer key part) = refl
 inner_goes time number (Carries inside) = inside_goes time number [] inside
+
+-- of which the outer row left this
+pub goes_behind : (lanes : Lanes) (slot : Option Mark) (alone : Alone) → lanes ≡ lanes_of alone → (time number : ℕ) →
+    (inner_op time number (between alone (half_in slot))).0 ≡ unwrap_or (option_map mark_lane slot) lanes.inner
+goes_behind lanes None alone is time number = inner_goes time number alone ∙ ap (λ (l : Lanes). l.inner) (sym is)
+goes_behind lanes (Some mark) alone is time number = inside_goes time number mark.ended (became_inside mark.became)
 
 module _ (form : Form) (start : ℕ) (records : List Rec) (index : ℕ) (lanes : Lanes) (within : index < length records)
     (lanes_are : (r : Rec) → slice_get records index ≡ Some r → lanes ≡ lanes_of (alone_of form r.bytes)) where

@@ -1,5 +1,5 @@
 // A round row by row, the lanes of a row beside one another.
-ghost use Rattle.std.specs.Prelude.{◌≡◌, ◌+◌, ◌^◌, ◌<◌, ◌≤◌, All, IfOk, None, length};
+ghost use Rattle.std.specs.Prelude.{◌≡◌, ◌+◌, ◌^◌, ◌≤◌, All, IfOk, None, length};
 ghost use Rattle.item_stage.specs.Beside.{down_ops, halves_in, inner_ops, laid, outer_ops, row_halves, row_left};
 ghost use Rattle.item_stage.specs.Heads.{EachLane, HaveHeaders};
 ghost use Rattle.item_stage.specs.Marks.{entries_by};
@@ -11,7 +11,7 @@ use crate::marks::Slot;
 use crate::row::Row;
 use crate::row_steps::{DownSteps, InnerSteps, OuterSteps, Taken};
 use crate::rows::Rows;
-use crate::telling::{THREADS, tell_beside, tell_each};
+use crate::telling::tell_each;
 use crate::tracks::{go_nowhere, lay};
 use aftr_base::OutOfMemory;
 use capture_io::{Form, Records};
@@ -28,20 +28,6 @@ fn no_marks(alloc: Global, count: usize) -> Result<Vec<Slot>, OutOfMemory>
         slots.push(Slot::empty())?;
     }
     Ok(slots)
-}
-
-// By how many threads the lanes in the inner row are told: by one where the outer row left nothing, since all are read then.
-fn threads_for(slots: &[Slot]) -> usize
-    ensures { 0 < result }
-{
-    let mut index = 0;
-    'slots: while index < slots.len() {
-        if slots[index].get().is_some() {
-            return THREADS;
-        }
-        index += 1;
-    }
-    1
 }
 
 fn take_outer<R: Threads + Sync>(
@@ -84,7 +70,7 @@ fn take_inner<R: Threads + Sync>(
 {
     let left = slots.as_slice();
     let steps = InnerSteps { taken, slots: left };
-    let told = tell_beside(rt, alloc, &steps, threads_for(left))?;
+    let told = tell_each(alloc, &steps)?;
     let lanes = told.as_slice();
     if go_nowhere(lanes) {
         return Ok(slots);
@@ -136,7 +122,7 @@ pub(crate) fn take_beside<R: Threads + Sync>(
     ensures count { IfOk result (λ marks. length marks.items ≡ length records.now) }
     ensures rows { IfOk result (λ _. rows.new ≡ rows_after form rows.old start records.now) }
 {
-    let lanes = tell_beside(rt, alloc, &Reading { form, records }, THREADS)?;
+    let lanes = tell_each(alloc, &Reading { form, records })?;
     let taken = Taken {
         form,
         records,

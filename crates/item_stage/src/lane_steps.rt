@@ -232,7 +232,7 @@ fn take_cut(
         number: at.number,
     };
     let said = feed_lane(alloc, lane, piece)?;
-    Slot::of(
+    Slot::told(
         alloc,
         Mark {
             ended: said.ended,

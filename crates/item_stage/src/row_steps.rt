@@ -1,15 +1,15 @@
 // The records of a round, row by row.
 ghost use Rattle.std.specs.Prelude.{◌≡◌, ◌+◌, ◌^◌, ◌≤◌, ◌<◌, ℕ, length};
 ghost use Rattle.item_stage.specs.Alone.{Alone};
-ghost use Rattle.item_stage.specs.Beside.{became_inside, between, half_in, inner_op, inside_op};
+ghost use Rattle.item_stage.specs.Beside.{between, half_in, inner_op};
 ghost use Rattle.item_stage.specs.Lanes.{all_lanes, lanes_of};
 ghost use Rattle.item_stage.specs.Shown.{shown};
 
-use crate::alone::{Alone as ReadAlone, behind_fragment, read_alone};
+use crate::alone::{Alone as ReadAlone, read_alone};
 use crate::keys::{DownKey, InnerKey, OuterKey};
 use crate::lane_steps::{take_down, take_inner, take_outer};
-use crate::lanes::{Lanes, NONE, inside_lane};
-use crate::marks::{Became, Mark, Slot};
+use crate::lanes::Lanes;
+use crate::marks::Slot;
 use crate::telling::Tells;
 use crate::tracks::LaneSteps;
 use crate::turns::Moment;
@@ -66,28 +66,12 @@ impl<'a> Taken<'a> {
     }
 }
 
-fn marked_lane(mark: &Mark) -> u8
-    ensures { (time number : ℕ) → (inside_op time number mark.now.ended (became_inside mark.now.became)).0 ≡ result }
-{
-    match &mark.became {
-        Became::Carries { outer, next, body } => inside_lane(&behind_fragment(
-            *outer,
-            *next,
-            body.as_slice(),
-        )),
-        Became::Held => NONE,
-        Became::Bad(_) => NONE,
-        Became::Down(_) => NONE,
-        Became::Up { .. } => NONE,
-    }
-}
-
 // The lane in the inner row of a record with these lanes, of which the outer row left this.
 fn inner_lane(lanes: Lanes, slot: &Slot) -> u8
     ensures { (alone : Alone) → lanes ≡ lanes_of alone → (time number : ℕ) → (inner_op time number (between alone (half_in slot.now))).0 ≡ result }
 {
-    match slot.get() {
-        Some(mark) => marked_lane(mark),
+    match slot.inner_lane() {
+        Some(lane) => lane,
         None => lanes.inner,
     }
 }

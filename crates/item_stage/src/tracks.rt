@@ -9,13 +9,15 @@ ghost use Rattle.reassembly_lane.specs.Contexts.{Partial};
 
 use crate::keys::LANES;
 use crate::marks::Slot;
-use crate::telling::THREADS;
 use aftr_base::OutOfMemory;
 use reassembly_lane::Lane;
 use std::alloc::Global;
 use std::collections::VecDeque;
 use std::mem::swap;
 use std::thread::{Threads, join_mut};
+
+/// By how many threads the lanes of a row are worked.
+const THREADS: usize = 4;
 
 /// How many lanes of a row one thread works, one after the other.
 const LANES_EACH: usize = LANES / THREADS;
