@@ -4,8 +4,9 @@ use Rattle.std.proofs.lemmas.List.{take_all}
 use Rattle.std.proofs.lemmas.Bool.{le-ltb, ltb-false, eqb-true}
 use Rattle.std.proofs.Math.Nat.{mod-eq_of_lt}
 use Rattle.aftr_base.specs.Numbers.{big_endian, span}
+use Rattle.aftr_base.proofs.NumberLemmas.{length-span}
 use Rattle.ip_codec.specs.declared.packet6.Head6.{Head6}
-use Rattle.ip_codec.specs.Packet6.{Packet6, ip6_of, refusals6, fields6, payload_len, bytes6, made6, version6}
+use Rattle.ip_codec.specs.Packet6.{IsBounded6, Packet6, ip6_of, refusals6, fields6, payload_len, bytes6, made6, version6}
 use Rattle.ip_codec.proofs.FieldLemmas.{big_endian-bytes_high_first, big_endian-word_bytes}
 use Rattle.aftr_base.proofs.FirstLemmas.{first_true-Ok, not-false}
 
@@ -17,6 +18,16 @@ version6-first (a ∷ []) within small = absurd (omega arith)
 version6-first (a ∷ b ∷ []) within small = absurd (omega arith)
 version6-first (a ∷ b ∷ c ∷ []) within small = absurd (omega arith)
 version6-first (a ∷ b ∷ c ∷ d ∷ rest) within small = omega (arith, small 1, small 2, small 3)
+
+-- the limits of what is read
+pub bounded-fields6 : (bytes : List ℕ) → 40 + payload_len bytes ≤ length bytes → payload_len bytes ≤ 65535 → slice_index bytes 0 / 16 ≡ 6 →
+    ((i : ℕ) → slice_index bytes i < 256) → IsBounded6 (fields6 bytes)
+bounded-fields6 bytes within few first small = record {
+  version = version6-first bytes (omega (arith, within)) small ∙ first;
+  next = omega (arith, small 6);
+  hop = omega (arith, small 7);
+  most = omega (arith, few, length-span bytes 40 (payload_len bytes) within);
+}
 
 -- the conditions under which nothing is refused, and what is read then
 ip6_of-good : (bytes body : List ℕ) (word next hop src dst payload_len : ℕ) →

@@ -1,5 +1,5 @@
 -- IPv4 packets: what bytes spell, and what is written (RFC 791, section 3.1).
-use Rattle.std.specs.Prelude.{◌≡◌, ℕ, ◌+◌, ◌*◌, ◌-◌, ◌/◌, ◌%◌, ◌≤◌, ◌==◌, nat_lt, Bool, not, ◌||◌, if◌then◌else◌, List, [], ◌∷◌, ◌++◌, length, take, slice_index, Result, Ok, Err}
+use Rattle.std.specs.Prelude.{◌≡◌, ℕ, ◌+◌, ◌*◌, ◌-◌, ◌/◌, ◌%◌, ◌≤◌, ◌==◌, nat_lt, Bool, false, not, ◌||◌, ◌&&◌, if◌then◌else◌, List, [], ◌∷◌, ◌++◌, length, take, slice_index, Result, Ok, Err}
 use Rattle.std.specs.Int.{w32, to_be_bytes}
 use Rattle.aftr_base.specs.Numbers.{big_endian, span, word_bytes}
 use Rattle.aftr_base.specs.Sums.{checksum, sealed}
@@ -91,6 +91,17 @@ packet4 view = record {
 -- a fragment of a datagram: more of them follow, or some come before it (RFC 791, section 3.2)
 abbrev pub is_fragment : Packet4 → Bool
 is_fragment packet = packet.mf || not (packet.offset == 0)
+
+-- a packet that is no fragment, and whose header has no options
+abbrev pub is_plain : Result Packet4 Ip4Bad → Bool
+is_plain (Ok packet) = not (is_fragment packet) && (length packet.header == 20)
+is_plain (Err why) = false
+
+-- a header without options says so by its first byte; it fits its bytes, and has no bit of a fragment, MF or the offset
+abbrev pub starts_plain : List ℕ → Bool
+starts_plain bytes =
+    not (nat_lt (length bytes) 20 || not (slice_index bytes 0 == 69))
+    && (not (nat_lt (total_len_of bytes) 20) && (not (nat_lt (length bytes) (total_len_of bytes)) && (word bytes 6 % 16384 == 0)))
 
 -- the bytes of a packet, without whatever stands behind its total length (RFC 791, section 3.1)
 abbrev pub whole4 : Packet4 → List ℕ

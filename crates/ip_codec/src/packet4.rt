@@ -1,14 +1,17 @@
 // IPv4 packets, read and written.
-ghost use Rattle.std.specs.Prelude.{◌≡◌, ◌==◌, ◌+◌, ◌-◌, ◌%◌, ◌^◌, ◌<◌, ◌≤◌, ◌++◌, length, take, IfOk, Ok};
-ghost use Rattle.aftr_base.specs.Numbers.{span};
+ghost use Rattle.std.specs.Prelude.{◌≡◌, ◌≢◌, ◌==◌, ◌+◌, ◌-◌, ◌%◌, ◌^◌, ◌<◌, ◌≤◌, ◌++◌, length, take, IfOk, Ok, false};
+ghost use Rattle.aftr_base.specs.Numbers.{big_endian, span};
 ghost use Rattle.aftr_base.specs.Sums.{checksum, folded, word_sum};
-ghost use Rattle.ip_codec.specs.Packet4.{ip4_of, packet4, Reads4, IsBounded4, fields4, header4, fixed4, flags_of, flag_worth, made4, is_fragment, packet_len};
+ghost use Rattle.ip_codec.specs.Packet4.{ip4_of, packet4, Reads4, IsBounded4, fields4, header4, fixed4, flags_of, flag_worth, made4, is_fragment, is_plain, packet_len, starts_plain};
 
 use aftr_base::{Bytes, OutOfMemory, V4, be16, be32, patch16, put_be16, put_checksum, sum16};
 use std::alloc::Global;
 
-// How many bytes a header without options has (RFC 791, section 3.1).
-const PLAIN_HEADER: usize = 20;
+// How many bytes a header without options has, and its first byte: the version, and the length in words of four bytes (RFC 791,
+// section 3.1).
+pub(crate) const PLAIN_HEADER: usize = 20;
+
+const PLAIN_FIRST: u8 = 0x45;
 
 /// An IPv4 packet as it stands in bytes (RFC 791, section 3.1).
 #[derive(Clone, Copy, Debug)]
@@ -121,6 +124,30 @@ pub fn ip4(bytes: &[u8]) -> Result<Ip4View<'_>, Ip4Bad>
     Ok(view_of(header, &bytes[header_len..total_len]))
 }
 
+/// Whether the bytes are a packet that `ip4` reads, that is no fragment, and whose header has no options. Most are, and these few
+/// tests tell it.
+#[inline(always)]
+pub fn is_plain4(bytes: &[u8]) -> bool
+    ensures { result ≡ is_plain (ip4_of bytes.now) }
+{
+    if !starts_plain(bytes) {
+        return false;
+    }
+    fills(plain_sum(&bytes[..PLAIN_HEADER]))
+}
+
+// What a header says of itself, but for its checksum.
+#[inline(always)]
+fn starts_plain(bytes: &[u8]) -> bool
+    ensures { result ≡ starts_plain bytes.now }
+{
+    if bytes.len() < PLAIN_HEADER || bytes[0] != PLAIN_FIRST {
+        return false;
+    }
+    let total_len = usize::from(be16(bytes, 2));
+    PLAIN_HEADER <= total_len && total_len <= bytes.len() && be16(bytes, 6) % 0x4000 == 0
+}
+
 // Whether a header holds its own checksum. Most have no options, and are summed as five words.
 #[inline(always)]
 fn sums_up(header: &[u8]) -> bool
@@ -137,7 +164,8 @@ fn sums_up(header: &[u8]) -> bool
 #[inline(always)]
 fn plain_sum(header: &[u8]) -> u64
     requires { length header.now ≡ 20 }
-    ensures { folded result ≡ folded (word_sum header.now) }
+    ensures folds { folded result ≡ folded (word_sum header.now) }
+    ensures least { big_endian (span header.now 0 4) ≤ result }
 {
     u64::from(be32(header, 0))
         + u64::from(be32(header, 4))
@@ -151,7 +179,16 @@ fn plain_sum(header: &[u8]) -> u64
 fn is_full(sum: u64) -> bool
     ensures { result ≡ (65535 - folded sum == 0) }
 {
-    sum != 0 && sum % 65535 == 0
+    sum != 0 && fills(sum)
+}
+
+// The same of a sum of which it is known that it is not 0, as that of a header is: its first byte is not.
+#[inline(always)]
+fn fills(sum: u64) -> bool
+    requires { sum ≢ 0 }
+    ensures { result ≡ (65535 - folded sum == 0) }
+{
+    sum % 65535 == 0
 }
 
 // The fields of a header, whatever they say of its lengths and its checksum.
@@ -174,6 +211,20 @@ pub(crate) fn view_of<'a>(header: &'a [u8], payload: &'a [u8]) -> Ip4View<'a>
         dst: V4(be32(header, 16)),
         header,
         payload,
+    }
+}
+
+// The same of a header of no fragment: it says so without a look at its bits.
+#[inline(always)]
+pub(crate) fn uncut_view<'a>(header: &'a [u8], payload: &'a [u8]) -> Ip4View<'a>
+    requires least { 20 ≤ length header.now }
+    requires uncut { is_fragment (fields4 header.now payload.now) ≡ false }
+    ensures { packet4 result ≡ fields4 header.now payload.now }
+{
+    Ip4View {
+        mf: false,
+        offset: 0,
+        ..view_of(header, payload)
     }
 }
 

@@ -1,6 +1,6 @@
 // IPv6 packets, read and written.
-ghost use Rattle.std.specs.Prelude.{◌≡◌, ◌^◌, ◌<◌, ◌≤◌, ◌++◌, length, IfOk, Ok};
-ghost use Rattle.ip_codec.specs.Packet6.{ip6_of, packet6, Reads6, IsBounded6, version6, bytes6, header6, made6};
+ghost use Rattle.std.specs.Prelude.{◌≡◌, ◌+◌, ◌^◌, ◌<◌, ◌≤◌, ◌++◌, length, IfOk, Ok, is_ok, true};
+ghost use Rattle.ip_codec.specs.Packet6.{ip6_of, packet6, Reads6, IsBounded6, version6, bytes6, fields6, header6, made6, payload_len};
 
 use aftr_base::{Bytes, OutOfMemory, V6, be16, be32, be128};
 use std::alloc::Global;
@@ -60,14 +60,44 @@ pub fn ip6(bytes: &[u8]) -> Result<Ip6View<'_>, Ip6Bad>
     if bytes.len() - 40 < payload_len {
         return Err(Ip6Bad::Payload);
     }
-    Ok(Ip6View {
+    Ok(view_of(bytes, payload_len))
+}
+
+/// Whether the bytes are an IPv6 packet, as `ip6` reads them.
+#[inline(always)]
+pub fn is_ip6(bytes: &[u8]) -> bool
+    ensures { result ≡ is_ok (ip6_of bytes.now) }
+{
+    if bytes.len() < 40 || bytes[0] >> 4 != 6 {
+        return false;
+    }
+    bytes.len() - 40 >= usize::from(be16(bytes, 4))
+}
+
+/// The packet of bytes that are known to be one, as `ip6` reads it: they are not tested again.
+#[inline(always)]
+pub fn known_ip6(bytes: &[u8]) -> Ip6View<'_>
+    requires { is_ok (ip6_of bytes.now) ≡ true }
+    ensures { ip6_of bytes.now ≡ Ok (packet6 result) }
+{
+    view_of(bytes, usize::from(be16(bytes, 4)))
+}
+
+// The fields of a header, and so many bytes behind it.
+#[inline(always)]
+fn view_of(bytes: &[u8], body_len: usize) -> Ip6View<'_>
+    requires claimed { body_len ≡ payload_len bytes.now }
+    requires within { 40 + body_len ≤ length bytes.now }
+    ensures { packet6 result ≡ fields6 bytes.now }
+{
+    Ip6View {
         word: be32(bytes, 0),
         next: bytes[6],
         hop: bytes[7],
         src: V6(be128(bytes, 8)),
         dst: V6(be128(bytes, 24)),
-        body: &bytes[40..40 + payload_len],
-    })
+        body: &bytes[40..40 + body_len],
+    }
 }
 
 /// Writes an IPv6 packet with these fields and body, in memory of its own final size (RFC 8200, section 3). The

@@ -1,8 +1,8 @@
 // IPv4 packets that were read, with what is known of them.
 ghost use Rattle.std.specs.Prelude.{◌≡◌, ◌++◌, take, IfOk, IfErr, Ok, Err, is_ok, true};
-ghost use Rattle.ip_codec.specs.Packet4.{ip4_of, packet4, packet_len, whole4, IsBounded4};
+ghost use Rattle.ip_codec.specs.Packet4.{ip4_of, is_plain, packet4, packet_len, whole4, IsBounded4};
 
-use crate::packet4::{Ip4Bad, Ip4View, ip4, view_of};
+use crate::packet4::{Ip4Bad, Ip4View, PLAIN_HEADER, ip4, uncut_view, view_of};
 use aftr_base::be16;
 
 /// An IPv4 packet that was read: it reads the same from its header and payload alone, and keeps the format's limits.
@@ -47,5 +47,17 @@ pub fn known_packet(bytes: &[u8]) -> ReadPacket<'_>
     let header_len = 4 * usize::from(bytes[0] & 0x0f);
     let total_len = usize::from(be16(bytes, 2));
     let view = view_of(&bytes[..header_len], &bytes[header_len..total_len]);
+    ReadPacket { view }
+}
+
+/// The packet of bytes that `is_plain4` tells, as `read_packet` reads it: they are not tested again.
+#[inline(always)]
+pub fn plain_packet(bytes: &[u8]) -> ReadPacket<'_>
+    requires { is_plain (ip4_of bytes.now) ≡ true }
+    ensures read { ip4_of bytes.now ≡ Ok (packet4 result.view) }
+    ensures front { whole4 (packet4 result.view) ≡ take (packet_len (packet4 result.view)) bytes.now }
+{
+    let total_len = usize::from(be16(bytes, 2));
+    let view = uncut_view(&bytes[..PLAIN_HEADER], &bytes[PLAIN_HEADER..total_len]);
     ReadPacket { view }
 }

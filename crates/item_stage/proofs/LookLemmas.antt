@@ -2,7 +2,6 @@
 use Rattle.std.proofs.Common.{◌≡◌, ℕ, ◌%◌, ◌≤◌, Bool, true, false, not, ◌||◌, ◌==◌, List, [], length, take, drop, refl, sym, ◌∙◌, ap, arith, Result, Ok, Err, slice_index, subst, Option, None}
 use Rattle.std.specs.Prelude.{nat_lt}
 use Rattle.std.proofs.lemmas.Bool.{le-ltb, eqb-true, or_parts}
-use Rattle.std.proofs.lemmas.Bool.Decides.{nat_tests}
 use Rattle.std.proofs.lemmas.List.{length-append, take-append-drop, take_all}
 use Rattle.capture_io.specs.Record.{nanoseconds}
 use Rattle.capture_io.specs.declared.forms.Form.{Form}
@@ -10,7 +9,7 @@ use Rattle.capture_io.specs.declared.forms.Rec.{Rec}
 use Rattle.aftr_base.proofs.FirstLemmas.{first_true-Ok}
 use Rattle.aftr_base.specs.Numbers.{big_endian, span}
 use Rattle.ip_codec.proofs.FieldLemmas.{span-append, span-take}
-use Rattle.ip_codec.proofs.Packet4Lemmas.{ip4_of-Ok}
+use Rattle.ip_codec.proofs.Packet4Lemmas.{ip4_of-Ok, no_bits}
 use Rattle.ip_codec.specs.Packet4 as four
 use Rattle.ip_codec.specs.Packet6 as six
 use Rattle.ip_codec.specs.declared.items.Outer.{Outer}
@@ -25,13 +24,14 @@ use Rattle.item_stage.specs.Turns.{turn, turn_of, turned}
 use Rattle.item_stage.specs.declared.marks.Mark.{Mark}
 use Rattle.item_stage.specs.declared.rows.Rows.{Rows}
 
+pub not-true : (test : Bool) → not test ≡ true → test ≡ false
+not-true true is = absurd cc
+not-true false is = refl
+
 -- what was read is a fragment
 abbrev is_cut : Result four.Packet4 Ip4Bad → Bool
 is_cut (Ok packet) = four.is_fragment packet
 is_cut (Err why) = false
-
-no_bits : (word : ℕ) → word % 16384 ≡ 0 → (four.bit word 8192 || not (word % 8192 == 0)) ≡ false
-no_bits word none = grind (arith, nat_tests)
 
 span_of_front : (count : ℕ) (bytes : List ℕ) → 8 ≤ length (take count bytes) → span (take count bytes) 6 2 ≡ span bytes 6 2
 span_of_front count bytes enough =

@@ -1,5 +1,5 @@
--- Records that carry a whole packet.
-use Rattle.std.proofs.Common.{◌≡◌, ◌==◌, ℕ, Bool, true, false, not, List, refl, sym, ◌∙◌, ap, Option, Some, is_some, Result, Ok, Err, is_ok, slice_get}
+-- Records that carry a packet that is no fragment.
+use Rattle.std.proofs.Common.{◌≡◌, ◌==◌, ℕ, Bool, true, false, not, List, length, refl, sym, ◌∙◌, ap, Option, Some, is_some, Result, Ok, Err, is_ok, slice_get}
 use Rattle.std.specs.Prelude.{option_and_then}
 use Rattle.std.proofs.lemmas.Bool.{and_parts, eqb-true}
 use Rattle.ip_codec.proofs.Packet4Lemmas.{ip4_of-alone}
@@ -14,32 +14,25 @@ use Rattle.ipv6_chain.specs.Chains.{chain_of}
 use Rattle.ipv6_chain.specs.declared.headers.Start.TheVariants as start
 use Rattle.item_stage.specs.Alone.{behind_headers, by_chain, from_outside, from_tunnel, in_tunnel, item_alone, outer_of, told_item}
 use Rattle.item_stage.specs.Items.{items_in}
-use Rattle.item_stage.specs.Looks.{carries_whole, is_extension, is_whole}
+use Rattle.item_stage.specs.Looks.{carries_plain, is_extension}
 use Rattle.item_stage.specs.declared.entries.Entry.{Entry}
 use Rattle.item_stage.specs.Packets.{if_packet, packet_at, packet_in}
-use Rattle.item_stage.proofs.LookLemmas.{ends_at_once}
+use Rattle.item_stage.proofs.LookLemmas.{ends_at_once, not-true}
 
-not-true : (test : Bool) → not test ≡ true → test ≡ false
-not-true true is = absurd cc
-not-true false is = refl
-
-pub whole_reads : (read : Result four.Packet4 Ip4Bad) → is_whole read ≡ true → is_ok read ≡ true
-whole_reads (Ok packet) whole = refl
-whole_reads (Err why) whole = absurd cc
-
-uncut : (packet : four.Packet4) (read : Result four.Packet4 Ip4Bad) → read ≡ Ok packet → is_whole read ≡ true → four.is_fragment packet ≡ false
-uncut packet read is whole = not-true (four.is_fragment packet) (sym (ap is_whole is) ∙ whole)
+uncut : (packet : four.Packet4) (read : Result four.Packet4 Ip4Bad) → read ≡ Ok packet → four.is_plain read ≡ true → four.is_fragment packet ≡ false
+uncut packet read is plain =
+    not-true (four.is_fragment packet) (and_parts (not (four.is_fragment packet)) (length packet.header == 20) (sym (ap four.is_plain is) ∙ plain)).0
 
 -- ---- its item
-pub outside_whole : (packet : four.Packet4) (read : Result four.Packet4 Ip4Bad) → read ≡ Ok packet → is_whole read ≡ true →
+pub outside_plain : (packet : four.Packet4) (read : Result four.Packet4 Ip4Bad) → read ≡ Ok packet → four.is_plain read ≡ true →
     item_alone (from_outside read) ≡ item.Down (four.whole4 packet)
-outside_whole packet read is whole =
-    ap (λ (r : Result four.Packet4 Ip4Bad). item_alone (from_outside r)) is ∙ rw (uncut packet read is whole) refl
+outside_plain packet read is plain =
+    ap (λ (r : Result four.Packet4 Ip4Bad). item_alone (from_outside r)) is ∙ rw (uncut packet read is plain) refl
 
-carried_whole : (outer : Outer) (bytes : List ℕ) (packet : four.Packet4) (read : Result four.Packet4 Ip4Bad) → read ≡ Ok packet → is_whole read ≡ true →
+carried_plain : (outer : Outer) (bytes : List ℕ) (packet : four.Packet4) (read : Result four.Packet4 Ip4Bad) → read ≡ Ok packet → four.is_plain read ≡ true →
     told_item (in_tunnel outer bytes read) ≡ item.Up outer (four.whole4 packet)
-carried_whole outer bytes packet read is whole =
-    ap (λ (r : Result four.Packet4 Ip4Bad). told_item (in_tunnel outer bytes r)) is ∙ rw (uncut packet read is whole) refl
+carried_plain outer bytes packet read is plain =
+    ap (λ (r : Result four.Packet4 Ip4Bad). told_item (in_tunnel outer bytes r)) is ∙ rw (uncut packet read is plain) refl
 
 -- an IPv4 packet at once behind the fixed header
 at_once : (outer : Outer) (next : ℕ) (body : List ℕ) → next ≡ 4 →
@@ -52,16 +45,20 @@ pub tunnel_at_once : (outer : six.Packet6) (read : Result six.Packet6 Ip6Bad) �
 tunnel_at_once outer read is next =
     ap (λ (r : Result six.Packet6 Ip6Bad). item_alone (from_tunnel r)) is ∙ at_once (outer_of outer) outer.next outer.body next
 
-pub carries_parts : (outer : six.Packet6) (read : Result six.Packet6 Ip6Bad) → read ≡ Ok outer → carries_whole read ≡ true →
-    (outer.next ≡ 4) × (is_whole (four.ip4_of outer.body) ≡ true)
-carries_parts outer read is carries =
-    let both = and_parts (outer.next == 4) (is_whole (four.ip4_of outer.body)) (sym (ap carries_whole is) ∙ carries) in (eqb-true outer.next 4 both.0, both.1)
+pub carries_reads : (read : Result six.Packet6 Ip6Bad) → carries_plain read ≡ true → is_ok read ≡ true
+carries_reads (Ok outer) carries = refl
+carries_reads (Err why) carries = absurd cc
 
-pub tunnel_whole_item : (outer : six.Packet6) (packet : four.Packet4) (read : Result six.Packet6 Ip6Bad) → read ≡ Ok outer → carries_whole read ≡ true →
+pub carries_parts : (outer : six.Packet6) (read : Result six.Packet6 Ip6Bad) → read ≡ Ok outer → carries_plain read ≡ true →
+    (outer.next ≡ 4) × (four.is_plain (four.ip4_of outer.body) ≡ true)
+carries_parts outer read is carries =
+    let both = and_parts (outer.next == 4) (four.is_plain (four.ip4_of outer.body)) (sym (ap carries_plain is) ∙ carries) in (eqb-true outer.next 4 both.0, both.1)
+
+pub tunnel_plain_item : (outer : six.Packet6) (packet : four.Packet4) (read : Result six.Packet6 Ip6Bad) → read ≡ Ok outer → carries_plain read ≡ true →
     four.ip4_of outer.body ≡ Ok packet → item_alone (from_tunnel read) ≡ item.Up (outer_of outer) (four.whole4 packet)
-tunnel_whole_item outer packet read is carries inner =
+tunnel_plain_item outer packet read is carries inner =
     let parts = carries_parts outer read is carries in
-    tunnel_at_once outer read is parts.0 ∙ carried_whole (outer_of outer) outer.body packet (four.ip4_of outer.body) inner parts.1
+    tunnel_at_once outer read is parts.0 ∙ carried_plain (outer_of outer) outer.body packet (four.ip4_of outer.body) inner parts.1
 
 -- ---- an item that is known to have a packet
 abbrev good : four.Packet4 → Result four.Packet4 Ip4Bad

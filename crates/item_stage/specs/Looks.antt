@@ -1,8 +1,7 @@
 -- What a look at a few bytes tells.
-use Rattle.std.specs.Prelude.{ℕ, ◌%◌, ◌==◌, nat_lt, Bool, false, not, ◌||◌, ◌&&◌, List, length, Result, Ok, Err}
-use Rattle.ip_codec.specs.Packet4.{Packet4, ip4_of, is_fragment, word}
+use Rattle.std.specs.Prelude.{ℕ, ◌%◌, ◌==◌, nat_lt, Bool, false, ◌||◌, ◌&&◌, List, length, Result, Ok, Err}
+use Rattle.ip_codec.specs.Packet4.{ip4_of, is_plain, word}
 use Rattle.ip_codec.specs.Packet6.{Packet6}
-use Rattle.ip_codec.specs.declared.packet4.Ip4Bad.{Ip4Bad}
 use Rattle.ip_codec.specs.declared.packet6.Ip6Bad.{Ip6Bad}
 use Rattle.ipv6_chain.specs.Chains.{is_skipped}
 
@@ -14,12 +13,7 @@ is_uncut bytes = nat_lt (length bytes) 20 || (word bytes 6 % 16384 == 0)
 abbrev pub is_extension : ℕ → Bool
 is_extension next = is_skipped next || (next == 44)
 
--- an IPv4 packet that is no fragment
-abbrev pub is_whole : Result Packet4 Ip4Bad → Bool
-is_whole (Ok packet) = not (is_fragment packet)
-is_whole (Err why) = false
-
--- an IPv6 packet with such a packet at once behind its fixed header
-abbrev pub carries_whole : Result Packet6 Ip6Bad → Bool
-carries_whole (Ok packet) = (packet.next == 4) && is_whole (ip4_of packet.body)
-carries_whole (Err why) = false
+-- an IPv6 packet with an IPv4 packet at once behind its fixed header that is no fragment and has no options
+abbrev pub carries_plain : Result Packet6 Ip6Bad → Bool
+carries_plain (Ok packet) = (packet.next == 4) && is_plain (ip4_of packet.body)
+carries_plain (Err why) = false

@@ -42,13 +42,10 @@ fn carries_whole(packet: &[u8]) -> bool
         return true;
     }
     let next = packet[6];
-    if is_extension(next) {
-        return false;
+    if next == IPV4_IN_IPV6 {
+        return is_uncut(&packet[HEADER6..]);
     }
-    if next != IPV4_IN_IPV6 {
-        return true;
-    }
-    is_uncut(&packet[HEADER6..])
+    !is_extension(next)
 }
 
 // Whether a walk over headers goes past one with this number, or ends behind it.

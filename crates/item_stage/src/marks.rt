@@ -137,7 +137,8 @@ impl Slot {
 }
 
 impl Became {
-    /// The item.
+    /// The item. As a call its answer's place would be cleared for each record, also where there is no mark.
+    #[inline(always)]
     pub(crate) fn item(&self) -> ItemView<'_>
         ensures { seen result ≡ item_became self.now }
     {

@@ -4,7 +4,7 @@ ghost use Rattle.ip_codec.specs.Seen.{seen};
 ghost use Rattle.ip_codec.specs.declared.items.Item.{Item as Whole};
 
 use crate::marks::Slot;
-use crate::packets::{packet_of, read_known};
+use crate::packets::{marked_packet, read_known};
 use crate::reading::read_item;
 use capture_io::{Form, Records};
 use ip_codec::{ItemView, ReadPacket};
@@ -84,7 +84,7 @@ impl<'a> Items<'a> {
         ensures { packet_at self.now index ≡ Some (packet4 result.view) }
     {
         match self.marks[index].get() {
-            Some(mark) => packet_of(&mark.became.item()),
+            Some(mark) => marked_packet(mark),
             None => read_known(self.form, self.records.get(index).bytes),
         }
     }

@@ -2,8 +2,8 @@
 use Rattle.ip_codec.proofs.PlainLemmas.{plain_folds}
 use Rattle.ip_codec.proofs.packet4.plain_sum.Goals as goal
 
-pub returns : goal.returns
-returns c =
+pub returns-clause-folds : goal.returns-clause-folds
+returns-clause-folds c =
     rw (
       c.from.ensures,
       c.be32.ensures,

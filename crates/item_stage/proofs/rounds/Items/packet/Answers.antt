@@ -1,8 +1,8 @@
 use Rattle.std.proofs.Common.{◌∙◌, ap, arith, refl, sym}
 use Rattle.std.specs.Option.{option_map}
 use Rattle.capture_io.specs.Records as records
-use Rattle.ip_codec.specs.Seen.{seen}
 use Rattle.item_stage.specs.Alone.{item_of}
+use Rattle.item_stage.specs.Marks.{item_became}
 use Rattle.item_stage.proofs.MarkLemmas.{item_alone_there, item_by_mark, within_marks, within_records}
 use Rattle.item_stage.proofs.WholeLemmas.{known_by, packet_by}
 use Rattle.item_stage.proofs.rounds.Items.packet.Goals as goal
@@ -17,21 +17,23 @@ get-requires-in-None c =
     let inside = c.self.inside in
     within_records inside.form inside.records.now inside.marks.items c.args.self.now c.self.view_is c.self.invariant c.args.index c.requires.inside
 
-pub packet_of-requires : goal.packet_of-requires
-packet_of-requires c =
+pub marked_packet-requires : goal.marked_packet-requires
+marked_packet-requires c =
     let inside = c.self.inside in
-    known_by c.args.self.now c.args.index (seen c.item.result)
-    (item_by_mark inside.form inside.records.now inside.marks.items c.args.self.now c.self.view_is c.self.invariant c.args.index c.index.result.now c.in-Some.mark.now _
-    c.requires.inside c.index.ensures (sym (ap (λ o. option_map (λ mark. mark.now) o) c.in-Some.is) ∙ c.get.ensures) c.item.ensures)
+    let told = item_became c.in-Some.mark.now.became in
+    known_by c.args.self.now c.args.index told
+    (item_by_mark inside.form inside.records.now inside.marks.items c.args.self.now c.self.view_is c.self.invariant c.args.index c.index.result.now c.in-Some.mark.now told
+    c.requires.inside c.index.ensures (sym (ap (λ o. option_map (λ mark. mark.now) o) c.in-Some.is) ∙ c.get.ensures) refl)
     c.requires.known
 
 pub returns-in-Some : goal.returns-in-Some
 returns-in-Some c =
     let inside = c.self.inside in
-    packet_by c.args.self.now c.args.index (seen c.item.result)
-    (item_by_mark inside.form inside.records.now inside.marks.items c.args.self.now c.self.view_is c.self.invariant c.args.index c.index.result.now c.in-Some.mark.now _
-    c.requires.inside c.index.ensures (sym (ap (λ o. option_map (λ mark. mark.now) o) c.in-Some.is) ∙ c.get.ensures) c.item.ensures)
-    ∙ c.packet_of.ensures
+    let told = item_became c.in-Some.mark.now.became in
+    packet_by c.args.self.now c.args.index told
+    (item_by_mark inside.form inside.records.now inside.marks.items c.args.self.now c.self.view_is c.self.invariant c.args.index c.index.result.now c.in-Some.mark.now told
+    c.requires.inside c.index.ensures (sym (ap (λ o. option_map (λ mark. mark.now) o) c.in-Some.is) ∙ c.get.ensures) refl)
+    ∙ c.marked_packet.ensures
 
 pub read_known-requires : goal.read_known-requires
 read_known-requires c =
