@@ -126,3 +126,7 @@ under_settings t s i v same is = subst (λ (x : Softwire). verdict_in (lines (bi
 
 pub value_is : (t : BindingTable) (i : Item) (v : Verdict) → verdict_in (lines t i) ≡ Some v → v ≡ verdict_of t i
 value_is t i v is = sym (ap (λ (o : Option Verdict). unwrap_or o verdict.Held) is)
+
+-- and back: the one verdict is what the first true line answers
+pub first_is : (t : BindingTable) (i : Item) (v : Verdict) → v ≡ verdict_of t i → verdict_in (lines t i) ≡ Some v
+first_is t i v is = some_verdict t i ∙ ap Some (sym is)

@@ -24,8 +24,7 @@ const LEAST_MTU: u32 = 1280;
 
 const GREATEST_MTU: u32 = 65_575;
 
-// Drops are rare, and a verdict has many words: what answers them is kept out of the way of packets that pass.
-#[inline(never)]
+// Dropped, and nobody is told.
 pub fn silent(why: Rule) -> Verdict
     ensures { result ≡ silent why }
 {
@@ -33,6 +32,15 @@ pub fn silent(why: Rule) -> Verdict
         why,
         reply: Reply::Silent,
     }
+}
+
+// Drops are rare, and a verdict has many words: it is made out of the way of packets that pass, where the caller keeps it.
+#[cold]
+#[inline(never)]
+pub fn drop_silently(why: Rule, verdict: &mut Verdict)
+    ensures { verdict.new ≡ silent why }
+{
+    *verdict = silent(why);
 }
 
 // Dropped, and the sender is told of it if so.
@@ -58,7 +66,6 @@ pub fn way_back(settings: &Softwire, outer: &Outer) -> Path
 }
 
 // The sender does not own its source.
-#[inline(never)]
 pub fn not_sender(settings: &Softwire, outer: &Outer) -> Verdict
     ensures { result ≡ not_sender settings.now outer.now }
 {
@@ -77,7 +84,6 @@ fn tells_subscriber(settings: &Softwire, outer: &Outer) -> bool
 }
 
 // Nobody owns the destination.
-#[inline(never)]
 pub fn no_owner(settings: &Softwire, why: Rule, path: Path, packet: &Ip4View<'_>) -> Verdict
     ensures { result ≡ no_owner settings.now why path (packet4 packet.now) }
 {
@@ -95,7 +101,6 @@ fn tells_sender(settings: &Softwire, packet: &Ip4View<'_>) -> bool
 }
 
 // The time to live is used up.
-#[inline(never)]
 pub fn used_up(settings: &Softwire, path: Path, packet: &Ip4View<'_>) -> Verdict
     ensures { result ≡ used_up settings.now path (packet4 packet.now) }
 {
@@ -107,7 +112,6 @@ pub fn used_up(settings: &Softwire, path: Path, packet: &Ip4View<'_>) -> Verdict
 }
 
 // The packet is larger than this and must not be cut.
-#[inline(never)]
 pub fn too_large(settings: &Softwire, room: u16, path: Path, packet: &Ip4View<'_>) -> Verdict
     ensures { result ≡ too_large settings.now room path (packet4 packet.now) }
 {

@@ -5,13 +5,15 @@ ghost use Rattle.binding_rules.specs.Tables.{BindingTable, binding_table};
 ghost use Rattle.ip_codec.specs.Packet4.{packet4};
 ghost use Rattle.table_words.specs.Layout.{IsCompiled, AreCompiled};
 ghost use Rattle.table_words.specs.Reads.{read_more};
-ghost use Rattle.verdict_core.specs.Answers.{silent};
+ghost use Rattle.verdict_core.specs.Answers.{no_owner, silent, too_large, used_up};
 ghost use Rattle.verdict_core.specs.Bounds.{IsLook};
 ghost use Rattle.verdict_core.specs.Lines.{verdict_in};
 ghost use Rattle.verdict_core.specs.Verdicts.{down_lines, down_refusals, down_ways};
+ghost use Rattle.verdict_core.specs.declared.verdicts.Path.TheVariants as path;
+ghost use Rattle.ip_codec.specs.declared.rules.Rule.TheVariants as rule;
 
 use crate::answers::{
-    inward, inward_room, is_too_large, is_used_up, no_owner, silent, too_large, used_up,
+    drop_silently, inward, inward_room, is_too_large, is_used_up, no_owner, too_large, used_up,
 };
 use crate::owners::{owner_end, read_count};
 use crate::verdicts::{Path, Verdict};
@@ -29,11 +31,12 @@ pub fn judge_down<W: Words, L: Ledger>(
     words: &mut W,
     settings: &Softwire,
     packet: &Ip4View<'_>,
+    verdict: &mut Verdict,
     steps: &mut Steps<L>,
-) -> Verdict
+)
     requires { AreCompiled (W.list words.old) }
     ensures verdict { (t : BindingTable) → IsCompiled t (W.list words.old) →
-        verdict_in (down_lines (binding_table t.edition settings.now t.bindings) (Ok (packet4 packet.now))) ≡ Some result }
+        verdict_in (down_lines (binding_table t.edition settings.now t.bindings) (Ok (packet4 packet.now))) ≡ Some verdict.new }
     ensures list { W.list words.new ≡ W.list words.old }
     ensures reads { W.reads words.new ≡ read_more (W.reads words.old) (steps.new - steps.old) }
     ensures goes { W.goes words.old words.new }
@@ -43,10 +46,11 @@ pub fn judge_down<W: Words, L: Ledger>(
     let key = key_down(packet);
     if let Some(why) = down_refusal(settings, packet, key) {
         read_count(words, steps);
-        return silent(why);
+        drop_silently(why, verdict);
+        return;
     }
     let end = owner_end(words, packet.dst, key, steps);
-    down_way(settings, packet, end)
+    down_way(settings, packet, end, verdict);
 }
 
 // What needs no search.
@@ -74,18 +78,48 @@ fn is_kept_out(settings: &Softwire, packet: &Ip4View<'_>) -> bool
 }
 
 // By the tunnel's end of the destination's owner.
-fn down_way(settings: &Softwire, packet: &Ip4View<'_>, end: Option<V6>) -> Verdict
-    ensures { verdict_in (down_ways settings.now (packet4 packet.now) end) ≡ Some result }
+fn down_way(settings: &Softwire, packet: &Ip4View<'_>, end: Option<V6>, verdict: &mut Verdict)
+    ensures { verdict_in (down_ways settings.now (packet4 packet.now) end) ≡ Some verdict.new }
 {
     let Some(to) = end else {
-        return no_owner(settings, Rule::NoBinding, Path::Plain, packet);
+        drop_unowned(settings, packet, verdict);
+        return;
     };
     if is_used_up(packet) {
-        return used_up(settings, Path::Plain, packet);
+        drop_used_up(settings, packet, verdict);
+        return;
     }
     let room = inward_room(settings);
     if is_too_large(room, packet) {
-        return too_large(settings, room, Path::Plain, packet);
+        drop_too_large(settings, room, packet, verdict);
+        return;
     }
-    inward(settings, false, to)
+    *verdict = inward(settings, false, to);
+}
+
+// Nobody owns the destination. Drops are rare: what makes them stands out of the way of packets that pass.
+#[cold]
+#[inline(never)]
+fn drop_unowned(settings: &Softwire, packet: &Ip4View<'_>, verdict: &mut Verdict)
+    ensures { verdict.new ≡ no_owner settings.now rule.NoBinding path.Plain (packet4 packet.now) }
+{
+    *verdict = no_owner(settings, Rule::NoBinding, Path::Plain, packet);
+}
+
+// The time to live is used up.
+#[cold]
+#[inline(never)]
+fn drop_used_up(settings: &Softwire, packet: &Ip4View<'_>, verdict: &mut Verdict)
+    ensures { verdict.new ≡ used_up settings.now path.Plain (packet4 packet.now) }
+{
+    *verdict = used_up(settings, Path::Plain, packet);
+}
+
+// The packet is larger than this and must not be cut.
+#[cold]
+#[inline(never)]
+fn drop_too_large(settings: &Softwire, room: u16, packet: &Ip4View<'_>, verdict: &mut Verdict)
+    ensures { verdict.new ≡ too_large settings.now room path.Plain (packet4 packet.now) }
+{
+    *verdict = too_large(settings, room, Path::Plain, packet);
 }

@@ -13,7 +13,7 @@ ghost use Rattle.verdict_core.specs.Fitting.{AsksTable, Fits, HasRoom};
 ghost use Rattle.verdict_core.specs.Lines.{verdict_in};
 ghost use Rattle.verdict_core.specs.Verdicts.{Judged, lines, verdict_of};
 
-use crate::answers::silent;
+use crate::answers::drop_silently;
 use crate::downstream::judge_down;
 use crate::messages::{judge_error, judge_six, message_refusal};
 use crate::owners::read_count;
@@ -103,7 +103,37 @@ pub fn judge_with<W: Words, L: Ledger>(
     ensures one_shape { (t : BindingTable) → IsCompiled t (W.list words.old) → most_shapes t.bindings ≡ 1 → steps.new ≤ steps.old + judge_with_bound (found_bound t.bindings) }
     ensures edition_one { (t : BindingTable) → IsCompiled t (W.list words.old) → t.edition ≡ edition.One → steps.new ≤ steps.old + judge_with_bound (found_bound t.bindings) }
 {
-    judge_under(words, settings, item, steps)
+    let mut verdict = Verdict::Held;
+    judge_into(words, settings, item, &mut verdict, steps);
+    verdict
+}
+
+/// The same with the verdict written where the caller keeps it, whatever stood there: a verdict has many words, and each call
+/// that hands it on would copy them.
+pub fn judge_into<W: Words, L: Ledger>(
+    words: &mut W,
+    settings: &Softwire,
+    item: &ItemView<'_>,
+    verdict: &mut Verdict,
+    steps: &mut Steps<L>,
+)
+    requires compiled { AreCompiled (W.list words.old) }
+    requires settings { (t : BindingTable) → IsCompiled t (W.list words.old) → settings.now ≡ t.softwire }
+
+    // Which verdict it is.
+    ensures value { (t : BindingTable) → IsCompiled t (W.list words.old) → verdict.new ≡ verdict_of t (seen item.now) }
+
+    // What it reads.
+    ensures list { W.list words.new ≡ W.list words.old }
+    ensures reads { W.reads words.new ≡ read_more (W.reads words.old) (steps.new - steps.old) }
+    ensures goes { W.goes words.old words.new }
+    ensures later { steps.old ≤ steps.new }
+    ensures rises { AsksTable (seen item.now) → steps.old + 1 ≤ steps.new }
+    ensures bound { (t : BindingTable) → IsCompiled t (W.list words.old) → steps.new ≤ steps.old + judge_with_bound (look_bound t.bindings) }
+    ensures one_shape { (t : BindingTable) → IsCompiled t (W.list words.old) → most_shapes t.bindings ≡ 1 → steps.new ≤ steps.old + judge_with_bound (found_bound t.bindings) }
+    ensures edition_one { (t : BindingTable) → IsCompiled t (W.list words.old) → t.edition ≡ edition.One → steps.new ≤ steps.old + judge_with_bound (found_bound t.bindings) }
+{
+    judge_under(words, settings, item, verdict, steps);
 }
 
 // The verdict under these settings and the rest of the table, each kind of item by its own lines. Where nothing is looked up,
@@ -112,11 +142,12 @@ fn judge_under<W: Words, L: Ledger>(
     words: &mut W,
     settings: &Softwire,
     item: &ItemView<'_>,
+    verdict: &mut Verdict,
     steps: &mut Steps<L>,
-) -> Verdict
+)
     requires { AreCompiled (W.list words.old) }
     ensures verdict { (t : BindingTable) → IsCompiled t (W.list words.old) →
-        verdict_in (lines (binding_table t.edition settings.now t.bindings) (seen item.now)) ≡ Some result }
+        verdict_in (lines (binding_table t.edition settings.now t.bindings) (seen item.now)) ≡ Some verdict.new }
     ensures list { W.list words.new ≡ W.list words.old }
     ensures reads { W.reads words.new ≡ read_more (W.reads words.old) (steps.new - steps.old) }
     ensures goes { W.goes words.old words.new }
@@ -125,21 +156,23 @@ fn judge_under<W: Words, L: Ledger>(
     ensures bound { (t : BindingTable) → IsCompiled t (W.list words.old) → (n : ℕ) → IsLook t n → steps.new ≤ steps.old + judge_with_bound n }
 {
     match item {
-        ItemView::Held => Verdict::Held,
-        ItemView::Bad(why) => silent(*why),
-        ItemView::Down { packet } => judge_down(words, settings, &packet.view, steps),
-        ItemView::Up { outer, inner } => judge_up(words, settings, outer, &inner.view, steps),
+        ItemView::Held => *verdict = Verdict::Held,
+        ItemView::Bad(why) => drop_silently(*why, verdict),
+        ItemView::Down { packet } => judge_down(words, settings, &packet.view, verdict, steps),
+        ItemView::Up { outer, inner } => {
+            judge_up(words, settings, outer, &inner.view, verdict, steps)
+        }
         ItemView::UpUnread { outer, inner } => {
             read_count(words, steps);
-            judge_unread(settings, outer, inner.why)
+            judge_unread(settings, outer, inner.why, verdict)
         }
         ItemView::Six { dst } => {
             read_count(words, steps);
-            judge_six(settings, *dst)
+            judge_six(settings, *dst, verdict)
         }
         ItemView::Six58 { src, dst, message } => {
             read_count(words, steps);
-            judge_message(words, settings, *src, *dst, message, steps)
+            judge_message(words, settings, *src, *dst, message, verdict, steps)
         }
     }
 }
@@ -152,11 +185,12 @@ fn judge_message<W: Words, L: Ledger>(
     src: V6,
     dst: V6,
     message: &[u8],
+    verdict: &mut Verdict,
     steps: &mut Steps<L>,
-) -> Verdict
+)
     requires { AreCompiled (W.list words.old) }
     ensures verdict { (t : BindingTable) → IsCompiled t (W.list words.old) →
-        verdict_in (lines (binding_table t.edition settings.now t.bindings) (item.Six58 src dst message.now)) ≡ Some result }
+        verdict_in (lines (binding_table t.edition settings.now t.bindings) (item.Six58 src dst message.now)) ≡ Some verdict.new }
     ensures list { W.list words.new ≡ W.list words.old }
     ensures reads { W.reads words.new ≡ read_more (W.reads words.old) (steps.new - steps.old) }
     ensures goes { W.goes words.old words.new }
@@ -164,7 +198,8 @@ fn judge_message<W: Words, L: Ledger>(
     ensures bound { (t : BindingTable) → IsCompiled t (W.list words.old) → (n : ℕ) → IsLook t n → steps.new ≤ steps.old + 2 * n }
 {
     if let Some(refused) = message_refusal(settings, dst, message) {
-        return refused;
+        *verdict = refused;
+        return;
     }
-    judge_error(words, settings, src, dst, message, steps)
+    *verdict = judge_error(words, settings, src, dst, message, steps);
 }

@@ -15,7 +15,7 @@ ghost use Rattle.verdict_core.specs.Bounds.{IsLook};
 ghost use Rattle.verdict_core.specs.Lines.{verdict_in};
 ghost use Rattle.verdict_core.specs.Verdicts.{error_lines, is_tunnel_error, message_refusals, quote_lines, quote_refusals, receiver_lines, relay_lines, six_lines};
 
-use crate::answers::{ends_at, relayed, silent};
+use crate::answers::{drop_silently, ends_at, relayed, silent};
 use crate::owners::{owner_at, owner_end};
 use crate::verdicts::{Path, Verdict};
 use aftr_base::V6;
@@ -30,13 +30,13 @@ use table_words::{Destination, Steps, Words};
 // The first part of an ICMPv6 message, with its type at 0 (RFC 4443, section 2.1).
 const HEAD_LEN: usize = 8;
 
-pub fn judge_six(settings: &Softwire, dst: V6) -> Verdict
-    ensures { verdict_in (six_lines settings.now dst) ≡ Some result }
+pub fn judge_six(settings: &Softwire, dst: V6, verdict: &mut Verdict)
+    ensures { verdict_in (six_lines settings.now dst) ≡ Some verdict.new }
 {
     if dst != settings.aftr {
-        silent(Rule::NotOurs)
+        drop_silently(Rule::NotOurs, verdict);
     } else {
-        silent(Rule::NotSoftwire)
+        drop_silently(Rule::NotSoftwire, verdict);
     }
 }
 

@@ -5,14 +5,14 @@ ghost use Rattle.binding_rules.specs.Tables.{BindingTable, binding_table};
 ghost use Rattle.ip_codec.specs.Packet4.{packet4};
 ghost use Rattle.table_words.specs.Layout.{IsCompiled, AreCompiled};
 ghost use Rattle.table_words.specs.Reads.{read_more};
-ghost use Rattle.verdict_core.specs.Answers.{ends_at, silent};
+ghost use Rattle.verdict_core.specs.Answers.{ends_at, not_sender, silent, too_large, used_up, way_back};
 ghost use Rattle.verdict_core.specs.Bounds.{IsLook, judge_with_bound};
 ghost use Rattle.verdict_core.specs.Lines.{verdict_in};
 ghost use Rattle.verdict_core.specs.Verdicts.{hairpin_lines, outward_lines, up_lines, up_refusals};
 
 use crate::answers::{
-    ends_at, inward, inward_room, is_too_large, is_used_up, no_owner, not_sender, silent,
-    too_large, used_up, way_back,
+    drop_silently, ends_at, inward, inward_room, is_too_large, is_used_up, no_owner, not_sender,
+    silent, too_large, used_up, way_back,
 };
 use crate::owners::{owner_at, owner_end, read_count};
 use crate::verdicts::Verdict;
@@ -29,11 +29,12 @@ pub fn judge_up<W: Words, L: Ledger>(
     settings: &Softwire,
     outer: &Outer,
     packet: &Ip4View<'_>,
+    verdict: &mut Verdict,
     steps: &mut Steps<L>,
-) -> Verdict
+)
     requires { AreCompiled (W.list words.old) }
     ensures verdict { (t : BindingTable) → IsCompiled t (W.list words.old) →
-        verdict_in (up_lines (binding_table t.edition settings.now t.bindings) outer.now (Ok (packet4 packet.now))) ≡ Some result }
+        verdict_in (up_lines (binding_table t.edition settings.now t.bindings) outer.now (Ok (packet4 packet.now))) ≡ Some verdict.new }
     ensures list { W.list words.new ≡ W.list words.old }
     ensures reads { W.reads words.new ≡ read_more (W.reads words.old) (steps.new - steps.old) }
     ensures goes { W.goes words.old words.new }
@@ -43,34 +44,38 @@ pub fn judge_up<W: Words, L: Ledger>(
     let key = key_up(packet);
     if let Some(why) = up_refusal(settings, outer, key) {
         read_count(words, steps);
-        return silent(why);
+        drop_silently(why, verdict);
+        return;
     }
     let end = owner_end(words, packet.src, key, steps);
     if is_foreign(outer, end) {
-        return not_sender(settings, outer);
+        drop_foreign(settings, outer, verdict);
+        return;
     }
     if is_used_up(packet) {
-        return used_up(settings, way_back(settings, outer), packet);
+        drop_used_up(settings, outer, packet, verdict);
+        return;
     }
     let asked = key_down(packet);
     let destination = owner_at(words, packet.dst, asked, steps);
     match destination {
-        Destination::Unbound => outward(settings, outer, packet),
-        Destination::Unowned => turned_to_nobody(settings, outer, packet),
-        Destination::Owned(to) => turned(settings, outer, packet, to),
+        Destination::Unbound => outward(settings, outer, packet, verdict),
+        Destination::Unowned => turned_to_nobody(settings, outer, packet, verdict),
+        Destination::Owned(to) => turned(settings, outer, packet, to, verdict),
     }
 }
 
 // The verdict where the inner bytes are no IPv4 packet.
-pub fn judge_unread(settings: &Softwire, outer: &Outer, refusal: Ip4Bad) -> Verdict
-    ensures { (t : BindingTable) → verdict_in (up_lines (binding_table t.edition settings.now t.bindings) outer.now (Err refusal)) ≡ Some result }
+pub fn judge_unread(settings: &Softwire, outer: &Outer, refusal: Ip4Bad, verdict: &mut Verdict)
+    ensures { (t : BindingTable) → verdict_in (up_lines (binding_table t.edition settings.now t.bindings) outer.now (Err refusal)) ≡ Some verdict.new }
 {
     if outer.dst != settings.aftr {
-        return silent(Rule::NotOurs);
+        drop_silently(Rule::NotOurs, verdict);
+        return;
     }
     match refusal {
-        Ip4Bad::Checksum => silent(Rule::InnerChecksum),
-        _ => silent(Rule::InnerMalformed),
+        Ip4Bad::Checksum => drop_silently(Rule::InnerChecksum, verdict),
+        _ => drop_silently(Rule::InnerMalformed, verdict),
     }
 }
 
@@ -95,46 +100,86 @@ fn is_foreign(outer: &Outer, end: Option<V6>) -> bool
     !ends_at(end, outer.src)
 }
 
-// From subscriber to subscriber, where nobody owns the destination.
+// The sender does not own its source. Drops are rare: what makes them stands out of the way of packets that pass, with
+// the words that it needs for itself.
+#[cold]
 #[inline(never)]
-fn turned_to_nobody(settings: &Softwire, outer: &Outer, packet: &Ip4View<'_>) -> Verdict
-    ensures { verdict_in (hairpin_lines settings.now outer.now (packet4 packet.now) true None) ≡ Some result }
+fn drop_foreign(settings: &Softwire, outer: &Outer, verdict: &mut Verdict)
+    ensures { verdict.new ≡ not_sender settings.now outer.now }
+{
+    *verdict = not_sender(settings, outer);
+}
+
+// The time to live is used up.
+#[cold]
+#[inline(never)]
+fn drop_used_up(settings: &Softwire, outer: &Outer, packet: &Ip4View<'_>, verdict: &mut Verdict)
+    ensures { verdict.new ≡ used_up settings.now (way_back settings.now outer.now) (packet4 packet.now) }
+{
+    *verdict = used_up(settings, way_back(settings, outer), packet);
+}
+
+// The packet is larger than this and must not be cut.
+#[cold]
+#[inline(never)]
+fn drop_too_large(
+    settings: &Softwire,
+    room: u16,
+    outer: &Outer,
+    packet: &Ip4View<'_>,
+    verdict: &mut Verdict,
+)
+    ensures { verdict.new ≡ too_large settings.now room (way_back settings.now outer.now) (packet4 packet.now) }
+{
+    *verdict = too_large(settings, room, way_back(settings, outer), packet);
+}
+
+// From subscriber to subscriber, where nobody owns the destination.
+#[cold]
+#[inline(never)]
+fn turned_to_nobody(settings: &Softwire, outer: &Outer, packet: &Ip4View<'_>, verdict: &mut Verdict)
+    ensures { verdict_in (hairpin_lines settings.now outer.now (packet4 packet.now) true None) ≡ Some verdict.new }
 {
     if !settings.hairpin {
-        return silent(Rule::HairpinOff);
+        *verdict = silent(Rule::HairpinOff);
+        return;
     }
-    no_owner(
+    *verdict = no_owner(
         settings,
         Rule::HairpinNoBinding,
         way_back(settings, outer),
         packet,
-    )
+    );
 }
 
 // The same, where the owner's tunnel ends there.
 #[inline(never)]
-fn turned(settings: &Softwire, outer: &Outer, packet: &Ip4View<'_>, to: V6) -> Verdict
-    ensures { verdict_in (hairpin_lines settings.now outer.now (packet4 packet.now) true (Some to)) ≡ Some result }
+fn turned(settings: &Softwire, outer: &Outer, packet: &Ip4View<'_>, to: V6, verdict: &mut Verdict)
+    ensures { verdict_in (hairpin_lines settings.now outer.now (packet4 packet.now) true (Some to)) ≡ Some verdict.new }
 {
     if !settings.hairpin {
-        return silent(Rule::HairpinOff);
+        drop_silently(Rule::HairpinOff, verdict);
+        return;
     }
     let room = inward_room(settings);
     if is_too_large(room, packet) {
-        return too_large(settings, room, way_back(settings, outer), packet);
+        drop_too_large(settings, room, outer, packet, verdict);
+        return;
     }
-    inward(settings, true, to)
+    *verdict = inward(settings, true, to);
 }
 
 // Out to the IPv4 network.
-fn outward(settings: &Softwire, outer: &Outer, packet: &Ip4View<'_>) -> Verdict
-    ensures { verdict_in (outward_lines settings.now outer.now (packet4 packet.now)) ≡ Some result }
+fn outward(settings: &Softwire, outer: &Outer, packet: &Ip4View<'_>, verdict: &mut Verdict)
+    ensures { verdict_in (outward_lines settings.now outer.now (packet4 packet.now)) ≡ Some verdict.new }
 {
     if packet.dst == settings.own {
-        return silent(Rule::ToSelf);
+        drop_silently(Rule::ToSelf, verdict);
+        return;
     }
     if is_too_large(settings.mtu4, packet) {
-        return too_large(settings, settings.mtu4, way_back(settings, outer), packet);
+        drop_too_large(settings, settings.mtu4, outer, packet, verdict);
+        return;
     }
-    Verdict::Outward { mtu: settings.mtu4 }
+    *verdict = Verdict::Outward { mtu: settings.mtu4 };
 }

@@ -10,7 +10,7 @@ use Rattle.verdict_core.proofs.downstream.judge_down.Goals as goal
 pub returns-in-Some-clause-verdict : goal.returns-in-Some-clause-verdict
 returns-in-Some-clause-verdict g c = λ t h.
     down_refused (binding_table t.edition c.args.settings.now t.bindings) (packet4 c.args.packet.now) _ c.key_down-key.ensures _
-    (c.down_refusal.ensures ∙ ap (option_map silent) c.in-Some.is ∙ ap Some (sym c.silent.ensures))
+    (c.down_refusal.ensures ∙ ap (option_map silent) c.in-Some.is ∙ ap Some (sym c.drop_silently.ensures))
 
 pub returns-clause-verdict : goal.returns-clause-verdict
 returns-clause-verdict g c = λ t h.

@@ -6,28 +6,27 @@ use Rattle.table_words.specs.Answers.{has_binding, tunnel_of}
 use Rattle.table_words.specs.Layout.{IsCompiled}
 use Rattle.table_words.specs.declared.destination.Destination.TheVariants as destination
 use Rattle.table_words.proofs.Laws.{reads_on}
-use Rattle.verdict_core.specs.Answers.{silent, used_up}
-use Rattle.verdict_core.specs.declared.verdicts.Path.{Path}
+use Rattle.verdict_core.specs.Answers.{silent}
 use Rattle.verdict_core.proofs.Joins.{its_sender, last_hop, more_hops, none_of, other_sender, up_not_sender, up_out, up_refused, up_turned, up_used_up}
 use Rattle.verdict_core.proofs.upstream.judge_up.Goals as goal
 
 pub returns-in-Some-clause-verdict : goal.returns-in-Some-clause-verdict
 returns-in-Some-clause-verdict g c = λ t h.
     up_refused (binding_table t.edition c.args.settings.now t.bindings) c.args.outer.now (packet4 c.args.packet.now) _ c.key_up-key.ensures _
-    (c.up_refusal.ensures ∙ ap (option_map silent) c.in-Some.is ∙ ap Some (sym c.silent.ensures))
+    (c.up_refusal.ensures ∙ ap (option_map silent) c.in-Some.is ∙ ap Some (sym c.drop_silently.ensures))
 
 pub returns-then-is_foreign-clause-verdict : goal.returns-then-is_foreign-clause-verdict
 returns-then-is_foreign-clause-verdict g c = λ t h.
     up_not_sender (binding_table t.edition c.args.settings.now t.bindings) c.args.outer.now (packet4 c.args.packet.now) _ c.key_up-key.ensures _
     (c.up_refusal.ensures ∙ ap (option_map silent) (none_of _ c.in_default.not-Some)) _ (c.owner_end-end.ensures.answer t h)
-    (other_sender c.args.settings.now c.args.outer.now _ (sym c.is_foreign.ensures ∙ c.if-is_foreign.true) ∙ ap Some (sym c.not_sender.ensures))
+    (other_sender c.args.settings.now c.args.outer.now _ (sym c.is_foreign.ensures ∙ c.if-is_foreign.true) ∙ ap Some (sym c.drop_foreign.ensures))
 
 pub returns-then-is_used_up-clause-verdict : goal.returns-then-is_used_up-clause-verdict
 returns-then-is_used_up-clause-verdict g c = λ t h.
     up_used_up (binding_table t.edition c.args.settings.now t.bindings) c.args.outer.now (packet4 c.args.packet.now) _ c.key_up-key.ensures _
     (c.up_refusal.ensures ∙ ap (option_map silent) (none_of _ c.in_default.not-Some)) _ (c.owner_end-end.ensures.answer t h)
     (its_sender c.args.settings.now c.args.outer.now _ (sym c.is_foreign.ensures ∙ c.if-is_foreign.false))
-    (last_hop c.args.settings.now c.args.outer.now (packet4 c.args.packet.now) (sym c.is_used_up.ensures ∙ c.if-is_used_up.true) ∙ ap Some (sym (c.used_up.ensures ∙ ap (λ (way : Path). used_up c.args.settings.now way (packet4 c.args.packet.now)) c.way_back.ensures)))
+    (last_hop c.args.settings.now c.args.outer.now (packet4 c.args.packet.now) (sym c.is_used_up.ensures ∙ c.if-is_used_up.true) ∙ ap Some (sym c.drop_used_up.ensures))
 
 pub returns-in-Unbound-clause-verdict : goal.returns-in-Unbound-clause-verdict
 returns-in-Unbound-clause-verdict g c = λ t h.
