@@ -4,6 +4,7 @@ pub mod Gathered
 pub mod Hands
 pub mod Hired
 pub mod InForce
+pub mod Placed
 pub mod Points
 pub mod Served
 pub mod Trying

@@ -14,7 +14,7 @@ use binding_rules::Softwire;
 use ip_codec::ItemView;
 use std::sync::ledger::Ledger;
 use table_words::{Steps, Words, softwire};
-use verdict_core::{Verdict, judge_with};
+use verdict_core::{Verdict, judge_into};
 
 /// The words of the table that a seat holds, read through the areas from the row where they begin.
 #[derive(Drop)]
@@ -65,23 +65,24 @@ pub(crate) fn held_settings<L: Ledger>(
     softwire(&mut held, steps)
 }
 
-/// The verdict on an item under the held table, whose settings are handed in.
+/// The verdict on an item under the held table, whose settings are handed in, written where the caller keeps it.
 pub(crate) fn judge_held<L: Ledger>(
     areas: &Areas,
     seat: &mut WorkerSeat,
     settings: &Softwire,
     item: &ItemView<'_>,
+    verdict: &mut Verdict,
     steps: &mut Steps<L>,
-) -> Verdict
+)
     requires areas { IsOf areas.now seat.old }
     requires holding { HoldsOne seat.old.known }
     requires compiled { AreCompiled (held_table seat.old.known) }
     requires settings { (t : BindingTable) → IsCompiled t (held_table seat.old.known) → settings.now ≡ t.softwire }
     ensures reads { OnlyReads seat.old seat.new }
-    ensures value { (t : BindingTable) → IsCompiled t (held_table seat.old.known) → result ≡ verdict_of t (seen item.now) }
+    ensures value { (t : BindingTable) → IsCompiled t (held_table seat.old.known) → verdict.new ≡ verdict_of t (seen item.now) }
     ensures rises { AsksTable (seen item.now) → seat.old.known.reads + 1 ≤ seat.new.known.reads }
 {
     let row = seat.row();
     let mut held = HeldArea { areas, seat, row };
-    judge_with(&mut held, settings, item, steps)
+    judge_into(&mut held, settings, item, verdict, steps);
 }

@@ -1,8 +1,15 @@
 // The outcomes that a worker puts down.
+use crate::judging::judge_held;
 use crate::outcomes::Outcome;
 use aftr_base::OutOfMemory;
+use area_swap::{Areas, WorkerSeat};
+use binding_rules::Softwire;
+use ip_codec::ItemView;
 use std::alloc::Global;
 use std::marker::Model;
+use std::sync::ledger::Ledger;
+use table_words::Steps;
+use verdict_core::Verdict;
 
 /// Outcomes in the order in which they were put down. Their numbers stand side by side as well: whoever looks through these alone
 /// reads a small part of the memory. It is seen as the list of outcomes, and for how many there is room.
@@ -24,8 +31,15 @@ impl Model for OutcomeList {
 }
 
 impl OutcomeList {
-    ghost use Rattle.std.specs.Prelude.{◌≡◌, ◌<◌, ◌≤◌, [], ◌∷◌, ◌++◌, IfOk, Some, length, map, slice_get};
-    ghost use Rattle.worker_gate.specs.OutcomeLists.{number_of};
+    ghost use Rattle.std.specs.Prelude.{◌≡◌, ◌+◌, ◌<◌, ◌≤◌, [], IfOk, Some, length, map, slice_get};
+    ghost use Rattle.binding_rules.specs.Tables.{BindingTable};
+    ghost use Rattle.ip_codec.specs.Seen.{seen};
+    ghost use Rattle.table_words.specs.Layout.{IsCompiled, AreCompiled};
+    ghost use Rattle.verdict_core.specs.Fitting.{AsksTable};
+    ghost use Rattle.area_swap.specs.Reading.{OnlyReads};
+    ghost use Rattle.area_swap.specs.Values.{HoldsOne, IsOf};
+    ghost use Rattle.area_swap.specs.Views.{held_table};
+    ghost use Rattle.worker_gate.specs.OutcomeLists.{HasPutJudged, number_of};
 
     /// None yet, with room for so many.
     pub(crate) fn with_capacity(alloc: Global, room: usize) -> Result<OutcomeList, OutOfMemory>
@@ -46,14 +60,36 @@ impl OutcomeList {
         self.numbers.clear();
     }
 
-    /// One more, for the end.
-    pub(crate) fn put(&mut self, outcome: Outcome)
-        requires { length self.old.items < self.old.room }
-        ensures items { self.new.items ≡ self.old.items ++ outcome ∷ [] }
-        ensures room { self.new.room ≡ self.old.room }
+    /// One more for the end, with the verdict on this item under the held table, whose settings are handed in. A verdict has
+    /// many words: it is made where it stays.
+    pub(crate) fn put_judged<L: Ledger>(
+        &mut self,
+        number: u32,
+        version: u32,
+        areas: &Areas,
+        seat: &mut WorkerSeat,
+        settings: &Softwire,
+        item: &ItemView<'_>,
+        steps: &mut Steps<L>,
+    )
+        requires room { length self.old.items < self.old.room }
+        requires areas { IsOf areas.now seat.old }
+        requires holding { HoldsOne seat.old.known }
+        requires compiled { AreCompiled (held_table seat.old.known) }
+        requires settings { (t : BindingTable) → IsCompiled t (held_table seat.old.known) → settings.now ≡ t.softwire }
+        ensures judged { HasPutJudged number version (seen item.now) (held_table seat.old.known) self.old self.new }
+        ensures reads { OnlyReads seat.old seat.new }
+        ensures rises { AsksTable (seen item.now) → seat.old.known.reads + 1 ≤ seat.new.known.reads }
     {
-        self.numbers.push_reserved(outcome.number);
-        self.outcomes.push_reserved(outcome);
+        let last = self.numbers.len();
+        self.numbers.push_reserved(number);
+        self.outcomes.push_reserved(Outcome {
+            number,
+            version,
+            verdict: Verdict::Held,
+        });
+        let outcome = &mut self.outcomes[last];
+        judge_held(areas, seat, settings, item, &mut outcome.verdict, steps);
     }
 
     /// Their numbers, in the same order.

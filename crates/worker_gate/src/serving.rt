@@ -7,8 +7,8 @@ ghost use Rattle.worker_gate.specs.Serving.{ArePutDown, HasEnded, HasServed, Can
 
 use crate::claims::{Turn, give_up, take_run, try_claim};
 use crate::gate::Gate;
-use crate::judging::{held_settings, judge_held};
-use crate::outcomes::{Outcome, Stop};
+use crate::judging::held_settings;
+use crate::outcomes::Stop;
 use crate::worker::Worker;
 use area_swap::Areas;
 use binding_rules::Softwire;
@@ -37,12 +37,15 @@ fn put_down<S: RoundItems, L: Ledger>(
     ensures down { IsPutDown areas.now.plan (S.items items.now) start number version worker.old worker.new }
 {
     let item = items.item((number - start) as usize);
-    let verdict = judge_held(areas, &mut worker.seat, settings, &item, steps);
-    worker.outcomes.put(Outcome {
+    worker.outcomes.put_judged(
         number,
         version,
-        verdict,
-    });
+        areas,
+        &mut worker.seat,
+        settings,
+        &item,
+        steps,
+    );
 }
 
 // The same for the records of a draw.
