@@ -28,6 +28,7 @@ impl Written {
 
     /// Puts what stands before a packet of `count` bytes behind what `out` holds. In blocks the fraction counts
     /// nanoseconds.
+    #[inline(always)]
     pub fn push_head(
         self,
         out: &mut Vec<u8>,
@@ -45,6 +46,7 @@ impl Written {
     }
 
     /// Puts what stands behind a packet of `count` bytes behind what `out` holds.
+    #[inline(always)]
     pub fn push_tail(self, out: &mut Vec<u8>, count: u32) -> Result<(), OutOfMemory>
         requires { count ≤ 262144 }
         ensures { IfOk result (λ _. out.new.items ≡ out.old.items ++ packet_tail self count) }
@@ -67,6 +69,7 @@ fn section() -> [u8; 60]
     ]
 }
 
+#[inline(always)]
 fn push_record_head(
     out: &mut Vec<u8>,
     seconds: u32,
@@ -129,6 +132,7 @@ fn head_words(block: u32, high: u32, low: u32, count: u32) -> [u8; 28]
     ]
 }
 
+#[inline(never)]
 fn push_block_head(
     out: &mut Vec<u8>,
     seconds: u32,
@@ -144,6 +148,7 @@ fn push_block_head(
     Ok(())
 }
 
+#[inline(never)]
 fn push_block_tail(out: &mut Vec<u8>, count: u32) -> Result<(), OutOfMemory>
     requires { count ≤ 262144 }
     ensures { IfOk result (λ _. out.new.items ≡ out.old.items ++ block_tail count) }

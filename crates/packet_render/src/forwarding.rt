@@ -48,7 +48,9 @@ pub(crate) fn push_outward(
     Ok(count)
 }
 
-// Puts this packet there as it goes out.
+// Puts this packet there as it goes out. It is inlined down to the bytes, so that of the packet's fields only those are made that are
+// written; a view of all of them is made where the packet is cut.
+#[inline(always)]
 pub(crate) fn push_packet_outward(
     out: &mut Vec<u8>,
     stamp: Stamp,
@@ -69,6 +71,7 @@ pub(crate) fn push_packet_outward(
     Ok(count)
 }
 
+#[inline(always)]
 fn push_whole_outward(
     out: &mut Vec<u8>,
     stamp: Stamp,
@@ -86,6 +89,7 @@ fn push_whole_outward(
     Ok(1)
 }
 
+#[inline(always)]
 fn push_cut_outward(
     out: &mut Vec<u8>,
     stamp: Stamp,
@@ -103,6 +107,7 @@ fn push_cut_outward(
 }
 
 // The packet with its time to live one less in the field, and not in the bytes of its header.
+#[inline(always)]
 fn lowered_field<'a>(packet: &ReadPacket<'a>) -> Ip4View<'a>
     requires { 1 ≤ packet.now.view.ttl }
     ensures fields { packet4 result ≡ one_hop_on (packet4 packet.now.view) }

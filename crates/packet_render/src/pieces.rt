@@ -13,6 +13,7 @@ use fragmenter::{Cuts4, Cuts6};
 use ip_codec::{Ip4View, Ip6View};
 
 // Puts the pieces of an IPv4 packet that does not fit there. Of its header's bytes nothing but the options is taken.
+#[inline(never)]
 pub(crate) fn push_pieces4(
     out: &mut Vec<u8>,
     stamp: Stamp,

@@ -54,6 +54,7 @@ pub fn push_packets(
 
 /// Puts the packets there that `push_packets` puts for an item with the verdict `Outward` and this IPv4 packet, which is what it
 /// needs of the item.
+#[inline(always)]
 pub fn push_outgoing(
     out: &mut Vec<u8>,
     form: Written,

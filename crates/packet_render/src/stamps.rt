@@ -15,6 +15,7 @@ pub(crate) struct Stamp {
 
 impl Stamp {
     // Puts what stands before a packet of this length behind what `out` holds.
+    #[inline(always)]
     pub(crate) fn push_head(self, out: &mut Vec<u8>, len: usize) -> Result<(), OutOfMemory>
         requires { len ≤ 65575 }
         ensures { IfOk result (λ _. out.new.items ≡ out.old.items ++ packet_head self.form self.seconds self.fraction len) }
@@ -25,6 +26,7 @@ impl Stamp {
     }
 
     // Puts what stands behind such a packet there.
+    #[inline(always)]
     pub(crate) fn push_tail(self, out: &mut Vec<u8>, len: usize) -> Result<(), OutOfMemory>
         requires { len ≤ 65575 }
         ensures { IfOk result (λ _. out.new.items ≡ out.old.items ++ packet_tail self.form len) }

@@ -10,15 +10,15 @@ use aftr_text::Totals;
 use verdict_core::Verdict;
 
 /// The totals with one record more, and its packets.
-pub(crate) fn count_record(totals: &mut Totals, verdict: Verdict, packets: u64)
+pub(crate) fn count_record(totals: &mut Totals, verdict: &Verdict, packets: u64)
     requires within { IsWithin totals.old totals.old.records }
     requires few { totals.old.records < 2 ^ 31 }
     requires packets { packets ≤ 128 }
-    ensures { totals.new ≡ with_record totals.old verdict packets }
+    ensures { totals.new ≡ with_record totals.old verdict.now packets }
 {
     totals.records += 1;
     totals.packets += packets;
-    match verdict {
+    match *verdict {
         Verdict::Held => totals.held += 1,
         Verdict::Drop { .. } => totals.dropped += 1,
         Verdict::Inward { .. } => totals.forwarded += 1,

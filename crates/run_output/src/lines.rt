@@ -28,15 +28,15 @@ pub(crate) fn push_record_line(
     limited: bool,
     number: u32,
     version: u32,
-    verdict: Verdict,
+    verdict: &Verdict,
     packets: u32,
 ) -> Result<(), OutOfMemory>
-    ensures { IfOk result (λ _. string_bytes lines.new ≡ string_bytes lines.old ++ record_text limited number version verdict packets) }
+    ensures { IfOk result (λ _. string_bytes lines.new ≡ string_bytes lines.old ++ record_text limited number version verdict.now packets) }
 {
     if limited {
-        if let Verdict::Drop { why, .. } = verdict {
+        if let Verdict::Drop { why, .. } = *verdict {
             return push_limited_line(lines, number, version, why);
         }
     }
-    push_verdict_line(lines, number, version, verdict, packets)
+    push_verdict_line(lines, number, version, *verdict, packets)
 }

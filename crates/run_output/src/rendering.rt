@@ -215,10 +215,10 @@ fn render_record(
         limited,
         number,
         outcome.version,
-        outcome.verdict,
+        &outcome.verdict,
         count,
     )?;
-    count_record(&mut part.counted, outcome.verdict, u64::from(count));
+    count_record(&mut part.counted, &outcome.verdict, u64::from(count));
     Ok(())
 }
 

@@ -1,7 +1,7 @@
 -- Lemmas on the front of a header that is passed on: its checksum, patched, is the one that is computed anew.
-use Rattle.std.proofs.Common.{◌≡◌, ◌≢◌, refl, ℕ, ◌+◌, ◌-◌, ◌*◌, ◌/◌, ◌%◌, ◌<◌, ◌≤◌, List, [], ◌∷◌, ◌++◌, length, take, drop, Ok, sym, ◌∙◌, ap, subst, arith, slice_index, slice_set, append_assoc}
+use Rattle.std.proofs.Common.{◌≡◌, ◌≢◌, refl, ℕ, ◌+◌, ◌-◌, ◌*◌, ◌/◌, ◌%◌, ◌<◌, ◌≤◌, List, ◌∷◌, ◌++◌, length, Ok, sym, ◌∙◌, ap, subst, arith, slice_index, slice_set, append_assoc}
 use Rattle.std.proofs.lemmas.Bool.{ne_eqb}
-use Rattle.std.proofs.lemmas.List.{get_or_append_left, take_rest}
+use Rattle.std.proofs.lemmas.List.{get_or_append_left}
 use Rattle.aftr_base.specs.Sums.{checksum, folded, patched, sealed, word_sum}
 use Rattle.aftr_base.proofs.SumLemmas.{folded-le, folded_inside, folded_shift}
 use Rattle.ip_codec.specs.Packet4.{Packet4, ip4_of, word}
@@ -41,19 +41,20 @@ patched-above sum was least most small above =
     let terms : (65535 - sum) + (65535 - was) + (was - 256) ≡ left = omega (arith, least, most, small, above) in
     ap (λ n. 65535 - folded n) terms ∙ omega (arith, small, above, folded_some left (λ (e : left ≡ 0). absurd (omega (arith, e, small))))
 
--- the front with less time to live and the patched checksum, and then the rest, is the header that is passed on
-abbrev IsFront : ℕ → ℕ → List ℕ → Type 0
-IsFront ttl sum header =
+-- the header with less time to live and the patched checksum in it is the one that is passed on, whatever stands behind it
+abbrev pub with_front : List ℕ → ℕ → ℕ → List ℕ
+with_front bytes ttl sum = slice_set (slice_set (slice_set bytes 8 ttl) 10 (sum / 256)) 11 (sum % 256)
+
+abbrev IsFront : ℕ → ℕ → List ℕ → List ℕ → Type 0
+IsFront ttl sum behind header =
     slice_index header 8 ≡ ttl + 1 → slice_index header 8 ≤ 255 → slice_index header 9 ≤ 255 → word header 10 ≤ 65535 →
     slice_index header 0 / 16 ≡ 4 → checksum header ≡ 0 →
     sum ≡ patched (word header 10) (slice_index header 8 * 256 + slice_index header 9) (ttl * 256 + slice_index header 9) →
-    (slice_index header 0 ∷ slice_index header 1 ∷ slice_index header 2 ∷ slice_index header 3 ∷ slice_index header 4 ∷ slice_index header 5
-    ∷ slice_index header 6 ∷ slice_index header 7 ∷ ttl ∷ slice_index header 9 ∷ sum / 256 ∷ sum % 256 ∷ []) ++ drop 12 header
-    ≡ sealed (slice_set header 8 ttl) 10
+    with_front (header ++ behind) ttl sum ≡ sealed (slice_set header 8 ttl) 10 ++ behind
 
-front-cells : (a0 a1 a2 a3 a4 a5 a6 a7 a8 a9 a10 a11 : ℕ) (rest : List ℕ) (ttl sum : ℕ) →
-    IsFront ttl sum (a0 ∷ a1 ∷ a2 ∷ a3 ∷ a4 ∷ a5 ∷ a6 ∷ a7 ∷ a8 ∷ a9 ∷ a10 ∷ a11 ∷ rest)
-front-cells a0 a1 a2 a3 a4 a5 a6 a7 a8 a9 a10 a11 rest ttl sum alive ttl_most protocol_most word_most version sums sum_is =
+front-cells : (a0 a1 a2 a3 a4 a5 a6 a7 a8 a9 a10 a11 : ℕ) (rest behind : List ℕ) (ttl sum : ℕ) →
+    IsFront ttl sum behind (a0 ∷ a1 ∷ a2 ∷ a3 ∷ a4 ∷ a5 ∷ a6 ∷ a7 ∷ a8 ∷ a9 ∷ a10 ∷ a11 ∷ rest)
+front-cells a0 a1 a2 a3 a4 a5 a6 a7 a8 a9 a10 a11 rest behind ttl sum alive ttl_most protocol_most word_most version sums sum_is =
     let header = a0 ∷ a1 ∷ a2 ∷ a3 ∷ a4 ∷ a5 ∷ a6 ∷ a7 ∷ a8 ∷ a9 ∷ a10 ∷ a11 ∷ rest in
     let blank = a0 ∷ a1 ∷ a2 ∷ a3 ∷ a4 ∷ a5 ∷ a6 ∷ a7 ∷ ttl ∷ a9 ∷ 0 ∷ 0 ∷ rest in
     let others : ℕ = (a0 * 256 + a1) + ((a2 * 256 + a3) + ((a4 * 256 + a5) + ((a6 * 256 + a7) + word_sum rest))) in
@@ -69,26 +70,23 @@ front-cells a0 a1 a2 a3 a4 a5 a6 a7 a8 a9 a10 a11 rest ttl sum alive ttl_most pr
     sum_is
     ∙ patched-same others was now old (omega arith) word_most some (omega (arith, alive)) full
     ∙ ap (λ n. 65535 - folded n) (sym sum_blank) in
-    ap (λ n. a0 ∷ a1 ∷ a2 ∷ a3 ∷ a4 ∷ a5 ∷ a6 ∷ a7 ∷ ttl ∷ a9 ∷ n / 256 ∷ n % 256 ∷ rest) new_is
+    ap (λ n. a0 ∷ a1 ∷ a2 ∷ a3 ∷ a4 ∷ a5 ∷ a6 ∷ a7 ∷ ttl ∷ a9 ∷ n / 256 ∷ n % 256 ∷ (rest ++ behind)) new_is
 
-front : (header : List ℕ) (ttl sum : ℕ) → 20 ≤ length header → IsFront ttl sum header
-front header ttl sum least =
+front : (header behind : List ℕ) (ttl sum : ℕ) → 20 ≤ length header → IsFront ttl sum behind header
+front header behind ttl sum least =
     let p = four header (omega arith) in
     let q = four p.rest (omega (arith, p.len)) in
     let r = four q.rest (omega (arith, p.len, q.len)) in
     let cells : header ≡ p.a ∷ p.b ∷ p.c ∷ p.d ∷ q.a ∷ q.b ∷ q.c ∷ q.d ∷ r.a ∷ r.b ∷ r.c ∷ r.d ∷ r.rest =
     p.is ∙ ap (λ l. p.a ∷ p.b ∷ p.c ∷ p.d ∷ l) (q.is ∙ ap (λ l. q.a ∷ q.b ∷ q.c ∷ q.d ∷ l) r.is) in
-    subst (λ l. IsFront ttl sum l) (sym cells) (front-cells p.a p.b p.c p.d q.a q.b q.c q.d r.a r.b r.c r.d r.rest ttl sum)
+    subst (λ l. IsFront ttl sum behind l) (sym cells) (front-cells p.a p.b p.c p.d q.a q.b q.c q.d r.a r.b r.c r.d r.rest behind ttl sum)
 
 -- the same of a packet that is read
-pub front-lowered : (packet : Packet4) (sum : ℕ) → ip4_of (packet.header ++ packet.payload) ≡ Ok packet → 1 ≤ packet.ttl →
+pub front-lowered : (packet : Packet4) (behind : List ℕ) (sum : ℕ) → ip4_of (packet.header ++ packet.payload) ≡ Ok packet → 1 ≤ packet.ttl →
     packet.ttl ≤ 255 → packet.protocol ≤ 255 → word packet.header 10 ≤ 65535 →
     sum ≡ patched (word packet.header 10) (packet.ttl * 256 + packet.protocol) ((packet.ttl - 1) * 256 + packet.protocol) →
-    (slice_index packet.header 0 ∷ slice_index packet.header 1 ∷ slice_index packet.header 2 ∷ slice_index packet.header 3
-    ∷ slice_index packet.header 4 ∷ slice_index packet.header 5 ∷ slice_index packet.header 6 ∷ slice_index packet.header 7
-    ∷ (packet.ttl - 1) ∷ packet.protocol ∷ sum / 256 ∷ sum % 256 ∷ []) ++ drop 12 packet.header
-    ≡ lowered_header packet
-front-lowered packet sum is alive ttl_most protocol_most word_most sum_is =
+    with_front (packet.header ++ behind) (packet.ttl - 1) sum ≡ lowered_header packet ++ behind
+front-lowered packet behind sum is alive ttl_most protocol_most word_most sum_is =
     let header = packet.header in
     let payload = packet.payload in
     let spelt = ip4_of-Ok (header ++ payload) packet is in
@@ -104,20 +102,8 @@ front-lowered packet sum is alive ttl_most protocol_most word_most sum_is =
     let patch_is : sum ≡ patched old (slice_index header 8 * 256 + slice_index header 9) ((packet.ttl - 1) * 256 + slice_index header 9) =
     sum_is ∙ ap (λ n. patched old (n * 256 + packet.protocol) ((packet.ttl - 1) * 256 + packet.protocol)) (sym ttl_is)
     ∙ ap (λ n. patched old (slice_index header 8 * 256 + n) ((packet.ttl - 1) * 256 + n)) (sym protocol_is) in
-    ap (λ n. (slice_index header 0 ∷ slice_index header 1 ∷ slice_index header 2 ∷ slice_index header 3 ∷ slice_index header 4 ∷ slice_index header 5
-    ∷ slice_index header 6 ∷ slice_index header 7 ∷ (packet.ttl - 1) ∷ n ∷ sum / 256 ∷ sum % 256 ∷ []) ++ drop 12 header) (sym protocol_is)
-    ∙ front header (packet.ttl - 1) sum shaped.least_header (omega (arith, ttl_is)) (omega (arith, ttl_is)) (omega (arith, protocol_is)) word_most
+    front header behind (packet.ttl - 1) sum shaped.least_header (omega (arith, ttl_is)) (omega (arith, ttl_is)) (omega (arith, protocol_is)) word_most
     version sums patch_is
-
--- the front and the rest of the header were pushed
-pub header-pushed : (out out1 out2 front header whole : List ℕ) → front ++ drop 12 header ≡ whole →
-    out1 ≡ out ++ front → out2 ≡ out1 ++ take (length header - 12) (drop 12 header) → out2 ≡ out ++ whole
-header-pushed out out1 out2 front header whole whole_is is1 is2 =
-    is2
-    ∙ ap (λ l. l ++ take (length header - 12) (drop 12 header)) is1
-    ∙ ap (λ l. (out ++ front) ++ l) (take_rest header 12)
-    ∙ append_assoc out front (drop 12 header)
-    ∙ ap (λ l. out ++ l) whole_is
 
 -- a header and a payload were pushed
 pub payload-pushed : (out out1 out2 whole payload : List ℕ) → out1 ≡ out ++ whole → out2 ≡ out1 ++ payload → out2 ≡ out ++ (whole ++ payload)

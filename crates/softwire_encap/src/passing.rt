@@ -8,10 +8,10 @@ use aftr_base::{Bytes, OutOfMemory, be16};
 use ip_codec::Ip4View;
 use std::alloc::Global;
 
-// Where the checksum stands in a header, and what stands behind it (RFC 791, section 3.1).
-const CHECKSUM: usize = 10;
+// Where the time to live and the checksum stand in a header (RFC 791, section 3.1).
+const TTL: usize = 8;
 
-const ADDRESSES: usize = 12;
+const CHECKSUM: usize = 10;
 
 // How many bytes a header has without options, and how many at most (RFC 791, section 3.1).
 const PLAIN_HEADER: usize = 20;
@@ -34,6 +34,7 @@ pub fn lower(alloc: Global, p: &Ip4View<'_>) -> Result<Bytes, OutOfMemory>
 }
 
 /// Puts the packet that `lower` makes behind what `out` holds. After an `Err` some of it may stand there.
+#[inline(always)]
 pub fn push_lowered(out: &mut Vec<u8>, p: &Ip4View<'_>) -> Result<(), OutOfMemory>
     requires whole { ip4_of (p.now.header.now ++ p.now.payload.now) ≡ Ok (packet4 p.now) }
     requires alive { 1 ≤ p.now.ttl }
@@ -46,35 +47,39 @@ pub fn push_lowered(out: &mut Vec<u8>, p: &Ip4View<'_>) -> Result<(), OutOfMemor
     Ok(())
 }
 
-// Puts the header of that packet there: at once where it has no options, as most have none.
+// Puts the header of that packet there. One without options, as most are, has a length that the compiler knows. All is inlined
+// that takes the view, whose fields then need not stand in memory.
+#[inline(always)]
 fn push_lowered_header(out: &mut Vec<u8>, p: &Ip4View<'_>) -> Result<(), OutOfMemory>
     requires whole { ip4_of (p.now.header.now ++ p.now.payload.now) ≡ Ok (packet4 p.now) }
     requires alive { 1 ≤ p.now.ttl }
     ensures { IfOk result (λ _. out.new.items ≡ out.old.items ++ lowered_header (packet4 p.now)) }
 {
-    let front = lowered_front(p);
     if p.header.len() == PLAIN_HEADER {
-        out.extend_from_slice(&plain_header(&front, &p.header[ADDRESSES..]))?;
+        out.extend_from_slice(&plain_header(p))?;
         return Ok(());
     }
-    out.extend_from_slice(&front)?;
-    out.extend_from_slice(&p.header[ADDRESSES..])?;
+    out.extend_from_slice(&lowered_header(p)[..p.header.len()])?;
     Ok(())
 }
 
-// A header without options of its two parts.
-fn plain_header(front: &[u8; 12], addresses: &[u8]) -> [u8; 20]
-    requires { length addresses.now ≡ 8 }
-    ensures { result ≡ front.now ++ addresses.now }
+// That header where it has no options.
+#[inline(always)]
+fn plain_header(p: &Ip4View<'_>) -> [u8; 20]
+    requires whole { ip4_of (p.now.header.now ++ p.now.payload.now) ≡ Ok (packet4 p.now) }
+    requires alive { 1 ≤ p.now.ttl }
+    requires plain { length p.now.header.now ≡ 20 }
+    ensures { result ≡ lowered_header (packet4 p.now) }
 {
     let mut bytes = [0; PLAIN_HEADER];
-    bytes[..ADDRESSES].copy_from_slice(front);
-    bytes[ADDRESSES..].copy_from_slice(addresses);
+    bytes.copy_from_slice(&p.header[..PLAIN_HEADER]);
+    lower_front(&mut bytes, p);
     bytes
 }
 
 /// The header of the packet that `lower` makes, in front of 60 bytes; it has as many as that of `p`. So a packet that is not put
 /// together can be cut.
+#[inline(always)]
 pub fn lowered_header(p: &Ip4View<'_>) -> [u8; 60]
     requires whole { ip4_of (p.now.header.now ++ p.now.payload.now) ≡ Ok (packet4 p.now) }
     requires alive { 1 ≤ p.now.ttl }
@@ -83,41 +88,30 @@ pub fn lowered_header(p: &Ip4View<'_>) -> [u8; 60]
     ensures { take (length p.now.header.now) result ≡ lowered_header (packet4 p.now) }
 {
     let mut bytes = [0; MOST_HEADER];
-    put_parts(&mut bytes, &lowered_front(p), &p.header[ADDRESSES..]);
+    bytes[..p.header.len()].copy_from_slice(p.header);
+    lower_front(&mut bytes, p);
     bytes
 }
 
-// Puts two lists into the front of one.
-fn put_parts(bytes: &mut [u8; 60], first: &[u8], second: &[u8])
-    requires first { length first.now ≡ 12 }
-    requires second { length second.now ≤ 48 }
-    ensures { take (12 + length second.now) bytes.new ≡ first.now ++ second.now }
-{
-    bytes[..ADDRESSES].copy_from_slice(first);
-    bytes[ADDRESSES..ADDRESSES + second.len()].copy_from_slice(second);
-}
-
-// What stands before the addresses, with the time to live one less, and the checksum patched for that.
-fn lowered_front(p: &Ip4View<'_>) -> [u8; 12]
+// Makes the time to live one less in the packet's header, which these bytes begin with, and patches the checksum for that.
+#[inline(always)]
+fn lower_front(bytes: &mut [u8], p: &Ip4View<'_>)
     requires whole { ip4_of (p.now.header.now ++ p.now.payload.now) ≡ Ok (packet4 p.now) }
     requires alive { 1 ≤ p.now.ttl }
     requires least { 20 ≤ length p.now.header.now }
-    ensures bytes { result ++ drop 12 p.now.header.now ≡ lowered_header (packet4 p.now) }
-    ensures behind { 12 ≤ length p.now.header.now }
+    requires begun { bytes.old ≡ p.now.header.now ++ drop (length p.now.header.now) bytes.old }
+    ensures { bytes.new ≡ lowered_header (packet4 p.now) ++ drop (length p.now.header.now) bytes.old }
 {
-    let header = p.header;
     let ttl = p.ttl - 1;
-    let sum = patched_sum(be16(header, CHECKSUM));
-    let high = (sum / 256) as u8;
-    let low = (sum % 256) as u8;
-    [
-        header[0], header[1], header[2], header[3], header[4], header[5], header[6], header[7],
-        ttl, p.protocol, high, low,
-    ]
+    let sum = patched_sum(be16(p.header, CHECKSUM));
+    bytes[TTL] = ttl;
+    bytes[CHECKSUM] = (sum / 256) as u8;
+    bytes[CHECKSUM + 1] = (sum % 256) as u8;
 }
 
 // The checksum once the word of the time to live is 256 less. For a header that sums up it is the one that is computed anew (RFC
 // 1624, section 3); of the two forms of zero it is 0.
+#[inline(always)]
 fn patched_sum(sum: u16) -> u16
     ensures { (was : ℕ) → 256 ≤ was → was ≤ 65535 → result ≡ patched sum was (was - 256) }
 {
