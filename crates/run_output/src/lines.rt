@@ -9,6 +9,7 @@ use verdict_core::Verdict;
 
 /// Puts the lines of datagrams that ended unfinished behind others: those whose time was up, or those that the capture's
 /// end left. After an error a part of them may stand there.
+#[inline(always)]
 pub fn push_ended_lines(
     lines: &mut String,
     expired: bool,

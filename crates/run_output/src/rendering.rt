@@ -249,6 +249,37 @@ fn push_sent(
         let count = push_out(packets, round, index, rec, mtu)?;
         return Ok(count);
     }
+    push_item(
+        packets,
+        round,
+        number,
+        index,
+        rec.seconds,
+        rec.fraction,
+        verdict,
+    )
+}
+
+// Puts the packets of a record there by its item. Nothing of it is made for a packet that goes out, so it stands apart.
+#[inline(never)]
+fn push_item(
+    packets: &mut Vec<u8>,
+    round: &Round<'_>,
+    number: u32,
+    index: usize,
+    seconds: u32,
+    fraction: u32,
+    verdict: &Verdict,
+) -> Result<u32, OutOfMemory>
+    requires inside { index < length round.now.records.now }
+    requires fits { FitsAt round.now.items.now index verdict.now }
+    requires room { HasRoom verdict.now }
+    ensures bytes { IfOk result (λ _. (i : Item) → slice_get (items_in round.now.items.now) index ≡ Some i → packets.new.items ≡ packets.old.items
+        ++ flat_map (packet_bytes round.now.written seconds fraction) (sent i verdict.now number)) }
+    ensures count { IfOk result (λ count. (i : Item) → slice_get (items_in round.now.items.now) index ≡ Some i →
+        count ≡ length (sent i verdict.now number)) }
+    ensures few { IfOk result (λ count. count ≤ 128) }
+{
     let item = round.items.item(index);
     let count = push_packets(
         packets,
@@ -256,8 +287,8 @@ fn push_sent(
         &item,
         verdict,
         number,
-        rec.seconds,
-        rec.fraction,
+        seconds,
+        fraction,
     )?;
     Ok(count)
 }
