@@ -81,7 +81,7 @@ impl OutcomeList {
         ensures reads { OnlyReads seat.old seat.new }
         ensures rises { AsksTable (seen item.now) → seat.old.known.reads + 1 ≤ seat.new.known.reads }
     {
-        let last = self.numbers.len();
+        let last = self.outcomes.len();
         self.numbers.push_reserved(number);
         self.outcomes.push_reserved(Outcome {
             number,
