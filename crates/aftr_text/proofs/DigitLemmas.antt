@@ -1,15 +1,13 @@
 -- Numbers of one digit.
-use Rattle.std.proofs.Common.{◌≡◌, ℕ, ◌+◌, ◌<◌, List, [], ◌∷◌, ◌++◌, codes, sym, ◌∙◌, ap}
-use Rattle.std.specs.Prelude.{decimal}
+use Rattle.std.proofs.Common.{◌≡◌, ℕ, ◌+◌, ◌<◌, List, [], ◌∷◌, ◌++◌, codes, Result, subst, sym, ◌∙◌, ap, arith}
+use Rattle.std.specs.Prelude.{IfOk, decimal}
 use Rattle.std.proofs.lemmas.Fmt.{decimal_digit}
 
-pub of_digit : (n k : ℕ) → n ≡ k → k < 10 → (48 + k) ∷ [] ≡ decimal n
-of_digit n k is less = sym (decimal_digit k less) ∙ ap decimal (sym is)
+-- the number of a digit that was put behind a text
+pub one_digit : {A E : Type 0} (r : Result A E) (old after : List ℕ) (n : ℕ) → n < 10 → IfOk r (λ _. after ≡ old ++ (48 + n) ∷ [])
+    → IfOk r (λ _. after ≡ old ++ decimal n)
+one_digit r old after n less added = subst (λ (l : List ℕ). IfOk r (λ _. after ≡ old ++ l)) (sym (decimal_digit n less)) added
 
--- behind a blank
-pub of_next_digit : (n k : ℕ) → n ≡ k → k < 10 → 32 ∷ (48 + k) ∷ [] ≡ codes " " ++ decimal n
-of_next_digit n k is less = ap (λ (l : List ℕ). 32 ∷ l) (of_digit n k is less)
-
--- at the end of a line
-pub of_last_digit : (n k : ℕ) → n ≡ k → k < 10 → (48 + k) ∷ 10 ∷ [] ≡ decimal n ++ codes "\n"
-of_last_digit n k is less = ap (λ (l : List ℕ). l ++ 10 ∷ []) (of_digit n k is less)
+-- one packet, at the end of a line
+pub of_one : (n : ℕ) → n ≡ 1 → codes "1\n" ≡ decimal n ++ codes "\n"
+of_one n is = ap (λ (l : List ℕ). l ++ codes "\n") (sym (decimal_digit 1 (omega arith)) ∙ ap decimal (sym is))

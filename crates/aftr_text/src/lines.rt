@@ -3,7 +3,7 @@ ghost use Rattle.std.specs.Prelude.{◌≡◌, ◌++◌, IfOk, codes, decimal, s
 ghost use Rattle.ip_codec.specs.Rules.{name_of};
 ghost use Rattle.aftr_text.specs.Lines.{ended_text, limited_text, outcome, verdict_text};
 
-use crate::numbers::{push_count, push_last_number, push_next_number, push_number};
+use crate::numbers::{push_count, push_last_number, push_next_number, push_record_number};
 use aftr_base::{OutOfMemory, Text};
 use ip_codec::Rule;
 use std::alloc::Global;
@@ -43,6 +43,9 @@ pub fn push_verdict_line(
     ensures { IfOk result (λ _. string_bytes text.new ≡ string_bytes text.old ++ verdict_text number version verdict packets) }
 {
     push_judged(text, number, version)?;
+    if packets == 1 {
+        return push_once(text, verdict);
+    }
     push_outcome(text, verdict)?;
     push_last_number(text, u64::from(packets))?;
     Ok(())
@@ -52,8 +55,28 @@ pub fn push_verdict_line(
 fn push_judged(text: &mut String, number: u32, version: u32) -> Result<(), OutOfMemory>
     ensures { IfOk result (λ _. string_bytes text.new ≡ string_bytes text.old ++ decimal number ++ codes " " ++ decimal version) }
 {
-    push_number(text, u64::from(number))?;
+    push_record_number(text, number)?;
     push_next_number(text, u64::from(version))?;
+    Ok(())
+}
+
+// What became of a record for which one packet was written, and the end of its line. Most packets that are forwarded go out
+// as one, and then it is one piece.
+#[inline(always)]
+fn push_once(text: &mut String, verdict: Verdict) -> Result<(), OutOfMemory>
+    ensures { IfOk result (λ _. string_bytes text.new ≡ string_bytes text.old ++ ((codes " " ++ outcome verdict ++ codes " ") ++ codes "1\n")) }
+{
+    match verdict {
+        Verdict::Held => text.push_str(" held 1\n")?,
+        Verdict::Outward { .. } => text.push_str(" up 1\n")?,
+        Verdict::Inward { back, .. } => {
+            text.push_str(if back { " hairpin 1\n" } else { " down 1\n" })?
+        }
+        Verdict::Drop { why, .. } => {
+            push_rule(text, why)?;
+            text.push_str("1\n")?
+        }
+    }
     Ok(())
 }
 

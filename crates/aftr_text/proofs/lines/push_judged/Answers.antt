@@ -4,7 +4,6 @@ use Rattle.aftr_text.proofs.lines.push_judged.Goals as goal
 pub returns : goal.returns
 returns c =
     c.in_ok-push_next_number.ensures
-    ∙ ap (λ (n : ℕ). string_bytes c.push_number.new.line ++ (codes " " ++ decimal n)) c.from-2.ensures
-    ∙ sym (append_assoc (string_bytes c.push_number.new.line) (codes " ") (decimal c.args.version))
-    ∙ ap (λ l. l ++ codes " " ++ decimal c.args.version) c.in_ok-push_number.ensures
-    ∙ ap (λ (n : ℕ). string_bytes c.args.text.now ++ decimal n ++ codes " " ++ decimal c.args.version) c.from.ensures
+    ∙ ap (λ (n : ℕ). string_bytes c.push_record_number.new.line ++ (codes " " ++ decimal n)) c.from.ensures
+    ∙ sym (append_assoc (string_bytes c.push_record_number.new.line) (codes " ") (decimal c.args.version))
+    ∙ ap (λ l. l ++ codes " " ++ decimal c.args.version) c.in_ok-push_record_number.ensures
