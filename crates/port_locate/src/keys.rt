@@ -1,9 +1,9 @@
 // What a packet asks of the binding table.
-ghost use Rattle.std.specs.Prelude.{◌≡◌, ◌≢◌, ◌+◌, ◌≤◌};
+ghost use Rattle.std.specs.Prelude.{◌≡◌, ◌≢◌, ◌+◌, ◌≤◌, false};
 ghost use Rattle.icmp_codec.specs.Message4.{icmp4_of};
 ghost use Rattle.icmp_codec.specs.Quoted.{embedded_packet};
-ghost use Rattle.ip_codec.specs.Packet4.{packet4};
-ghost use Rattle.port_locate.specs.Keys.{destination_at, downstream_key, has_ports, icmp_key, identifier_want, key_at, key_of, plain_want, quoted_want, source_at, upstream_key};
+ghost use Rattle.ip_codec.specs.Packet4.{packet4, is_fragment};
+ghost use Rattle.port_locate.specs.Keys.{destination_at, downstream_key, has_ports, icmp_key, identifier_want, key_at, key_of, plain_want, port_want, quoted_want, source_at, upstream_key};
 
 use aftr_base::be16;
 use binding_rules::Want;
@@ -24,6 +24,10 @@ pub enum Key {
 }
 
 const ICMP: u8 = 1;
+
+const TCP: u8 = 6;
+
+const UDP: u8 = 17;
 
 // The two ports, of 16 bits each.
 const PORTS_LEN: usize = 4;
@@ -81,6 +85,22 @@ fn key_at(p: &Ip4View<'_>, at: usize, quoted_at: usize) -> Key
     if p.is_fragment() {
         return Key::NoPort;
     }
+    // Nearly every packet is of these two: asked for by themselves they take two compares, and no jump by a table.
+    if p.protocol == UDP || p.protocol == TCP {
+        return key_of(port_want(p.payload, at));
+    }
+    seldom_key(p, at, quoted_at)
+}
+
+// The key of a packet that is no fragment, whatever its protocol.
+#[cold]
+#[inline(never)]
+fn seldom_key(p: &Ip4View<'_>, at: usize, quoted_at: usize) -> Key
+    requires whole { is_fragment (packet4 p.now) ≡ false }
+    requires within { at ≤ 2 }
+    requires quoted_within { quoted_at ≤ 2 }
+    ensures { result ≡ key_at at quoted_at (packet4 p.now) }
+{
     if p.protocol == ICMP {
         return icmp_key(p.payload, quoted_at);
     }
@@ -142,6 +162,14 @@ fn plain_want(protocol: u8, payload: &[u8], at: usize) -> Option<Want>
     if !has_ports(protocol) {
         return Some(Want::Whole);
     }
+    port_want(payload, at)
+}
+
+// The port at a place of a payload that begins with two ports.
+fn port_want(payload: &[u8], at: usize) -> Option<Want>
+    requires { at ≤ 2 }
+    ensures { result ≡ port_want payload.now at }
+{
     if payload.len() < PORTS_LEN {
         return None;
     }
