@@ -1,6 +1,7 @@
 -- The limit, asked record by record.
-use Rattle.std.proofs.Common.{◌≡◌, ℕ, zero, suc, Bool, true, false, not, if◌then◌else◌, List, [], ◌∷◌, ◌++◌, length, drop, get_or, Option, Some, slice_get, sym, ◌∙◌, ap, refl, subst, append_assoc, append-nil}
-use Rattle.std.specs.Prelude.{replicate}
+use Rattle.std.proofs.Common.{◌≡◌, ℕ, zero, suc, Bool, true, false, not, if◌then◌else◌, List, [], ◌∷◌, ◌++◌, length, drop, get_or, Option, Some, None, slice_get, sym, ◌∙◌, ap, refl, subst, append_assoc, append-nil}
+use Rattle.std.proofs.Math.Seq.{drop-length}
+use Rattle.std.specs.Prelude.{is_some, replicate}
 use Rattle.capture_io.specs.Record.{nanoseconds}
 use Rattle.capture_io.specs.declared.forms.Form.{Form}
 use Rattle.capture_io.specs.declared.forms.Rec.{Rec}
@@ -117,3 +118,48 @@ pub asked_back : (limit : Option Bucket) (b new : Bucket) (result : Bool) (time 
 asked_back limit b new result time is passes times sent asked =
     subst (λ (k : Bool). Stands new (times ++ time ∷ []) (sent ++ k ∷ [])) (sym (not_not result))
     (passes times sent (subst (λ (l : Option Bucket). WasAsked l times sent) is asked))
+
+-- Without a limit no error is kept back: one record more, by whether it has an error ..
+one_kept : (form : Form) (r : Rec) (o : Outcome) (rs : List Rec) (os : List Outcome) (later : List Bool) (error : Bool) → tells o.verdict ≡ error →
+    replicate (length os) false ≡ limited_by os (replicate (length (times_by form rs os)) true ++ later) →
+    replicate (length (o ∷ os)) false ≡ limited_by (o ∷ os) (replicate (length (times_by form (r ∷ rs) (o ∷ os))) true ++ later)
+one_kept form r o rs os later error is rest = subst Kept (sym is) (by error) where
+  Kept : Bool → Type 0
+  Kept error =
+      let sent : List Bool = replicate (length (time_if error (nanoseconds form r.seconds r.fraction) ++ times_by form rs os)) true ++ later in
+      (false ∷ replicate (length os) false)
+      ≡ ((if error then not (get_or sent 0 true) else false) ∷ limited_by os (if error then drop 1 sent else sent))
+
+  by : (error : Bool) → Kept error
+  by true = ap (λ (l : List Bool). false ∷ l) rest
+  by false = ap (λ (l : List Bool). false ∷ l) rest
+
+-- .. and all records
+none_kept : (form : Form) (rs : List Rec) (os : List Outcome) → length os ≡ length rs → (later : List Bool) →
+    replicate (length os) false ≡ limited_by os (replicate (length (times_by form rs os)) true ++ later)
+none_kept form rs [] same later = refl
+none_kept form [] (o ∷ os) same later = absurd (cc same)
+none_kept form (r ∷ rs) (o ∷ os) same later = one_kept form r o rs os later (tells o.verdict) refl (none_kept form rs os (cc same) later)
+
+all_sent : (times told : List ℕ) → replicate (length times) true ++ replicate (length told) true ≡ replicate (length (times ++ told)) true
+all_sent [] told = refl
+all_sent (t ∷ times) told = ap (λ (l : List Bool). true ∷ l) (all_sent times told)
+
+no_times : (form : Form) (left : List Rec) (times : List ℕ) → times ++ times_by form left [] ≡ times
+no_times form [] times = append-nil times
+no_times form (r ∷ left) times = append-nil times
+
+pub none_marked : (form : Form) (rs : List Rec) (os : List Outcome) (limit : Option Bucket) (limited : List Bool) → is_some limit ≡ false →
+    length os ≡ length rs → limited ≡ replicate (length os) false → HasMarked form rs os (length os) limit limit limited
+none_marked form rs os None limited none same is = λ times sent asked.
+    let told : List ℕ = times_by form rs os in
+    record {
+      told = told;
+      news = replicate (length told) true;
+      asked = ap (λ (l : List Bool). l ++ replicate (length told) true) asked ∙ all_sent times told;
+      told_left = ap (λ (l : List Outcome). told ++ times_by form (drop (length os) rs) l) (drop-length os) ∙ no_times form (drop (length os) rs) told;
+      limited_left = λ later.
+          ap (λ (l : List Outcome). limited ++ limited_by l later) (drop-length os) ∙ append-nil limited
+          ∙ is ∙ none_kept form rs os same later;
+    }
+none_marked form rs os (Some b) limited none same is = absurd (cc none)

@@ -1,5 +1,5 @@
 // The limit on errors, asked record by record.
-ghost use Rattle.std.specs.Prelude.{◌≡◌, ◌≤◌, ◌++◌, IfOk, IfSome, IsTrue, Bool, List, ℕ, [], ◌∷◌, length, false, not, true};
+ghost use Rattle.std.specs.Prelude.{◌≡◌, ◌≤◌, ◌++◌, IfOk, IfSome, IsTrue, Bool, List, ℕ, [], ◌∷◌, length, false, not, replicate, true};
 ghost use Rattle.capture_io.specs.declared.forms.Form.{Form as CaptureForm};
 ghost use Rattle.run_output.specs.Cells.{HasMarked};
 ghost use Rattle.run_output.specs.Limiting.{HasAsked, WasAsked, rate_of, tells};
@@ -37,6 +37,10 @@ pub(crate) fn mark_limited(
     ensures count { IfOk result (λ _. length limited.new.items ≡ length outcomes.now) }
     ensures rate { rate_of limit.new ≡ rate_of limit.old }
 {
+    if limit.is_none() {
+        mark_none(outcomes.len(), limited)?;
+        return Ok(());
+    }
     limited.clear();
     let mut i = 0;
     'records: while i < outcomes.len() {
@@ -45,6 +49,15 @@ pub(crate) fn mark_limited(
         limited.push(is_kept_back(limit, outcomes.get(i).verdict, time))?;
         i += 1;
     }
+    Ok(())
+}
+
+// Marks none of so many records, since without a limit no error is kept back.
+fn mark_none(count: usize, limited: &mut Vec<bool>) -> Result<(), OutOfMemory>
+    ensures { IfOk result (λ _. limited.new.items ≡ replicate count false) }
+{
+    limited.clear();
+    limited.resize(count, false)?;
     Ok(())
 }
 

@@ -1,10 +1,10 @@
-use Rattle.std.proofs.Common.{◌≡◌, ℕ, suc, ◌+◌, ◌++◌, Bool, [], ◌∷◌, List, not, true, sym, ◌∙◌, ap, refl, subst, arith, length-append}
-use Rattle.std.specs.Prelude.{length}
+use Rattle.std.proofs.Common.{◌≡◌, ℕ, suc, ◌+◌, ◌++◌, Bool, false, [], ◌∷◌, List, not, true, sym, ◌∙◌, ap, refl, subst, arith, length-append}
+use Rattle.std.specs.Prelude.{length, replicate}
 use Rattle.capture_io.specs.Records as records
 use Rattle.run_output.specs.Cells.{HasMarked}
 use Rattle.run_output.specs.Limiting.{WasAsked, tells}
 use Rattle.worker_gate.specs.declared.outcomes.Outcome.{Outcome}
-use Rattle.run_output.proofs.MarkLemmas.{marked_first, marked_more}
+use Rattle.run_output.proofs.MarkLemmas.{marked_first, marked_more, none_marked}
 use Rattle.run_output.proofs.limits.mark_limited.Goals as goal
 
 pub records-init : goal.records-init
@@ -35,3 +35,8 @@ records-preserved c =
       count = omega (arith, ap length c.in_ok-push.ensures.items, length-append c.records.limited.items (c.is_kept_back.result ∷ []), c.records.invariant.count);
       rate = c.is_kept_back.ensures.rate ∙ c.records.invariant.rate;
     }
+
+pub returns-then-is_none-clause-marked : goal.returns-then-is_none-clause-marked
+returns-then-is_none-clause-marked c =
+    none_marked c.args.form c.args.records.now c.args.outcomes.now c.args.limit.now c.mark_none.new.limited.items (c.is_none.ensures ∙ ap not c.if-is_none.true)
+    c.requires.same (c.in_ok-mark_none.ensures ∙ ap (λ (n : ℕ). replicate n false) c.len.ensures)
