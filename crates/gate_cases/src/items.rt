@@ -22,8 +22,8 @@ impl<'a> RoundItems for Alike<'a> {
         self.count
     }
 
-    fn item(&self, _index: usize) -> ItemView<'_> {
-        self.item
+    fn item_into<'b>(&'b self, _index: usize, item: &mut ItemView<'b>) {
+        *item = self.item;
     }
 }
 

@@ -40,6 +40,15 @@ pub(crate) struct Mark {
 }
 
 impl Mark {
+    /// The item, written where the caller keeps it. Few records have a mark.
+    #[cold]
+    #[inline(never)]
+    pub(crate) fn item_into<'a>(&'a self, item: &mut ItemView<'a>)
+        ensures { seen item.new ≡ item_became self.now.became }
+    {
+        *item = self.became.item();
+    }
+
     /// The lane of what it carries on, in the inner row.
     fn inner_lane(&self) -> u8
         ensures { result ≡ mark_lane self.now }
@@ -137,8 +146,7 @@ impl Slot {
 }
 
 impl Became {
-    /// The item. As a call its answer's place would be cleared for each record, also where there is no mark.
-    #[inline(always)]
+    /// The item.
     pub(crate) fn item(&self) -> ItemView<'_>
         ensures { seen result ≡ item_became self.now }
     {

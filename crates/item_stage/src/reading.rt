@@ -14,26 +14,35 @@ use ip_codec::{ItemView, is_ip6, is_plain4, known_ip6, plain_packet};
 
 /// The item of a record's bytes where no other record came, in a capture of this form: a fragment is `Held`. What it
 /// carries is read once, and stands where it was.
-//
-// Most records are one of two kinds, which a few tests tell. Their fields are then read where the answer is made: an answer
-// that is handed on is copied word by word.
 pub fn read_item(form: Form, bytes: &[u8]) -> ItemView<'_>
     ensures { seen result ≡ item_of form bytes.now }
 {
+    let mut item = ItemView::Held;
+    read_item_into(form, bytes, &mut item);
+    item
+}
+
+/// The same, written where the caller keeps it.
+//
+// Most records are one of two kinds, which a few tests tell. Their fields are then read where the item is made: what is handed
+// on as a value is copied word by word, and its place is cleared first.
+pub(crate) fn read_item_into<'a>(form: Form, bytes: &'a [u8], item: &mut ItemView<'a>)
+    ensures { seen item.new ≡ item_of form bytes.now }
+{
     match frame_of(form.link, bytes) {
-        Frame::V6(packet) if carries_plain(packet) => plain_in_tunnel(packet),
-        Frame::V4(packet) if is_plain4(packet) => plain_outside(packet),
-        _ => other_item(form, bytes),
+        Frame::V6(packet) if carries_plain(packet) => plain_in_tunnel(packet, item),
+        Frame::V4(packet) if is_plain4(packet) => plain_outside(packet, item),
+        _ => other_item(form, bytes, item),
     }
 }
 
 // The same of any record.
 #[cold]
 #[inline(never)]
-fn other_item(form: Form, bytes: &[u8]) -> ItemView<'_>
-    ensures { seen result ≡ item_of form bytes.now }
+fn other_item<'a>(form: Form, bytes: &'a [u8], item: &mut ItemView<'a>)
+    ensures { seen item.new ≡ item_of form bytes.now }
 {
-    alone_view(read_alone(form, bytes))
+    *item = alone_view(read_alone(form, bytes));
 }
 
 /// The item of a record by itself: a fragment waits.
@@ -50,26 +59,26 @@ pub(crate) fn alone_view<'a>(alone: Alone<'a>) -> ItemView<'a>
 
 // An IPv4 packet from outside: no fragment, and without options.
 #[inline(always)]
-fn plain_outside(bytes: &[u8]) -> ItemView<'_>
+fn plain_outside<'a>(bytes: &'a [u8], item: &mut ItemView<'a>)
     requires { is_plain (ip4_of bytes.now) ≡ true }
-    ensures { seen result ≡ item_alone (from_outside (ip4_of bytes.now)) }
+    ensures { seen item.new ≡ item_alone (from_outside (ip4_of bytes.now)) }
 {
-    ItemView::Down {
+    *item = ItemView::Down {
         packet: plain_packet(bytes),
-    }
+    };
 }
 
 // An IPv6 packet with such a packet at once behind its fixed header.
 #[inline(always)]
-fn plain_in_tunnel(bytes: &[u8]) -> ItemView<'_>
+fn plain_in_tunnel<'a>(bytes: &'a [u8], item: &mut ItemView<'a>)
     requires { carries_plain (ip6_of bytes.now) ≡ true }
-    ensures { seen result ≡ item_alone (from_tunnel (ip6_of bytes.now)) }
+    ensures { seen item.new ≡ item_alone (from_tunnel (ip6_of bytes.now)) }
 {
     let packet = known_ip6(bytes);
-    ItemView::Up {
+    *item = ItemView::Up {
         outer: outer_fields(&packet),
         inner: plain_packet(packet.body),
-    }
+    };
 }
 
 #[inline(always)]

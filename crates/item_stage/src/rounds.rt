@@ -5,7 +5,7 @@ ghost use Rattle.ip_codec.specs.declared.items.Item.{Item as Whole};
 
 use crate::marks::Slot;
 use crate::packets::{marked_packet, read_known};
-use crate::reading::read_item;
+use crate::reading::read_item_into;
 use capture_io::{Form, Records};
 use ip_codec::{ItemView, ReadPacket};
 use std::marker::Model;
@@ -19,10 +19,21 @@ pub trait RoundItems {
     fn len(&self) -> usize
         ensures { result ≡ length (items self.now) };
 
-    /// One of them; the first has the index 0.
+    /// One of them, written where the caller keeps it: an item has many words, and its place serves for all records. The first
+    /// has the index 0.
+    fn item_into<'a>(&'a self, index: usize, item: &mut ItemView<'a>)
+        requires { index < length (items self.now) }
+        ensures { slice_get (items self.now) index ≡ Some (seen item.new) };
+
+    /// The same as a value.
     fn item(&self, index: usize) -> ItemView<'_>
         requires { index < length (items self.now) }
-        ensures { slice_get (items self.now) index ≡ Some (seen result) };
+        ensures { slice_get (items self.now) index ≡ Some (seen result) }
+    {
+        let mut item = ItemView::Held;
+        self.item_into(index, &mut item);
+        item
+    }
 }
 
 /// The entries of the records that a stage was given, seen as their list. Items are views of the records' bytes; the
@@ -99,10 +110,10 @@ impl<'a> RoundItems for Items<'a> {
         self.records.len()
     }
 
-    fn item(&self, index: usize) -> ItemView<'_> {
+    fn item_into<'b>(&'b self, index: usize, item: &mut ItemView<'b>) {
         match self.marks[index].get() {
-            Some(mark) => mark.became.item(),
-            None => read_item(self.form, self.records.get(index).bytes),
+            Some(mark) => mark.item_into(item),
+            None => read_item_into(self.form, self.records.get(index).bytes, item),
         }
     }
 }

@@ -12,21 +12,24 @@ use crate::outcomes::Stop;
 use crate::worker::Worker;
 use area_swap::Areas;
 use binding_rules::Softwire;
+use ip_codec::ItemView;
 use item_stage::RoundItems;
 use std::marker::Brand;
 use std::sync::Wait;
 use std::sync::ledger::{Blank, Ledger};
 use table_words::Steps;
 
-// Judges the item of a record under the held table, and puts its outcome down.
-fn put_down<S: RoundItems, L: Ledger>(
+// Judges the item of a record under the held table, and puts its outcome down. The item is written to a place that the caller
+// keeps.
+fn put_down<'a, S: RoundItems, L: Ledger>(
     worker: &mut Worker,
     areas: &Areas,
-    items: &S,
+    items: &'a S,
     start: u32,
     settings: &Softwire,
     number: u32,
     version: u32,
+    item: &mut ItemView<'a>,
     steps: &mut Steps<L>,
 )
     requires holding { IsHolding areas.now version settings.now worker.old.seat }
@@ -36,19 +39,19 @@ fn put_down<S: RoundItems, L: Ledger>(
     ensures holding { IsHolding areas.now version settings.now worker.new.seat }
     ensures down { IsPutDown areas.now.plan (S.items items.now) start number version worker.old worker.new }
 {
-    let item = items.item((number - start) as usize);
+    items.item_into((number - start) as usize, item);
     worker.outcomes.put_judged(
         number,
         version,
         areas,
         &mut worker.seat,
         settings,
-        &item,
+        item,
         steps,
     );
 }
 
-// The same for the records of a draw.
+// The same for the records of a draw, with one place for the items of all.
 fn put_run<S: RoundItems, G: Gate, L: Ledger>(
     worker: &mut Worker,
     areas: &Areas,
@@ -69,6 +72,7 @@ fn put_run<S: RoundItems, G: Gate, L: Ledger>(
     ensures holding { IsHolding areas.now version settings.now worker.new.seat }
     ensures down { ArePutDown areas.now.plan (S.items items.now) start first count version worker.old worker.new }
 {
+    let mut item = ItemView::Held;
     'numbers: for i in 0..count {
         gate.pass(first + i, version);
         put_down(
@@ -79,6 +83,7 @@ fn put_run<S: RoundItems, G: Gate, L: Ledger>(
             settings,
             first + i,
             version,
+            &mut item,
             steps,
         );
     }

@@ -17,12 +17,12 @@ returns-clause-down g c =
       verdict = k.verdict;
       outcomes = k.items;
       judged =
-          judged_is c.args.areas.now items c.args.start c.args.number c.args.version s (seen c.item-item.result) k.verdict c.requires.holding.its_areas
-          c.requires.holding.held c.item-item.ensures k.value;
+          judged_is c.args.areas.now items c.args.start c.args.number c.args.version s (seen c.item_into.new.item) k.verdict c.requires.holding.its_areas
+          c.requires.holding.held c.item_into.ensures k.value;
       same_room = k.same_room;
       same_next = refl;
       only_reads = c.put_judged.ensures.reads;
       reads =
-          asked_once items c.args.start c.args.number c.args.version (seen c.item-item.result) s.known.reads c.put_judged.new.seat.known.reads c.item-item.ensures
+          asked_once items c.args.start c.args.number c.args.version (seen c.item_into.new.item) s.known.reads c.put_judged.new.seat.known.reads c.item_into.ensures
           c.put_judged.ensures.reads.rises c.put_judged.ensures.rises;
     }

@@ -2,7 +2,7 @@ use Rattle.std.proofs.Common.{◌∙◌, ap, arith, sym}
 use Rattle.std.specs.Option.{option_map}
 use Rattle.capture_io.specs.Records as records
 use Rattle.item_stage.proofs.MarkLemmas.{item_alone_there, item_by_mark, within_items, within_marks, within_records}
-use Rattle.item_stage.proofs.rounds.ItemsRoundItems.item.Goals as goal
+use Rattle.item_stage.proofs.rounds.ItemsRoundItems.item_into.Goals as goal
 
 pub index-requires : goal.index-requires
 index-requires c =
@@ -25,11 +25,11 @@ returns-in-Some c =
     let inside = c.self.inside in
     item_by_mark inside.form inside.records.now inside.marks.items c.args.self.now c.self.view_is c.self.invariant c.args.index c.index.result.now c.in-Some.mark.now _
     (within_items inside.form inside.records.now inside.marks.items c.args.self.now c.self.view_is c.self.invariant c.args.index c.requires)
-    c.index.ensures (sym (ap (λ o. option_map (λ mark. mark.now) o) c.in-Some.is) ∙ c.get.ensures) c.item.ensures
+    c.index.ensures (sym (ap (λ o. option_map (λ mark. mark.now) o) c.in-Some.is) ∙ c.get.ensures) c.item_into.ensures
 
 pub returns-in-None : goal.returns-in-None
 returns-in-None c =
     let inside = c.self.inside in
     item_alone_there inside.form inside.records.now inside.marks.items c.args.self.now c.self.view_is c.self.invariant c.args.index c.index.result.now (records.seen c.get-in-None.result) _
     (within_items inside.form inside.records.now inside.marks.items c.args.self.now c.self.view_is c.self.invariant c.args.index c.requires)
-    c.index.ensures (sym (ap (λ o. option_map (λ mark. mark.now) o) c.in-None.is) ∙ c.get.ensures) c.get-in-None.ensures c.read_item.ensures
+    c.index.ensures (sym (ap (λ o. option_map (λ mark. mark.now) o) c.in-None.is) ∙ c.get.ensures) c.get-in-None.ensures c.read_item_into.ensures
