@@ -1,11 +1,11 @@
 -- What is kept of a record of which a lane took a fragment, as its entry.
-use Rattle.std.specs.Prelude.{List, [], ◌∷◌, Option, Some, None}
+use Rattle.std.specs.Prelude.{◌≡◌, ℕ, List, [], ◌∷◌, ◌++◌, Option, Some, None}
 use Rattle.capture_io.specs.declared.forms.Form.{Form}
 use Rattle.capture_io.specs.declared.forms.Rec.{Rec}
 use Rattle.ip_codec.specs.declared.items.Item.{Item}
 use Rattle.ip_codec.specs.declared.items.Item.TheVariants as item
 use Rattle.item_stage.specs.Alone.{behind_fragment, item_of, told_item}
-use Rattle.item_stage.specs.Turns.{Turn}
+use Rattle.item_stage.specs.Turns.{Turn, turn}
 use Rattle.item_stage.specs.declared.entries.Entry.{Entry}
 use Rattle.item_stage.specs.declared.marks.Became.{Became}
 use Rattle.item_stage.specs.declared.marks.Became.TheVariants as became
@@ -35,3 +35,9 @@ abbrev pub entries_by : Form → List Rec → List (Option Mark) → List Entry
 entries_by form [] marks = []
 entries_by form (r ∷ rs) [] = []
 entries_by form (r ∷ rs) (mark ∷ marks) = entry_by (item_of form r.bytes) mark ∷ entries_by form rs marks
+
+-- a record went to the lanes, and its mark was put behind those before
+pub record HasMarked (form : Form) (number : ℕ) (r : Rec) (rows next : Rows) (before after : List (Option Mark)) : Type 0 where
+  pub slot : Option Mark
+  pub items : after ≡ before ++ slot ∷ []
+  pub turn : turning next (entry_by (item_of form r.bytes) slot) ≡ turn form rows number r

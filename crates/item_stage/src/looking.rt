@@ -16,6 +16,7 @@ const HEADER6: usize = 40;
 
 /// Whether no lane takes anything of these bytes, as far as the fragment's bits and the number of the next header tell: where
 /// they do not, the record has to be read.
+#[inline(always)]
 pub(crate) fn needs_no_lane(form: Form, bytes: &[u8]) -> bool
     ensures { result ≡ true → needs_lane (alone_of form bytes.now) ≡ false }
 {

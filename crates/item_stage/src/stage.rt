@@ -1,8 +1,8 @@
 // The stage that takes a capture's records.
-ghost use Rattle.std.specs.Prelude.{◌≡◌, ◌+◌, ◌^◌, ◌≤◌, ◌↔◌, List, [], ◌++◌, length, IfOk, IfErr, IsErr};
+ghost use Rattle.std.specs.Prelude.{◌≡◌, ◌+◌, ◌^◌, ◌<◌, ◌≤◌, ◌↔◌, List, [], ◌++◌, length, vec_capacity, IfOk, IfErr, IsErr};
 ghost use Rattle.capture_io.specs.declared.forms.Rec.{Rec as Record};
 ghost use Rattle.item_stage.specs.Items.{entries_of, unfinished_of};
-ghost use Rattle.item_stage.specs.Marks.{entries_by, entry_by, turning};
+ghost use Rattle.item_stage.specs.Marks.{HasMarked, entries_by, entry_by, turning};
 ghost use Rattle.item_stage.specs.Stages.{HasFailed, Stands};
 ghost use Rattle.capture_io.specs.Records.{seen};
 ghost use Rattle.item_stage.specs.Alone.{item_of};
@@ -189,28 +189,55 @@ fn take_all(
     let mut index = 0;
     'records: while index < records.len() {
         let number = number_behind(start, index);
-        marks.push(take_one(alloc, form, rows, number, records.get(index))?)?;
+        mark_one(alloc, form, rows, number, records.get(index), &mut marks)?;
         index += 1;
     }
     Ok(marks)
 }
 
-// Gives one record to the lanes.
-fn take_one(
+// Gives one record to the lanes, and puts its mark behind the others. Most records need no lane.
+#[inline(always)]
+fn mark_one(
     alloc: Global,
     form: Form,
     rows: &mut Rows,
     number: u32,
     view: RecordView<'_>,
-) -> Result<Slot, OutOfMemory>
-    requires { HaveHeaders rows.old }
+    marks: &mut Vec<Slot>,
+) -> Result<(), OutOfMemory>
+    requires headers { HaveHeaders rows.old }
+    requires room { length marks.old.items < vec_capacity marks.old }
     ensures headers { IfOk result (λ _. HaveHeaders rows.new) }
-    ensures turn { IfOk result (λ slot. turning rows.new (entry_by (item_of form (seen view.entry).bytes) slot) ≡ turn form rows.old number (seen view.entry)) }
+    ensures marked { IfOk result (λ _. HasMarked form number (seen view.entry) rows.old rows.new marks.old.items marks.new.items) }
+    ensures room { IfOk result (λ _. vec_capacity marks.new ≡ vec_capacity marks.old) }
 {
     if needs_no_lane(form, view.bytes) {
-        return Ok(Slot::empty());
+        marks.push_reserved(Slot::empty());
+        return Ok(());
     }
-    take_read(alloc, form, rows, number, view)
+    mark_read(alloc, form, rows, number, view, marks)
+}
+
+// The same of a record that has to be read. It puts the mark down itself: where the mark is answered, its place is cleared for
+// each record.
+#[inline(never)]
+fn mark_read(
+    alloc: Global,
+    form: Form,
+    rows: &mut Rows,
+    number: u32,
+    view: RecordView<'_>,
+    marks: &mut Vec<Slot>,
+) -> Result<(), OutOfMemory>
+    requires headers { HaveHeaders rows.old }
+    requires room { length marks.old.items < vec_capacity marks.old }
+    ensures headers { IfOk result (λ _. HaveHeaders rows.new) }
+    ensures marked { IfOk result (λ _. HasMarked form number (seen view.entry) rows.old rows.new marks.old.items marks.new.items) }
+    ensures room { IfOk result (λ _. vec_capacity marks.new ≡ vec_capacity marks.old) }
+{
+    let slot = take_read(alloc, form, rows, number, view)?;
+    marks.push_reserved(slot);
+    Ok(())
 }
 
 // Reads a record, and gives it to the lanes.

@@ -8,6 +8,7 @@ records-init c = (
   omega arith,
   c.requires.headers,
   ap length c.in_ok-marks.ensures.items,
+  omega (arith, c.in_ok-marks.ensures.capacity, c.len.ensures),
   entries_start c.args.form c.args.records.now c.args.rows.now c.args.start c.in_ok-marks.marks.items c.in_ok-marks.ensures.items,
   rows_start c.args.form c.args.records.now c.args.rows.now c.args.start,
 )
@@ -15,12 +16,15 @@ records-init c = (
 pub records-preserved : goal.records-preserved
 records-preserved c =
     let at = c.records in
-    let size : length c.push.new.self.items ≡ length (at.marks.items ++ c.in_ok-take_one.field-0 ∷ []) = ap length c.in_ok-push.ensures.items in (
+    let k = c.in_ok-mark_one.ensures.marked in
+    let now = c.mark_one.new.marks.items in
+    let size : length now ≡ length (at.marks.items ++ k.slot ∷ []) = ap length k.items in (
       omega (arith, c.records-test.true, c.len-in-records.ensures),
-      c.in_ok-take_one.ensures.headers,
-      omega (arith, size, length-append at.marks.items (c.in_ok-take_one.field-0 ∷ []), at.invariant.2),
-      next_entries c.args.form c.args.records.now at.rows c.take_one.new.rows at.marks.items c.push.new.self.items c.in_ok-take_one.field-0 c.args.start at.index c.number_behind-number.result
-          (records.seen c.get.result) c.get.ensures c.in_ok-take_one.ensures.turn c.number_behind-number.ensures _ at.invariant.2 c.in_ok-push.ensures.items at.invariant.3,
-      next_rows c.args.form c.args.records.now at.rows c.take_one.new.rows at.marks.items c.push.new.self.items c.in_ok-take_one.field-0 c.args.start at.index c.number_behind-number.result
-          (records.seen c.get.result) c.get.ensures c.in_ok-take_one.ensures.turn c.number_behind-number.ensures _ at.invariant.4,
+      c.in_ok-mark_one.ensures.headers,
+      omega (arith, size, length-append at.marks.items (k.slot ∷ []), at.invariant.2),
+      omega (arith, at.invariant.3, c.in_ok-mark_one.ensures.room),
+      next_entries c.args.form c.args.records.now at.rows c.mark_one.new.rows at.marks.items now k.slot c.args.start at.index c.number_behind-number.result
+          (records.seen c.get.result) c.get.ensures k.turn c.number_behind-number.ensures _ at.invariant.2 k.items at.invariant.4,
+      next_rows c.args.form c.args.records.now at.rows c.mark_one.new.rows at.marks.items now k.slot c.args.start at.index c.number_behind-number.result
+          (records.seen c.get.result) c.get.ensures k.turn c.number_behind-number.ensures _ at.invariant.5,
     )

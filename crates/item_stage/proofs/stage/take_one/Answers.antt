@@ -1,7 +1,0 @@
-use Rattle.capture_io.specs.Records as records
-use Rattle.item_stage.proofs.LookLemmas.{looked_at}
-use Rattle.item_stage.proofs.stage.take_one.Goals as goal
-
-pub returns-then-needs_no_lane-clause-turn : goal.returns-then-needs_no_lane-clause-turn
-returns-then-needs_no_lane-clause-turn c =
-    looked_at c.args.form c.args.rows.now c.args.number (records.seen c.args.view) c.empty.result c.empty.ensures (c.needs_no_lane.ensures c.if-needs_no_lane.true)
