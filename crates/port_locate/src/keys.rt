@@ -25,16 +25,16 @@ pub enum Key {
 
 const ICMP: u8 = 1;
 
-const TCP: u8 = 6;
+pub(crate) const TCP: u8 = 6;
 
-const UDP: u8 = 17;
+pub(crate) const UDP: u8 = 17;
 
 // The two ports, of 16 bits each.
-const PORTS_LEN: usize = 4;
+pub(crate) const PORTS_LEN: usize = 4;
 
-const SOURCE_PORT: usize = 0;
+pub(crate) const SOURCE_PORT: usize = 0;
 
-const DESTINATION_PORT: usize = 2;
+pub(crate) const DESTINATION_PORT: usize = 2;
 
 // The first part of an ICMP message, with its type at 0 and the identifier of an echo at 4 (RFC 792).
 const ICMP_HEAD_LEN: usize = 8;

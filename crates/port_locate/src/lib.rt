@@ -3,5 +3,7 @@
 #![tactic(auto)]
 
 mod keys;
+mod ports;
 
 pub use keys::{Key, key_down, key_up, quoted_destination, quoted_source};
+pub use ports::{Ports, ports_of};

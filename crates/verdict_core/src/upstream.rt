@@ -3,6 +3,7 @@ ghost use Rattle.std.specs.Prelude.{◌≡◌, ℕ, ◌+◌, ◌*◌, ◌-◌, �
 ghost use Rattle.std.specs.Option.{option_map};
 ghost use Rattle.binding_rules.specs.Tables.{BindingTable, binding_table};
 ghost use Rattle.ip_codec.specs.Packet4.{packet4};
+ghost use Rattle.port_locate.specs.Keys.{downstream_key, upstream_key};
 ghost use Rattle.table_words.specs.Layout.{IsCompiled, AreCompiled};
 ghost use Rattle.table_words.specs.Reads.{read_more};
 ghost use Rattle.verdict_core.specs.Answers.{ends_at, not_sender, silent, too_large, used_up, way_back};
@@ -17,9 +18,9 @@ use crate::answers::{
 use crate::owners::{owner_at, owner_end, read_count};
 use crate::verdicts::Verdict;
 use aftr_base::V6;
-use binding_rules::Softwire;
+use binding_rules::{Softwire, Want};
 use ip_codec::{Ip4Bad, Ip4View, Outer, Rule};
-use port_locate::{Key, key_down, key_up};
+use port_locate::{Key, key_down, key_up, ports_of};
 use std::sync::ledger::Ledger;
 use table_words::{Destination, Steps, Words};
 
@@ -41,13 +42,88 @@ pub fn judge_up<W: Words, L: Ledger>(
     ensures rises { steps.old + 1 ≤ steps.new }
     ensures bound { (t : BindingTable) → IsCompiled t (W.list words.old) → (n : ℕ) → IsLook t n → steps.new ≤ steps.old + judge_with_bound n }
 {
-    let key = key_up(packet);
-    if let Some(why) = up_refusal(settings, outer, key) {
+    // Nearly every packet is whole and of TCP or UDP: one look at it gives both keys, and which they are needs no test.
+    let Some(ports) = ports_of(packet) else {
+        judge_seldom(words, settings, outer, packet, verdict, steps);
+        return;
+    };
+    let source = Key::At(Want::Port(ports.source));
+    let destination = Key::At(Want::Port(ports.destination));
+    judge_by_keys(
+        words,
+        settings,
+        outer,
+        packet,
+        source,
+        destination,
+        verdict,
+        steps,
+    );
+}
+
+// The same, whatever the packet's keys.
+#[cold]
+#[inline(never)]
+fn judge_seldom<W: Words, L: Ledger>(
+    words: &mut W,
+    settings: &Softwire,
+    outer: &Outer,
+    packet: &Ip4View<'_>,
+    verdict: &mut Verdict,
+    steps: &mut Steps<L>,
+)
+    requires { AreCompiled (W.list words.old) }
+    ensures verdict { (t : BindingTable) → IsCompiled t (W.list words.old) →
+        verdict_in (up_lines (binding_table t.edition settings.now t.bindings) outer.now (Ok (packet4 packet.now))) ≡ Some verdict.new }
+    ensures list { W.list words.new ≡ W.list words.old }
+    ensures reads { W.reads words.new ≡ read_more (W.reads words.old) (steps.new - steps.old) }
+    ensures goes { W.goes words.old words.new }
+    ensures rises { steps.old + 1 ≤ steps.new }
+    ensures bound { (t : BindingTable) → IsCompiled t (W.list words.old) → (n : ℕ) → IsLook t n → steps.new ≤ steps.old + judge_with_bound n }
+{
+    let source = key_up(packet);
+    let destination = key_down(packet);
+    judge_by_keys(
+        words,
+        settings,
+        outer,
+        packet,
+        source,
+        destination,
+        verdict,
+        steps,
+    );
+}
+
+// The same by what the packet asks for at its source and at its destination.
+#[inline(always)]
+fn judge_by_keys<W: Words, L: Ledger>(
+    words: &mut W,
+    settings: &Softwire,
+    outer: &Outer,
+    packet: &Ip4View<'_>,
+    source: Key,
+    destination: Key,
+    verdict: &mut Verdict,
+    steps: &mut Steps<L>,
+)
+    requires compiled { AreCompiled (W.list words.old) }
+    requires source { source ≡ upstream_key (packet4 packet.now) }
+    requires destination { destination ≡ downstream_key (packet4 packet.now) }
+    ensures verdict { (t : BindingTable) → IsCompiled t (W.list words.old) →
+        verdict_in (up_lines (binding_table t.edition settings.now t.bindings) outer.now (Ok (packet4 packet.now))) ≡ Some verdict.new }
+    ensures list { W.list words.new ≡ W.list words.old }
+    ensures reads { W.reads words.new ≡ read_more (W.reads words.old) (steps.new - steps.old) }
+    ensures goes { W.goes words.old words.new }
+    ensures rises { steps.old + 1 ≤ steps.new }
+    ensures bound { (t : BindingTable) → IsCompiled t (W.list words.old) → (n : ℕ) → IsLook t n → steps.new ≤ steps.old + judge_with_bound n }
+{
+    if let Some(why) = up_refusal(settings, outer, source) {
         read_count(words, steps);
         drop_silently(why, verdict);
         return;
     }
-    let end = owner_end(words, packet.src, key, steps);
+    let end = owner_end(words, packet.src, source, steps);
     if is_foreign(outer, end) {
         drop_foreign(settings, outer, verdict);
         return;
@@ -56,9 +132,7 @@ pub fn judge_up<W: Words, L: Ledger>(
         drop_used_up(settings, outer, packet, verdict);
         return;
     }
-    let asked = key_down(packet);
-    let destination = owner_at(words, packet.dst, asked, steps);
-    match destination {
+    match owner_at(words, packet.dst, destination, steps) {
         Destination::Unbound => outward(settings, outer, packet, verdict),
         Destination::Unowned => turned_to_nobody(settings, outer, packet, verdict),
         Destination::Owned(to) => turned(settings, outer, packet, to, verdict),

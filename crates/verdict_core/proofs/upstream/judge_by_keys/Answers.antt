@@ -8,22 +8,22 @@ use Rattle.table_words.specs.declared.destination.Destination.TheVariants as des
 use Rattle.table_words.proofs.Laws.{reads_on}
 use Rattle.verdict_core.specs.Answers.{silent}
 use Rattle.verdict_core.proofs.Joins.{its_sender, last_hop, more_hops, none_of, other_sender, up_not_sender, up_out, up_refused, up_turned, up_used_up}
-use Rattle.verdict_core.proofs.upstream.judge_up.Goals as goal
+use Rattle.verdict_core.proofs.upstream.judge_by_keys.Goals as goal
 
 pub returns-in-Some-clause-verdict : goal.returns-in-Some-clause-verdict
 returns-in-Some-clause-verdict g c = λ t h.
-    up_refused (binding_table t.edition c.args.settings.now t.bindings) c.args.outer.now (packet4 c.args.packet.now) _ c.key_up-key.ensures _
+    up_refused (binding_table t.edition c.args.settings.now t.bindings) c.args.outer.now (packet4 c.args.packet.now) _ c.requires.source _
     (c.up_refusal.ensures ∙ ap (option_map silent) c.in-Some.is ∙ ap Some (sym c.drop_silently.ensures))
 
 pub returns-then-is_foreign-clause-verdict : goal.returns-then-is_foreign-clause-verdict
 returns-then-is_foreign-clause-verdict g c = λ t h.
-    up_not_sender (binding_table t.edition c.args.settings.now t.bindings) c.args.outer.now (packet4 c.args.packet.now) _ c.key_up-key.ensures _
+    up_not_sender (binding_table t.edition c.args.settings.now t.bindings) c.args.outer.now (packet4 c.args.packet.now) _ c.requires.source _
     (c.up_refusal.ensures ∙ ap (option_map silent) (none_of _ c.in_default.not-Some)) _ (c.owner_end-end.ensures.answer t h)
     (other_sender c.args.settings.now c.args.outer.now _ (sym c.is_foreign.ensures ∙ c.if-is_foreign.true) ∙ ap Some (sym c.drop_foreign.ensures))
 
 pub returns-then-is_used_up-clause-verdict : goal.returns-then-is_used_up-clause-verdict
 returns-then-is_used_up-clause-verdict g c = λ t h.
-    up_used_up (binding_table t.edition c.args.settings.now t.bindings) c.args.outer.now (packet4 c.args.packet.now) _ c.key_up-key.ensures _
+    up_used_up (binding_table t.edition c.args.settings.now t.bindings) c.args.outer.now (packet4 c.args.packet.now) _ c.requires.source _
     (c.up_refusal.ensures ∙ ap (option_map silent) (none_of _ c.in_default.not-Some)) _ (c.owner_end-end.ensures.answer t h)
     (its_sender c.args.settings.now c.args.outer.now _ (sym c.is_foreign.ensures ∙ c.if-is_foreign.false))
     (last_hop c.args.settings.now c.args.outer.now (packet4 c.args.packet.now) (sym c.is_used_up.ensures ∙ c.if-is_used_up.true) ∙ ap Some (sym c.drop_used_up.ensures))
@@ -31,74 +31,74 @@ returns-then-is_used_up-clause-verdict g c = λ t h.
 pub returns-in-Unbound-clause-verdict : goal.returns-in-Unbound-clause-verdict
 returns-in-Unbound-clause-verdict g c = λ t h.
     let here = subst (λ (ws : List ℕ). IsCompiled t ws) (sym c.owner_end-end.ensures.list) h in
-    up_out (binding_table t.edition c.args.settings.now t.bindings) c.args.outer.now (packet4 c.args.packet.now) _ c.key_up-key.ensures _
+    up_out (binding_table t.edition c.args.settings.now t.bindings) c.args.outer.now (packet4 c.args.packet.now) _ c.requires.source _
     (c.up_refusal.ensures ∙ ap (option_map silent) (none_of _ c.in_default.not-Some)) _ (c.owner_end-end.ensures.answer t h)
     (its_sender c.args.settings.now c.args.outer.now _ (sym c.is_foreign.ensures ∙ c.if-is_foreign.false)) (more_hops c.args.settings.now c.args.outer.now (packet4 c.args.packet.now) (sym c.is_used_up.ensures ∙ c.if-is_used_up.false))
-    _ c.key_down-asked.ensures destination.Unbound
-    (ap has_binding (sym c.in-Unbound.is) ∙ c.owner_at-destination.ensures.bound_address t here)
-    (ap tunnel_of (sym c.in-Unbound.is) ∙ c.owner_at-destination.ensures.end t here)
+    _ c.requires.destination destination.Unbound
+    (ap has_binding (sym c.in-Unbound.is) ∙ c.owner_at.ensures.bound_address t here)
+    (ap tunnel_of (sym c.in-Unbound.is) ∙ c.owner_at.ensures.end t here)
     refl c.outward.ensures
 
 pub returns-in-Unbound-clause-reads : goal.returns-in-Unbound-clause-reads
 returns-in-Unbound-clause-reads g c =
-    reads_on _ _ _ (c.owner_end-end.new.steps - c.args.steps.now) (c.owner_at-destination.new.steps - c.owner_end-end.new.steps) _
-    (omega (arith, c.owner_end-end.ensures.rises, c.owner_at-destination.ensures.later)) c.owner_end-end.ensures.reads c.owner_at-destination.ensures.reads
+    reads_on _ _ _ (c.owner_end-end.new.steps - c.args.steps.now) (c.owner_at.new.steps - c.owner_end-end.new.steps) _
+    (omega (arith, c.owner_end-end.ensures.rises, c.owner_at.ensures.later)) c.owner_end-end.ensures.reads c.owner_at.ensures.reads
 
 pub returns-in-Unbound-clause-goes : goal.returns-in-Unbound-clause-goes
-returns-in-Unbound-clause-goes g c = g.met.W.Words.goes_on _ _ _ c.owner_end-end.ensures.goes c.owner_at-destination.ensures.goes
+returns-in-Unbound-clause-goes g c = g.met.W.Words.goes_on _ _ _ c.owner_end-end.ensures.goes c.owner_at.ensures.goes
 
 pub returns-in-Unbound-clause-bound : goal.returns-in-Unbound-clause-bound
 returns-in-Unbound-clause-bound g c = λ t h n w.
     let here = subst (λ (ws : List ℕ). IsCompiled t ws) (sym c.owner_end-end.ensures.list) h in
-    omega (arith, c.owner_end-end.ensures.bound t h n w, c.owner_at-destination.ensures.bound t here n w)
+    omega (arith, c.owner_end-end.ensures.bound t h n w, c.owner_at.ensures.bound t here n w)
 
 pub returns-in-Unowned-clause-verdict : goal.returns-in-Unowned-clause-verdict
 returns-in-Unowned-clause-verdict g c = λ t h.
     let here = subst (λ (ws : List ℕ). IsCompiled t ws) (sym c.owner_end-end.ensures.list) h in
-    up_turned (binding_table t.edition c.args.settings.now t.bindings) c.args.outer.now (packet4 c.args.packet.now) _ c.key_up-key.ensures _
+    up_turned (binding_table t.edition c.args.settings.now t.bindings) c.args.outer.now (packet4 c.args.packet.now) _ c.requires.source _
     (c.up_refusal.ensures ∙ ap (option_map silent) (none_of _ c.in_default.not-Some)) _ (c.owner_end-end.ensures.answer t h)
     (its_sender c.args.settings.now c.args.outer.now _ (sym c.is_foreign.ensures ∙ c.if-is_foreign.false)) (more_hops c.args.settings.now c.args.outer.now (packet4 c.args.packet.now) (sym c.is_used_up.ensures ∙ c.if-is_used_up.false))
-    _ c.key_down-asked.ensures destination.Unowned
-    (ap has_binding (sym c.in-Unowned.is) ∙ c.owner_at-destination.ensures.bound_address t here)
-    (ap tunnel_of (sym c.in-Unowned.is) ∙ c.owner_at-destination.ensures.end t here)
+    _ c.requires.destination destination.Unowned
+    (ap has_binding (sym c.in-Unowned.is) ∙ c.owner_at.ensures.bound_address t here)
+    (ap tunnel_of (sym c.in-Unowned.is) ∙ c.owner_at.ensures.end t here)
     c.turned_to_nobody.ensures
 
 pub returns-in-Unowned-clause-reads : goal.returns-in-Unowned-clause-reads
 returns-in-Unowned-clause-reads g c =
-    reads_on _ _ _ (c.owner_end-end.new.steps - c.args.steps.now) (c.owner_at-destination.new.steps - c.owner_end-end.new.steps) _
-    (omega (arith, c.owner_end-end.ensures.rises, c.owner_at-destination.ensures.later)) c.owner_end-end.ensures.reads c.owner_at-destination.ensures.reads
+    reads_on _ _ _ (c.owner_end-end.new.steps - c.args.steps.now) (c.owner_at.new.steps - c.owner_end-end.new.steps) _
+    (omega (arith, c.owner_end-end.ensures.rises, c.owner_at.ensures.later)) c.owner_end-end.ensures.reads c.owner_at.ensures.reads
 
 pub returns-in-Unowned-clause-goes : goal.returns-in-Unowned-clause-goes
-returns-in-Unowned-clause-goes g c = g.met.W.Words.goes_on _ _ _ c.owner_end-end.ensures.goes c.owner_at-destination.ensures.goes
+returns-in-Unowned-clause-goes g c = g.met.W.Words.goes_on _ _ _ c.owner_end-end.ensures.goes c.owner_at.ensures.goes
 
 pub returns-in-Unowned-clause-bound : goal.returns-in-Unowned-clause-bound
 returns-in-Unowned-clause-bound g c = λ t h n w.
     let here = subst (λ (ws : List ℕ). IsCompiled t ws) (sym c.owner_end-end.ensures.list) h in
-    omega (arith, c.owner_end-end.ensures.bound t h n w, c.owner_at-destination.ensures.bound t here n w)
+    omega (arith, c.owner_end-end.ensures.bound t h n w, c.owner_at.ensures.bound t here n w)
 
 pub returns-in-Owned-clause-verdict : goal.returns-in-Owned-clause-verdict
 returns-in-Owned-clause-verdict g c = λ t h.
     let here = subst (λ (ws : List ℕ). IsCompiled t ws) (sym c.owner_end-end.ensures.list) h in
-    up_turned (binding_table t.edition c.args.settings.now t.bindings) c.args.outer.now (packet4 c.args.packet.now) _ c.key_up-key.ensures _
+    up_turned (binding_table t.edition c.args.settings.now t.bindings) c.args.outer.now (packet4 c.args.packet.now) _ c.requires.source _
     (c.up_refusal.ensures ∙ ap (option_map silent) (none_of _ c.in_default.not-Some)) _ (c.owner_end-end.ensures.answer t h)
     (its_sender c.args.settings.now c.args.outer.now _ (sym c.is_foreign.ensures ∙ c.if-is_foreign.false)) (more_hops c.args.settings.now c.args.outer.now (packet4 c.args.packet.now) (sym c.is_used_up.ensures ∙ c.if-is_used_up.false))
-    _ c.key_down-asked.ensures (destination.Owned c.in-Owned.to)
-    (ap has_binding (sym c.in-Owned.is) ∙ c.owner_at-destination.ensures.bound_address t here)
-    (ap tunnel_of (sym c.in-Owned.is) ∙ c.owner_at-destination.ensures.end t here)
+    _ c.requires.destination (destination.Owned c.in-Owned.to)
+    (ap has_binding (sym c.in-Owned.is) ∙ c.owner_at.ensures.bound_address t here)
+    (ap tunnel_of (sym c.in-Owned.is) ∙ c.owner_at.ensures.end t here)
     c.turned.ensures
 
 pub returns-in-Owned-clause-reads : goal.returns-in-Owned-clause-reads
 returns-in-Owned-clause-reads g c =
-    reads_on _ _ _ (c.owner_end-end.new.steps - c.args.steps.now) (c.owner_at-destination.new.steps - c.owner_end-end.new.steps) _
-    (omega (arith, c.owner_end-end.ensures.rises, c.owner_at-destination.ensures.later)) c.owner_end-end.ensures.reads c.owner_at-destination.ensures.reads
+    reads_on _ _ _ (c.owner_end-end.new.steps - c.args.steps.now) (c.owner_at.new.steps - c.owner_end-end.new.steps) _
+    (omega (arith, c.owner_end-end.ensures.rises, c.owner_at.ensures.later)) c.owner_end-end.ensures.reads c.owner_at.ensures.reads
 
 pub returns-in-Owned-clause-goes : goal.returns-in-Owned-clause-goes
-returns-in-Owned-clause-goes g c = g.met.W.Words.goes_on _ _ _ c.owner_end-end.ensures.goes c.owner_at-destination.ensures.goes
+returns-in-Owned-clause-goes g c = g.met.W.Words.goes_on _ _ _ c.owner_end-end.ensures.goes c.owner_at.ensures.goes
 
 pub returns-in-Owned-clause-bound : goal.returns-in-Owned-clause-bound
 returns-in-Owned-clause-bound g c = λ t h n w.
     let here = subst (λ (ws : List ℕ). IsCompiled t ws) (sym c.owner_end-end.ensures.list) h in
-    omega (arith, c.owner_end-end.ensures.bound t h n w, c.owner_at-destination.ensures.bound t here n w)
+    omega (arith, c.owner_end-end.ensures.bound t h n w, c.owner_at.ensures.bound t here n w)
 
 pub returns-then-is_foreign-clause-bound : goal.returns-then-is_foreign-clause-bound
 returns-then-is_foreign-clause-bound g c = λ t h n w. omega (arith, c.owner_end-end.ensures.bound t h n w)
