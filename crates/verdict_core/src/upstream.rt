@@ -24,7 +24,8 @@ use port_locate::{Key, key_down, key_up, ports_of};
 use std::sync::ledger::Ledger;
 use table_words::{Destination, Steps, Words};
 
-#[inline(never)]
+// Inlined where packets are judged, so that what the words are read through stays in registers from one word to the next.
+#[inline(always)]
 pub fn judge_up<W: Words, L: Ledger>(
     words: &mut W,
     settings: &Softwire,
