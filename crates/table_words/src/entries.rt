@@ -49,6 +49,7 @@ pub(crate) fn tunnel_end<W: Words, L: Ledger>(words: &mut W, entry: u32, steps: 
 
 /// The first word that the owner of what is wanted has, if it has the address and the shape of this first word; None
 /// where no binding of this shape can own it.
+#[inline(always)]
 pub(crate) fn key_of(first: u64, want: Want) -> Option<u64>
     requires { IsShape (first / 16777216 % 256) (first / 65536 % 256) }
     ensures { IsKey first want result }

@@ -56,7 +56,9 @@ pub fn destination_of<W: Words, L: Ledger>(
 
 // The same among the entries that agree with the address in its top 16 bits, where there are some. Two words were read to
 // find them.
-#[inline(never)]
+// It is inlined where packets are judged, with what it calls: what the words are read through stays in registers, and so
+// does the answer.
+#[inline(always)]
 fn destination_among<W: Words, L: Ledger>(
     words: &mut W,
     group: Span,

@@ -16,6 +16,7 @@ use std::sync::ledger::Ledger;
 
 /// What these entries have of the address, where all of it have one shape. Any entry of the address tells the shape, and
 /// with it the first word that the owner has.
+#[inline(always)]
 pub(crate) fn destination_alike<W: Words, L: Ledger>(
     words: &mut W,
     from: u32,

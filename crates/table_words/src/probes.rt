@@ -28,6 +28,7 @@ pub(crate) struct Reach {
 
 /// An entry of these whose first word is from `least` to `most`. It reads the entry at `guess` first, and halves the
 /// entries at each further step.
+#[inline(always)]
 pub(crate) fn spot_of<W: Words, L: Ledger>(
     words: &mut W,
     reach: Reach,
@@ -71,6 +72,7 @@ pub(crate) fn spot_of<W: Words, L: Ledger>(
 
 /// The entry of these where the address stands if the addresses rise evenly from the first of them to the last. Fewer than
 /// eight entries are not worth the two reads.
+#[inline(always)]
 pub(crate) fn guess_of<W: Words, L: Ledger>(
     words: &mut W,
     from: u32,
