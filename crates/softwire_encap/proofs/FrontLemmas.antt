@@ -1,5 +1,5 @@
 -- Lemmas on the front of a header that is passed on: its checksum, patched, is the one that is computed anew.
-use Rattle.std.proofs.Common.{◌≡◌, ◌≢◌, refl, ℕ, ◌+◌, ◌-◌, ◌*◌, ◌/◌, ◌%◌, ◌<◌, ◌≤◌, List, ◌∷◌, ◌++◌, length, Ok, sym, ◌∙◌, ap, subst, arith, slice_index, slice_set, append_assoc}
+use Rattle.std.proofs.Common.{◌≡◌, ◌≢◌, refl, ℕ, ◌+◌, ◌-◌, ◌*◌, ◌/◌, ◌%◌, ◌<◌, ◌≤◌, List, ◌∷◌, ◌++◌, length, Ok, sym, ◌∙◌, ap, subst, arith, slice_index, slice_set}
 use Rattle.std.proofs.lemmas.Bool.{ne_eqb}
 use Rattle.std.proofs.lemmas.List.{get_or_append_left}
 use Rattle.aftr_base.specs.Sums.{checksum, folded, patched, sealed, word_sum}
@@ -104,7 +104,3 @@ front-lowered packet behind sum is alive ttl_most protocol_most word_most sum_is
     ∙ ap (λ n. patched old (slice_index header 8 * 256 + n) ((packet.ttl - 1) * 256 + n)) (sym protocol_is) in
     front header behind (packet.ttl - 1) sum shaped.least_header (omega (arith, ttl_is)) (omega (arith, ttl_is)) (omega (arith, protocol_is)) word_most
     version sums patch_is
-
--- a header and a payload were pushed
-pub payload-pushed : (out out1 out2 whole payload : List ℕ) → out1 ≡ out ++ whole → out2 ≡ out1 ++ payload → out2 ≡ out ++ (whole ++ payload)
-payload-pushed out out1 out2 whole payload is1 is2 = is2 ∙ ap (λ l. l ++ payload) is1 ∙ append_assoc out whole payload

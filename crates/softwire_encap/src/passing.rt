@@ -42,39 +42,24 @@ pub fn push_lowered(out: &mut Vec<u8>, p: &Ip4View<'_>) -> Result<(), OutOfMemor
     ensures read { IfOk result (λ _. ip4_of (lowered (packet4 p.now)) ≡ Ok (passed (packet4 p.now))) }
     ensures size { IfOk result (λ _. length (lowered (packet4 p.now)) ≡ packet_len (packet4 p.now)) }
 {
-    push_lowered_header(out, p)?;
+    let from = out.len();
+    push_header(out, p.header)?;
+    lower_front(&mut out[from..], p);
     out.extend_from_slice(p.payload)?;
     Ok(())
 }
 
-// Puts the header of that packet there. One without options, as most are, has a length that the compiler knows. All is inlined
-// that takes the view, whose fields then need not stand in memory.
+// Puts a header there. One without options, as most are, has a length that the compiler knows, and needs no call.
 #[inline(always)]
-fn push_lowered_header(out: &mut Vec<u8>, p: &Ip4View<'_>) -> Result<(), OutOfMemory>
-    requires whole { ip4_of (p.now.header.now ++ p.now.payload.now) ≡ Ok (packet4 p.now) }
-    requires alive { 1 ≤ p.now.ttl }
-    ensures { IfOk result (λ _. out.new.items ≡ out.old.items ++ lowered_header (packet4 p.now)) }
+fn push_header(out: &mut Vec<u8>, header: &[u8]) -> Result<(), OutOfMemory>
+    ensures { IfOk result (λ _. out.new.items ≡ out.old.items ++ header.now) }
 {
-    if p.header.len() == PLAIN_HEADER {
-        out.extend_from_slice(&plain_header(p))?;
+    if header.len() == PLAIN_HEADER {
+        out.extend_from_slice(&header[..PLAIN_HEADER])?;
         return Ok(());
     }
-    out.extend_from_slice(&lowered_header(p)[..p.header.len()])?;
+    out.extend_from_slice(header)?;
     Ok(())
-}
-
-// That header where it has no options.
-#[inline(always)]
-fn plain_header(p: &Ip4View<'_>) -> [u8; 20]
-    requires whole { ip4_of (p.now.header.now ++ p.now.payload.now) ≡ Ok (packet4 p.now) }
-    requires alive { 1 ≤ p.now.ttl }
-    requires plain { length p.now.header.now ≡ 20 }
-    ensures { result ≡ lowered_header (packet4 p.now) }
-{
-    let mut bytes = [0; PLAIN_HEADER];
-    bytes.copy_from_slice(&p.header[..PLAIN_HEADER]);
-    lower_front(&mut bytes, p);
-    bytes
 }
 
 /// The header of the packet that `lower` makes, in front of 60 bytes; it has as many as that of `p`. So a packet that is not put
