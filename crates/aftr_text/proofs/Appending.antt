@@ -1,6 +1,5 @@
 -- A text that grows behind what stood there before.
-use Rattle.std.proofs.Common.{◌≡◌, ℕ, List, [], ◌++◌, decimal, Result, refl, subst, sym, ◌∙◌, ap, append_assoc}
-use Rattle.std.specs.Prelude.{IfOk}
+use Rattle.std.proofs.Common.{◌≡◌, ℕ, List, [], ◌++◌, decimal, refl, sym, ◌∙◌, ap, append_assoc}
 
 pub longer : (old part more text after : List ℕ) → text ≡ old ++ part → after ≡ text ++ more → after ≡ old ++ (part ++ more)
 longer old part more text after before added = added ∙ ap (λ (l : List ℕ). l ++ more) before ∙ append_assoc old part more
@@ -22,13 +21,6 @@ ended old a b c d e f text more after before between added =
     longer old (a ++ (b ++ c ++ d)) (e ++ f) more after (longer old a (b ++ c ++ d) text more before between) added
     ∙ ap (λ (l : List ℕ). old ++ l)
     (sym (append_assoc (a ++ (b ++ c ++ d)) e f) ∙ ap (λ (l : List ℕ). l ++ e ++ f) (sym (three a b c d)))
-
--- two parts of a whole, one behind the other, where a call tells the second
-pub joined : {A E : Type 0} (r : Result A E) (old part more whole text after : List ℕ) → part ++ more ≡ whole → text ≡ old ++ part
-    → IfOk r (λ _. after ≡ text ++ more) → IfOk r (λ _. after ≡ old ++ whole)
-joined r old part more whole text after same before added =
-    subst (λ (l : List ℕ). IfOk r (λ _. after ≡ l))
-    (ap (λ (l : List ℕ). l ++ more) before ∙ append_assoc old part more ∙ ap (λ (l : List ℕ). old ++ l) same) added
 
 -- one part, and then what ends the line in one piece
 pub once : (a b c d e f last : List ℕ) → last ≡ e ++ f → a ++ ((b ++ c ++ d) ++ last) ≡ a ++ b ++ c ++ d ++ e ++ f

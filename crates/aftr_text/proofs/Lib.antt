@@ -8,3 +8,5 @@ mod OneJob
 mod PartLemmas
 mod RunLemmas
 mod DigitLemmas
+mod Windows
+mod TextLemmas

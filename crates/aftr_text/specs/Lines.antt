@@ -17,6 +17,10 @@ outcome (verdict.Outward mtu) = codes "up"
 outcome (verdict.Inward from to hop mtu back) = if back then codes "hairpin" else codes "down"
 outcome (verdict.Drop why reply) = codes "drop " ++ name_of why
 
+-- which record was judged, and by which version of the table
+abbrev pub judged_text : ℕ → ℕ → List ℕ
+judged_text number version = decimal number ++ codes " " ++ decimal version
+
 -- a record's line: its number, the version of the table in force, the outcome, and how many packets were written
 abbrev pub verdict_text : ℕ → ℕ → Verdict → ℕ → List ℕ
 verdict_text number version v packets =

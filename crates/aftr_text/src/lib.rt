@@ -1,5 +1,6 @@
 //! The texts of a run: the command words that it is asked by, the lines of its verdicts, the lines of the tables in force, and
-//! the summary. Each line comes as a text of its own and as a call that puts it at the end of a longer one.
+//! the summary. Each line comes as a text of its own and as a call that puts it behind others: those of records and of datagrams
+//! as bytes, the others at the end of a text.
 #![tactic(auto)]
 
 mod commands;
@@ -9,6 +10,7 @@ mod jobs;
 mod lines;
 mod numbers;
 mod parts;
+mod short_lines;
 mod summaries;
 mod tables;
 mod words;

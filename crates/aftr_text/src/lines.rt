@@ -1,13 +1,18 @@
 // The lines of records and of datagrams.
-ghost use Rattle.std.specs.Prelude.{◌≡◌, ◌++◌, IfOk, codes, decimal, string_bytes};
+ghost use Rattle.std.specs.Prelude.{◌≡◌, ◌++◌, IfOk, codes, decimal};
+ghost use Rattle.std.specs.Str.{IsUtf8};
 ghost use Rattle.ip_codec.specs.Rules.{name_of};
-ghost use Rattle.aftr_text.specs.Lines.{ended_text, limited_text, outcome, verdict_text};
+ghost use Rattle.aftr_text.specs.Lines.{ended_text, judged_text, limited_text, outcome, verdict_text};
 
-use crate::numbers::{push_count, push_last_number, push_next_number, push_record_number};
+use crate::numbers::{push_digits, write_judged};
+use crate::short_lines::{push_short, short_ending};
 use aftr_base::{OutOfMemory, Text};
 use ip_codec::Rule;
 use std::alloc::Global;
 use verdict_core::Verdict;
+
+/// More bytes than a record's number and a version have, with a blank between them.
+const JUDGED_ROOM: usize = 24;
 
 /// More bytes than the longest line of a verdict has: three numbers of ten digits and the longest rule's name. So has the
 /// line of a limited record.
@@ -27,79 +32,80 @@ pub fn verdict_line(
 ) -> Result<Text, OutOfMemory>
     ensures { IfOk result (λ line. line ≡ verdict_text number version verdict packets) }
 {
-    let mut line = String::with_capacity(alloc, VERDICT_ROOM)?;
+    let mut line = Vec::with_capacity(alloc, VERDICT_ROOM)?;
     push_verdict_line(&mut line, number, version, verdict, packets)?;
-    Ok(Text::of(line))
+    Ok(text_of(line))
 }
 
-/// Puts the line of `verdict_line` at the end of a text. After an error a part of the line may stand there.
+/// Puts the line of `verdict_line` behind others. After an error a part of the line may stand there.
 pub fn push_verdict_line(
-    text: &mut String,
+    lines: &mut Vec<u8>,
     number: u32,
     version: u32,
     verdict: Verdict,
     packets: u32,
 ) -> Result<(), OutOfMemory>
-    ensures { IfOk result (λ _. string_bytes text.new ≡ string_bytes text.old ++ verdict_text number version verdict packets) }
+    ensures { IfOk result (λ _. lines.new.items ≡ lines.old.items ++ verdict_text number version verdict packets) }
 {
-    push_judged(text, number, version)?;
-    if packets == 1 {
-        return push_once(text, verdict);
+    if packets == 1 && version < 10 {
+        if let Some((ending, end)) = short_ending(&verdict) {
+            return push_short(lines, number, version, ending, end);
+        }
     }
-    push_outcome(text, verdict)?;
-    push_last_number(text, u64::from(packets))?;
+    push_long_line(lines, number, version, &verdict, packets)
+}
+
+// The same of a record that was dropped, or for which none or several packets were written.
+#[inline(never)]
+fn push_long_line(
+    lines: &mut Vec<u8>,
+    number: u32,
+    version: u32,
+    verdict: &Verdict,
+    packets: u32,
+) -> Result<(), OutOfMemory>
+    ensures { IfOk result (λ _. lines.new.items ≡ lines.old.items ++ verdict_text number version verdict.now packets) }
+{
+    push_judged(lines, number, version)?;
+    push_outcome(lines, verdict)?;
+    push_digits(lines, packets)?;
+    lines.extend_from_slice(b"\n")?;
     Ok(())
 }
 
 // Which record was judged, and by which version of the table.
-fn push_judged(text: &mut String, number: u32, version: u32) -> Result<(), OutOfMemory>
-    ensures { IfOk result (λ _. string_bytes text.new ≡ string_bytes text.old ++ decimal number ++ codes " " ++ decimal version) }
+fn push_judged(lines: &mut Vec<u8>, number: u32, version: u32) -> Result<(), OutOfMemory>
+    ensures { IfOk result (λ _. lines.new.items ≡ lines.old.items ++ judged_text number version) }
 {
-    push_record_number(text, number)?;
-    push_next_number(text, u64::from(version))?;
-    Ok(())
-}
-
-// What became of a record for which one packet was written, and the end of its line. Most packets that are forwarded go out
-// as one, and then it is one piece.
-#[inline(always)]
-fn push_once(text: &mut String, verdict: Verdict) -> Result<(), OutOfMemory>
-    ensures { IfOk result (λ _. string_bytes text.new ≡ string_bytes text.old ++ ((codes " " ++ outcome verdict ++ codes " ") ++ codes "1\n")) }
-{
-    match verdict {
-        Verdict::Held => text.push_str(" held 1\n")?,
-        Verdict::Outward { .. } => text.push_str(" up 1\n")?,
-        Verdict::Inward { back, .. } => {
-            text.push_str(if back { " hairpin 1\n" } else { " down 1\n" })?
-        }
-        Verdict::Drop { why, .. } => {
-            push_rule(text, why)?;
-            text.push_str("1\n")?
-        }
-    }
+    let mut judged = [0; JUDGED_ROOM];
+    let start = write_judged(number, version, &mut judged, JUDGED_ROOM);
+    lines.extend_from_slice(&judged[start..])?;
     Ok(())
 }
 
 // What became of the record, with a blank on either side.
-fn push_outcome(text: &mut String, verdict: Verdict) -> Result<(), OutOfMemory>
-    ensures { IfOk result (λ _. string_bytes text.new ≡ string_bytes text.old ++ (codes " " ++ outcome verdict ++ codes " ")) }
+fn push_outcome(lines: &mut Vec<u8>, verdict: &Verdict) -> Result<(), OutOfMemory>
+    ensures { IfOk result (λ _. lines.new.items ≡ lines.old.items ++ (codes " " ++ outcome verdict.now ++ codes " ")) }
 {
-    match verdict {
-        Verdict::Held => text.push_str(" held ")?,
-        Verdict::Outward { .. } => text.push_str(" up ")?,
-        Verdict::Inward { back, .. } => text.push_str(if back { " hairpin " } else { " down " })?,
-        Verdict::Drop { why, .. } => push_rule(text, why)?,
+    match *verdict {
+        Verdict::Held => lines.extend_from_slice(b" held ")?,
+        Verdict::Outward { .. } => lines.extend_from_slice(b" up ")?,
+        Verdict::Inward { back: false, .. } => lines.extend_from_slice(b" down ")?,
+        Verdict::Inward { back: true, .. } => lines.extend_from_slice(b" hairpin ")?,
+        Verdict::Drop { why, .. } => {
+            push_rule(lines, why)?;
+            lines.extend_from_slice(b" ")?
+        }
     }
     Ok(())
 }
 
 // That the record was dropped, and for which rule.
-fn push_rule(text: &mut String, why: Rule) -> Result<(), OutOfMemory>
-    ensures { IfOk result (λ _. string_bytes text.new ≡ string_bytes text.old ++ (codes " " ++ (codes "drop " ++ name_of why) ++ codes " ")) }
+fn push_rule(lines: &mut Vec<u8>, why: Rule) -> Result<(), OutOfMemory>
+    ensures { IfOk result (λ _. lines.new.items ≡ lines.old.items ++ (codes " drop " ++ name_of why)) }
 {
-    text.push_str(" drop ")?;
-    text.push_str(why.name())?;
-    text.push_str(" ")?;
+    lines.extend_from_slice(b" drop ")?;
+    lines.extend_from_slice(why.name().as_bytes())?;
     Ok(())
 }
 
@@ -113,25 +119,23 @@ pub fn limited_line(
 ) -> Result<Text, OutOfMemory>
     ensures { IfOk result (λ line. line ≡ limited_text number version why) }
 {
-    let mut line = String::with_capacity(alloc, VERDICT_ROOM)?;
+    let mut line = Vec::with_capacity(alloc, VERDICT_ROOM)?;
     push_limited_line(&mut line, number, version, why)?;
-    Ok(Text::of(line))
+    Ok(text_of(line))
 }
 
-/// Puts the line of `limited_line` at the end of a text. After an error a part of the line may stand there.
+/// Puts the line of `limited_line` behind others. After an error a part of the line may stand there.
 pub fn push_limited_line(
-    text: &mut String,
+    lines: &mut Vec<u8>,
     number: u32,
     version: u32,
     why: Rule,
 ) -> Result<(), OutOfMemory>
-    ensures { IfOk result (λ _. string_bytes text.new ≡ string_bytes text.old ++ limited_text number version why) }
+    ensures { IfOk result (λ _. lines.new.items ≡ lines.old.items ++ limited_text number version why) }
 {
-    push_judged(text, number, version)?;
-    text.push_str(" drop ")?;
-    let rule = why.name();
-    text.push_str(rule)?;
-    text.push_str(" limited 0\n")?;
+    push_judged(lines, number, version)?;
+    push_rule(lines, why)?;
+    lines.extend_from_slice(b" limited 0\n")?;
     Ok(())
 }
 
@@ -140,17 +144,26 @@ pub fn push_limited_line(
 pub fn ended_line(alloc: Global, expired: bool, number: u32) -> Result<Text, OutOfMemory>
     ensures { IfOk result (λ line. line ≡ ended_text expired number) }
 {
-    let mut line = String::with_capacity(alloc, ENDED_ROOM)?;
+    let mut line = Vec::with_capacity(alloc, ENDED_ROOM)?;
     push_ended_line(&mut line, expired, number)?;
-    Ok(Text::of(line))
+    Ok(text_of(line))
 }
 
-/// Puts the line of `ended_line` at the end of a text. After an error a part of the line may stand there.
-pub fn push_ended_line(text: &mut String, expired: bool, number: u32) -> Result<(), OutOfMemory>
-    ensures { IfOk result (λ _. string_bytes text.new ≡ string_bytes text.old ++ ended_text expired number) }
+/// Puts the line of `ended_line` behind others. After an error a part of the line may stand there.
+pub fn push_ended_line(lines: &mut Vec<u8>, expired: bool, number: u32) -> Result<(), OutOfMemory>
+    ensures { IfOk result (λ _. lines.new.items ≡ lines.old.items ++ ended_text expired number) }
 {
     let ending = if expired { "expired " } else { "unfinished " };
-    push_count(text, ending, u64::from(number))?;
-    text.push_str("\n")?;
+    lines.extend_from_slice(ending.as_bytes())?;
+    push_digits(lines, number)?;
+    lines.extend_from_slice(b"\n")?;
     Ok(())
+}
+
+// A line as a text.
+fn text_of(line: Vec<u8>) -> Text
+    requires { IsUtf8 line.items }
+    ensures { result ≡ line.items }
+{
+    Text::of(String::from_utf8(line).unwrap())
 }

@@ -1,8 +1,9 @@
 // Numbers in a line.
-ghost use Rattle.std.specs.Prelude.{◌≡◌, ◌<◌, ◌∷◌, ◌++◌, [], IfOk, codes, decimal, string_bytes};
+ghost use Rattle.std.specs.Prelude.{◌≡◌, ◌+◌, ◌<◌, ◌≤◌, ◌++◌, IfOk, codes, decimal, drop, length, string_bytes};
+ghost use Rattle.aftr_text.specs.Lines.{judged_text};
 
 use aftr_base::OutOfMemory;
-use itoa::Buffer;
+use itoa::{Buffer, write_digits};
 
 /// Puts a number at the end of a line, in decimal without leading zeros.
 #[inline(never)]
@@ -14,33 +15,6 @@ pub(crate) fn push_number(line: &mut String, number: u64) -> Result<(), OutOfMem
     Ok(())
 }
 
-/// Puts the number of a record at the end of a line: every line begins with one, so this is inlined, and divides 32 bits.
-#[inline(always)]
-pub(crate) fn push_record_number(line: &mut String, number: u32) -> Result<(), OutOfMemory>
-    ensures { IfOk result (λ _. string_bytes line.new ≡ string_bytes line.old ++ decimal number) }
-{
-    let mut buffer = Buffer::new();
-    line.push_str(buffer.format(number))?;
-    Ok(())
-}
-
-/// Puts a blank and a number at the end of a line.
-#[inline(always)]
-pub(crate) fn push_next_number(line: &mut String, number: u64) -> Result<(), OutOfMemory>
-    ensures { IfOk result (λ _. string_bytes line.new ≡ string_bytes line.old ++ (codes " " ++ decimal number)) }
-{
-    push_ascii(line, b' ')?;
-    push_small(line, number)
-}
-
-/// Puts a number at the end of a line, and ends the line.
-pub(crate) fn push_last_number(line: &mut String, number: u64) -> Result<(), OutOfMemory>
-    ensures { IfOk result (λ _. string_bytes line.new ≡ string_bytes line.old ++ (decimal number ++ codes "\n")) }
-{
-    push_small(line, number)?;
-    push_ascii(line, b'\n')
-}
-
 /// Puts a word and a number at the end of a line. The word brings its blanks.
 pub(crate) fn push_count(line: &mut String, word: &str, number: u64) -> Result<(), OutOfMemory>
     ensures { IfOk result (λ _. string_bytes line.new ≡ string_bytes line.old ++ word.now ++ decimal number) }
@@ -49,22 +23,25 @@ pub(crate) fn push_count(line: &mut String, word: &str, number: u64) -> Result<(
     push_number(line, number)
 }
 
-// A number that has one digit mostly: a version, or how many packets were written.
-#[inline(always)]
-fn push_small(line: &mut String, number: u64) -> Result<(), OutOfMemory>
-    ensures { IfOk result (λ _. string_bytes line.new ≡ string_bytes line.old ++ decimal number) }
+/// Puts a number behind the lines of records.
+#[inline(never)]
+pub(crate) fn push_digits(lines: &mut Vec<u8>, number: u32) -> Result<(), OutOfMemory>
+    ensures { IfOk result (λ _. lines.new.items ≡ lines.old.items ++ decimal number) }
 {
-    if number < 10 {
-        return push_ascii(line, b'0' + number as u8);
-    }
-    push_number(line, number)
+    let mut buffer = Buffer::new();
+    lines.extend_from_slice(buffer.format(number).as_bytes())?;
+    Ok(())
 }
 
+/// Writes which record was judged, and by which version of the table, so that it ends at an index, and tells where it begins.
 #[inline(always)]
-fn push_ascii(line: &mut String, byte: u8) -> Result<(), OutOfMemory>
-    requires { byte < 128 }
-    ensures { IfOk result (λ _. string_bytes line.new ≡ string_bytes line.old ++ byte ∷ []) }
+pub(crate) fn write_judged(number: u32, version: u32, line: &mut [u8], end: usize) -> usize
+    requires room { length (decimal version) + 11 ≤ end }
+    requires inside { end ≤ length line.old }
+    ensures start { result + length (judged_text number version) ≡ end }
+    ensures written { drop result line.new ≡ judged_text number version ++ drop end line.old }
 {
-    line.push(char::from(byte))?;
-    Ok(())
+    let blank = write_digits(u64::from(version), line, end) - 1;
+    line[blank] = b' ';
+    write_digits(u64::from(number), line, blank)
 }

@@ -22,11 +22,11 @@ use run_output::{push_ended_lines, push_last_versions};
 use std::alloc::Global;
 
 // The lines of the datagrams that were never whole.
-fn unfinished_lines(alloc: Global, stage: &Stage) -> Result<String, OutOfMemory>
+fn unfinished_lines(alloc: Global, stage: &Stage) -> Result<Vec<u8>, OutOfMemory>
     ensures { IfOk result (λ lines. (taken : List Record) → Stands stage.now taken →
-        string_bytes lines ≡ flat_map (ended_text false) (unfinished_of stage.now.form taken)) }
+        lines.items ≡ flat_map (ended_text false) (unfinished_of stage.now.form taken)) }
 {
-    let mut lines = String::new(alloc);
+    let mut lines = Vec::new(alloc);
     let unfinished = stage.unfinished(alloc)?;
     push_ended_lines(&mut lines, false, unfinished.as_slice())?;
     Ok(lines)
@@ -96,7 +96,7 @@ pub fn finish<F: Files, O: Sink>(
         versions.as_bytes(),
     )?;
     let lines = unfinished_lines(alloc, &progress.stage)?;
-    append_all(alloc, files, task.job.verdicts.as_str(), lines.as_bytes())?;
+    append_all(alloc, files, task.job.verdicts.as_str(), &lines)?;
     let line = summary(alloc, totals_with(progress.totals, points))?;
     put_all(alloc, out, line.as_str().as_bytes())
 }

@@ -95,7 +95,7 @@ fn write_lines<F: Files>(
 {
     let mut i = 0;
     'parts: while i < parts.len() {
-        append_all(alloc, files, name, parts[i].lines.as_bytes())?;
+        append_all(alloc, files, name, &parts[i].lines)?;
         i += 1;
     }
     Ok(())

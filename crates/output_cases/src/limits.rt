@@ -28,10 +28,11 @@ fn rooms_have_a_part_for_each_thread(rt: HostRuntime) -> Result<(), Fail> {
 
 #[test]
 fn datagrams_that_were_never_whole(rt: HostRuntime) -> Result<(), Fail> {
-    let mut lines = String::from_str(rt.alloc(), "#\n")?;
+    let mut lines = Vec::from_slice(rt.alloc(), b"#\n")?;
     push_ended_lines(&mut lines, true, &[3, 40])?;
     push_ended_lines(&mut lines, false, &[7])?;
     push_ended_lines(&mut lines, false, &[])?;
-    assert_eq!(rt; lines.as_str(), "#\nexpired 3\nexpired 40\nunfinished 7\n");
+    let expected = b"#\nexpired 3\nexpired 40\nunfinished 7\n";
+    assert_eq!(rt; lines.as_slice(), expected.as_slice());
     Ok(())
 }

@@ -54,11 +54,20 @@ fn a_newer_edition(rt: HostRuntime) -> Result<(), Fail> {
     Ok(())
 }
 
-fn all_lines(alloc: Global) -> Result<String, Fail> {
+#[test]
+fn lines_of_records_behind_others(rt: HostRuntime) -> Result<(), Fail> {
+    let mut lines = Vec::from_slice(rt.alloc(), b"#\n")?;
+    push_verdict_line(&mut lines, 7, 1, Verdict::Held, 0)?;
+    push_limited_line(&mut lines, 8, 1, Rule::TooBig)?;
+    push_ended_line(&mut lines, true, 7)?;
+    push_verdict_line(&mut lines, 9, 1, Verdict::Held, 1)?;
+    let expected = b"#\n7 1 held 0\n8 1 drop too-big limited 0\nexpired 7\n9 1 held 1\n";
+    assert_eq!(rt; lines.as_slice(), expected.as_slice());
+    Ok(())
+}
+
+fn other_lines(alloc: Global) -> Result<String, Fail> {
     let mut text = String::from_str(alloc, "#\n")?;
-    push_verdict_line(&mut text, 7, 1, Verdict::Held, 0)?;
-    push_limited_line(&mut text, 8, 1, Rule::TooBig)?;
-    push_ended_line(&mut text, true, 7)?;
     push_initial_line(&mut text, "t0")?;
     push_point_line(&mut text, 255, "t1", 2_147_483_648)?;
     push_refused_line(alloc, &mut text, "t2", FileRefused::TooBig)?;
@@ -78,11 +87,8 @@ fn all_lines(alloc: Global) -> Result<String, Fail> {
 
 #[test]
 fn lines_behind_others(rt: HostRuntime) -> Result<(), Fail> {
-    let text = all_lines(rt.alloc())?;
+    let text = other_lines(rt.alloc())?;
     let expected = "#
-7 1 held 0
-8 1 drop too-big limited 0
-expired 7
 0 t0 initial
 255 t1 at 2147483648
 - t2 refused too-big

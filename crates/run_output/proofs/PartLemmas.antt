@@ -1,6 +1,6 @@
 -- The parts of a round, one behind the other.
 use Rattle.std.proofs.Common.{◌≡◌, ℕ, suc, ◌+◌, ◌*◌, ◌<◌, ◌≤◌, ◌-◌, min, Bool, false, List, [], ◌∷◌, ◌++◌, All, length, drop, take, flat_map, sym, ◌∙◌, ap, refl, subst, arith, append_assoc, append-nil}
-use Rattle.std.specs.Prelude.{IfOk, Result, Ok, Err, is_err, slice_index_or, string_bytes}
+use Rattle.std.specs.Prelude.{IfOk, Result, Ok, Err, is_err, slice_index_or}
 use Rattle.aftr_base.specs.declared.lists.OutOfMemory.{OutOfMemory}
 use Rattle.std.proofs.lemmas.List.{drop-drop, drop_min, length-drop, length-take-le, take-append-drop, take_min}
 use Rattle.std.proofs.lemmas.List.Concat.{flat_map-append}
@@ -57,12 +57,12 @@ packets_joined w size cs parts are whole few =
 pub lines_joined : (w : Written) (size : ℕ) (cs : List Cell) (parts : List Part) → ArePartsUnless w size cs parts → All (λ (p : Part). p.failed ≡ false) parts →
     length cs ≤ length parts * size → lines_in parts ≡ flat_map lines_of cs
 lines_joined w size cs parts are whole few =
-    chunks_join lines_of (λ p. string_bytes p.lines) size parts cs (λ place d inside. (part_is w size cs parts are whole place d inside).lines) few
+    chunks_join lines_of (λ p. p.lines.items) size parts cs (λ place d inside. (part_is w size cs parts are whole place d inside).lines) few
 
 -- the first records of a part, from a place on, stand in it: with what is left, up to the part's end, it has what it is to have
 pub record HasBegun (w : Written) (cs : List Cell) (from to i : ℕ) (p : Part) : Type 0 where
   pub packets : p.packets.items ++ flat_map (packets_of w) (take (to - i) (drop i cs)) ≡ flat_map (packets_of w) (take (to - from) (drop from cs))
-  pub lines : string_bytes p.lines ++ flat_map lines_of (take (to - i) (drop i cs)) ≡ flat_map lines_of (take (to - from) (drop from cs))
+  pub lines : p.lines.items ++ flat_map lines_of (take (to - i) (drop i cs)) ≡ flat_map lines_of (take (to - from) (drop from cs))
   pub counts : counted p.counted (take (to - i) (drop i cs)) ≡ counted no_totals (take (to - from) (drop from cs))
   pub within : IsWithin p.counted (i - from)
 
@@ -91,8 +91,8 @@ begun_more w cs from to i c old new after before there more within begun =
           ∙ (append_assoc old.packets.items (packets_of w c) (flat_map (packets_of w) rest)
           ∙ (ap (λ l. old.packets.items ++ flat_map (packets_of w) l) (sym opened) ∙ begun.packets));
       lines = ap (λ l. l ++ flat_map lines_of rest) more.lines
-          ∙ (append_assoc (string_bytes old.lines) (lines_of c) (flat_map lines_of rest)
-          ∙ (ap (λ l. string_bytes old.lines ++ flat_map lines_of l) (sym opened) ∙ begun.lines));
+          ∙ (append_assoc (old.lines.items) (lines_of c) (flat_map lines_of rest)
+          ∙ (ap (λ l. old.lines.items ++ flat_map lines_of l) (sym opened) ∙ begun.lines));
       counts = ap (λ t. counted t rest) more.counts ∙ (ap (counted old.counted) (sym opened) ∙ begun.counts);
       within = subst (IsWithin new.counted) number within;
     }
@@ -106,7 +106,7 @@ begun_last w cs from to i p order ended inside begun =
     omega (arith, ended, order, inside, length-drop from cs, length-take-le (to - from) (drop from cs) (omega (arith, order, inside, length-drop from cs))) in
     record {
       packets = sym (append-nil p.packets.items) ∙ (ap (λ l. p.packets.items ++ flat_map (packets_of w) l) (sym left) ∙ begun.packets);
-      lines = sym (append-nil (string_bytes p.lines)) ∙ (ap (λ l. string_bytes p.lines ++ flat_map lines_of l) (sym left) ∙ begun.lines);
+      lines = sym (append-nil (p.lines.items)) ∙ (ap (λ l. p.lines.items ++ flat_map lines_of l) (sym left) ∙ begun.lines);
       counts = ap (counted p.counted) (sym left) ∙ begun.counts;
       within = subst (IsWithin p.counted) size begun.within;
     }
@@ -119,7 +119,7 @@ clamped cs size place from to from_is to_is =
     let many : to - from ≡ min size (length (drop from cs)) = omega (arith, from_is, to_is, length-drop from cs) in
     ap (λ (k : ℕ). take k (drop from cs)) many ∙ (take_min size (drop from cs) ∙ ap (take size) first)
 
-pub is_empty : (w : Written) (p : Part) → p.packets.items ≡ [] → string_bytes p.lines ≡ [] → p.counted ≡ no_totals → IsPart w [] p
+pub is_empty : (w : Written) (p : Part) → p.packets.items ≡ [] → p.lines.items ≡ [] → p.counted ≡ no_totals → IsPart w [] p
 is_empty w p packets lines counts =
     let none : IsWithin no_totals 0 = record { records = refl; held = omega arith; forwarded = omega arith; dropped = omega arith; packets = omega arith } in
     record { packets = packets; lines = lines; counts = counts; within = subst (λ (t : Totals). IsWithin t 0) (sym counts) none }

@@ -1,6 +1,6 @@
 -- The records of a round, each with all that its rendering needs, and what they write by themselves. No public contract cites
 -- this.
-use Rattle.std.specs.Prelude.{◌≡◌, ℕ, ◌+◌, ◌*◌, ◌^◌, ◌<◌, ◌≤◌, Bool, true, false, not, if◌then◌else◌, List, [], ◌∷◌, ◌++◌, length, take, drop, flat_map, get_or, slice_get, slice_index_or, string_bytes, Option, Some}
+use Rattle.std.specs.Prelude.{◌≡◌, ℕ, ◌+◌, ◌*◌, ◌^◌, ◌<◌, ◌≤◌, Bool, true, false, not, if◌then◌else◌, List, [], ◌∷◌, ◌++◌, length, take, drop, flat_map, get_or, slice_get, slice_index_or, Option, Some}
 use Rattle.aftr_text.specs.declared.summaries.Totals.{Totals}
 use Rattle.aftr_text.specs.Lines.{ended_text}
 use Rattle.capture_io.specs.Packets.{packet_bytes}
@@ -90,7 +90,7 @@ chunk size place cs = take size (drop (place * size) cs)
 -- the part holds what these records write
 pub record IsPart (w : Written) (cs : List Cell) (p : Part) : Type 0 where
   pub packets : p.packets.items ≡ flat_map (packets_of w) cs
-  pub lines : string_bytes p.lines ≡ flat_map lines_of cs
+  pub lines : p.lines.items ≡ flat_map lines_of cs
   pub counts : p.counted ≡ counted no_totals cs
   pub within : IsWithin p.counted (length cs)
 
@@ -134,7 +134,7 @@ FitsAt entries index v = (i : Item) → slice_get (items_in entries) index ≡ S
 -- a part with what one record more writes
 pub record IsMore (w : Written) (c : Cell) (old new : Part) : Type 0 where
   pub packets : new.packets.items ≡ old.packets.items ++ packets_of w c
-  pub lines : string_bytes new.lines ≡ string_bytes old.lines ++ lines_of c
+  pub lines : new.lines.items ≡ old.lines.items ++ lines_of c
   pub counts : new.counted ≡ with_record old.counted c.verdict (length (packets_sent c))
 
 -- the lists of a round belong together

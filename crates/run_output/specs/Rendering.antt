@@ -1,5 +1,5 @@
 -- What a round of records writes, and the totals that it leaves.
-use Rattle.std.specs.Prelude.{◌≡◌, ℕ, ◌+◌, List, length, flat_map, Option, Some, slice_get, string_bytes}
+use Rattle.std.specs.Prelude.{◌≡◌, ℕ, ◌+◌, List, length, flat_map, Option, Some, slice_get}
 use Rattle.aftr_text.specs.declared.summaries.Totals.{Totals}
 use Rattle.capture_io.specs.declared.forms.Form.{Form}
 use Rattle.capture_io.specs.declared.forms.Rec.{Rec}
@@ -33,7 +33,7 @@ abbrev pub packets_in : List Part → List ℕ
 packets_in parts = flat_map (λ p. p.packets.items) parts
 
 abbrev pub lines_in : List Part → List ℕ
-lines_in parts = flat_map (λ p. string_bytes p.lines) parts
+lines_in parts = flat_map (λ p. p.lines.items) parts
 
 -- the records write just this
 pub record IsRendered (c : Course) (w : Written) (start : ℕ) (records : List Rec) (entries : List Entry) (before now : Totals) (parts : List Part) : Type 0 where

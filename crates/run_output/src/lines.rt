@@ -1,5 +1,5 @@
 // The lines of records and of datagrams.
-ghost use Rattle.std.specs.Prelude.{◌≡◌, ◌++◌, IfOk, flat_map, string_bytes};
+ghost use Rattle.std.specs.Prelude.{◌≡◌, ◌++◌, IfOk, flat_map};
 ghost use Rattle.aftr_text.specs.Lines.{ended_text};
 ghost use Rattle.run_output.specs.Outputs.{record_text};
 
@@ -11,11 +11,11 @@ use verdict_core::Verdict;
 /// end left. After an error a part of them may stand there.
 #[inline(always)]
 pub fn push_ended_lines(
-    lines: &mut String,
+    lines: &mut Vec<u8>,
     expired: bool,
     numbers: &[u32],
 ) -> Result<(), OutOfMemory>
-    ensures { IfOk result (λ _. string_bytes lines.new ≡ string_bytes lines.old ++ flat_map (ended_text expired) numbers.now) }
+    ensures { IfOk result (λ _. lines.new.items ≡ lines.old.items ++ flat_map (ended_text expired) numbers.now) }
 {
     'numbers: for number in numbers {
         push_ended_line(lines, expired, *number)?;
@@ -25,14 +25,14 @@ pub fn push_ended_lines(
 
 /// Puts the line of a record behind others, by whether its error is kept back.
 pub(crate) fn push_record_line(
-    lines: &mut String,
+    lines: &mut Vec<u8>,
     limited: bool,
     number: u32,
     version: u32,
     verdict: &Verdict,
     packets: u32,
 ) -> Result<(), OutOfMemory>
-    ensures { IfOk result (λ _. string_bytes lines.new ≡ string_bytes lines.old ++ record_text limited number version verdict.now packets) }
+    ensures { IfOk result (λ _. lines.new.items ≡ lines.old.items ++ record_text limited number version verdict.now packets) }
 {
     if limited {
         if let Verdict::Drop { why, .. } = *verdict {

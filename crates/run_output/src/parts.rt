@@ -1,5 +1,5 @@
 // The room of a round.
-ghost use Rattle.std.specs.Prelude.{◌≡◌, ◌<◌, ◌≤◌, [], IfOk, length, string_bytes};
+ghost use Rattle.std.specs.Prelude.{◌≡◌, ◌<◌, ◌≤◌, [], IfOk, length};
 ghost use Rattle.run_output.specs.Counting.{no_totals};
 
 use aftr_base::OutOfMemory;
@@ -13,7 +13,7 @@ pub struct Part {
     /// The packets sent, as the capture that is written records them.
     pub packets: Vec<u8>,
     /// The lines of the records.
-    pub lines: String,
+    pub lines: Vec<u8>,
     /// What was counted of them.
     pub(crate) counted: Totals,
     /// Memory was wanted, so that not all was written.
@@ -25,7 +25,7 @@ impl Part {
     fn new(alloc: Global) -> Part {
         Part {
             packets: Vec::new(alloc),
-            lines: String::new(alloc),
+            lines: Vec::new(alloc),
             counted: Totals {
                 records: 0,
                 held: 0,
@@ -41,7 +41,7 @@ impl Part {
     /// Lets go what was written, and keeps the room.
     pub(crate) fn clear(&mut self)
         ensures packets { self.new.packets.items ≡ [] }
-        ensures lines { string_bytes self.new.lines ≡ [] }
+        ensures lines { self.new.lines.items ≡ [] }
         ensures counted { self.new.counted ≡ no_totals }
     {
         self.packets.clear();

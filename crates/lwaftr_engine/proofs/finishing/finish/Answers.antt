@@ -42,10 +42,10 @@ returns-in_err-append_all-2-clause-finished g c =
     let end = (g.F.Files.outside c.append_all-2.new.files).held in
     let said = g.O.Sink.out c.args.out.now in
     finishes_err x c.args.progress.now c.args.points.now c.from_residual-in_err-append_all-2.result old end said said c.from_residual-in_err-append_all-2.ensures.0
-    (λ e. at_lines x (apart x.run c.requires.apart) c.args.progress.now c.args.points.now e old new end said c.as_bytes.result.now c.as_bytes-2.result.now (c.as_bytes.ensures.value ∙ c.in_ok-versions.ensures)
-    (λ taken stands. c.as_bytes-2.ensures.value ∙ c.in_ok-lines.ensures taken stands)
+    (λ e. at_lines x (apart x.run c.requires.apart) c.args.progress.now c.args.points.now e old new end said c.as_bytes.result.now c.deref.result.now (c.as_bytes.ensures.value ∙ c.in_ok-versions.ensures)
+    (λ taken stands. c.deref.ensures.value ∙ c.in_ok-lines.ensures taken stands)
     (named old new c.as_str.result.now x.run.versions c.as_bytes.result.now c.as_str.ensures c.in_ok-append_all.ensures.held)
-    (cut_named new end c.as_str-2.result.now x.run.verdicts c.as_bytes-2.result.now c.as_str-2.ensures c.in_err-append_all-2.ensures.held))
+    (cut_named new end c.as_str-2.result.now x.run.verdicts c.deref.result.now c.as_str-2.ensures c.in_err-append_all-2.ensures.held))
 
 pub returns-in_err-line-clause-finished : goal.returns-in_err-line-clause-finished
 returns-in_err-line-clause-finished g c =
@@ -55,10 +55,10 @@ returns-in_err-line-clause-finished g c =
     let end = (g.F.Files.outside c.append_all-2.new.files).held in
     let said = g.O.Sink.out c.args.out.now in
     finishes_err x c.args.progress.now c.args.points.now c.from_residual-in_err-line.result old end said said c.from_residual-in_err-line.ensures.0
-    (λ e. behind_lines x (apart x.run c.requires.apart) c.args.progress.now c.args.points.now e old new end said c.as_bytes.result.now c.as_bytes-2.result.now (c.as_bytes.ensures.value ∙ c.in_ok-versions.ensures)
-    (λ taken stands. c.as_bytes-2.ensures.value ∙ c.in_ok-lines.ensures taken stands)
+    (λ e. behind_lines x (apart x.run c.requires.apart) c.args.progress.now c.args.points.now e old new end said c.as_bytes.result.now c.deref.result.now (c.as_bytes.ensures.value ∙ c.in_ok-versions.ensures)
+    (λ taken stands. c.deref.ensures.value ∙ c.in_ok-lines.ensures taken stands)
     (named old new c.as_str.result.now x.run.versions c.as_bytes.result.now c.as_str.ensures c.in_ok-append_all.ensures.held)
-    (named new end c.as_str-2.result.now x.run.verdicts c.as_bytes-2.result.now c.as_str-2.ensures c.in_ok-append_all-2.ensures.held))
+    (named new end c.as_str-2.result.now x.run.verdicts c.deref.result.now c.as_str-2.ensures c.in_ok-append_all-2.ensures.held))
 
 pub returns-clause-finished : goal.returns-clause-finished
 returns-clause-finished g c =
@@ -66,10 +66,10 @@ returns-clause-finished g c =
     let old = (g.F.Files.outside c.args.files.now).held in
     let new = (g.F.Files.outside c.append_all.new.files).held in
     let end = (g.F.Files.outside c.append_all-2.new.files).held in
-    put_or_cut x (apart x.run c.requires.apart) c.args.progress.now c.args.points.now c.put_all.result old new end (g.O.Sink.out c.args.out.now) (g.O.Sink.out c.put_all.new.sink) c.as_bytes.result.now c.as_bytes-2.result.now c.as_bytes-3.result.now
+    put_or_cut x (apart x.run c.requires.apart) c.args.progress.now c.args.points.now c.put_all.result old new end (g.O.Sink.out c.args.out.now) (g.O.Sink.out c.put_all.new.sink) c.as_bytes.result.now c.deref.result.now c.as_bytes-2.result.now
     (c.as_bytes.ensures.value ∙ c.in_ok-versions.ensures)
-    (λ taken stands. c.as_bytes-2.ensures.value ∙ c.in_ok-lines.ensures taken stands)
-    (c.as_bytes-3.ensures.value ∙ (c.as_str-3.ensures ∙ (c.in_ok-line.ensures ∙ ap summary_text c.totals_with.ensures)))
+    (λ taken stands. c.deref.ensures.value ∙ c.in_ok-lines.ensures taken stands)
+    (c.as_bytes-2.ensures.value ∙ (c.as_str-3.ensures ∙ (c.in_ok-line.ensures ∙ ap summary_text c.totals_with.ensures)))
     (named old new c.as_str.result.now x.run.versions c.as_bytes.result.now c.as_str.ensures c.in_ok-append_all.ensures.held)
-    (named new end c.as_str-2.result.now x.run.verdicts c.as_bytes-2.result.now c.as_str-2.ensures c.in_ok-append_all-2.ensures.held)
+    (named new end c.as_str-2.result.now x.run.verdicts c.deref.result.now c.as_str-2.ensures c.in_ok-append_all-2.ensures.held)
     c.put_all.ensures.out

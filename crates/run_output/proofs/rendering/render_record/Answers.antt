@@ -1,6 +1,6 @@
 -- What a record writes is what its entry does.
 use Rattle.std.proofs.Common.{◌≡◌, ◌+◌, ◌++◌, ◌∙◌, Bool, List, ℕ, false, true, ap, append_assoc, flat_map, length}
-use Rattle.std.specs.Prelude.{slice_index_or, string_bytes}
+use Rattle.std.specs.Prelude.{slice_index_or}
 use Rattle.aftr_text.specs.Lines.{ended_text}
 use Rattle.run_output.specs.Counting.{with_record}
 use Rattle.run_output.specs.Outputs.{record_text, sent_unless}
@@ -22,7 +22,7 @@ returns-clause-more c = λ entry there.
       packets = c.in_ok-count.ensures.bytes entry.item item;
       lines = c.in_ok-push_record_line.ensures
           ∙ (ap (λ (l : List ℕ). l ++ text c.in_ok-count.count) c.in_ok-push_ended_lines.ensures
-          ∙ (append_assoc (string_bytes old.lines) (flat_map (ended_text true) c.ended.result.now) (text c.in_ok-count.count)
-          ∙ (λ j. string_bytes old.lines ++ (flat_map (ended_text true) (ended j) ++ text (count j)))));
+          ∙ (append_assoc (old.lines.items) (flat_map (ended_text true) c.ended.result.now) (text c.in_ok-count.count)
+          ∙ (λ j. old.lines.items ++ (flat_map (ended_text true) (ended j) ++ text (count j)))));
       counts = c.count_record.ensures ∙ ap (with_record old.counted o.verdict) (c.from.ensures ∙ count);
     }
