@@ -9,8 +9,7 @@ top="$(cd "$here/../.." && pwd)"
 work=/tmp/table_checks_bench
 mkdir -p "$work"
 if [ $# = 0 ]; then
-    "$top/lwaftr" > /dev/null 2>&1 || true
-    set -- "$top/crates/lwaftr_main/out/lwaftr_main"
+    set -- "$("$top/build" --program)"
 fi
 for layout in one-address 65536-addresses 1024-by-64 two-shapes 255-by-257 refused-at-the-last; do
     table="$work/$layout.toml"

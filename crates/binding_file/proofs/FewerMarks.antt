@@ -1,19 +1,28 @@
 -- What a glance over a text says of it: marks of comments and quoted texts are counted too, and a bracket there begins no header.
-use Rattle.std.proofs.Common.{◌≡◌, ℕ, suc, ◌+◌, ◌≤◌, nat_lt, if◌then◌else◌, Bool, true, false, ◌||◌, List, [], ◌∷◌, ◌++◌, length, refl, sym, ap, ◌∙◌, arith}
+use Rattle.std.proofs.Common.{◌≡◌, ℕ, suc, ◌+◌, ◌≤◌, ◌==◌, nat_lt, if◌then◌else◌, Bool, true, false, ◌||◌, List, [], ◌∷◌, ◌++◌, length, refl, sym, ap, ◌∙◌, arith}
 use Rattle.std.proofs.lemmas.Bool.{le-ltb}
 use Rattle.std.proofs.lemmas.List.{length-append}
 use Rattle.binding_file.specs.Costs.{has_long_header, is_costly, is_mark, marks, most_marks, part_after, seen, seen_as}
 use Rattle.binding_file.specs.declared.costs.Part.{Part}
 use Rattle.binding_file.specs.declared.costs.Part.TheVariants as part
 
+mark_or : (same : Bool) (b : ℕ) → is_mark (if same then 34 else b) ≡ true → is_mark b ≡ true
+mark_or true b is = absurd cc
+mark_or false b is = is
+
 seen_mark : (p : Part) (b : ℕ) → is_mark (seen_as p b) ≡ true → is_mark b ≡ true
 seen_mark part.Plain b is = is
 seen_mark part.Comment b is = absurd cc
-seen_mark part.Basic b is = absurd cc
+seen_mark (part.Opened m) b is = absurd cc
+seen_mark (part.Line m) b is = absurd cc
 seen_mark part.Escaped b is = absurd cc
-seen_mark part.Literal b is = absurd cc
-seen_mark part.Closed b is = is
-seen_mark part.Whole b is = is
+seen_mark (part.Twice m) b is = mark_or (b == m) b is
+seen_mark (part.Lines m) b is = absurd cc
+seen_mark (part.LinesOnce m) b is = absurd cc
+seen_mark (part.LinesTwice m) b is = absurd cc
+seen_mark part.LinesEscaped b is = absurd cc
+seen_mark (part.Ended m) b is = mark_or (b == m) b is
+seen_mark (part.EndedOnce m) b is = mark_or (b == m) b is
 
 counted : (s t : Bool) (m n : ℕ) → m ≤ n → (s ≡ true → t ≡ true) → (if s then m + 1 else m) ≤ (if t then n + 1 else n)
 counted true true m n less follows = omega (arith, less)

@@ -8,3 +8,12 @@ mod Looks
 mod FewerMarks
 mod Walks
 mod Skips
+mod Texts
+mod Escapes
+mod FirstLineLemmas
+mod Passing
+mod LineTexts
+mod KeyWalks
+mod ValueWalks
+mod LineWalks
+mod Puts

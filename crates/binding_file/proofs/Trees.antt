@@ -1,5 +1,5 @@
 -- The tree that the writer makes, and the first refusals of the reader.
-use Rattle.std.proofs.Common.{◌≡◌, ℕ, ◌+◌, ◌≤◌, ◌<◌, length, BTreeMap, String, Global, List, [], ◌∷◌, ◌++◌, true, Result, Ok, Err, refl, sym, subst, arith}
+use Rattle.std.proofs.Common.{IsUtf8, ◌≡◌, ℕ, ◌+◌, ◌≤◌, ◌<◌, length, BTreeMap, String, Global, List, [], ◌∷◌, ◌++◌, true, Result, Ok, Err, refl, sym, subst, arith}
 use Rattle.std.proofs.lemmas.Bool.Decides.{nat_tests}
 use Rattle.binding_rules.specs.Tables.{BindingTable, IsValid}
 use Rattle.binding_rules.specs.declared.binding.Binding.{Binding}
@@ -58,8 +58,12 @@ fits_small bytes small = grind (arith, nat_tests)
 pub cause_big : (bytes : List ℕ) → 16777216 < length bytes → TableOf bytes (Err refused.TooBig)
 cause_big bytes big = let e : fits bytes ≡ Err refused.TooBig = grind (arith, nat_tests) in then_err BindingTable (fits bytes) refused.TooBig _ e
 
-refused_text : (bytes : List ℕ) (r : FileRefused) → length bytes ≤ 16777216 → Says bytes (Err r) → TableOf bytes (Err r)
+pub refused_text : (bytes : List ℕ) (r : FileRefused) → length bytes ≤ 16777216 → Says bytes (Err r) → TableOf bytes (Err r)
 refused_text bytes r small said = then_ok (fits bytes) bytes _ _ (fits_small bytes small) (record { gives = Err r; given = said; rest = refl })
+
+-- bytes that are no UTF-8 are no document
+pub cause_no_text : (bytes : List ℕ) → length bytes ≤ 16777216 → (IsUtf8 bytes → ⊥) → TableOf bytes (Err refused.NotToml)
+cause_no_text bytes small never = refused_text bytes refused.NotToml small (record { gives = Err refused.NotToml; given = (refl, λ is. absurd (never is)); rest = refl })
 
 pub cause_document : (bytes : List ℕ) (e : FileError) → length bytes ≤ 16777216 → IsRead (λ (t : Document). table_view t) (IsDocument bytes) (Err e) → IsFileCause bytes e
 cause_document bytes (file_error.Refused r) small h = refused_text bytes r small (record { gives = Err r; given = h; rest = refl })

@@ -1,37 +1,54 @@
 -- When a text is held back before it is read as TOML, told from its bytes alone (ours). To read a document may take the time of
 -- its keys times that of the header above them, and some 1,000 bytes for each table; so both are bounded, far above what any table
 -- of bindings needs.
-use Rattle.std.specs.Prelude.{ℕ, ◌+◌, ◌==◌, nat_lt, Bool, false, ◌&&◌, ◌||◌, if◌then◌else◌, List, [], ◌∷◌}
+use Rattle.std.specs.Prelude.{ℕ, ◌+◌, ◌==◌, nat_lt, Bool, false, ◌&&◌, ◌||◌, if◌then◌else◌, List, [], ◌∷◌, length}
 use Rattle.binding_file.specs.declared.costs.Part.{Part}
 use Rattle.binding_file.specs.declared.costs.Part.TheVariants as part
 
--- the bytes that mean something here: 10 line feed, 34 quotation mark, 35 `#`, 39 apostrophe, 44 `,`, 46 `.`, 61 `=`, 91 `[`,
--- 92 backslash, 93 `]`, 123 `{`, 125 `}`
+-- the bytes that mean something here: 9 tab, 10 line feed, 32 space, 34 quotation mark, 35 `#`, 39 apostrophe, 44 `,`, 46 `.`,
+-- 61 `=`, 91 `[`, 92 backslash, 93 `]`, 123 `{`, 125 `}`
 
 -- what a byte outside of comments and quoted texts begins
 abbrev pub begun : ℕ → Part
-begun b = if b == 35 then part.Comment else if b == 34 then part.Basic else if b == 39 then part.Literal else part.Plain
+begun b = if b == 35 then part.Comment else if b == 34 || b == 39 then part.Opened b else part.Plain
 
--- the part in which the next byte stands. A comment and a quoted text end with their line at the latest. A mark right behind the
--- end of a quoted text begins a text of several lines, and from there on every byte counts.
+-- behind a byte in a text of one line between two of this mark; it ends with its line at the latest
+abbrev pub line_after : ℕ → ℕ → Part
+line_after m b = if b == m || b == 10 then part.Plain else if b == 92 && m == 34 then part.Escaped else part.Line m
+
+-- behind another byte than its mark in a text of several lines
+abbrev pub lines_after : ℕ → ℕ → Part
+lines_after m b = if b == 92 && m == 34 then part.LinesEscaped else part.Lines m
+
+-- the part in which the next byte stands. Three marks end a text of several lines, and one or two right behind them belong to it.
 abbrev pub part_after : Part → ℕ → Part
 part_after part.Plain b = begun b
 part_after part.Comment b = if b == 10 then part.Plain else part.Comment
-part_after part.Basic b = if b == 34 then part.Closed else if b == 92 then part.Escaped else if b == 10 then part.Plain else part.Basic
-part_after part.Escaped b = if b == 10 then part.Plain else part.Basic
-part_after part.Literal b = if b == 39 then part.Closed else if b == 10 then part.Plain else part.Literal
-part_after part.Closed b = if b == 34 || b == 39 then part.Whole else begun b
-part_after part.Whole b = part.Whole
+part_after (part.Opened m) b = if b == m then part.Twice m else line_after m b
+part_after (part.Line m) b = line_after m b
+part_after part.Escaped b = part.Line 34
+part_after (part.Twice m) b = if b == m then part.Lines m else begun b
+part_after (part.Lines m) b = if b == m then part.LinesOnce m else lines_after m b
+part_after (part.LinesOnce m) b = if b == m then part.LinesTwice m else lines_after m b
+part_after (part.LinesTwice m) b = if b == m then part.Ended m else lines_after m b
+part_after part.LinesEscaped b = part.Lines 34
+part_after (part.Ended m) b = if b == m then part.EndedOnce m else begun b
+part_after (part.EndedOnce m) b = if b == m then part.Plain else begun b
 
--- a byte as it counts: those of a comment as `#`, those of a quoted text as its mark, any other as it stands
+-- a byte as it counts: those of a comment as `#`, those of a quoted text as a mark, any other as it stands
 abbrev pub seen_as : Part → ℕ → ℕ
 seen_as part.Plain b = b
 seen_as part.Comment b = 35
-seen_as part.Basic b = 34
+seen_as (part.Opened m) b = 34
+seen_as (part.Line m) b = 34
 seen_as part.Escaped b = 34
-seen_as part.Literal b = 34
-seen_as part.Closed b = b
-seen_as part.Whole b = b
+seen_as (part.Twice m) b = if b == m then 34 else b
+seen_as (part.Lines m) b = 34
+seen_as (part.LinesOnce m) b = 34
+seen_as (part.LinesTwice m) b = 34
+seen_as part.LinesEscaped b = 34
+seen_as (part.Ended m) b = if b == m then 34 else b
+seen_as (part.EndedOnce m) b = if b == m then 34 else b
 
 abbrev pub seen : Part → List ℕ → List ℕ
 seen p [] = []
@@ -49,24 +66,36 @@ marks (b ∷ bs) = if is_mark b then marks bs + 1 else marks bs
 abbrev pub ends_header : ℕ → Bool
 ends_header b = b == 10 || b == 35 || b == 44 || b == 61 || b == 91 || b == 93 || b == 123 || b == 125
 
--- how many bytes come before the first one of these
-abbrev pub header_bytes : List ℕ → ℕ
-header_bytes [] = 0
-header_bytes (b ∷ bs) = if ends_header b then 0 else header_bytes bs + 1
+-- what a byte of a header weighs: blanks nothing, as they are no part of a key; a dot, which begins another part, as eight others
+abbrev pub weight : ℕ → ℕ
+weight b = if b == 32 || b == 9 then 0 else if b == 46 then 8 else 1
+
+-- what the bytes before the first one of these weigh
+abbrev pub header_weight : List ℕ → ℕ
+header_weight [] = 0
+header_weight (b ∷ bs) = if ends_header b then 0 else header_weight bs + weight b
 
 -- the most marks of a text: 16 for each of 65,536 bindings
 abbrev pub most_marks : ℕ
 most_marks = 1048576
 
--- the most bytes of a header
+-- the most that a header weighs: eight letters, each as an escape of ten bytes, and two marks are 82
 abbrev pub most_header : ℕ
-most_header = 24
+most_header = 96
 
--- a bracket has more bytes behind it than a header may have
+-- a bracket has more weight behind it than a header may have
 abbrev pub has_long_header : List ℕ → Bool
 has_long_header [] = false
-has_long_header (b ∷ bs) = (b == 91 && nat_lt most_header (header_bytes bs)) || has_long_header bs
+has_long_header (b ∷ bs) = (b == 91 && nat_lt most_header (header_weight bs)) || has_long_header bs
 
--- the text is held back
+-- the text would cost much
 unfoldable pub is_costly : List ℕ → Bool
 is_costly bytes = nat_lt most_marks (marks (seen part.Plain bytes)) || has_long_header (seen part.Plain bytes)
+
+-- the most bytes of a text that is never held back, whatever it costs
+abbrev pub most_free : ℕ
+most_free = 131072
+
+-- the text is held back: it is not small, and would cost much
+abbrev pub is_held_back : List ℕ → Bool
+is_held_back bytes = nat_lt most_free (length bytes) && is_costly bytes

@@ -3,3 +3,5 @@ pub mod Keys
 pub mod Files
 pub mod Parts
 pub mod Costs
+pub mod FirstLines
+pub mod Bounds

@@ -13,7 +13,7 @@ use Rattle.binding_rules.specs.declared.refused.TableError.TheVariants as table_
 use Rattle.toml.specs.Data.{Data, array, table, depth, members_depth, as_str, as_table, Items, no_items, item, Members, no_members, member, get_member}
 use Rattle.toml.specs.View.{view}
 use Rattle.toml.specs.declared.value.Value.{Value}
-use Rattle.binding_file.specs.Costs.{ends_header, header_bytes, most_header, seen}
+use Rattle.binding_file.specs.Costs.{ends_header, header_weight, most_header, seen, weight}
 use Rattle.binding_file.specs.declared.costs.Part.TheVariants as part
 use Rattle.aftr_base.specs.declared.numbers.V4.{V4}
 use Rattle.aftr_base.specs.declared.numbers.V6.{V6}
@@ -134,11 +134,10 @@ pub record IsSoftwireData (d : Data) (s : Softwire) : Type 0 where
   pub spelled : IsSoftwire members (Ok s)
   pub flat : members_depth members ≡ 0
 
--- how much of a header stands in front once this byte is passed, its bracket included
+-- how much a header weighs once this byte is passed, its bracket included
 abbrev pub header_after : ℕ → ℕ → ℕ
-header_after header b = if b == 91 then 1 else if ends_header b || header == 0 then 0 else header + 1
+header_after header b = if b == 91 then 1 else if ends_header b || header == 0 then 0 else header + weight b
 
--- a header that begins here is short, outside of comments and quoted texts and behind a text of several lines
-pub record IsShortHeader (bytes : List ℕ) : Type 0 where
-  pub plain : header_bytes (seen part.Plain bytes) ≤ most_header
-  pub whole : header_bytes (seen part.Whole bytes) ≤ most_header
+-- a header that begins here weighs little
+abbrev pub IsShortHeader : List ℕ → Type 0
+IsShortHeader bytes = header_weight (seen part.Plain bytes) ≤ most_header

@@ -1,6 +1,6 @@
 // Whether a text would cost too much time or memory to be read as TOML: one look over its bytes, in no memory.
-ghost use Rattle.std.specs.Prelude.{◌≡◌, ◌≤◌};
-ghost use Rattle.binding_file.specs.Costs.{begun, part_after, seen_as, is_mark, ends_header, is_costly};
+ghost use Rattle.std.specs.Prelude.{◌≡◌, ◌≤◌, false, length};
+ghost use Rattle.binding_file.specs.Costs.{begun, part_after, line_after, lines_after, seen_as, is_mark, ends_header, weight, is_costly, is_held_back};
 ghost use Rattle.binding_file.specs.Parts.{header_after};
 
 use crate::glances::is_plainly_cheap;
@@ -9,30 +9,50 @@ use crate::glances::is_plainly_cheap;
 /// which none needs more than 7.
 pub(crate) const MOST_MARKS: usize = 1_048_576;
 
-/// The most bytes of a header, as `binding`, between its brackets.
-pub(crate) const MOST_HEADER: usize = 24;
+/// The most weight of a header, as `binding`, between its brackets.
+pub(crate) const MOST_HEADER: usize = 96;
 
-/// Where a byte of a TOML text stands.
+/// Where a byte of a TOML text stands. A number is the mark of a quoted text: `"` or `'`.
 #[derive(Clone, Copy, Debug, PartialEq, Eq)]
 enum Part {
     /// Outside of comments and quoted texts.
     Plain,
     Comment,
-    /// In a text between quotation marks.
-    Basic,
-    /// Behind a backslash of such a text.
+    /// Right behind the first mark of a quoted text.
+    Opened(u8),
+    /// In a text of one line.
+    Line(u8),
+    /// Behind a backslash in a text of one line between quotation marks.
     Escaped,
-    /// In a text between apostrophes.
-    Literal,
-    /// Right behind the end of a quoted text.
-    Closed,
-    /// In or behind a text of several lines: from there on every byte counts.
-    Whole,
+    /// Right behind two marks: a text that has nothing, or the begin of one of several lines.
+    Twice(u8),
+    /// In a text of several lines.
+    Lines(u8),
+    /// Behind one mark in such a text.
+    LinesOnce(u8),
+    /// Behind two marks in such a text.
+    LinesTwice(u8),
+    /// Behind a backslash in such a text.
+    LinesEscaped,
+    /// Behind three marks, which end such a text; one or two more still belong to it.
+    Ended(u8),
+    EndedOnce(u8),
 }
 
-/// Whether the text has more marks than a table of bindings can need, or a longer header. The counts are never below what the
+/// The most bytes of a text that is never held back.
+const MOST_FREE: usize = 131_072;
+
+/// Whether the text is not small and would cost much.
+pub(crate) fn is_held_back(text: &[u8]) -> bool
+    ensures exact { result ≡ is_held_back text.now }
+    ensures small { length text.now ≤ 131072 → result ≡ false }
+{
+    text.len() > MOST_FREE && is_costly(text)
+}
+
+/// Whether the text has more marks than a table of bindings can need, or a heavier header. The counts are never below what the
 /// reader of TOML makes of the text: each key has a `=`, and each table a `{`, a `[` or a `.` of its own.
-pub(crate) fn is_costly(text: &[u8]) -> bool
+fn is_costly(text: &[u8]) -> bool
     ensures { result ≡ is_costly text.now }
 {
     if is_plainly_cheap(text) {
@@ -63,9 +83,9 @@ fn has_too_much(text: &[u8]) -> bool
     marks > MOST_MARKS
 }
 
-/// The length of the header so far, its bracket included; 0 outside of headers.
+/// The weight of the header so far, its bracket included; 0 outside of headers.
 fn header_after(header: usize, seen: u8) -> usize
-    requires { header ≤ 25 }
+    requires { header ≤ 97 }
     ensures { result ≡ header_after header seen }
 {
     if seen == b'[' {
@@ -73,7 +93,7 @@ fn header_after(header: usize, seen: u8) -> usize
     } else if ends_header(seen) || header == 0 {
         0
     } else {
-        header + 1
+        header + weight(seen)
     }
 }
 
@@ -82,8 +102,7 @@ fn begun(byte: u8) -> Part
 {
     match byte {
         b'#' => Part::Comment,
-        b'"' => Part::Basic,
-        b'\'' => Part::Literal,
+        b'"' | b'\'' => Part::Opened(byte),
         _ => Part::Plain,
     }
 }
@@ -91,16 +110,49 @@ fn begun(byte: u8) -> Part
 fn part_after(part: Part, byte: u8) -> Part
     ensures { result ≡ part_after part byte }
 {
-    match (part, byte) {
-        (Part::Whole, _) => Part::Whole,
-        (Part::Closed, b'"' | b'\'') => Part::Whole,
-        (Part::Plain | Part::Closed, _) => begun(byte),
-        (_, b'\n') => Part::Plain,
-        (Part::Basic, b'"') | (Part::Literal, b'\'') => Part::Closed,
-        (Part::Basic, b'\\') => Part::Escaped,
-        (Part::Basic | Part::Escaped, _) => Part::Basic,
-        (Part::Literal, _) => Part::Literal,
-        (Part::Comment, _) => Part::Comment,
+    match part {
+        Part::Plain => begun(byte),
+        Part::Comment if byte == b'\n' => Part::Plain,
+        Part::Comment => Part::Comment,
+        Part::Opened(mark) if byte == mark => Part::Twice(mark),
+        Part::Opened(mark) | Part::Line(mark) => line_after(mark, byte),
+        Part::Escaped => Part::Line(b'"'),
+        Part::Twice(mark) if byte == mark => Part::Lines(mark),
+        Part::Twice(_) => begun(byte),
+        Part::Lines(mark) if byte == mark => Part::LinesOnce(mark),
+        Part::LinesOnce(mark) if byte == mark => Part::LinesTwice(mark),
+        Part::LinesTwice(mark) if byte == mark => Part::Ended(mark),
+        Part::Lines(mark) | Part::LinesOnce(mark) | Part::LinesTwice(mark) => {
+            lines_after(mark, byte)
+        }
+        Part::LinesEscaped => Part::Lines(b'"'),
+        Part::Ended(mark) if byte == mark => Part::EndedOnce(mark),
+        Part::EndedOnce(mark) if byte == mark => Part::Plain,
+        Part::Ended(_) | Part::EndedOnce(_) => begun(byte),
+    }
+}
+
+// Behind a byte in a text of one line between two of this mark.
+fn line_after(mark: u8, byte: u8) -> Part
+    ensures { result ≡ line_after mark byte }
+{
+    if byte == mark || byte == b'\n' {
+        Part::Plain
+    } else if byte == b'\\' && mark == b'"' {
+        Part::Escaped
+    } else {
+        Part::Line(mark)
+    }
+}
+
+// Behind another byte than its mark in a text of several lines.
+fn lines_after(mark: u8, byte: u8) -> Part
+    ensures { result ≡ lines_after mark byte }
+{
+    if byte == b'\\' && mark == b'"' {
+        Part::LinesEscaped
+    } else {
+        Part::Lines(mark)
     }
 }
 
@@ -108,9 +160,16 @@ fn seen_as(part: Part, byte: u8) -> u8
     ensures { result ≡ seen_as part byte }
 {
     match part {
-        Part::Plain | Part::Closed | Part::Whole => byte,
+        Part::Twice(mark) | Part::Ended(mark) | Part::EndedOnce(mark) if byte == mark => b'"',
+        Part::Plain | Part::Twice(_) | Part::Ended(_) | Part::EndedOnce(_) => byte,
         Part::Comment => b'#',
-        Part::Basic | Part::Escaped | Part::Literal => b'"',
+        Part::Opened(_)
+        | Part::Line(_)
+        | Part::Escaped
+        | Part::Lines(_)
+        | Part::LinesOnce(_)
+        | Part::LinesTwice(_)
+        | Part::LinesEscaped => b'"',
     }
 }
 
@@ -125,4 +184,15 @@ pub(crate) fn ends_header(seen: u8) -> bool
     ensures { result ≡ ends_header seen }
 {
     matches!(seen, b'\n' | b'#' | b',' | b'=' | b'[' | b']' | b'{' | b'}')
+}
+
+/// What a byte of a header weighs: a blank nothing, and a dot, which begins another part, as much as eight others.
+fn weight(seen: u8) -> usize
+    ensures { result ≡ weight seen }
+{
+    match seen {
+        b' ' | b'\t' => 0,
+        b'.' => 8,
+        _ => 1,
+    }
 }

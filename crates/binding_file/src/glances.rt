@@ -4,11 +4,14 @@ ghost use Rattle.binding_file.specs.Costs.{has_long_header, is_costly, marks, se
 ghost use Rattle.binding_file.specs.Parts.{IsShortHeader};
 ghost use Rattle.binding_file.specs.declared.costs.Part.{Part as SpecPart};
 
-use crate::costs::{MOST_HEADER, MOST_MARKS, ends_header, is_mark};
+use crate::costs::{MOST_MARKS, ends_header, is_mark};
 use memchr::memchr;
 
 /// So many bytes are counted in one byte.
 const PIECE: usize = 192;
+
+/// So many bytes are no heavy header, whatever they are.
+const FEW: usize = 12;
 
 /// Whether the text is plainly one that costs little, without a look at where comments and quoted texts begin: it has few marks,
 /// those in such parts included, and each `[` has the end of its header soon behind it, and no quoted text before that.
@@ -75,7 +78,7 @@ fn is_short_header(bytes: &[u8]) -> bool
         if ends_header(*byte) {
             return true;
         }
-        if *byte == b'"' || *byte == b'\'' || count == MOST_HEADER {
+        if *byte == b'"' || *byte == b'\'' || count == FEW {
             return false;
         }
         count += 1;

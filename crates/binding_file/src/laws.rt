@@ -1,6 +1,10 @@
 // What holds of table files, whoever reads or writes them.
-ghost use Rattle.std.specs.Prelude.{◌≡◌, ◌≤◌, ℕ, List, length, Result, Ok};
+ghost use Rattle.std.specs.Prelude.{◌≡◌, ◌<◌, ◌≤◌, ℕ, false, List, length, Result, Ok};
+ghost use Rattle.toml.specs.Parse.{skip_bom};
+ghost use Rattle.toml.specs.Tables.{Expression};
 ghost use Rattle.binding_rules.specs.Tables.{BindingTable};
+ghost use Rattle.binding_file.specs.Bounds.{AreRead, IsBounded};
+ghost use Rattle.binding_file.specs.Costs.{is_costly, is_held_back};
 ghost use Rattle.binding_file.specs.Files.{TableOf, TextOf};
 ghost use Rattle.binding_file.specs.declared.refusals.FileRefused.{FileRefused};
 
@@ -14,3 +18,11 @@ pub fn one_table()
 {
     one_address();
 }
+
+/// What the guard against costly texts is for. Of all lines that `toml` reads off the front of a text, whatever follows them, no
+/// header weighs more than 96, and all of them make 1,048,576 members at most, and lists and tables in lists, where the text is
+/// not held back and is not small.
+pub fn light_texts()
+    ensures cheap { (bytes : List ℕ) (es : List Expression) → is_costly bytes ≡ false → AreRead es (skip_bom bytes) → IsBounded es }
+    ensures not_held_back { (bytes : List ℕ) (es : List Expression) → 131072 < length bytes → is_held_back bytes ≡ false → AreRead es (skip_bom bytes) → IsBounded es }
+{}

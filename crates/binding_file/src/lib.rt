@@ -4,6 +4,7 @@
 
 mod costs;
 mod element;
+mod first_line;
 mod glances;
 mod keys;
 mod laws;
@@ -12,7 +13,7 @@ mod reading;
 mod refusals;
 mod writing;
 
-pub use laws::one_table;
+pub use laws::{light_texts, one_table};
 pub use names::{Name, Place};
 pub use reading::read_table;
 pub use refusals::{FileError, FileRefused, LoadText, RuleText};

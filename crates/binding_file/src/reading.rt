@@ -1,14 +1,17 @@
 // Reads a table file: the document's tree first, then the keys in their order, then the rules of tables.
-ghost use Rattle.std.specs.Prelude.{◌≡◌, ◌≤◌, true, length, Err, IfOk, IfErr, vec_len};
+ghost use Rattle.std.specs.Prelude.{◌≡◌, ◌<◌, ◌≤◌, true, false, length, Err, IfOk, IfErr, IsUtf8, vec_len, ◌⊎◌};
 ghost use Rattle.toml.specs.View.{view, table_view, items_view};
 ghost use Rattle.binding_rules.specs.Tables.{binding_table};
 ghost use Rattle.binding_file.specs.Files.{top_edition, settings_of, port_set_of, elements_of, are_tables, IsSoftwire, IsElement, AreBindings, IsDocument, IsTree, TableOf, IsFileCause, most_bytes};
-ghost use Rattle.binding_file.specs.Costs.{is_costly};
+ghost use Rattle.binding_file.specs.Costs.{is_held_back};
+ghost use Rattle.binding_file.specs.FirstLines.{begins_toml, IsNotToml};
 ghost use Rattle.binding_file.specs.Parts.{IsRead, value_or_refusal};
 ghost use Rattle.binding_file.specs.declared.refusals.FileError.TheVariants as file_error;
+ghost use Rattle.binding_file.specs.declared.refusals.FileRefused.TheVariants as refused;
 
-use crate::costs::is_costly;
+use crate::costs::is_held_back;
 use crate::element::element_of;
+use crate::first_line::begins_toml;
 use crate::keys::{
     address4_at, address6_at, byte_at, flag_at, has_other, member_at, number_at, required, table_at,
 };
@@ -17,6 +20,7 @@ use crate::refusals::{FileError, FileRefused};
 use aftr_base::{V4, V6};
 use binding_rules::{Binding, Edition, Softwire, Table, table_of};
 use std::alloc::Global;
+use std::str;
 use toml::Value;
 
 const MOST_BYTES: usize = 16_777_216;
@@ -40,22 +44,54 @@ const SOFTWIRE_NAMES: [Name; 9] = [
 /// `Name`, each with `Missing`, `Kind` and then `Address` or `Range`, then `UnknownKey` in it; `Kind` of `binding` where it
 /// is no array of tables; then each of its elements in order, its keys like those of `softwire`; and last the first
 /// refusal by the rules of tables. `OutOfMemory` comes where the allocator has no room for the document, the bindings or
-/// the test of the rules, and for a text that is held back: one with more than 1,048,576 of the bytes `.`, `=`, `[`, `{`
-/// outside of comments and quoted texts, or a header of more than 24 bytes, as no table of bindings has.
+/// the test of the rules, and for a text that begins with a line of TOML and is held back: one of more than 131,072 bytes with more than 1,048,576 of the bytes
+/// `.`, `=`, `[`, `{` outside of comments and quoted texts, or a header of more weight than 96 (a byte weighs 1, a dot 8, blanks
+/// nothing), as no table of bindings has.
 pub fn read_table(alloc: Global, text: &[u8]) -> Result<Table, FileError>
     ensures table { IfOk result (λ t. TableOf text.now (Ok t)) }
     ensures cause { IfErr result (IsFileCause text.now) }
-    ensures held_back { length text.now ≤ most_bytes → is_costly text.now ≡ true → result ≡ Err file_error.OutOfMemory }
+    ensures too_big { most_bytes < length text.now → result ≡ Err (file_error.Refused refused.TooBig) }
+    ensures no_text { length text.now ≤ most_bytes → (IsUtf8 text.now → ⊥) → result ≡ Err (file_error.Refused refused.NotToml) }
+    ensures no_line { length text.now ≤ most_bytes → begins_toml text.now ≡ false → IsNotToml result }
+    ensures held_back { length text.now ≤ most_bytes → IsUtf8 text.now → begins_toml text.now ≡ true → is_held_back text.now ≡ true → result ≡ Err file_error.OutOfMemory }
+    ensures small { length text.now ≤ 131072 → is_held_back text.now ≡ false }
 {
     if text.len() > MOST_BYTES {
         return Err(FileError::Refused(FileRefused::TooBig));
     }
-    if is_costly(text) {
-        return Err(FileError::OutOfMemory);
+    match str::from_utf8(text) {
+        Ok(text) => read_text(alloc, text),
+        Err(_) => Err(FileError::Refused(FileRefused::NotToml)),
+    }
+}
+
+// The same of a text within the size.
+fn read_text(alloc: Global, text: &str) -> Result<Table, FileError>
+    requires size { length text.now ≤ most_bytes }
+    requires utf8 { IsUtf8 text.now }
+    ensures table { IfOk result (λ t. TableOf text.now (Ok t)) }
+    ensures cause { IfErr result (IsFileCause text.now) }
+    ensures no_line { begins_toml text.now ≡ false → IsNotToml result }
+    ensures held_back { begins_toml text.now ≡ true → is_held_back text.now ≡ true → result ≡ Err file_error.OutOfMemory }
+{
+    if is_held_back(text.as_bytes()) {
+        return Err(unread(alloc, text));
     }
     let document = document_of(alloc, text)?;
     let spelled = tree_of(alloc, &document)?;
     Ok(table_of(alloc, spelled.edition, spelled.softwire, spelled.bindings)?)
+}
+
+/// The answer to a text that is held back.
+fn unread(alloc: Global, text: &str) -> FileError
+    ensures no_line { begins_toml text.now ≡ false → (result ≡ file_error.Refused refused.NotToml) ⊎ (result ≡ file_error.OutOfMemory) }
+    ensures line { begins_toml text.now ≡ true → result ≡ file_error.OutOfMemory }
+    ensures cause { (result ≡ file_error.OutOfMemory) ⊎ ((result ≡ file_error.Refused refused.NotToml) × (begins_toml text.now ≡ false)) }
+{
+    match begins_toml(alloc, text) {
+        Ok(false) => FileError::Refused(FileRefused::NotToml),
+        _ => FileError::OutOfMemory,
+    }
 }
 
 /// What a tree says, before the rules of tables.
@@ -66,10 +102,12 @@ struct Spelled {
     bindings: Vec<Binding>,
 }
 
-fn document_of(alloc: Global, text: &[u8]) -> Result<toml::Table, FileError>
-    ensures { IsRead (λ t. table_view t) (IsDocument text.now) result }
+fn document_of(alloc: Global, text: &str) -> Result<toml::Table, FileError>
+    requires { IsUtf8 text.now }
+    ensures read { IsRead (λ t. table_view t) (IsDocument text.now) result }
+    ensures no_line { begins_toml text.now ≡ false → IsNotToml result }
 {
-    match toml::table_from_slice(alloc, text) {
+    match toml::table_from_str(alloc, text) {
         Ok(document) => Ok(document),
         Err(error) if error.is_memory() => Err(FileError::OutOfMemory),
         Err(_) => Err(FileError::Refused(FileRefused::NotToml)),

@@ -9,3 +9,5 @@ pub mod Pairs
 pub mod Rising
 pub mod Slots
 pub mod Upwards
+mod Counts
+mod Taken

@@ -3,3 +3,4 @@ pub mod Conflicts
 pub mod Refusals
 pub mod Scans
 pub mod Tables
+pub mod Steps

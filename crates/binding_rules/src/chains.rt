@@ -1,15 +1,18 @@
 // The places of each address, chained from the last one to the first, and from the first one to the last.
-ghost use Rattle.std.specs.Prelude.{ℕ, ◌≡◌, ◌<◌, ◌≤◌, ◌↔◌, Some, length, slice_get, IfOk, IsTrue};
+ghost use Rattle.std.specs.Prelude.{ℕ, ◌≡◌, ◌+◌, ◌<◌, ◌≤◌, ◌↔◌, Some, length, slice_get, IfOk, IsTrue};
 ghost use Rattle.std.specs.Ordering.{nat_cmp};
 ghost use Rattle.std.specs.BTreeMap.{get};
 ghost use Rattle.binding_rules.specs.Conflicts.{HaveCommonPort, HaveOneShape};
 ghost use Rattle.binding_rules.specs.Scans.{IsLinked, IsLinkedUp, IsNearest, IsLast, IsLeast, IsLeastUnlike, IsLater, HasAddress, AreWell, ends_within};
+ghost use Rattle.binding_rules.specs.Steps.{count_of};
 
 use crate::binding::Binding;
+use crate::counter::Steps;
 use crate::ports::have_common_port;
 use aftr_base::OutOfMemory;
 use std::alloc::Global;
 use std::collections::BTreeMap;
+use std::sync::ledger::Ledger;
 
 /// For each place the nearest earlier place of the same address and the nearest later one, and for each address its last
 /// place.
@@ -61,32 +64,42 @@ fn next_of(
 }
 
 /// The first place of the address of which `last` is a place.
-pub(crate) fn head_of(bindings: &[Binding], previous: &[Option<u32>], last: u32) -> u32
+pub(crate) fn head_of<L: Ledger>(
+    bindings: &[Binding],
+    previous: &[Option<u32>],
+    last: u32,
+    steps: &mut Steps<L>,
+) -> u32
     requires linked { IsLinked bindings.now previous.now }
     requires within { last < length bindings.now }
-    ensures { (a : ℕ) → HasAddress bindings.now a last → IsLeast (HasAddress bindings.now a) (Some result) }
+    ensures head { (a : ℕ) → HasAddress bindings.now a last → IsLeast (HasAddress bindings.now a) (Some result) }
+    ensures cost { (a : ℕ) → HasAddress bindings.now a last → steps.new ≤ steps.old + count_of a bindings.now }
 {
     let mut place = last;
     'chain: while let Some(earlier) = previous[place as usize] {
+        steps.tick();
         place = earlier;
     }
     place
 }
 
 /// The least place of the address whose binding has another shape than `like`.
-pub(crate) fn least_unlike(
+pub(crate) fn least_unlike<L: Ledger>(
     bindings: &[Binding],
     previous: &[Option<u32>],
     last: u32,
     like: Binding,
+    steps: &mut Steps<L>,
 ) -> Option<u32>
     requires linked { IsLinked bindings.now previous.now }
     requires last { IsLast bindings.now like.v4.0 last }
-    ensures { IsLeastUnlike bindings.now like.v4.0 like result }
+    ensures least { IsLeastUnlike bindings.now like.v4.0 like result }
+    ensures cost { steps.new ≤ steps.old + count_of like.v4.0 bindings.now }
 {
     let mut found = None;
     let mut at = Some(last);
     'chain: while let Some(place) = at {
+        steps.tick();
         if !have_one_shape(like, bindings[place as usize]) {
             found = at;
         }
@@ -102,22 +115,25 @@ pub(crate) fn have_one_shape(x: Binding, y: Binding) -> bool
 }
 
 /// The least place of the address behind `place` whose binding has a port in common with `binding`, the one at `place`.
-pub(crate) fn least_common(
+pub(crate) fn least_common<L: Ledger>(
     bindings: &[Binding],
     previous: &[Option<u32>],
     last: u32,
     place: u32,
     binding: Binding,
+    steps: &mut Steps<L>,
 ) -> Option<u32>
     requires linked { IsLinked bindings.now previous.now }
     requires last { IsLast bindings.now binding.v4.0 last }
     requires well { AreWell bindings.now }
     requires there { slice_get bindings.now place ≡ Some binding }
-    ensures { IsLeast (IsLater bindings.now binding.v4.0 (Some place) (HaveCommonPort binding)) result }
+    ensures least { IsLeast (IsLater bindings.now binding.v4.0 (Some place) (HaveCommonPort binding)) result }
+    ensures cost { steps.new ≤ steps.old + count_of binding.v4.0 bindings.now }
 {
     let mut found = None;
     let mut at = Some(last);
     'chain: while let Some(later) = at {
+        steps.tick();
         if later == place {
             return found;
         }
@@ -130,15 +146,17 @@ pub(crate) fn least_common(
 }
 
 /// Whether the address of which `last` is the last place has at most so many bindings.
-pub(crate) fn has_at_most(
+pub(crate) fn has_at_most<L: Ledger>(
     bindings: &[Binding],
     previous: &[Option<u32>],
     last: u32,
     most: u32,
+    steps: &mut Steps<L>,
 ) -> bool
     requires linked { IsLinked bindings.now previous.now }
     requires within { last < length bindings.now }
-    ensures { result ≡ ends_within previous.now (Some last) most }
+    ensures few { result ≡ ends_within previous.now (Some last) most }
+    ensures cost { steps.new ≤ steps.old + most }
 {
     let mut left = most;
     let mut at = Some(last);
@@ -146,6 +164,7 @@ pub(crate) fn has_at_most(
         if left == 0 {
             return false;
         }
+        steps.tick();
         left -= 1;
         at = previous[place as usize];
     }

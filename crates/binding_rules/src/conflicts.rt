@@ -1,14 +1,18 @@
 // The first conflict, found address by address.
-ghost use Rattle.std.specs.Prelude.{◌≡◌, ℕ, ◌<◌, ◌≤◌, true, false, None, Some, length, IfOk};
+ghost use Rattle.std.specs.Prelude.{◌≡◌, ℕ, ◌+◌, ◌*◌, ◌<◌, ◌≤◌, true, false, None, Some, length, IfOk};
 ghost use Rattle.binding_rules.specs.Conflicts.{Conflict};
 ghost use Rattle.binding_rules.specs.Scans.{IsLinked, IsLinkedUp, IsLast, IsLeast, IsFirstPair, HasAddress, AreShared, IsOwnersOf, AreWell, AreFresh, earlier_of, ends_within, paired, slot};
+ghost use Rattle.binding_rules.specs.Steps.{addresses, count_of};
 
 use crate::binding::Binding;
 use crate::chains::{chains_of, has_at_most, head_of, least_common, least_unlike};
+use crate::counter::Steps;
 use crate::owners::meet;
 use crate::settings::Edition;
 use aftr_base::{OutOfMemory, V4};
 use std::alloc::Global;
+use std::marker::Brand;
+use std::sync::ledger::{Blank, Ledger};
 
 /// Up to how many bindings of unlike shapes on one address are compared each with each.
 const MOST_COMPARED: u32 = 256;
@@ -47,12 +51,13 @@ fn pair_of(first: u32, second: Option<u32>) -> Option<Pair>
 }
 
 /// The first pair of the address that has an identifier in common.
-fn shared_pair(
+fn shared_pair<L: Ledger>(
     bindings: &[Binding],
     previous: &[Option<u32>],
     v4: V4,
     last: u32,
     owners: &mut [Option<u32>],
+    steps: &mut Steps<L>,
 ) -> Option<Pair>
     requires few { length bindings.now ≤ 65536 }
     requires linked { IsLinked bindings.now previous.now }
@@ -62,11 +67,20 @@ fn shared_pair(
     requires fresh { AreFresh bindings.now v4.0 owners.old }
     ensures first { IsFirstPair bindings.now (AreShared false) (HasAddress bindings.now v4.0) result }
     ensures owners { IsOwnersOf bindings.now v4.0 owners.old owners.new }
+    ensures cost { steps.new ≤ steps.old + count_of v4.0 bindings.now }
 {
     let mut best = None;
     let mut at = Some(last);
     'chain: while let Some(place) = at {
-        let met = meet(bindings, v4, false, place, bindings[place as usize], owners);
+        let met = meet(
+            bindings,
+            v4,
+            false,
+            place,
+            bindings[place as usize],
+            owners,
+            steps,
+        );
         best = earlier(best, pair_of(place, met));
         at = previous[place as usize];
     }
@@ -75,17 +89,31 @@ fn shared_pair(
 
 /// The same for ports, by a comparison of each two bindings of the address. It takes no slots. At most 256 bindings are
 /// compared so, since the comparisons grow with the square of their number.
-fn compared_pair(bindings: &[Binding], previous: &[Option<u32>], v4: V4, last: u32) -> Option<Pair>
+fn compared_pair<L: Ledger>(
+    bindings: &[Binding],
+    previous: &[Option<u32>],
+    v4: V4,
+    last: u32,
+    steps: &mut Steps<L>,
+) -> Option<Pair>
     requires linked { IsLinked bindings.now previous.now }
     requires few { ends_within previous.now (Some last) 256 ≡ true }
     requires last { IsLast bindings.now v4.0 last }
     requires well { AreWell bindings.now }
-    ensures { IsFirstPair bindings.now (AreShared true) (HasAddress bindings.now v4.0) result }
+    ensures first { IsFirstPair bindings.now (AreShared true) (HasAddress bindings.now v4.0) result }
+    ensures cost { steps.new ≤ steps.old + 65792 }
 {
     let mut best = None;
     let mut at = Some(last);
     'chain: while let Some(place) = at {
-        let met = least_common(bindings, previous, last, place, bindings[place as usize]);
+        let met = least_common(
+            bindings,
+            previous,
+            last,
+            place,
+            bindings[place as usize],
+            steps,
+        );
         best = earlier(best, pair_of(place, met));
         at = previous[place as usize];
     }
@@ -94,12 +122,13 @@ fn compared_pair(bindings: &[Binding], previous: &[Option<u32>], v4: V4, last: u
 
 /// The same by the slots of the ports, from the first place up. It ends at the first place that owns a port of an earlier
 /// one: before it no port was taken twice, so no more than twice 65,536 ports are looked at.
-fn risen_pair(
+fn risen_pair<L: Ledger>(
     bindings: &[Binding],
     next: &[Option<u32>],
     v4: V4,
     head: u32,
     owners: &mut [Option<u32>],
+    steps: &mut Steps<L>,
 ) -> Option<Pair>
     requires few { length bindings.now ≤ 65536 }
     requires linked { IsLinkedUp bindings.now next.now }
@@ -109,11 +138,12 @@ fn risen_pair(
     requires fresh { AreFresh bindings.now v4.0 owners.old }
     ensures first { IsFirstPair bindings.now (AreShared true) (HasAddress bindings.now v4.0) result }
     ensures owners { IsOwnersOf bindings.now v4.0 owners.old owners.new }
+    ensures cost { steps.new ≤ steps.old + 262144 }
 {
     let mut at = Some(head);
     'chain: while let Some(second) = at {
         let binding = bindings[second as usize];
-        if let Some(first) = meet(bindings, v4, true, second, binding, owners) {
+        if let Some(first) = meet(bindings, v4, true, second, binding, owners, steps) {
             return Some(Pair { first, second });
         }
         at = next[second as usize];
@@ -122,7 +152,7 @@ fn risen_pair(
 }
 
 /// The first conflict of the address. Where all its bindings have one shape, a common port is an equal identifier.
-fn address_pair(
+fn address_pair<L: Ledger>(
     edition: Edition,
     bindings: &[Binding],
     previous: &[Option<u32>],
@@ -130,6 +160,7 @@ fn address_pair(
     v4: V4,
     last: u32,
     owners: &mut [Option<u32>],
+    steps: &mut Steps<L>,
 ) -> Option<Pair>
     requires few { length bindings.now ≤ 65536 }
     requires linked { IsLinked bindings.now previous.now }
@@ -140,28 +171,24 @@ fn address_pair(
     requires fresh { AreFresh bindings.now v4.0 owners.old }
     ensures first { IsFirstPair bindings.now (Conflict edition) (HasAddress bindings.now v4.0) result }
     ensures owners { IsOwnersOf bindings.now v4.0 owners.old owners.new }
+    ensures cost { steps.new ≤ steps.old + 400000 + 10 * count_of v4.0 bindings.now }
 {
     match edition {
         Edition::One => {
-            let shared = shared_pair(bindings, previous, v4, last, owners);
-            let head = head_of(bindings, previous, last);
-            let unlike = least_unlike(bindings, previous, last, bindings[head as usize]);
+            let shared = shared_pair(bindings, previous, v4, last, owners, steps);
+            let head = head_of(bindings, previous, last, steps);
+            let unlike = least_unlike(bindings, previous, last, bindings[head as usize], steps);
             earlier(pair_of(head, unlike), shared)
         }
         Edition::Two => {
-            let unlike = least_unlike(bindings, previous, last, bindings[last as usize]);
+            let unlike = least_unlike(bindings, previous, last, bindings[last as usize], steps);
             if unlike.is_none() {
-                shared_pair(bindings, previous, v4, last, owners)
-            } else if has_at_most(bindings, previous, last, MOST_COMPARED) {
-                compared_pair(bindings, previous, v4, last)
+                shared_pair(bindings, previous, v4, last, owners, steps)
+            } else if has_at_most(bindings, previous, last, MOST_COMPARED, steps) {
+                compared_pair(bindings, previous, v4, last, steps)
             } else {
-                risen_pair(
-                    bindings,
-                    next,
-                    v4,
-                    head_of(bindings, previous, last),
-                    owners,
-                )
+                let head = head_of(bindings, previous, last, steps);
+                risen_pair(bindings, next, v4, head, owners, steps)
             }
         }
     }
@@ -189,6 +216,38 @@ pub(crate) fn first_conflict(
     requires well { AreWell bindings.now }
     ensures { IfOk result (λ best. IsFirstPair bindings.now (Conflict edition) (λ n. Unit {0}) best) }
 {
+    conflict_in::<Brand>(alloc, edition, bindings, Blank::new(1))
+}
+
+fn conflict_in<L: Ledger>(
+    alloc: Global,
+    edition: Edition,
+    bindings: &[Binding],
+    blank: Blank,
+) -> Result<Option<Pair>, OutOfMemory>
+    requires few { length bindings.now ≤ 65536 }
+    requires well { AreWell bindings.now }
+    requires name { blank.name ≡ L.name }
+    requires parts { blank.parts ≡ L.parts }
+    requires some { 0 < blank.parts }
+    ensures { IfOk result (λ best. IsFirstPair bindings.now (Conflict edition) (λ n. Unit {0}) best) }
+{
+    let mut steps = Steps::<L>::start(blank);
+    counted_conflict(alloc, edition, bindings, &mut steps)
+}
+
+/// The same with its steps: of each place, slot or pair that is looked at, at most 400,000 an address and 10 a binding.
+fn counted_conflict<L: Ledger>(
+    alloc: Global,
+    edition: Edition,
+    bindings: &[Binding],
+    steps: &mut Steps<L>,
+) -> Result<Option<Pair>, OutOfMemory>
+    requires few { length bindings.now ≤ 65536 }
+    requires well { AreWell bindings.now }
+    ensures first { IfOk result (λ best. IsFirstPair bindings.now (Conflict edition) (λ n. Unit {0}) best) }
+    ensures cost { steps.new ≤ steps.old + 400000 * addresses bindings.now + 10 * length bindings.now }
+{
     let chains = chains_of(alloc, bindings)?;
     let mut owners = no_owners(alloc)?;
     let mut best = None;
@@ -203,6 +262,7 @@ pub(crate) fn first_conflict(
                 v4,
                 place as u32,
                 &mut owners,
+                steps,
             );
             best = earlier(best, found);
         }

@@ -7,6 +7,7 @@
 mod binding;
 mod chains;
 mod conflicts;
+mod counter;
 mod lookup;
 mod owners;
 mod places;

@@ -9,7 +9,7 @@ abbrev pub invariant-bytes : goal.invariant-bytes
 invariant-bytes l = record {
   count : l.marks + marks (seen l.part l.rest) ≡ marks (seen part.Plain l.text);
   room : l.marks + length l.rest ≤ length l.text;
-  header : l.header ≤ 25;
+  header : l.header ≤ 97;
   long : long_from l.header (seen l.part l.rest) ≡ has_long_header (seen part.Plain l.text);
 }
 

@@ -1,14 +1,18 @@
+use Rattle.std.proofs.Common.{◌+◌, ◌≤◌}
 use Rattle.binding_rules.specs.Conflicts.{HaveCommonPort}
 use Rattle.binding_rules.specs.Scans.{IsLeast, IsLater}
+use Rattle.binding_rules.specs.Steps.{count_of}
+use Rattle.binding_rules.proofs.Counts.{remaining}
 use Rattle.binding_rules.proofs.Links.{IsOf, IsToCome, reach}
 use Rattle.binding_rules.proofs.chains.least_common.Given as goal
 
 abbrev pub invariant-chain : goal.invariant-chain
-invariant-chain l = record {
+invariant-chain g l = record {
   here : IsOf l.bindings l.binding.v4.0 l.at;
   to_come : IsToCome l.place l.at;
   least : IsLeast (IsLater l.bindings l.binding.v4.0 l.at (HaveCommonPort l.binding)) l.found;
+  cost : l.steps + remaining l.bindings l.binding.v4.0 l.at ≤ l.initial.steps + count_of l.binding.v4.0 l.bindings;
 }
 
 abbrev pub decreases-chain : goal.decreases-chain
-decreases-chain l = reach l.at
+decreases-chain g l = reach l.at
