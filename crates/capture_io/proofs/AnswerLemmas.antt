@@ -1,5 +1,6 @@
 -- From the bytes that were read to what the file holds, where that is told; and which read failed.
-use Rattle.std.proofs.Common.{◌≡◌, ℕ, ◌+◌, ◌<◌, ◌≤◌, min, Bool, true, false, List, ◌∷◌, length, take, drop, Option, Some, None, Result, Ok, Err, sym, ◌∙◌, ap, subst}
+use Rattle.std.proofs.Common.{◌≡◌, ℕ, ◌+◌, ◌<◌, ◌≤◌, min, Bool, true, false, List, [], ◌∷◌, ◌++◌, length, take, drop, Option, Some, None, Result, Ok, Err, refl, sym, ◌∙◌, ap, subst}
+use Rattle.std.proofs.Math.Seq.{take-add}
 use Rattle.aftr_base.specs.declared.outside.Fault.{Fault}
 use Rattle.aftr_base.specs.declared.outside.Fault.TheVariants as fault
 use Rattle.aftr_base.specs.Contents.{Contents, content, Told}
@@ -26,6 +27,24 @@ pub header_told : (held : Option Contents) (name read : List ℕ) (answer : Resu
     Told held (λ m. read ≡ take 24 (drop 0 (content m name))) → header_in read ≡ answer → Told held (λ m. header_in (content m name) ≡ answer)
 header_told None name read answer e h = tt
 header_told (Some m) name read answer e h = sym (header_front (content m name)) ∙ (sym (ap header_in e) ∙ h)
+
+-- what stands behind the first four bytes, where fewer may be there
+behind_four : (bytes : List ℕ) → drop (length (take 4 bytes)) bytes ≡ drop 4 bytes
+behind_four [] = refl
+behind_four (a ∷ []) = refl
+behind_four (a ∷ b ∷ []) = refl
+behind_four (a ∷ b ∷ c ∷ []) = refl
+behind_four (a ∷ b ∷ c ∷ d ∷ rest) = refl
+
+-- the same, where its first four bytes were read before the others
+pub header_behind_told : (held : Option Contents) (name first rest header : List ℕ) (answer : Result Form CaptureBad) → Told held (λ m. first ≡ take 4 (content m name)) →
+    Told held (λ m. rest ≡ take 20 (drop (length first) (content m name))) → header ≡ first ++ rest → header_in header ≡ answer → Told held (λ m. header_in (content m name) ≡ answer)
+header_behind_told None name first rest header answer f r joined h = tt
+header_behind_told (Some m) name first rest header answer f r joined h =
+    let four : drop (length first) (content m name) ≡ drop 4 (content m name) = ap (λ l. drop (length l) (content m name)) f ∙ behind_four (content m name) in
+    let behind : rest ≡ take 20 (drop 4 (content m name)) = r ∙ ap (take 20) four in
+    let all : header ≡ take 24 (content m name) = joined ∙ ((λ i. f i ++ behind i) ∙ sym (take-add 4 20 (content m name))) in
+    sym (header_front (content m name)) ∙ (sym (ap header_in all) ∙ h)
 
 pub refused_told : (held : Option Contents) (name : List ℕ) (big : Bool) (read : List ℕ) (at number count : ℕ) (refusal : CaptureBad) →
     Told held (λ m. read ≡ take 16 (drop at (content m name))) → Told held (λ m. count ≡ min 16 (length (drop at (content m name)))) → (count ≡ 0 → ⊥) →

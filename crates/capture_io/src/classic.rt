@@ -11,6 +11,7 @@ ghost use Rattle.capture_io.specs.Rounds.{bytes_captured, is_cut};
 ghost use Rattle.capture_io.specs.Taken.{AreTaken, Ended};
 
 use crate::fronts::{MOST_TAKEN, Taken, is_open, take_records};
+use crate::header::read_header_behind;
 use crate::{CaptureError, CaptureReader, Ending, Form, Place, Records, Round, read_header};
 use aftr_base::{Fault, Files, OutOfMemory};
 use std::alloc::Global;
@@ -31,8 +32,6 @@ pub struct ClassicReader {
     at: u64,
     // what was read already of the bytes from `at` on
     ahead: Vec<u8>,
-    // what was looked at ahead of its time, which says nothing
-    touched: u8,
 }
 
 impl ClassicReader {
@@ -53,7 +52,29 @@ impl ClassicReader {
             form,
             at: FIRST_RECORD,
             ahead: Vec::new(alloc),
-            touched: 0,
+        })
+    }
+
+    /// The same, where the first four bytes were read already, or as many of them as the file has: they are not read again.
+    pub fn open_behind<F: Files>(
+        alloc: Global,
+        files: &mut F,
+        name: &str,
+        first: &[u8],
+    ) -> Result<ClassicReader, CaptureError>
+        requires first { Told (F.outside files.old).held (λ m. first.now ≡ take 4 (content m name.now)) }
+        requires few { length first.now ≤ 4 }
+        ensures told { Told (F.outside files.old).held (λ m. Opens result (content m name.now)) }
+        ensures link { IfOk result (λ reader. IsTrue (is_known_link (⟦<ClassicReader as CaptureReader>⟧.form reader).link)) }
+        ensures at { IfOk result (λ reader. ⟦<ClassicReader as CaptureReader>⟧.at reader ≡ 24) }
+        ensures ready { IfOk result (λ reader. ⟦<ClassicReader as CaptureReader>⟧.ready reader 0) }
+        ensures reads { OnlyReads (is_read_fault result) name.now (λ place. place < 24) (F.outside files.old) (F.outside files.new) }
+    {
+        let form = read_header_behind(alloc, files, name, first)?;
+        Ok(ClassicReader {
+            form,
+            at: FIRST_RECORD,
+            ahead: Vec::new(alloc),
         })
     }
 }
@@ -206,7 +227,6 @@ fn take_fetched(
             used: 0,
             number,
             ending: Some(Ending::ReadFault),
-            touched: 0,
         };
     }
     take_records(big, piece, fetched.last, at, number, most_bytes, places)
@@ -268,7 +288,6 @@ impl CaptureReader for ClassicReader {
         self.ahead
             .extend_from_slice(&buffer[taken.used..fetched.filled])?;
         self.at += taken.used as u64;
-        self.touched = taken.touched;
         Ok(Round {
             records: Records::of(buffer, places),
             number: taken.number,

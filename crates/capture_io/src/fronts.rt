@@ -107,15 +107,6 @@ pub struct Taken {
     pub number: u32,
     /// How the records ended, if these are the last.
     pub ending: Option<Ending>,
-    /// What was looked at ahead of its time. It says nothing; it is handed on so that the looks are made.
-    pub touched: u8,
-}
-
-// Looks at a place of a piece. Where a record begins is told by the header of the one before it alone, and a header that has to come from
-// a second-level cache is waited for. One that was looked at two records before is there.
-#[inline(always)]
-fn touch(piece: &[u8], place: usize) -> u8 {
-    if place < piece.len() { piece[place] } else { 0 }
 }
 
 /// Takes whole records off the front of a piece, which stands at the place `at` of the file, until the rest of it is none, 16,384
@@ -147,7 +138,6 @@ pub fn take_records(
 {
     let mut used = 0;
     let mut bytes = 0;
-    let mut touched = 0;
     'records: while places.len() < MOST_TAKEN && bytes < most_bytes {
         let here = at + used as u64;
         let next = number + places.len() as u32;
@@ -157,33 +147,28 @@ pub fn take_records(
                 used,
                 number: next,
                 ending: Some(Ending::End),
-                touched,
             },
             Front::Bad(refusal) => {
                 return Taken {
                     used,
                     number: next,
                     ending: Some(Ending::Bad(refusal)),
-                    touched,
                 };
             }
             Front::More => return Taken {
                 used,
                 number: next,
                 ending: None,
-                touched,
             },
         };
         places.push_reserved(place_of(head, used, here));
         let count = head.captured as usize;
         used += HEADER_LEN + count;
         bytes += count;
-        touched ^= touch(piece, used + HEADER_LEN + count);
     }
     Taken {
         used,
         number: number + places.len() as u32,
         ending: None,
-        touched,
     }
 }

@@ -1,5 +1,5 @@
 // The file header of a capture.
-ghost use Rattle.std.specs.Prelude.{◌≡◌, ◌<◌, ◌≤◌, IfOk, IsTrue, length};
+ghost use Rattle.std.specs.Prelude.{◌≡◌, ◌++◌, ◌<◌, ◌≤◌, IfOk, IsTrue, length, take};
 ghost use Rattle.aftr_base.specs.Contents.{content, Told};
 ghost use Rattle.aftr_base.specs.Outside.{OnlyReads};
 ghost use Rattle.capture_io.specs.Answers.{Agrees, is_read_fault};
@@ -8,7 +8,7 @@ ghost use Rattle.capture_io.specs.Written.{header_bytes};
 
 use crate::words::{half, word};
 use crate::{CaptureBad, CaptureError, Form};
-use aftr_base::{Files, fill};
+use aftr_base::{Files, OutOfMemory, fill};
 use std::alloc::Global;
 
 const HEADER_LEN: usize = 24;
@@ -35,6 +35,40 @@ pub fn read_header<F: Files>(alloc: Global, files: &mut F, name: &str) -> Result
         Ok(form) => Ok(form),
         Err(refusal) => Err(CaptureError::Bad(refusal)),
     }
+}
+
+/// The same, where the first four bytes were read already, or as many of them as the file has: they are not read again.
+pub fn read_header_behind<F: Files>(
+    alloc: Global,
+    files: &mut F,
+    name: &str,
+    first: &[u8],
+) -> Result<Form, CaptureError>
+    requires first { Told (F.outside files.old).held (λ m. first.now ≡ take 4 (content m name.now)) }
+    requires few { length first.now ≤ 4 }
+    ensures told { Told (F.outside files.old).held (λ m. Agrees result (header_in (content m name.now))) }
+    ensures link { IfOk result (λ form. IsTrue (is_known_link form.link)) }
+    ensures reads { OnlyReads (is_read_fault result) name.now (λ place. place < 24) (F.outside files.old) (F.outside files.new) }
+{
+    let mut rest = [0; HEADER_LEN - 4];
+    let count = fill(alloc, files, name, first.len() as u64, &mut rest)?;
+    let header = match joined(alloc, first, &rest[..count]) {
+        Ok(header) => header,
+        Err(_) => return Err(CaptureError::OutOfMemory),
+    };
+    match form_of(&header) {
+        Ok(form) => Ok(form),
+        Err(refusal) => Err(CaptureError::Bad(refusal)),
+    }
+}
+
+fn joined(alloc: Global, first: &[u8], rest: &[u8]) -> Result<Vec<u8>, OutOfMemory>
+    ensures { IfOk result (λ list. list.items ≡ first.now ++ rest.now) }
+{
+    let mut list = Vec::new(alloc);
+    list.extend_from_slice(first)?;
+    list.extend_from_slice(rest)?;
+    Ok(list)
 }
 
 /// What the first bytes of a file say, as many of 24 as it has.

@@ -1,5 +1,6 @@
-//! Capture files of the pcap format, version 2.4: the file header and the records are read at places of a file, each
-//! refusal the first true one, and written; and the frames of the records.
+//! Capture files of the pcap format, version 2.4: the file header and the records, read at places of a file or in rounds, each
+//! refusal the first true one, and written, as pcap or in blocks; the trait of readers of any format, and what a block may be refused
+//! for; and the frames of the records.
 #![tactic(auto)]
 
 mod classic;

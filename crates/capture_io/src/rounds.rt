@@ -58,8 +58,8 @@ pub trait CaptureReader {
 
     /// Reads the next records into the room of `room`: at least one, unless they have ended; at most 16,384, and none
     /// behind the one that brings their captured bytes to `most_bytes` (from 1 to 67,108,864) or more. The first has this
-    /// number. A round may be shorter: it has what one read brought. Memory is taken in the first round alone, if the room
-    /// of each round is given to the next one.
+    /// number. A round may be shorter: it has what one read brought. The room of each round serves the next one. After want of
+    /// memory the reader is not used again.
     ///
     /// Where a read fails, the records that end at or before its place come first, and then `ReadFault`. A refusal is told
     /// only where no read failed.

@@ -53,7 +53,7 @@ fn simple(alloc: Global) -> Result<Vec<u8>, Fail> {
 }
 
 // A packet, a block that says nothing, and a packet of a second section of the other order.
-fn two_sections(alloc: Global) -> Result<Vec<u8>, Fail> {
+pub(crate) fn two_sections(alloc: Global) -> Result<Vec<u8>, Fail> {
     let first = packet(alloc)?;
     let second = simple(alloc)?;
     joined(
@@ -95,18 +95,18 @@ fn rounds_of_blocks_end_at_their_bytes_or_where_a_read_ends(rt: HostRuntime) -> 
     Ok(())
 }
 
-// By reads of 13 bytes a section header takes four and an interface four, a packet's block eight, and the two behind it twelve.
+// By reads of 13 bytes a section header takes three and an interface two, a packet's block eight, and the two behind it twelve.
 fn text_of(call: u64) -> &'static str {
-    if call < 8 {
+    if call < 5 {
         return "a read failed";
     }
-    if call < 16 {
+    if call < 13 {
         return "fault";
     }
-    if call < 28 {
+    if call < 25 {
         return "1.0 72 152; | fault";
     }
-    if call == 28 {
+    if call == 25 {
         return "1.0 72 152; | 1.0 80 308; | fault";
     }
     "1.0 72 152; | 1.0 80 308; | end"
@@ -117,7 +117,7 @@ fn the_packets_before_a_fault_are_handed_up(rt: HostRuntime) -> Result<(), Fail>
     let alloc = rt.alloc();
     let bytes = two_sections(alloc)?;
     let mut room = Records::new(alloc);
-    for call in 0..30 {
+    for call in 0..27 {
         let (answer, back) = told(alloc, &bytes, 13, MOST, call, room)?;
         room = back;
         assert_eq!(rt; answer.as_str(), text_of(call), "call {call}");
@@ -133,12 +133,12 @@ fn a_bad_block_is_told_where_no_read_failed(rt: HostRuntime) -> Result<(), Fail>
     let bytes = joined(alloc, &[SECTION, INTERFACE, &first, odd])?;
     let cases = [
         (1_000, NO_CALL, "1.0 72 152; ng length 152"),
-        (1_000, 6, "fault"),
-        (1_000, 7, "1.0 72 152; ng length 152"),
+        (1_000, 4, "fault"),
+        (1_000, 5, "1.0 72 152; ng length 152"),
         (104, NO_CALL, "1.0 72 152; | ng length 152"),
-        (104, 7, "1.0 72 152; | fault"),
-        (1, 62 + 115, "1.0 72 152; | fault"),
-        (1, 62 + 116, "1.0 72 152; | ng length 152"),
+        (104, 5, "1.0 72 152; | fault"),
+        (1, 48 + 115, "1.0 72 152; | fault"),
+        (1, 48 + 116, "1.0 72 152; | ng length 152"),
     ];
     let mut room = Records::new(alloc);
     for (most, call, text) in cases {
@@ -150,7 +150,7 @@ fn a_bad_block_is_told_where_no_read_failed(rt: HostRuntime) -> Result<(), Fail>
     let bytes = joined(alloc, &[SECTION, INTERFACE, cut])?;
     let (answer, back) = told(alloc, &bytes, 1_000, MOST, NO_CALL, room)?;
     assert_eq!(rt; answer.as_str(), "ng cut 48");
-    let (answer, _) = told(alloc, &bytes, 1_000, MOST, 7, back)?;
+    let (answer, _) = told(alloc, &bytes, 1_000, MOST, 5, back)?;
     assert_eq!(rt; answer.as_str(), "fault");
     Ok(())
 }

@@ -198,6 +198,49 @@ fn each_refusal_has_its_place(rt: HostRuntime) -> Result<(), Fail> {
     Ok(())
 }
 
+// A section of the other order, an interface and a simple packet of it, with one byte changed.
+fn changed_simple(alloc: Global, place: usize, byte: u8, first: u32) -> Result<String, Fail>
+    requires { first ≤ 2 ^ 31 }
+{
+    let mut bytes = joined(
+        alloc,
+        &[
+            BIG_SECTION,
+            BIG_INTERFACE,
+            SIMPLE_HEAD,
+            UP_TUNNEL,
+            UP,
+            b"abcdefgh",
+            SIMPLE_TAIL,
+        ],
+    )?;
+    if let Some(there) = bytes.get_mut(place) {
+        *there = byte;
+    }
+    reading(alloc, &bytes, first)
+}
+
+#[test]
+fn each_refusal_of_a_simple_packet_has_its_place(rt: HostRuntime) -> Result<(), Fail> {
+    let alloc = rt.alloc();
+    // The last byte of the snapshot length, the type of the interface's block, and the original length.
+    let refusals = [
+        (43, 80, 0, "0.0 80 144; end"),
+        (43, 0, 0, "ng captured 48"),
+        (43, 81, 0, "ng captured 48"),
+        (43, 80, 0x8000_0000, "ng too-many 48"),
+        (31, 5, 0, "ng interface 48"),
+    ];
+    for (place, byte, first, wanted) in refusals {
+        let text = changed_simple(alloc, place, byte, first)?;
+        assert_eq!(rt; text.as_str(), wanted, "{byte} at {place}");
+    }
+    let no_limit = b"\0\0\0\x01\0\0\0\x14\0\x65\0\0\0\0\0\0\0\0\0\x14";
+    let long = b"\0\0\0\x03\0\0\0\x10\0\x04\0\x01\0\0\0\x10";
+    assert!(rt; reads_as(alloc, &[BIG_SECTION, no_limit, long], "ng too-long 48")?);
+    Ok(())
+}
+
 #[test]
 fn times_are_counted_as_their_interface_says(rt: HostRuntime) -> Result<(), Fail> {
     let alloc = rt.alloc();
@@ -273,9 +316,9 @@ fn slow_answer(alloc: Global, bytes: &[u8], call: u64) -> Result<u32, Fail> {
 fn slow_files_give_the_packet_or_the_fault(rt: HostRuntime) -> Result<(), Fail> {
     let alloc = rt.alloc();
     let bytes = joined(alloc, &[SECTION, INTERFACE, HEAD, UP_TUNNEL, UP, TAIL])?;
-    // A section: 12 bytes, 4 and 14. An interface: 12, 4 and 16. A packet: 12, 4, 24 and 72.
-    for call in 0..180 {
-        let wanted = u32::from(call >= 174);
+    // Each of the 152 bytes is read once.
+    for call in 0..158 {
+        let wanted = u32::from(call >= 152);
         assert_eq!(rt; slow_answer(alloc, &bytes, call)?, wanted, "call {call}");
     }
     Ok(())

@@ -19,6 +19,8 @@ mod numbers;
 #[cfg(test)]
 mod outside;
 #[cfg(test)]
+mod pipes;
+#[cfg(test)]
 mod real_files;
 #[cfg(test)]
 mod rounds;

@@ -86,10 +86,10 @@ fn text_of_ending(alloc: Global, ending: Ending) -> Result<String, Fail> {
 pub(crate) type Told = (String, Records);
 
 // The records of nine rounds at most, a bar behind each, and the ending.
-pub(crate) fn tell_rounds<R: CaptureReader>(
+pub(crate) fn tell_rounds<R: CaptureReader, F: Files>(
     alloc: Global,
     reader: &mut R,
-    files: &mut Sparing,
+    files: &mut F,
     most_bytes: usize,
     room: Records,
 ) -> Result<Told, Fail>

@@ -1,5 +1,5 @@
 -- The next packet's record, from the walk to its block.
-use Rattle.std.proofs.Common.{◌≡◌, ℕ, ◌+◌, ◌≤◌, List, length, drop, Option, Some, None, Result, Ok, Err, sym, ◌∙◌, ap, subst, arith}
+use Rattle.std.proofs.Common.{◌≡◌, ℕ, List, drop, Option, Some, None, Result, Ok, Err, sym, ◌∙◌, subst}
 use Rattle.aftr_base.specs.Contents.{Contents, content, Told}
 use Rattle.capture_io.specs.declared.forms.Rec.{Rec}
 use Rattle.capture_io.specs.declared.forms.CaptureBad.{CaptureBad}
@@ -12,9 +12,8 @@ use Rattle.pcapng_io.specs.declared.walk.Sighted.{Sighted}
 use Rattle.pcapng_io.specs.Seen.{Seen, seen_by}
 use Rattle.pcapng_io.specs.Blocks.{known_behind, record_of}
 use Rattle.pcapng_io.specs.Captures.{Gives, next_in, Step}
-use Rattle.pcapng_io.specs.Files.{IsFault, IsInside, left_at}
-use Rattle.pcapng_io.specs.Answers.{IsBeforePacket, IsFound, IsSighted, step_at}
-use Rattle.pcapng_io.proofs.WalkLemmas.{end_of}
+use Rattle.pcapng_io.specs.Files.{left_at}
+use Rattle.pcapng_io.specs.Answers.{IsFound, IsSighted, step_at}
 
 error_by : (e : CaptureError) (before now : List Interface) (bytes : List ℕ) (step : Result Step CaptureBad) → IsSighted (Err e) before bytes step → IsFound (Err e) now step
 error_by (error.Bad refusal) before now bytes step h = h
@@ -28,17 +27,6 @@ sight_failed (Some m) name seen number now result e is h =
     subst (λ (r : Result (Option Found) CaptureError). IsFound r now (next_in seen (left_at m name seen.known.at) number)) (sym is)
     (error_by e now now (content m name) (next_in seen (left_at m name seen.known.at) number) h)
 
-pub packet_failed : (held : Option Contents) (name : List ℕ) (seen : Seen) (number enough : ℕ) (now : List Interface) (result : Result (Option Found) CaptureError) (e : CaptureError) → result ≡ Err e →
-    Told held (λ m. enough ≤ length (content m name) → IsFault e) → Told held (λ m. enough ≤ length (content m name)) → Told held (λ m. IsFound result now (next_in seen (left_at m name seen.known.at) number))
-packet_failed None name seen number enough now result e is fault there = tt
-packet_failed (Some m) name seen number enough now result e is fault there =
-    subst (λ (r : Result (Option Found) CaptureError). IsFound r now (next_in seen (left_at m name seen.known.at) number)) (sym is) (by_error e (fault there))
-  where
-    by_error : (e : CaptureError) → IsFault e → IsFound (Err e) now (next_in seen (left_at m name seen.known.at) number)
-    by_error (error.Bad refusal) f = absurd f
-    by_error error.ReadFault f = tt
-    by_error error.OutOfMemory f = tt
-
 -- what was told of the packet's block, with the answer of the walk in full
 pub sighted_at : (held : Option Contents) (name : List ℕ) (seen : Seen) (number : ℕ) (now : List Interface) (found : Option Sighted) (s : Sighted) → found ≡ Some s →
     Told held (λ m. IsSighted (Ok found) now (content m name) (next_in seen (left_at m name seen.known.at) number)) → Told held (λ m. next_in seen (left_at m name seen.known.at) number ≡ Ok (step_at s now (content m name)))
@@ -49,15 +37,3 @@ pub found_told : (held : Option Contents) (name : List ℕ) (seen : Seen) (numbe
     behind ≡ known_behind s.known s.packet → Told held (λ m. next_in seen (left_at m name seen.known.at) number ≡ Ok (Gives r (seen_by behind (drop s.first now))))
 found_told None name seen number now s r behind e is k = tt
 found_told (Some m) name seen number now s r behind e is k = e ∙ (λ i. Ok (Gives (sym is i) (seen_by (sym k i) (drop s.first now))))
-
-pub packet_inside : (held : Option Contents) (name : List ℕ) (seen : Seen) (number : ℕ) (now : List Interface) (s : Sighted) (place : ℕ) →
-    Told held (λ m. next_in seen (left_at m name seen.known.at) number ≡ Ok (step_at s now (content m name))) → seen.known.at ≤ s.known.at → IsInside s.known.at s.packet.total place →
-    IsBeforePacket held name seen number place
-packet_inside None name seen number now s place e forward within = (omega (arith, within.0), tt)
-packet_inside (Some m) name seen number now s place e forward within = (
-  omega (arith, within.0),
-  λ r behind f.
-      let same : step_at s now (content m name) ≡ Gives r behind = cc in
-      let end : s.known.at + s.packet.total ≡ r.next_at = ap end_of same in
-      omega (arith, within.1),
-)

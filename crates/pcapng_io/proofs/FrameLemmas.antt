@@ -8,7 +8,7 @@ use Rattle.capture_io.specs.declared.forms.CaptureBad.{CaptureBad}
 use Rattle.capture_io.specs.declared.ng_bad.NgBad.TheVariants as ng
 use Rattle.pcapng_io.specs.declared.frame.Frame.{Frame}
 use Rattle.pcapng_io.specs.Results.{unless}
-use Rattle.pcapng_io.specs.Frames.{begins_section, enhanced_packet_type, frame_at, frame_in, has_no_order, head_in, interface_type, is_no_total, least_total, section_type, simple_packet_type, tail_in}
+use Rattle.pcapng_io.specs.Frames.{begins_section, enhanced_packet_type, frame_at, frame_in, has_no_order, head_in, interface_type, is_no_total, least_total, section_type, simple_packet_type}
 use Rattle.pcapng_io.proofs.FrontLemmas.{span_front, short_front}
 
 -- the answers, by what the tests gave
@@ -17,6 +17,11 @@ head_by cut order size at frame = unless (first_true ((cut, ng.Cut at) ∷ (orde
 
 abbrev tail_by : Bool → Bool → ℕ → Frame → Result Frame CaptureBad
 tail_by less differs at frame = unless (first_true ((less, ng.Cut at) ∷ (differs, ng.Length at) ∷ [])) (Ok frame)
+
+-- a frame by its last four bytes alone, of which so many are there
+abbrev pub tail_in : Frame → List ℕ → ℕ → Result Frame CaptureBad
+tail_in frame last at =
+    unless (first_true ((nat_lt (length last) 4, ng.Cut at) ∷ (not (word_at frame.big last 0 == frame.total), ng.Length at) ∷ [])) (Ok frame)
 
 abbrev frame_by : Bool → Bool → Bool → Bool → Bool → ℕ → Frame → Result Frame CaptureBad
 frame_by cut order size less differs at frame =

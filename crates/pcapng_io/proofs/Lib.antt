@@ -1,4 +1,5 @@
 pub mod BlockLemmas
+pub mod EitherLemmas
 pub mod FileLemmas
 pub mod FindLemmas
 pub mod FrameLemmas
@@ -9,6 +10,7 @@ pub mod OpenLemmas
 pub mod OptionLemmas
 pub mod PieceLemmas
 pub mod PlainLemmas
+pub mod ReadLemmas
 pub mod RoundLemmas
 pub mod SpelledLemmas
 pub mod SplitLemmas

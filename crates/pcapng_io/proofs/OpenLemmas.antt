@@ -1,5 +1,5 @@
 -- The file header: the blocks up to the first interface.
-use Rattle.std.proofs.Common.{◌≡◌, ℕ, zero, suc, ◌<◌, ◌≤◌, List, [], ◌∷◌, length, drop, Option, Some, None, Result, Ok, Err, refl, sym, ◌∙◌, ap, subst, arith}
+use Rattle.std.proofs.Common.{◌≡◌, ℕ, zero, suc, ◌<◌, ◌≤◌, List, [], ◌∷◌, length, drop, Option, Some, None, Result, Ok, Err, IfOk, IfErr, refl, sym, ◌∙◌, ap, subst, arith}
 use Rattle.std.proofs.lemmas.List.{drop-drop, length-drop}
 use Rattle.aftr_base.specs.Contents.{Contents, content, Told}
 use Rattle.capture_io.specs.declared.forms.CaptureBad.{CaptureBad}
@@ -18,6 +18,8 @@ use Rattle.pcapng_io.specs.Blocks.{block_in, known_after, seen_after, size_of}
 use Rattle.pcapng_io.specs.Captures.{as_plain, at_start, header_in, open_by, open_within}
 use Rattle.pcapng_io.specs.Files.{IsBefore, IsInBlock, left_at}
 use Rattle.pcapng_io.specs.Answers.{EndsBehind, IsInHeader}
+use Rattle.pcapng_io.specs.Standing.{Opens, Standing, stands_in}
+use Rattle.pcapng_io.specs.Windows.{Ahead, IsAtFront}
 use Rattle.pcapng_io.proofs.WalkLemmas.{after_at, sized}
 
 abbrev pub IsPlain : Passed → Type 0
@@ -198,3 +200,16 @@ pub plain_by : (p : Passed) → ((interface : Interface) (link total : ℕ) → 
 plain_by (passed.Section big total) other = tt
 plain_by (passed.Interface interface link total) other = other interface link total refl
 plain_by (passed.Other total) other = tt
+
+-- a reader that stands behind the header
+pub opened_told : (held : Option Contents) (name : List ℕ) (result : Result Standing CaptureError) (seen : Seen) (window : Ahead) → Told held (λ m. header_in (content m name) ≡ Ok seen) →
+    IsAtFront held name seen.known.at window → IfOk result (λ r. r ≡ record { seen = seen; ahead = window.bytes }) → IfErr result (λ e. e ≡ error.OutOfMemory) →
+    Told held (λ m. Opens result (content m name))
+opened_told None name result seen window header stands is memory = tt
+opened_told (Some m) name result seen window header stands is memory = by_result result is memory
+  where
+    by_result : (r : Result Standing CaptureError) → IfOk r (λ x. x ≡ record { seen = seen; ahead = window.bytes }) → IfErr r (λ e. e ≡ error.OutOfMemory) → Opens r (content m name)
+    by_result (Ok reader) is memory =
+        let P : Standing → Type 0 = λ x. (header_in (content m name) ≡ Ok x.seen) × stands_in x (content m name) in
+        subst P (sym is) (header, stands.start)
+    by_result (Err e) is memory = subst (λ (x : CaptureError). Opens (Err x) (content m name)) (sym memory) tt

@@ -4,18 +4,13 @@ use Rattle.std.specs.List.{list_any}
 use Rattle.std.specs.Int.{w16, from_be_bytes, from_le_bytes}
 use Rattle.std.proofs.lemmas.List.{drop-drop, drop-take, length-drop, length-take, take-take}
 use Rattle.std.proofs.lemmas.Bool.Decides.{nat_tests}
-use Rattle.aftr_base.specs.Contents.{Contents, content, Told}
 use Rattle.aftr_base.specs.Numbers.{span}
 use Rattle.capture_io.specs.Words.{half_at}
 use Rattle.capture_io.specs.declared.forms.CaptureBad.{CaptureBad}
 use Rattle.capture_io.specs.declared.forms.CaptureBad.TheVariants as bad
 use Rattle.capture_io.specs.declared.ng_bad.NgBad.TheVariants as ng
-use Rattle.capture_io.specs.declared.forms.CaptureError.{CaptureError}
-use Rattle.capture_io.specs.declared.forms.CaptureError.TheVariants as error
-use Rattle.capture_io.specs.Answers.{Agrees}
-use Rattle.pcapng_io.specs.declared.frame.Frame.{Frame}
 use Rattle.pcapng_io.specs.declared.interface.OptionHead.{OptionHead}
-use Rattle.pcapng_io.specs.Interfaces.{BlockOption, first_of, first_resolution, is_bad_resolution, option_at, option_bytes, options_in, options_within, padded, resolution_of, rest_from, value_in, with_first}
+use Rattle.pcapng_io.specs.Interfaces.{BlockOption, first_of, first_resolution, is_bad_resolution, option_at, options_in, options_within, padded, resolution_of, rest_from, value_in, with_first}
 use Rattle.pcapng_io.proofs.FrontLemmas.{span_front}
 
 abbrev half_of : Bool → List ℕ → ℕ
@@ -187,17 +182,6 @@ value_same bytes place end count within =
 abbrev pub all_from : Bool → List ℕ → ℕ → ℕ → ℕ → Option ℕ → Result (Option ℕ) CaptureBad
 all_from big bytes at place end found = with_found found (resolution_of at (options_in big (rest_from bytes place end)))
 
-pub at_first : (big : Bool) (bytes : List ℕ) (at end : ℕ) (frame : Frame) → frame.big ≡ big → 20 ≤ frame.total → end ≡ at + (frame.total - 4) →
-    resolution_of at (options_in frame.big (option_bytes frame (drop at bytes))) ≡ all_from big bytes at (at + 16) end None
-at_first big bytes at end frame b least e =
-    let size : frame.total - 20 ≡ end - (at + 16) = omega arith in
-    let same : option_bytes frame (drop at bytes) ≡ rest_from bytes (at + 16) end = ap (λ l. take (frame.total - 20) l) (drop-drop 16 at bytes) ∙ ap (λ n. span bytes (at + 16) n) size in
-    ap (λ l. resolution_of at (options_in frame.big l)) same ∙ (ap (λ x. resolution_of at (options_in x (rest_from bytes (at + 16) end))) b ∙ sym (found_any (resolution_of at (options_in big (rest_from bytes (at + 16) end)))))
-  where
-    found_any : (r : Result (Option ℕ) CaptureBad) → with_found None r ≡ r
-    found_any (Ok later) = refl
-    found_any (Err refusal) = refl
-
 pub at_end : (big : Bool) (bytes : List ℕ) (at place end : ℕ) (found : Option ℕ) → end < place + 4 → all_from big bytes at place end found ≡ Ok found
 at_end big bytes at place end found short =
     ap (λ o. with_found found (resolution_of at o)) (no_options_short big (rest_from bytes place end) (omega (arith, length-take (end - place) (drop place bytes)))) ∙ none_behind found
@@ -251,64 +235,6 @@ at_option big bytes at place end next found o read is long more within n v =
         behind_option big (rest_from bytes place end) ≡ rest_from bytes next end → Follows big bytes at place end found next r
     by_read (Ok later) e step behind = ap (λ x. with_found found (resolution_of at x)) step ∙ (e ∙ ap (λ l. with_found later (resolution_of at (options_in big l))) behind)
     by_read (Err refusal) e step behind = ap (λ x. with_found found (resolution_of at x)) step ∙ e
-
--- all options of a block's interface
-abbrev pub all_options : Frame → List ℕ → ℕ → Result (Option ℕ) CaptureBad
-all_options frame bytes at = resolution_of at (options_in frame.big (option_bytes frame (drop at bytes)))
-
--- what the loop knows at a place
-abbrev pub Stands : Option Contents → List ℕ → Frame → ℕ → ℕ → ℕ → Option ℕ → Type 0
-Stands held name frame at place end found = Told held (λ m. all_options frame (content m name) at ≡ all_from frame.big (content m name) at place end found)
-
-pub init_told : (held : Option Contents) (name : List ℕ) (frame : Frame) (at end : ℕ) → 20 ≤ frame.total → end ≡ at + (frame.total - 4) → Stands held name frame at (at + 16) end None
-init_told None name frame at end least e = tt
-init_told (Some m) name frame at end least e = at_first frame.big (content m name) at end frame refl least e
-
-pub end_told : (held : Option Contents) (name : List ℕ) (frame : Frame) (at place end : ℕ) (found : Option ℕ) → Stands held name frame at place end found → end < place + 4 →
-    Told held (λ m. all_options frame (content m name) at ≡ Ok found)
-end_told None name frame at place end found stands short = tt
-end_told (Some m) name frame at place end found stands short = stands ∙ at_end frame.big (content m name) at place end found short
-
-pub last_told : (held : Option Contents) (name : List ℕ) (frame : Frame) (at place end : ℕ) (found : Option ℕ) (o : OptionHead) → Stands held name frame at place end found →
-    Told held (λ m. o ≡ option_at frame.big (span (content m name) place 4)) → Told held (λ m. at + frame.total ≤ length (content m name)) → end ≤ at + frame.total → place + 4 ≤ end → o.code ≡ 0 →
-    Told held (λ m. all_options frame (content m name) at ≡ Ok found)
-last_told None name frame at place end found o stands is whole e within none = tt
-last_told (Some m) name frame at place end found o stands is whole e within none =
-    stands ∙ at_last frame.big (content m name) at place end found o is (omega (arith, whole)) within none
-
-pub past_told : (held : Option Contents) (name : List ℕ) (frame : Frame) (at place end : ℕ) (found : Option ℕ) (o : OptionHead) → Stands held name frame at place end found →
-    Told held (λ m. o ≡ option_at frame.big (span (content m name) place 4)) → Told held (λ m. at + frame.total ≤ length (content m name)) → end ≤ at + frame.total → place + 4 ≤ end → (o.code ≡ 0 → ⊥) → end < place + 4 + o.count →
-    Told held (λ m. all_options frame (content m name) at ≡ Err (bad.Ng (ng.Options at)))
-past_told None name frame at place end found o stands is whole e within more past = tt
-past_told (Some m) name frame at place end found o stands is whole e within more past =
-    stands ∙ at_past frame.big (content m name) at place end found o is (omega (arith, whole)) within more past
-
-pub next_told : (held : Option Contents) (name : List ℕ) (frame : Frame) (at place end next : ℕ) (found later : Option ℕ) (o : OptionHead) → Stands held name frame at place end found →
-    Told held (λ m. o ≡ option_at frame.big (span (content m name) place 4)) → Told held (λ m. at + frame.total ≤ length (content m name)) → end ≤ at + frame.total → (o.code ≡ 0 → ⊥) → place + 4 + o.count ≤ end →
-    next ≡ place + (4 + padded o.count) → Told held (λ m. value_in at found (option_of o (content m name) (place + 4)) ≡ Ok later) → Stands held name frame at next end later
-next_told None name frame at place end next found later o stands is whole e more within n v = tt
-next_told (Some m) name frame at place end next found later o stands is whole e more within n v =
-    stands ∙ at_option frame.big (content m name) at place end next found o (Ok later) is (omega (arith, whole)) more within n v
-
-failed_by : (all value : Result (Option ℕ) CaptureBad) (e : CaptureError) → ((refusal : CaptureBad) → value ≡ Err refusal → all ≡ Err refusal) → Agrees (Err e) value → Agrees {T = Option ℕ} (Err e) all
-failed_by all value (error.Bad refusal) follows r = follows refusal r
-failed_by all value error.ReadFault follows r = tt
-failed_by all value error.OutOfMemory follows r = tt
-
-pub value_failed : (held : Option Contents) (name : List ℕ) (frame : Frame) (at place end : ℕ) (found : Option ℕ) (o : OptionHead) (result : Result (Option ℕ) CaptureError) (e : CaptureError) → result ≡ Err e →
-    Stands held name frame at place end found → Told held (λ m. o ≡ option_at frame.big (span (content m name) place 4)) → Told held (λ m. at + frame.total ≤ length (content m name)) → end ≤ at + frame.total →
-    (o.code ≡ 0 → ⊥) → place + 4 + o.count ≤ end → Told held (λ m. Agrees (Err e) (value_in at found (option_of o (content m name) (place + 4)))) →
-    Told held (λ m. Agrees result (all_options frame (content m name) at))
-value_failed None name frame at place end found o result e is_e stands is whole en more within v = tt
-value_failed (Some m) name frame at place end found o result e is_e stands is whole en more within v =
-    subst (λ (r : Result (Option ℕ) CaptureError). Agrees r (all_options frame (content m name) at)) (sym is_e)
-    (failed_by (all_options frame (content m name) at) (value_in at found (option_of o (content m name) (place + 4))) e
-    (λ refusal bad_value. stands ∙ at_option frame.big (content m name) at place end (place + (4 + padded o.count)) found o (Err refusal) is (omega (arith, whole)) more within refl bad_value) v)
-
-pub value_there : (held : Option Contents) (name : List ℕ) (at total place count end : ℕ) → Told held (λ m. at + total ≤ length (content m name)) → end ≤ at + total → place + count ≤ end →
-    Told held (λ m. place + count ≤ length (content m name))
-value_there None name at total place count end whole e within = tt
-value_there (Some m) name at total place count end whole e within = omega (arith, whole)
 
 -- before the first option nothing was found
 pub none_first : (big : Bool) (bytes : List ℕ) (at place end : ℕ) → resolution_of at (options_in big (rest_from bytes place end)) ≡ all_from big bytes at place end None

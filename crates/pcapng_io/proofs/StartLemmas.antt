@@ -13,14 +13,15 @@ use Rattle.pcapng_io.specs.declared.fronts.Front.{Front}
 use Rattle.pcapng_io.specs.declared.fronts.Front.TheVariants as front
 use Rattle.pcapng_io.specs.Results.{◌>>=◌}
 use Rattle.pcapng_io.specs.Seen.{Seen}
-use Rattle.pcapng_io.specs.Frames.{enhanced_packet_type, frame_in, head_in, interface_type, least_total, old_packet_type, section_type, simple_packet_type, tail_in}
+use Rattle.pcapng_io.specs.Frames.{enhanced_packet_type, frame_in, head_in, interface_type, least_total, old_packet_type, section_type, simple_packet_type}
 use Rattle.pcapng_io.specs.Interfaces.{block_by, interface_in, option_bytes, options_in, resolution_of, start_in}
 use Rattle.pcapng_io.specs.Packets.{enhanced_in, section_in, simple_in}
 use Rattle.pcapng_io.specs.Blocks.{block_in, body_in}
 use Rattle.pcapng_io.specs.Captures.{Gives, next_in}
+use Rattle.pcapng_io.specs.Files.{IsBefore}
 use Rattle.pcapng_io.specs.Fronts.{front_by, front_in, is_short, needed, needed_by}
 use Rattle.pcapng_io.proofs.FrontLemmas.{span_front}
-use Rattle.pcapng_io.proofs.FrameLemmas.{frame_head, frame_is, head_front, head_refused, head_sound, tail_is}
+use Rattle.pcapng_io.proofs.FrameLemmas.{frame_head, frame_is, head_front, head_refused, head_sound, tail_in, tail_is}
 use Rattle.pcapng_io.proofs.KindLemmas.{enhanced_front, section_front, simple_front, start_front}
 use Rattle.pcapng_io.proofs.BlockLemmas.{block_frame}
 use Rattle.pcapng_io.proofs.WalkLemmas.{block_before}
@@ -208,9 +209,13 @@ in_frame big first left at frame s less e = by_twelve (nat_lt (length first) 12)
         let same : head_in big first at ≡ Ok frame = sym (head_same big first left at s there) ∙ frame_head big left at frame e in
         omega (arith, less, ap needed_by same)
 
+pub open_block : (seen : Seen) (first left : List ℕ) (last : Bool) (number : ℕ) (b : Block) → IsShort seen first last → IsStart first left →
+    block_in seen left number ≡ Ok b → IsBefore (seen.known.at + length first) seen.known.at b
+open_block seen first left last number b short s e =
+    block_frame seen left number b (seen.known.at + length first) short.near_by
+    (λ frame f. omega (arith, in_frame seen.known.big first left seen.known.at frame s short.less f)) e
+
 pub open_before : (seen : Seen) (first left : List ℕ) (last : Bool) (number : ℕ) (r : Rec) (behind : Seen) → IsShort seen first last → IsStart first left →
     next_in seen left number ≡ Ok (Gives r behind) → seen.known.at + length first < r.next_at
 open_before seen first left last number r behind short s e =
-    block_before seen left number (seen.known.at + length first) r behind
-    (λ b is. block_frame seen left number b (seen.known.at + length first) short.near_by
-    (λ frame f. omega (arith, in_frame seen.known.big first left seen.known.at frame s short.less f)) is) e
+    block_before seen left number (seen.known.at + length first) r behind (λ b is. open_block seen first left last number b short s is) e

@@ -24,7 +24,7 @@ use Rattle.pcapng_io.specs.declared.walk.Sighted.{Sighted}
 use Rattle.pcapng_io.specs.Results.{◌>>=◌}
 use Rattle.pcapng_io.specs.Seen.{IsSoundSeen, Seen, seen_by}
 use Rattle.pcapng_io.specs.Frames.{frame_in}
-use Rattle.pcapng_io.specs.Blocks.{block_in, body_in, first_link, interfaces_after, known_after, record_of, seen_after, seen_behind, size_of}
+use Rattle.pcapng_io.specs.Blocks.{block_in, body_in, first_link, interfaces_after, known_after, len_of, record_of, seen_after, seen_behind, size_of}
 use Rattle.pcapng_io.specs.Captures.{Ends, Gives, next_in, next_within, Step, step_by}
 use Rattle.pcapng_io.specs.Files.{IsBefore, IsCounted, IsInBlock, left_at}
 use Rattle.pcapng_io.specs.Answers.{IsBeforePacket, IsSighted, step_at}
@@ -36,12 +36,7 @@ IsBlock block.End = ⊥
 IsBlock (block.Packet p) = Unit {0}
 IsBlock (block.Passed p) = Unit {0}
 
-abbrev total_of : Block → ℕ
-total_of block.End = 0
-total_of (block.Packet p) = p.total
-total_of (block.Passed p) = size_of p
-
-total_is : (total : ℕ) (b : Block) → HasTotal total b → total_of b ≡ total
+total_is : (total : ℕ) (b : Block) → HasTotal total b → len_of b ≡ total
 total_is total block.End h = absurd h
 total_is total (block.Packet p) h = h
 total_is total (block.Passed p) h = h
@@ -52,27 +47,27 @@ pub record IsSized (seen : Seen) (left : List ℕ) (total : ℕ) : Type 0 where
   pub whole : total ≤ length left
   pub near : seen.known.at ≤ 2 ^ 62
 
-pub sized : (seen : Seen) (left : List ℕ) (number : ℕ) (b : Block) → IsBlock b → block_in seen left number ≡ Ok b → IsSized seen left (total_of b)
+pub sized : (seen : Seen) (left : List ℕ) (number : ℕ) (b : Block) → IsBlock b → block_in seen left number ≡ Ok b → IsSized seen left (len_of b)
 sized seen left number b some e = by_far (nat_lt (2 ^ 62) seen.known.at) refl
   where
-    by_frame : (r : Result Frame CaptureBad) → frame_in seen.known.big left seen.known.at ≡ r → nat_lt (2 ^ 62) seen.known.at ≡ false → (length left == 0) ≡ false → IsSized seen left (total_of b)
+    by_frame : (r : Result Frame CaptureBad) → frame_in seen.known.big left seen.known.at ≡ r → nat_lt (2 ^ 62) seen.known.at ≡ false → (length left == 0) ≡ false → IsSized seen left (len_of b)
     by_frame (Err refusal) f n z =
         let none : block_in seen left number ≡ Err refusal = rw (n, z) (ap (λ r. r >>= (λ x. body_in seen left number x)) f) in absurd (cc)
     by_frame (Ok frame) f n z =
         let is : block_in seen left number ≡ body_in seen left number frame = rw (n, z) (ap (λ r. r >>= (λ x. body_in seen left number x)) f) in
-        let total : total_of b ≡ frame.total = total_is frame.total b (body_total seen left number frame b (sym is ∙ e)) in
+        let total : len_of b ≡ frame.total = total_is frame.total b (body_total seen left number frame b (sym is ∙ e)) in
         let of_frame = frame_is seen.known.big left seen.known.at frame f in
         let near : seen.known.at ≤ 2 ^ 62 = grind (arith, nat_tests) in
         record { some = omega (arith, of_frame.some); whole = omega (arith, of_frame.whole); near = near }
 
-    by_end : (end : Bool) → (length left == 0) ≡ end → nat_lt (2 ^ 62) seen.known.at ≡ false → IsSized seen left (total_of b)
+    by_end : (end : Bool) → (length left == 0) ≡ end → nat_lt (2 ^ 62) seen.known.at ≡ false → IsSized seen left (len_of b)
     by_end true z n =
         let ends : block_in seen left number ≡ Ok block.End = rw (n, z) refl in
         let is : block.End ≡ b = cc in
         absurd (subst IsBlock (sym is) some)
     by_end false z n = by_frame (frame_in seen.known.big left seen.known.at) refl n z
 
-    by_far : (far : Bool) → nat_lt (2 ^ 62) seen.known.at ≡ far → IsSized seen left (total_of b)
+    by_far : (far : Bool) → nat_lt (2 ^ 62) seen.known.at ≡ far → IsSized seen left (len_of b)
     by_far true n = let none : block_in seen left number ≡ Err (bad.Ng (ng.Far seen.known.at)) = rw n refl in absurd (cc)
     by_far false n = by_end (length left == 0) refl n
 
@@ -288,13 +283,6 @@ walk_inside (Some m) name known here interfaces before number first place walk w
   omega (arith, walk.from, within.0),
   λ r behind e. block_before (seen_by here (drop first before)) (left_at m name here.at) number place r behind within.1 (sym walk.stands ∙ e),
 )
-
-pub packet_whole : (held : Option Contents) (name : List ℕ) (here : Known) (section : List Interface) (number : ℕ) (p : Packet) (b : Block) → b ≡ block.Packet p →
-    Told held (λ m. block_in (seen_by here section) (left_at m name here.at) number ≡ Ok b) → Told held (λ m. here.at + p.total ≤ length (content m name))
-packet_whole None name here section number p b is e = tt
-packet_whole (Some m) name here section number p b is e =
-    let size = sized (seen_by here section) (left_at m name here.at) number (block.Packet p) tt (e ∙ ap Ok is) in
-    omega (arith, size.some, size.whole, length-drop here.at (content m name))
 
 -- what was told of a block, of the files as they were at first, and of the section's interfaces
 pub block_moved : (after held : Option Contents) (name : List ℕ) (here : Known) (number : ℕ) (section list : List Interface) (answer : Result Block CaptureError) → after ≡ held → section ≡ list →

@@ -8,7 +8,6 @@ use Rattle.capture_io.specs.declared.forms.CaptureBad.{CaptureBad}
 use Rattle.capture_io.specs.declared.forms.CaptureError.{CaptureError}
 use Rattle.capture_io.specs.declared.forms.CaptureError.TheVariants as error
 use Rattle.pcapng_io.specs.declared.block.Known.{Known}
-use Rattle.pcapng_io.specs.declared.block.Packet.{Packet}
 use Rattle.pcapng_io.specs.declared.interface.Interface.{Interface}
 use Rattle.pcapng_io.specs.declared.record.Found.{Found}
 use Rattle.pcapng_io.specs.declared.walk.Sighted.{Sighted}
@@ -67,12 +66,6 @@ EndsBehind place (interface ∷ interfaces) end = place < end
 
 abbrev pub IsInHeader : Option Contents → List ℕ → ℕ → Type 0
 IsInHeader held name place = Told held (λ m. (seen : Seen) → header_in (content m name) ≡ Ok seen → EndsBehind place seen.interfaces seen.known.at)
-
--- what holds of a packet's record whatever the files hold
-pub record IsRecordOf (known : Known) (p : Packet) (r : Rec) : Type 0 where
-  pub size : length r.bytes ≡ p.count
-  pub time : r.fraction ≡ p.nanos
-  pub end : r.next_at ≡ known.at + p.total
 
 -- What a walk over blocks came to, in a file of these bytes: the next packet, which stands where the walk is. Nothing is known
 -- of the interfaces in front of those of its section.

@@ -42,6 +42,11 @@ size_of (passed.Section big total) = total
 size_of (passed.Interface interface link total) = total
 size_of (passed.Other total) = total
 
+abbrev pub len_of : Block → ℕ
+len_of block.End = 0
+len_of (block.Packet p) = p.total
+len_of (block.Passed p) = size_of p
+
 -- the link type of the file's first interface
 abbrev pub first_link : Option ℕ → ℕ → Option ℕ
 first_link None link = Some link

@@ -1,27 +1,19 @@
 -- Blocks at places of a file.
-use Rattle.std.specs.Prelude.{◌≡◌, ℕ, ◌+◌, ◌^◌, ◌<◌, ◌≤◌, ◌==◌, if◌then◌else◌, Bool, List, drop, length, Option, Some, None, Result, Ok}
+use Rattle.std.specs.Prelude.{◌≡◌, ℕ, ◌+◌, ◌^◌, ◌<◌, ◌≤◌, List, drop, Option, Ok}
 use Rattle.aftr_base.specs.Contents.{Contents, content, Told}
-use Rattle.capture_io.specs.declared.forms.CaptureBad.{CaptureBad}
 use Rattle.capture_io.specs.declared.forms.CaptureError.{CaptureError}
 use Rattle.capture_io.specs.declared.forms.CaptureError.TheVariants as error
-use Rattle.pcapng_io.specs.declared.frame.Frame.{Frame}
 use Rattle.pcapng_io.specs.declared.block.Block.{Block}
 use Rattle.pcapng_io.specs.declared.block.Block.TheVariants as block
 use Rattle.pcapng_io.specs.declared.block.Packet.{Packet}
 use Rattle.pcapng_io.specs.declared.block.Passed.{Passed}
 use Rattle.pcapng_io.specs.declared.block.Passed.TheVariants as passed
-use Rattle.pcapng_io.specs.Results.{◌>>=◌}
 use Rattle.pcapng_io.specs.Seen.{Seen}
-use Rattle.pcapng_io.specs.Frames.{frame_in}
 use Rattle.pcapng_io.specs.Blocks.{block_in, size_of}
 
 -- what is left of a file from a place on
 abbrev pub left_at : Contents → List ℕ → ℕ → List ℕ
 left_at held name at = drop at (content held name)
-
--- a frame, if something is left
-abbrev pub framed_in : Bool → List ℕ → ℕ → Result (Option Frame) CaptureBad
-framed_in big left at = if length left == 0 then Ok None else (frame_in big left at >>= (λ frame. Ok (Some frame)))
 
 -- an error that says nothing of the bytes
 abbrev pub IsFault : CaptureError → Type 0
@@ -29,18 +21,7 @@ IsFault (error.Bad _) = ⊥
 IsFault error.ReadFault = Unit {0}
 IsFault error.OutOfMemory = Unit {0}
 
--- the whole block is there
-abbrev pub IsWhole : Option Contents → List ℕ → ℕ → Frame → Type 0
-IsWhole held name at frame = Told held (λ m. at + frame.total ≤ length (content m name))
-
--- a place in a block
-abbrev pub IsInside : ℕ → ℕ → ℕ → Type 0
-IsInside at total place = (at ≤ place) × (place < at + total)
-
--- a place from here on, and before the end of the block that stands here, if one does
-abbrev pub IsInFrame : Option Contents → List ℕ → Bool → ℕ → ℕ → Type 0
-IsInFrame held name big at place = (at ≤ place) × Told held (λ m. (frame : Frame) → frame_in big (left_at m name at) at ≡ Ok frame → place < at + frame.total)
-
+-- before the end of the block that stands at a place, if one does
 abbrev pub IsBefore : ℕ → ℕ → Block → Type 0
 IsBefore place at block.End = Unit {0}
 IsBefore place at (block.Packet p) = place < at + p.total

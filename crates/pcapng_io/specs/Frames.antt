@@ -82,8 +82,3 @@ frame_in big left at =
 -- a frame whose first twelve bytes are not refused
 abbrev pub head_in : Bool → List ℕ → ℕ → Result Frame CaptureBad
 head_in big left at = unless (first_true (head_refusals big left at)) (Ok (frame_at big left))
-
--- by its last four bytes alone, of which so many are there
-abbrev pub tail_in : Frame → List ℕ → ℕ → Result Frame CaptureBad
-tail_in frame last at =
-    unless (first_true ((nat_lt (length last) 4, ng.Cut at) ∷ (not (word_at frame.big last 0 == frame.total), ng.Length at) ∷ [])) (Ok frame)

@@ -1,6 +1,7 @@
 pub mod Answers
 pub mod Blocks
 pub mod Captures
+pub mod Either
 pub mod Files
 pub mod Frames
 pub mod Fronts

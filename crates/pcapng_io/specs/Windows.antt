@@ -8,6 +8,10 @@ pub record Ahead : Type 0 where
   pub bytes : List ℕ
   pub last : Bool
 
+-- the bytes are the first of what is left of the file from a place on
+abbrev pub IsAtFront : Option Contents → List ℕ → ℕ → Ahead → Type 0
+IsAtFront held name at window = Told held (λ m. IsFront window.bytes window.last (drop at (content m name)))
+
 -- more was read behind the bytes, if they stand at a place of the file
 abbrev pub IsMore : Option Contents → List ℕ → ℕ → Ahead → Ahead → Type 0
 IsMore held name at before now = Told held (λ m. IsStart before.bytes (drop at (content m name)) → IsFront now.bytes now.last (drop at (content m name)))

@@ -3,18 +3,16 @@ ghost use Rattle.std.specs.Prelude.{◌≡◌, ◌+◌, ◌^◌, ◌<◌, ◌≤
 ghost use Rattle.aftr_base.specs.Contents.{Told};
 ghost use Rattle.aftr_base.specs.Outside.{OnlyReads};
 ghost use Rattle.capture_io.specs.Answers.{Agrees, is_read_fault};
-ghost use Rattle.pcapng_io.specs.Blocks.{block_in, body_in};
-ghost use Rattle.pcapng_io.specs.Files.{IsInBlock, IsInside, IsSound, IsWhole, left_at};
-ghost use Rattle.pcapng_io.specs.Frames.{least_total};
+ghost use Rattle.pcapng_io.specs.Blocks.{block_in, len_of};
+ghost use Rattle.pcapng_io.specs.Files.{IsInBlock, IsSound, left_at};
 ghost use Rattle.pcapng_io.specs.Seen.{seen_by};
+ghost use Rattle.pcapng_io.specs.Windows.{IsAtFront};
 
-use crate::frame::{
-    ENHANCED_PACKET, Frame, INTERFACE, OLD_PACKET, SECTION, SIMPLE_PACKET, read_frame,
-};
-use crate::interface::{Interface, read_interface};
-use crate::packets::{read_enhanced, read_section, read_simple};
+use crate::fronts::{Front, bytes_missing, front_of};
+use crate::interface::Interface;
+use crate::window::Window;
 use aftr_base::Files;
-use capture_io::{CaptureBad, CaptureError, NgBad};
+use capture_io::{CaptureBad, CaptureError};
 use std::alloc::Global;
 
 /// The last place of a block that is read, so that the places behind it have a number (ours).
@@ -71,7 +69,8 @@ pub enum Passed {
     },
 }
 
-/// What stands at the place that is known, for a packet of this number.
+/// What stands at the place that is known, for a packet of this number. The window has the bytes from there on, as far as they
+/// were read, and behind them those are read that are missing.
 pub fn read_block<F: Files>(
     alloc: Global,
     files: &mut F,
@@ -79,56 +78,38 @@ pub fn read_block<F: Files>(
     known: Known,
     interfaces: &[Interface],
     number: u32,
+    window: &mut Window,
 ) -> Result<Block, CaptureError>
     requires number { number ≤ 2 ^ 31 }
     requires time { known.nanos < 1000000000 }
     requires counted { All (λ interface. 0 < interface.ticks) interfaces.now }
+    requires stands { IsAtFront (F.outside files.old).held name.now known.at window.old }
     ensures told { Told (F.outside files.old).held
         (λ m. Agrees result (block_in (seen_by known interfaces.now) (left_at m name.now known.at) number)) }
     ensures sound { IfOk result (λ block. IsSound number block) }
     ensures near { IfOk result (λ _. known.at ≤ 2 ^ 62) }
+    ensures stands { IfOk result (λ _. IsAtFront (F.outside files.old).held name.now known.at window.new) }
+    ensures there { IfOk result (λ block. len_of block ≤ length window.new.bytes) }
     ensures reads { OnlyReads (is_read_fault result) name.now
         (IsInBlock (F.outside files.old).held name.now (seen_by known interfaces.now) number)
         (F.outside files.old) (F.outside files.new) }
 {
-    if known.at > FARTHEST {
-        return Err(CaptureError::Bad(CaptureBad::Ng(NgBad::Far { at: known.at })));
-    }
-    let Some(frame) = read_frame(alloc, files, name, known.big, known.at)? else {
-        return Ok(Block::End);
-    };
-    read_body(alloc, files, name, known, interfaces, frame, number)
-}
-
-/// The block of a frame.
-fn read_body<F: Files>(
-    alloc: Global,
-    files: &mut F,
-    name: &str,
-    known: Known,
-    interfaces: &[Interface],
-    frame: Frame,
-    number: u32,
-) -> Result<Block, CaptureError>
-    requires place { known.at ≤ 2 ^ 62 }
-    requires number { number ≤ 2 ^ 31 }
-    requires time { known.nanos < 1000000000 }
-    requires counted { All (λ interface. 0 < interface.ticks) interfaces.now }
-    requires least { least_total frame.kind ≤ frame.total }
-    requires some { 12 ≤ frame.total }
-    requires whole { IsWhole (F.outside files.old).held name.now known.at frame }
-    ensures told { Told (F.outside files.old).held
-        (λ m. Agrees result (body_in (seen_by known interfaces.now) (left_at m name.now known.at) number frame)) }
-    ensures sound { IfOk result (λ block. IsSound number block) }
-    ensures reads { OnlyReads (is_read_fault result) name.now (IsInside known.at frame.total)
-        (F.outside files.old) (F.outside files.new) }
-{
-    match frame.kind {
-        SECTION => read_section(alloc, files, name, known.at, frame),
-        OLD_PACKET => Err(CaptureError::Bad(CaptureBad::Ng(NgBad::Old { at: known.at }))),
-        INTERFACE => read_interface(alloc, files, name, known, interfaces, frame),
-        ENHANCED_PACKET => read_enhanced(alloc, files, name, known, interfaces, frame, number),
-        SIMPLE_PACKET => read_simple(alloc, files, name, known, interfaces, frame, number),
-        _ => Ok(Block::Passed(Passed::Other { total: frame.total })),
+    'reading: loop {
+        match front_of(
+            known,
+            interfaces,
+            window.as_slice(),
+            window.is_last(),
+            number,
+        ) {
+            Front::Packet(packet) => return Ok(Block::Packet(packet)),
+            Front::Passed(passed) => return Ok(Block::Passed(passed)),
+            Front::End => return Ok(Block::End),
+            Front::Bad(refusal) => return Err(CaptureError::Bad(refusal)),
+            Front::More => {
+                let missing = bytes_missing(known, window.as_slice());
+                window.read_more(alloc, files, name, known.at, missing)?;
+            }
+        }
     }
 }

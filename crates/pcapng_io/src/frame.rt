@@ -1,14 +1,8 @@
 // What all blocks have: a type, a total length of the whole block, and that length again at the end.
-ghost use Rattle.std.specs.Prelude.{◌≡◌, ◌+◌, ◌-◌, ◌^◌, ◌<◌, ◌≤◌, IfOk, IfSome, length};
-ghost use Rattle.aftr_base.specs.Contents.{Told};
-ghost use Rattle.aftr_base.specs.Outside.{OnlyReads};
-ghost use Rattle.capture_io.specs.Answers.{Agrees, is_read_fault};
-ghost use Rattle.pcapng_io.specs.Files.{framed_in, IsInFrame, left_at};
-ghost use Rattle.pcapng_io.specs.Frames.{head_in, is_no_total, least_total, tail_in};
+ghost use Rattle.std.specs.Prelude.{◌≡◌, ◌≤◌, IfOk};
+ghost use Rattle.pcapng_io.specs.Frames.{head_in, is_no_total, least_total};
 
-use aftr_base::{Files, fill};
-use capture_io::{CaptureBad, CaptureError, NgBad, word};
-use std::alloc::Global;
+use capture_io::{CaptureBad, NgBad, word};
 
 pub const SECTION: u32 = 0x0a0d0d0a;
 
@@ -30,43 +24,6 @@ pub struct Frame {
     pub big: bool,
     pub kind: u32,
     pub total: u32,
-}
-
-/// The frame of the block at a place, in a section of this order; none where nothing is left.
-pub fn read_frame<F: Files>(
-    alloc: Global,
-    files: &mut F,
-    name: &str,
-    big: bool,
-    at: u64,
-) -> Result<Option<Frame>, CaptureError>
-    requires { at ≤ 2 ^ 62 }
-    ensures told { Told (F.outside files.old).held (λ m. Agrees result (framed_in big (left_at m name.now at) at)) }
-    ensures least { IfOk result (λ found. IfSome found (λ frame. least_total frame.kind ≤ frame.total)) }
-    ensures reads { OnlyReads (is_read_fault result) name.now (IsInFrame (F.outside files.old).held name.now big at)
-        (F.outside files.old) (F.outside files.new) }
-{
-    let mut head = [0; HEAD_LEN];
-    let count = fill(alloc, files, name, at, &mut head)?;
-    if count == 0 {
-        return Ok(None);
-    }
-    let frame = match head_of(big, &head[..count], at) {
-        Ok(frame) => frame,
-        Err(refusal) => return Err(CaptureError::Bad(refusal)),
-    };
-    let mut last = [0; 4];
-    let count = fill(
-        alloc,
-        files,
-        name,
-        at + u64::from(frame.total - 4),
-        &mut last,
-    )?;
-    match tail_of(frame, &last[..count], at) {
-        Ok(frame) => Ok(Some(frame)),
-        Err(refusal) => Err(CaptureError::Bad(refusal)),
-    }
 }
 
 /// What the first bytes of a block say, as many of 12 as are there.
@@ -108,17 +65,4 @@ fn least_total_of(kind: u32) -> u32
         SIMPLE_PACKET => 16,
         _ => 12,
     }
-}
-
-/// The frame, if its last four bytes say its length, of which so many are there.
-fn tail_of(frame: Frame, last: &[u8], at: u64) -> Result<Frame, CaptureBad>
-    ensures { result ≡ tail_in frame last.now at }
-{
-    if last.len() < 4 {
-        return Err(CaptureBad::Ng(NgBad::Cut { at }));
-    }
-    if word(frame.big, last, 0) != frame.total {
-        return Err(CaptureBad::Ng(NgBad::Length { at }));
-    }
-    Ok(frame)
 }

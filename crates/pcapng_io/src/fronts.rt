@@ -66,6 +66,15 @@ fn is_short(known: Known, interfaces: &[Interface], first: &[u8]) -> bool
     known.at <= FARTHEST && first.len() < bytes_needed(known.big, first, known.at)
 }
 
+/// How many bytes are missing of those that say what stands at the front; at least one.
+pub fn bytes_missing(known: Known, first: &[u8]) -> usize
+    ensures { 1 ≤ result }
+{
+    bytes_needed(known.big, first, known.at)
+        .saturating_sub(first.len())
+        .max(1)
+}
+
 // How many bytes say what stands at the front.
 fn bytes_needed(big: bool, first: &[u8], at: u64) -> usize
     ensures needed { result ≡ needed big first.now at }

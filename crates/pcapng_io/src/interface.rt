@@ -1,19 +1,12 @@
 // Interfaces of a section.
-ghost use Rattle.std.specs.Prelude.{◌≡◌, ℕ, ◌+◌, ◌-◌, ◌*◌, ◌/◌, ◌^◌, ◌<◌, ◌≤◌, IfErr, IfOk, length};
-ghost use Rattle.aftr_base.specs.Contents.{content, Told};
-ghost use Rattle.aftr_base.specs.Numbers.{span};
-ghost use Rattle.aftr_base.specs.Outside.{OnlyReads};
-ghost use Rattle.capture_io.specs.Answers.{Agrees, is_read_fault};
-ghost use Rattle.pcapng_io.specs.Files.{IsFault, IsInside, IsSound, IsWhole, left_at};
-ghost use Rattle.pcapng_io.specs.Interfaces.{block_by, interface_in, interface_of, is_other_link, option_at, option_bytes, options_in, padded, resolution_of, rest_from, resolution_or_default, start_in, value_in};
+ghost use Rattle.std.specs.Prelude.{◌≡◌, ℕ, ◌+◌, ◌-◌, ◌*◌, ◌/◌, ◌^◌, ◌<◌, ◌≤◌, IfOk, length};
+ghost use Rattle.pcapng_io.specs.Files.{IsSound};
+ghost use Rattle.pcapng_io.specs.Interfaces.{block_by, interface_in, interface_of, is_other_link, option_at, options_in, padded, resolution_of, rest_from, resolution_or_default, start_in, value_in};
 ghost use Rattle.pcapng_io.specs.Seen.{seen_by};
 
 use crate::block::{Block, Known, Passed};
-use crate::fields::read_bytes;
 use crate::frame::Frame;
-use aftr_base::Files;
-use capture_io::{CaptureBad, CaptureError, NgBad, half, word};
-use std::alloc::Global;
+use capture_io::{CaptureBad, NgBad, half, word};
 
 const ETHERNET: u16 = 1;
 
@@ -58,37 +51,6 @@ pub struct Interface {
     pub ticks: u64,
     /// The most bytes that it captures of a packet; 0 for any number.
     pub most: u32,
-}
-
-/// The interface block of a frame, in a section that has so many interfaces already.
-pub fn read_interface<F: Files>(
-    alloc: Global,
-    files: &mut F,
-    name: &str,
-    known: Known,
-    interfaces: &[Interface],
-    frame: Frame,
-) -> Result<Block, CaptureError>
-    requires place { known.at ≤ 2 ^ 62 }
-    requires least { 20 ≤ frame.total }
-    requires whole { IsWhole (F.outside files.old).held name.now known.at frame }
-    ensures told { Told (F.outside files.old).held
-        (λ m. Agrees result (interface_in (seen_by known interfaces.now) (left_at m name.now known.at) frame)) }
-    ensures sound { IfOk result (λ block. (number : ℕ) → IsSound number block) }
-    ensures reads { OnlyReads (is_read_fault result) name.now (IsInside known.at frame.total)
-        (F.outside files.old) (F.outside files.new) }
-{
-    let mut front = [0; 16];
-    read_bytes(alloc, files, name, known.at, known.at, &mut front)?;
-    let start = match start_of(known, interfaces, &front, frame) {
-        Ok(start) => start,
-        Err(refusal) => return Err(CaptureError::Bad(refusal)),
-    };
-    let found = read_resolution(alloc, files, name, known.at, frame)?;
-    match block_of(known.at, start, found, frame) {
-        Ok(block) => Ok(block),
-        Err(refusal) => Err(CaptureError::Bad(refusal)),
-    }
 }
 
 /// The fixed fields of an interface.
@@ -180,40 +142,6 @@ fn interface_by(at: u64, most: u32, byte: u8) -> Result<Interface, CaptureBad>
     })
 }
 
-/// The resolution that the options of a frame's interface give, if one does: the first option of its code. All options are
-/// read, since one that runs past the block, or a resolution that has not one byte, refuses it.
-fn read_resolution<F: Files>(
-    alloc: Global,
-    files: &mut F,
-    name: &str,
-    at: u64,
-    frame: Frame,
-) -> Result<Option<u8>, CaptureError>
-    requires place { at ≤ 2 ^ 62 }
-    requires least { 20 ≤ frame.total }
-    requires whole { IsWhole (F.outside files.old).held name.now at frame }
-    ensures told { Told (F.outside files.old).held
-        (λ m. Agrees result (resolution_of at (options_in frame.big (option_bytes frame (left_at m name.now at))))) }
-    ensures reads { OnlyReads (is_read_fault result) name.now (IsInside at frame.total)
-        (F.outside files.old) (F.outside files.new) }
-{
-    let end = at + u64::from(frame.total - 4);
-    let mut place = at + 16;
-    let mut found = None;
-    'options: while place + 4 <= end {
-        let option = read_option(alloc, files, name, at, place, frame.big)?;
-        if option.code == END_OF_OPTIONS {
-            return Ok(found);
-        }
-        if place + 4 + u64::from(option.count) > end {
-            return Err(CaptureError::Bad(CaptureBad::Ng(NgBad::Options { at })));
-        }
-        found = read_value(alloc, files, name, at, place + 4, option, found)?;
-        place += 4 + padded_len(option.count);
-    }
-    Ok(found)
-}
-
 /// The interface block of a frame that is all there.
 pub fn interface_of_front(
     known: Known,
@@ -294,59 +222,6 @@ fn value_of(at: u64, code: u16, value: &[u8], found: Option<u8>) -> Result<Optio
 struct OptionHead {
     code: u16,
     count: u16,
-}
-
-/// The head of the option at a place, of the block at `at`.
-fn read_option<F: Files>(
-    alloc: Global,
-    files: &mut F,
-    name: &str,
-    at: u64,
-    place: u64,
-    big: bool,
-) -> Result<OptionHead, CaptureError>
-    requires { place ≤ 2 ^ 63 }
-    ensures told { IfOk result (λ option. Told (F.outside files.old).held
-        (λ m. option ≡ option_at big (span (content m name.now) place 4))) }
-    ensures whole { IfErr result (λ e. Told (F.outside files.old).held
-        (λ m. place + 4 ≤ length (content m name.now) → IsFault e)) }
-    ensures reads { OnlyReads (is_read_fault result) name.now (IsInside place 4)
-        (F.outside files.old) (F.outside files.new) }
-{
-    let mut option = [0; 4];
-    read_bytes(alloc, files, name, at, place, &mut option)?;
-    Ok(OptionHead {
-        code: half(big, &option, 0),
-        count: half(big, &option, 2),
-    })
-}
-
-/// The resolution after an option whose value stands at a place, where `found` was it before.
-fn read_value<F: Files>(
-    alloc: Global,
-    files: &mut F,
-    name: &str,
-    at: u64,
-    place: u64,
-    option: OptionHead,
-    found: Option<u8>,
-) -> Result<Option<u8>, CaptureError>
-    requires place { place ≤ 2 ^ 63 }
-    requires whole { Told (F.outside files.old).held (λ m. place + option.count ≤ length (content m name.now)) }
-    ensures told { Told (F.outside files.old).held
-        (λ m. Agrees result (value_in at found (record { code = option.code; value = span (content m name.now) place option.count }))) }
-    ensures reads { OnlyReads (is_read_fault result) name.now (IsInside place option.count)
-        (F.outside files.old) (F.outside files.new) }
-{
-    if option.code != RESOLUTION {
-        return Ok(found);
-    }
-    if option.count != 1 {
-        return Err(CaptureError::Bad(CaptureBad::Ng(NgBad::Options { at })));
-    }
-    let mut byte = [0];
-    read_bytes(alloc, files, name, at, place, &mut byte)?;
-    Ok(Some(found.unwrap_or(byte[0])))
 }
 
 fn padded_len(count: u16) -> u64

@@ -4,7 +4,7 @@
 #![tactic(auto)]
 
 mod block;
-mod fields;
+mod either;
 mod frame;
 mod fronts;
 mod interface;
@@ -18,6 +18,7 @@ mod walk;
 mod window;
 mod written;
 
+pub use either::Reader;
 pub use laws::blocks_are_read;
 pub use reader::{NgReader, is_ng};
 pub use written::{put_enhanced, put_section};

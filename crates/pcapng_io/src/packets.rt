@@ -1,19 +1,13 @@
 // Section headers and packet blocks.
 ghost use Rattle.std.specs.Prelude.{◌≡◌, ℕ, ◌+◌, ◌-◌, ◌*◌, ◌/◌, ◌%◌, ◌^◌, ◌<◌, ◌≤◌, All, IfOk, length};
-ghost use Rattle.aftr_base.specs.Contents.{Told};
-ghost use Rattle.aftr_base.specs.Outside.{OnlyReads};
-ghost use Rattle.capture_io.specs.Answers.{Agrees, is_read_fault};
-ghost use Rattle.pcapng_io.specs.Files.{IsInside, IsSound, IsWhole, left_at};
+ghost use Rattle.pcapng_io.specs.Files.{IsSound};
 ghost use Rattle.pcapng_io.specs.Packets.{enhanced_in, nanos_of, seconds_of, section_in, simple_captured, simple_in};
 ghost use Rattle.pcapng_io.specs.Seen.{seen_by};
 
 use crate::block::{Block, Known, Packet, Passed};
-use crate::fields::read_bytes;
 use crate::frame::Frame;
 use crate::interface::Interface;
-use aftr_base::Files;
-use capture_io::{CaptureBad, CaptureError, NgBad, half, word};
-use std::alloc::Global;
+use capture_io::{CaptureBad, NgBad, half, word};
 
 const MOST_BYTES: u32 = 262_144;
 
@@ -23,30 +17,6 @@ const BILLION: u64 = 1_000_000_000;
 
 // Most captures count their times in these or in billionths of a second, and a division by a constant costs less.
 const MILLION: u64 = 1_000_000;
-
-/// The section header of a frame.
-pub fn read_section<F: Files>(
-    alloc: Global,
-    files: &mut F,
-    name: &str,
-    at: u64,
-    frame: Frame,
-) -> Result<Block, CaptureError>
-    requires place { at ≤ 2 ^ 62 }
-    requires least { 28 ≤ frame.total }
-    requires whole { IsWhole (F.outside files.old).held name.now at frame }
-    ensures told { Told (F.outside files.old).held (λ m. Agrees result (section_in at (left_at m name.now at) frame)) }
-    ensures sound { IfOk result (λ block. (number : ℕ) → IsSound number block) }
-    ensures reads { OnlyReads (is_read_fault result) name.now (IsInside at frame.total)
-        (F.outside files.old) (F.outside files.new) }
-{
-    let mut front = [0; 14];
-    read_bytes(alloc, files, name, at, at, &mut front)?;
-    match section_of(at, &front, frame) {
-        Ok(block) => Ok(block),
-        Err(refusal) => Err(CaptureError::Bad(refusal)),
-    }
-}
 
 pub fn section_of(at: u64, front: &[u8], frame: Frame) -> Result<Block, CaptureBad>
     requires long { 14 ≤ length front.now }
@@ -61,35 +31,6 @@ pub fn section_of(at: u64, front: &[u8], frame: Frame) -> Result<Block, CaptureB
         big: frame.big,
         total: frame.total,
     }))
-}
-
-/// The enhanced packet block of a frame, for a packet of this number.
-pub fn read_enhanced<F: Files>(
-    alloc: Global,
-    files: &mut F,
-    name: &str,
-    known: Known,
-    interfaces: &[Interface],
-    frame: Frame,
-    number: u32,
-) -> Result<Block, CaptureError>
-    requires place { known.at ≤ 2 ^ 62 }
-    requires number { number ≤ 2 ^ 31 }
-    requires least { 32 ≤ frame.total }
-    requires counted { All (λ interface. 0 < interface.ticks) interfaces.now }
-    requires whole { IsWhole (F.outside files.old).held name.now known.at frame }
-    ensures told { Told (F.outside files.old).held
-        (λ m. Agrees result (enhanced_in (seen_by known interfaces.now) (left_at m name.now known.at) number frame)) }
-    ensures sound { IfOk result (λ block. IsSound number block) }
-    ensures reads { OnlyReads (is_read_fault result) name.now (IsInside known.at frame.total)
-        (F.outside files.old) (F.outside files.new) }
-{
-    let mut front = [0; 24];
-    read_bytes(alloc, files, name, known.at, known.at, &mut front)?;
-    match enhanced_of(known, interfaces, &front, frame, number) {
-        Ok(block) => Ok(block),
-        Err(refusal) => Err(CaptureError::Bad(refusal)),
-    }
 }
 
 #[inline(always)]
@@ -206,35 +147,6 @@ fn part_in_nanos(part: u64, ticks: u64) -> u32
         return (part * BILLION / ticks) as u32;
     }
     (u128::from(part) * u128::from(BILLION) / u128::from(ticks)) as u32
-}
-
-/// The simple packet block of a frame, for a packet of this number.
-pub fn read_simple<F: Files>(
-    alloc: Global,
-    files: &mut F,
-    name: &str,
-    known: Known,
-    interfaces: &[Interface],
-    frame: Frame,
-    number: u32,
-) -> Result<Block, CaptureError>
-    requires place { known.at ≤ 2 ^ 62 }
-    requires number { number ≤ 2 ^ 31 }
-    requires time { known.nanos < 1000000000 }
-    requires least { 16 ≤ frame.total }
-    requires whole { IsWhole (F.outside files.old).held name.now known.at frame }
-    ensures told { Told (F.outside files.old).held
-        (λ m. Agrees result (simple_in (seen_by known interfaces.now) (left_at m name.now known.at) number frame)) }
-    ensures sound { IfOk result (λ block. IsSound number block) }
-    ensures reads { OnlyReads (is_read_fault result) name.now (IsInside known.at frame.total)
-        (F.outside files.old) (F.outside files.new) }
-{
-    let mut front = [0; 12];
-    read_bytes(alloc, files, name, known.at, known.at, &mut front)?;
-    match simple_of(known, interfaces, &front, frame, number) {
-        Ok(block) => Ok(block),
-        Err(refusal) => Err(CaptureError::Bad(refusal)),
-    }
 }
 
 pub fn simple_of(

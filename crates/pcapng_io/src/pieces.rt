@@ -2,14 +2,14 @@
 ghost use Rattle.std.specs.Prelude.{◌≡◌, ℕ, ◌+◌, ◌^◌, ◌<◌, ◌≤◌, [], None, All, Bool, IfOk, IsErr, IsFalse, drop, length, map, vec_capacity};
 ghost use Rattle.capture_io.specs.Records.{IsWithin, placed};
 ghost use Rattle.capture_io.specs.Rounds.{bytes_captured, is_cut};
-ghost use Rattle.pcapng_io.specs.Blocks.{interfaces_after, size_of};
+ghost use Rattle.pcapng_io.specs.Blocks.{interfaces_after};
 ghost use Rattle.pcapng_io.specs.Pieces.{AreBlocks, Ended, IsOpen, place_of};
 ghost use Rattle.pcapng_io.specs.Seen.{IsSoundSeen, Seen, seen_by};
 
 use crate::block::{Known, Packet, Passed};
 use crate::fronts::{Front, front_of, plain_packet};
 use crate::interface::Interface;
-use crate::walk::{behind_packet, behind_passed};
+use crate::walk::{behind_packet, behind_passed, len_of};
 use aftr_base::OutOfMemory;
 use capture_io::{Ending, Place};
 
@@ -179,16 +179,6 @@ fn place_of(packet: Packet, from: usize, at: u64) -> Place
         from: from + packet.start as usize,
         count: packet.count as usize,
         next_at: at + u64::from(packet.total),
-    }
-}
-
-fn len_of(passed: Passed) -> usize
-    ensures { result ≡ size_of passed }
-{
-    match passed {
-        Passed::Section { total, .. } => total as usize,
-        Passed::Interface { total, .. } => total as usize,
-        Passed::Other { total } => total as usize,
     }
 }
 

@@ -9,12 +9,14 @@ ghost use Rattle.pcapng_io.specs.Captures.{as_plain, form_of, is_pcapng, next_in
 ghost use Rattle.pcapng_io.specs.Files.{IsFault, left_at};
 ghost use Rattle.pcapng_io.specs.Seen.{IsSoundSeen, seen_by};
 ghost use Rattle.pcapng_io.specs.Standing.{Opens, stands_in};
+ghost use Rattle.pcapng_io.specs.Windows.{IsAtFront};
 
 use crate::block::{Block, Known, Passed, read_block};
 use crate::frame::SECTION;
 use crate::interface::Interface;
 use crate::record::find_record;
-use crate::walk::behind_passed;
+use crate::walk::{behind_passed, len_of};
+use crate::window::Window;
 use aftr_base::{Files, fill};
 use capture_io::{CaptureError, Form, Next, word};
 use std::alloc::Global;
@@ -44,7 +46,7 @@ pub fn is_ng<F: Files>(alloc: Global, files: &mut F, name: &str) -> Result<bool,
     Ok(begins_section(&first[..count]))
 }
 
-fn begins_section(bytes: &[u8]) -> bool
+pub(crate) fn begins_section(bytes: &[u8]) -> bool
     ensures { result ≡ is_pcapng bytes.now }
 {
     bytes.len() >= 4 && word(false, bytes, 0) == SECTION
@@ -83,25 +85,41 @@ impl NgReader {
         ensures reads { OnlyReads (is_read_fault result) name.now (IsInHeader (F.outside files.old).held name.now)
             (F.outside files.old) (F.outside files.new) }
     {
+        NgReader::open_behind(alloc, files, name, Window::new(alloc))
+    }
+
+    /// The same, where the first bytes were read already: they are not read again.
+    pub(crate) fn open_behind<F: Files>(
+        alloc: Global,
+        files: &mut F,
+        name: &str,
+        mut window: Window,
+    ) -> Result<NgReader, CaptureError>
+        requires { IsAtFront (F.outside files.old).held name.now 0 window }
+        ensures told { Told (F.outside files.old).held (λ m. Opens result (content m name.now)) }
+        ensures reads { OnlyReads (is_read_fault result) name.now (IsInHeader (F.outside files.old).held name.now)
+            (F.outside files.old) (F.outside files.new) }
+    {
         let mut known = START;
         'opening: loop {
-            match read_block(alloc, files, name, known, &NO_INTERFACES, 0)? {
-                Block::End => return Ok(NgReader::without_interfaces(alloc, known)),
+            match read_block(alloc, files, name, known, &NO_INTERFACES, 0, &mut window)? {
+                Block::End => return Ok(NgReader::without_interfaces(alloc, known, window)),
                 // No packet is found without an interface.
-                Block::Packet(_) => return Ok(NgReader::without_interfaces(alloc, known)),
+                Block::Packet(_) => return Ok(NgReader::without_interfaces(alloc, known, window)),
                 Block::Passed(passed) => {
+                    window.pass(len_of(passed));
                     known = behind_passed(known, passed);
                     if let Passed::Interface { interface, .. } = passed {
-                        return NgReader::with_interface(alloc, known, interface);
+                        return NgReader::with_interface(alloc, known, interface, window);
                     }
                 }
             }
         }
     }
 
-    fn without_interfaces(alloc: Global, known: Known) -> NgReader
+    fn without_interfaces(alloc: Global, known: Known, window: Window) -> NgReader
         requires { known.nanos < 1000000000 }
-        ensures { result ≡ record { seen = as_plain (seen_by known []); ahead = [] } }
+        ensures { result ≡ record { seen = as_plain (seen_by known []); ahead = window.bytes } }
     {
         NgReader {
             known: Known {
@@ -109,7 +127,7 @@ impl NgReader {
                 ..known
             },
             interfaces: Vec::new(alloc),
-            ahead: Vec::new(alloc),
+            ahead: window.into_bytes(),
         }
     }
 
@@ -117,11 +135,12 @@ impl NgReader {
         alloc: Global,
         known: Known,
         interface: Interface,
+        window: Window,
     ) -> Result<NgReader, CaptureError>
         requires time { known.nanos < 1000000000 }
         requires counted { 0 < interface.ticks }
         requires linked { IsSome known.link }
-        ensures is { IfOk result (λ reader. reader ≡ record { seen = seen_by known (interface ∷ []); ahead = [] }) }
+        ensures is { IfOk result (λ reader. reader ≡ record { seen = seen_by known (interface ∷ []); ahead = window.bytes }) }
         ensures memory { IfErr result (λ e. e ≡ error.OutOfMemory) }
     {
         let mut interfaces = Vec::new(alloc);
@@ -129,7 +148,7 @@ impl NgReader {
             Ok(()) => Ok(NgReader {
                 known,
                 interfaces,
-                ahead: Vec::new(alloc),
+                ahead: window.into_bytes(),
             }),
             Err(_) => Err(CaptureError::OutOfMemory),
         }

@@ -1,17 +1,19 @@
 // The next packet, with its bytes.
-ghost use Rattle.std.specs.Prelude.{◌≡◌, ◌+◌, ◌^◌, ◌<◌, ◌≤◌, IfOk, IfSome, drop, length, take};
+ghost use Rattle.std.specs.Prelude.{◌≡◌, ◌+◌, ◌^◌, ◌<◌, ◌≤◌, IfOk, IfSome, length, take};
 ghost use Rattle.aftr_base.specs.Contents.{Told};
 ghost use Rattle.aftr_base.specs.Outside.{OnlyReads};
 ghost use Rattle.capture_io.specs.Answers.{is_read_fault};
 ghost use Rattle.pcapng_io.specs.Answers.{IsBeforePacket, IsFound, IsSoundFound};
+ghost use Rattle.pcapng_io.specs.Blocks.{record_of};
 ghost use Rattle.pcapng_io.specs.Captures.{next_in};
 ghost use Rattle.pcapng_io.specs.Files.{left_at};
 ghost use Rattle.pcapng_io.specs.Seen.{IsSoundSeen, seen_by};
 
-use crate::block::Known;
+use crate::block::{Known, Packet};
 use crate::interface::Interface;
-use crate::walk::{behind_packet, find_packet, read_packet};
-use aftr_base::Files;
+use crate::walk::{behind_packet, find_packet};
+use crate::window::Window;
+use aftr_base::{Bytes, Files, OutOfMemory};
 use capture_io::{CaptureError, Rec};
 use std::alloc::Global;
 
@@ -43,13 +45,35 @@ pub fn find_record<F: Files>(
         (IsBeforePacket (F.outside files.old).held name.now (seen_by known interfaces.old.items) number)
         (F.outside files.old) (F.outside files.new) }
 {
-    let Some(sighted) = find_packet(alloc, files, name, known, interfaces, number)? else {
+    let mut window = Window::new(alloc);
+    let Some(sighted) = find_packet(alloc, files, name, known, interfaces, number, &mut window)?
+    else {
         return Ok(None);
     };
-    let record = read_packet(alloc, files, name, sighted.known, sighted.packet)?;
-    Ok(Some(Found {
-        record,
-        known: behind_packet(sighted.known, sighted.packet),
-        first: sighted.first,
-    }))
+    match record_of(alloc, sighted.known, window.as_slice(), sighted.packet) {
+        Ok(record) => Ok(Some(Found {
+            record,
+            known: behind_packet(sighted.known, sighted.packet),
+            first: sighted.first,
+        })),
+        Err(_) => Err(CaptureError::OutOfMemory),
+    }
+}
+
+// The record of a packet whose block stands at what is known, and is the first of these bytes.
+fn record_of(alloc: Global, known: Known, first: &[u8], packet: Packet) -> Result<Rec, OutOfMemory>
+    requires near { known.at + packet.total < 2 ^ 64 }
+    requires there { packet.start + packet.count ≤ length first.now }
+    ensures { IfOk result (λ r. r ≡ record_of known first.now packet) }
+{
+    let start = packet.start as usize;
+    let end = start + packet.count as usize;
+    let mut list = Vec::with_capacity(alloc, packet.count as usize)?;
+    list.extend_from_slice(&first[start..end])?;
+    Ok(Rec {
+        seconds: packet.seconds,
+        fraction: packet.nanos,
+        bytes: Bytes::of(list),
+        next_at: known.at + u64::from(packet.total),
+    })
 }

@@ -34,6 +34,30 @@ impl Model for Window {
 }
 
 impl Window {
+    /// No bytes, and no room yet.
+    pub fn new(alloc: Global) -> Window
+        ensures { result ≡ record { bytes = []; last = false } }
+    {
+        Window {
+            buffer: Vec::new(alloc),
+            filled: 0,
+            last: false,
+        }
+    }
+
+    /// These bytes.
+    pub fn with(alloc: Global, bytes: &[u8]) -> Result<Window, OutOfMemory>
+        ensures { IfOk result (λ window. window ≡ record { bytes = bytes.now; last = false }) }
+    {
+        let mut buffer = Vec::new(alloc);
+        buffer.extend_from_slice(bytes)?;
+        Ok(Window {
+            buffer,
+            filled: bytes.len(),
+            last: false,
+        })
+    }
+
     /// These bytes, in the room of a buffer.
     pub fn of(mut buffer: Vec<u8>, ahead: &[u8]) -> Result<Window, OutOfMemory>
         ensures { IfOk result (λ window. window ≡ record { bytes = ahead.now; last = false }) }
@@ -75,7 +99,7 @@ impl Window {
     }
 
     /// Reads a piece of so many bytes at most behind the bytes, of which the first stands at the place `at`. The buffer grows where
-    /// it is full, to twice its length. However long it is, no more than its least room is read at once, so that little is kept for
+    /// it is full, by the piece or to twice its length. However long it is, no more than its least room is read at once, so that little is kept for
     /// the next round.
     pub fn read_more<F: Files>(
         &mut self,
@@ -94,7 +118,7 @@ impl Window {
         ensures reads { OnlyReads (has_failed result) name.now (λ place. place ≡ at + length self.old.bytes)
             (F.outside files.old) (F.outside files.new) }
     {
-        grow(&mut self.buffer, self.filled)?;
+        grow(&mut self.buffer, self.filled, piece)?;
         let place = at + self.filled as u64;
         let count = read_behind(
             alloc,
@@ -108,6 +132,15 @@ impl Window {
         self.filled += count;
         self.last = count == 0;
         Ok(())
+    }
+
+    /// The bytes, without taking memory.
+    pub fn into_bytes(self) -> Vec<u8>
+        ensures { result.items ≡ self.bytes }
+    {
+        let mut bytes = self.buffer;
+        bytes.truncate(self.filled);
+        bytes
     }
 
     /// The records that stand at these places of the bytes, with the room of both lists.
@@ -139,14 +172,15 @@ fn move_first(buffer: &mut [u8], from: usize, end: usize)
 }
 
 // Room behind the first bytes of a buffer.
-fn grow(buffer: &mut Vec<u8>, filled: usize) -> Result<(), OutOfMemory>
-    requires { filled ≤ length buffer.old.items }
+fn grow(buffer: &mut Vec<u8>, filled: usize, piece: usize) -> Result<(), OutOfMemory>
+    requires some { 1 ≤ piece }
+    requires within { filled ≤ length buffer.old.items }
     ensures front { take filled buffer.new.items ≡ take filled buffer.old.items }
     ensures room { IfOk result (λ _. filled < length buffer.new.items) }
     ensures size { filled ≤ length buffer.new.items }
 {
     if filled == buffer.len() {
-        let more = filled.max(ROOM);
+        let more = filled.max(piece.min(ROOM));
         buffer.resize(filled + more, 0)?;
     }
     Ok(())

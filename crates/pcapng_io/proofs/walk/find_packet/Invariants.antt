@@ -1,4 +1,5 @@
 use Rattle.std.proofs.Common.{◌-◌, ◌^◌, ◌≡◌}
+use Rattle.pcapng_io.specs.Windows.{IsAtFront}
 use Rattle.pcapng_io.proofs.WalkLemmas.{IsWalk}
 use Rattle.pcapng_io.proofs.walk.find_packet.Given as goal
 
@@ -6,6 +7,7 @@ abbrev pub invariant-passing : goal.invariant-passing
 invariant-passing g l =
     (g.F.Files.outside l.files ≡ g.F.Files.outside l.initial.files)
     × IsWalk (g.F.Files.outside l.initial.files).held l.name l.fn.known l.initial.interfaces.items l.number l.here l.first l.interfaces.items
+    × IsAtFront (g.F.Files.outside l.initial.files).held l.name l.here.at l.window
 
 abbrev pub decreases-passing : goal.decreases-passing
 decreases-passing g l = 2 ^ 63 - l.here.at

@@ -1,0 +1,14 @@
+use Rattle.std.proofs.Common.{◌-◌, ◌^◌, ◌≡◌, ◌<◌}
+use Rattle.pcapng_io.specs.Windows.{IsAtFront}
+use Rattle.pcapng_io.proofs.OpenLemmas.{OpensFrom}
+use Rattle.pcapng_io.proofs.reader.NgReader.open_behind.Given as goal
+
+abbrev pub invariant-opening : goal.invariant-opening
+invariant-opening g l =
+    (g.F.Files.outside l.files ≡ g.F.Files.outside l.initial.files)
+    × OpensFrom (g.F.Files.outside l.initial.files).held l.name l.known
+    × (l.known.nanos < 1000000000)
+    × IsAtFront (g.F.Files.outside l.initial.files).held l.name l.known.at l.window
+
+abbrev pub decreases-opening : goal.decreases-opening
+decreases-opening g l = 2 ^ 63 - l.known.at
