@@ -1,5 +1,5 @@
 #!/usr/bin/env bash
-# Times rounds of 1, 2 and 4 workers over upstream packets that are looked up among 65,536 bindings: builds the program in a
+# Times rounds of 1, 2, 4, 8 and 16 workers over upstream packets that are looked up among 65,536 bindings: builds the program in a
 # temporary repository, which proves it first, and runs it.
 #     bench/gate_rounds/run.sh
 set -e

@@ -35,6 +35,18 @@ impl Model for Areas {
     ghost invariant = { λ a. (a.table.shared.key ≡ a.plan) × (a.long ≡ width a.plan) × (a.table.shared.table_id.words ≡ all_places (width a.plan)) × (width a.plan ≤ 16777216) × IsPlan a.plan };
 }
 
+impl Areas {
+    ghost use Rattle.std.specs.Prelude.{◌≡◌};
+    ghost use Rattle.swap_core.specs.Plans.{limit as limit_of};
+
+    /// The most records that may be drawn while the version is in force.
+    pub fn limit(&self, version: u32) -> u32
+        ensures { result ≡ limit_of self.now.plan version }
+    {
+        self.plan.limit(version)
+    }
+}
+
 /// The areas at the opening, with the one worker's seat and the desk: table 0 is in force, no record is drawn, and the
 /// seat has the whole share of 65,536. After want of memory the plan is dropped.
 pub fn prepare(alloc: Global, plan: Plan) -> Result<(Areas, WorkerSeat, Desk), OutOfMemory>

@@ -82,3 +82,60 @@ impl Gate for UntilTheNext {
         let _came = comes(&self.passed, 1_000_000);
     }
 }
+
+/// Counts its calls, and adds up their numbers and versions.
+#[derive(Drop)]
+pub struct Adding {
+    calls: AtomicUsize,
+    numbers: AtomicUsize,
+    versions: AtomicUsize,
+}
+
+impl Adding {
+    pub fn new() -> Adding {
+        Adding {
+            calls: AtomicUsize::new(0),
+            numbers: AtomicUsize::new(0),
+            versions: AtomicUsize::new(0),
+        }
+    }
+
+    /// How many calls there were, and the sums of their numbers and versions.
+    pub fn sums(&self) -> (usize, usize, usize) {
+        (
+            self.calls.load(SeqCst),
+            self.numbers.load(SeqCst),
+            self.versions.load(SeqCst),
+        )
+    }
+}
+
+impl Gate for Adding {
+    fn pass(&self, number: u32, version: u32) {
+        self.calls.fetch_add(1, SeqCst);
+        self.numbers.fetch_add(number as usize, SeqCst);
+        self.versions.fetch_add(version as usize, SeqCst);
+    }
+}
+
+/// Takes its time for each record of the first two versions.
+#[derive(Drop)]
+pub struct Slow {
+    note: AtomicUsize,
+}
+
+impl Slow {
+    pub fn new() -> Slow {
+        Slow {
+            note: AtomicUsize::new(0),
+        }
+    }
+}
+
+impl Gate for Slow {
+    fn pass(&self, _number: u32, version: u32) {
+        if version < 2 {
+            let _came = comes(&self.note, 8_000);
+        }
+    }
+}

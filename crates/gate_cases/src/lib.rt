@@ -1,9 +1,11 @@
-//! Tests of workers that judge beside a reloader (worker_gate), by public calls: single workers, reloads, and rounds. Nothing
-//! stands on this crate.
+//! Tests of workers that judge beside a reloader (worker_gate), by public calls: lookups in a held area, single workers, reloads, and
+//! rounds. Nothing stands on this crate.
 #![tactic(auto)]
 
 #[cfg(test)]
 mod gates;
+#[cfg(test)]
+mod held_area;
 #[cfg(test)]
 mod items;
 #[cfg(test)]

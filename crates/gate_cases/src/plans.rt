@@ -11,7 +11,7 @@ use swap_core::{Plan, Window};
 use table_words::compile;
 
 /// The words of a table in which the subscriber owns the ports of this identifier.
-fn words_of(alloc: Global, psid: u16) -> Result<WordList, TableError>
+pub fn words_of(alloc: Global, psid: u16) -> Result<WordList, TableError>
     ensures compiled { IfOk result (λ words. AreCompiled words) }
     ensures size { IfOk result (λ words. IsTableSize words) }
 {
@@ -76,6 +76,35 @@ pub fn four_tables(alloc: Global) -> Result<Plan, TableError>
         return Err(TableError::OutOfMemory);
     }
     if plan.add(FROM_THE_SECOND, fourth).is_err() {
+        return Err(TableError::OutOfMemory);
+    }
+    Ok(plan)
+}
+
+const FROM_10: Window = Window {
+    earliest: 10,
+    latest: 1_000_000,
+};
+
+const FROM_8_192: Window = Window {
+    earliest: 8_192,
+    latest: 1_000_000,
+};
+
+/// A plan of three tables, of which the later two may come from records 10 and 8,192 on.
+pub fn three_tables(alloc: Global) -> Result<Plan, TableError>
+    ensures { IfOk result (λ plan. All AreCompiled plan.tables) }
+{
+    let first = words_of(alloc, 52)?;
+    let second = words_of(alloc, 53)?;
+    let third = words_of(alloc, 52)?;
+    let Ok(mut plan) = Plan::of(alloc, first) else {
+        return Err(TableError::OutOfMemory);
+    };
+    if plan.add(FROM_10, second).is_err() {
+        return Err(TableError::OutOfMemory);
+    }
+    if plan.add(FROM_8_192, third).is_err() {
         return Err(TableError::OutOfMemory);
     }
     Ok(plan)

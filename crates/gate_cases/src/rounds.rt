@@ -1,9 +1,9 @@
 // Rounds of a crew, beside a desk that puts tables into force.
 ghost use Rattle.std.specs.Prelude.{◌≡◌, ◌+◌, ◌<◌, ◌≤◌, length};
 
-use crate::gates::{Behind, UntilTheNext};
+use crate::gates::{Adding, Behind, Slow, UntilTheNext};
 use crate::items::{Alike, OUTER, is_judged};
-use crate::plans::{behind, four_tables, two_tables};
+use crate::plans::{behind, four_tables, three_tables, two_tables};
 use area_swap::prepare;
 use binding_rules::TableError;
 use case_data::UP;
@@ -176,5 +176,97 @@ fn a_held_area_is_not_written(rt: HostRuntime) -> Result<(), Fail> {
     };
     assert!(rt; 1 <= first && first <= second && second <= third && third <= 9);
     assert!(rt; 6 <= second);
+    Ok(())
+}
+
+// The points of two tables that may come from records 10 and 8,192 on, in a round of 16,384 by two workers.
+fn points_of_a_round<R: Threads + Wait + Sync>(
+    rt: &R,
+    alloc: Global,
+) -> Result<(u32, u32), TableError> {
+    let Ok((areas, mut seat, mut desk)) = prepare(alloc, three_tables(alloc)?) else {
+        return Err(TableError::OutOfMemory);
+    };
+    let Ok(mut crew) = Crew::with(alloc, 2, 16_384) else {
+        return Err(TableError::OutOfMemory);
+    };
+    let items = Alike {
+        item: ItemView::Bad(Rule::FrameShort),
+        count: 16_384,
+    };
+    let gate = Slow::new();
+    round(
+        rt, &areas, &mut seat, &mut desk, &mut crew, &items, 0, 16_384, &gate,
+    );
+    let points = desk.points();
+    Ok(if points.len() == 2 {
+        (points[0], points[1])
+    } else {
+        (16_384, 16_384)
+    })
+}
+
+#[test]
+fn each_table_of_a_round_comes_while_workers_run(rt: HostRuntime) -> Result<(), Fail> {
+    for _ in 0..20 {
+        let (first, second) = points_of_a_round(&rt, rt.alloc())?;
+        assert!(rt; 10 <= first && 8_192 <= second && first <= second);
+        if first < 8_192 && second < 16_384 {
+            return Ok(());
+        }
+    }
+    panic!(rt; "no two tables came one after another")
+}
+
+// What a gate counts in a round of 4,096 packets of the subscriber by so many workers, which draw several records at once, where the
+// second table comes behind 1,000 of them: all of it, or nothing where an outcome is wrong.
+fn sums_of_a_round<R: Threads + Wait + Sync>(
+    rt: &R,
+    alloc: Global,
+    workers: u32,
+) -> Result<(usize, usize, usize), TableError>
+    requires some_one { 1 ≤ workers }
+    requires few { workers ≤ 16 }
+{
+    let Ok((areas, mut seat, mut desk)) = prepare(alloc, two_tables(alloc, behind(1_000))?) else {
+        return Err(TableError::OutOfMemory);
+    };
+    let Ok(mut crew) = Crew::with(alloc, workers, 4_096) else {
+        return Err(TableError::OutOfMemory);
+    };
+    let Ok(inner) = read_packet(UP) else {
+        return Ok((0, 0, 0));
+    };
+    let items = Alike {
+        item: ItemView::Up {
+            outer: OUTER,
+            inner,
+        },
+        count: 4_096,
+    };
+    let gate = Adding::new();
+    round(
+        rt, &areas, &mut seat, &mut desk, &mut crew, &items, 0, 4_096, &gate,
+    );
+    let outcomes = crew.outcomes();
+    Ok(if outcomes.len() == 4_096 && are_judged(&outcomes, 0, 1_000) {
+        gate.sums()
+    } else {
+        (0, 0, 0)
+    })
+}
+
+// 0 + 1 + .. + 4,095, and one for each record from number 1,000 on.
+const ONCE_EACH: (usize, usize, usize) = (4_096, 8_386_560, 3_096);
+
+#[test]
+fn two_workers_pass_a_gate_once_with_each_number(rt: HostRuntime) -> Result<(), Fail> {
+    assert_eq!(rt; sums_of_a_round(&rt, rt.alloc(), 2)?, ONCE_EACH);
+    Ok(())
+}
+
+#[test]
+fn sixteen_workers_pass_a_gate_once_with_each_number(rt: HostRuntime) -> Result<(), Fail> {
+    assert_eq!(rt; sums_of_a_round(&rt, rt.alloc(), 16)?, ONCE_EACH);
     Ok(())
 }

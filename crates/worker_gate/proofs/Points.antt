@@ -9,7 +9,7 @@ use Rattle.area_swap.specs.Answers.{LaterDue, NoneDue, NowDue}
 use Rattle.area_swap.specs.Rule.{IsDrawnBy, Sees}
 use Rattle.area_swap.specs.Values.{IsDesk}
 use Rattle.area_swap.specs.Views.{reading}
-use Rattle.worker_gate.specs.Reloading.{HasCountedLong, HasMorePoints, HasNoneLeft, HasReachedEnd, HasTurns, IsSettled, WaitsFor}
+use Rattle.worker_gate.specs.Reloading.{HasCountedLong, HasMorePoints, HasNoneLeft, HasReachedEnd, HasStood, HasTurns, IsSettled, OpensBehind, StandsAtLimit, WaitsFor}
 
 pub points_none : (v : View) → HasMorePoints 0 v v
 points_none v = record { news = []; points = sym (append-nil v.points); many = refl; same_plan = refl }
@@ -77,6 +77,20 @@ end_reached p end records earliest u v w h due desk plan reached =
       reached = omega (arith, due.read, reached);
       waits = waits_for p records earliest v w due desk plan;
     }
+
+pub opens_behind : (p : Tables) (end records earliest : ℕ) (v w : View) → LaterDue p records earliest v w → IsDesk w → w.plan ≡ p → end ≤ earliest
+    → OpensBehind end w
+opens_behind p end records earliest v w due desk plan behind =
+    let tables : length w.plan.tables ≡ length p.tables = ap (λ (q : Tables). length q.tables) plan in
+    let own : length w.points ≡ w.seen.version = own_version v w due.after desk due.sees.pointed in
+    let first : (window w.plan (length w.points + 1)).earliest ≡ (window p (w.seen.version + 1)).earliest =
+    ap (λ (q : Tables). (window q (length w.points + 1)).earliest) plan ∙ ap (λ (n : ℕ). (window p (n + 1)).earliest) own in
+    record { rests = due.rests; next = omega (arith, tables, own, due.more); opens = omega (arith, first, due.wants, behind) }
+
+pub has_stood : (p : Tables) (records earliest : ℕ) (v w : View) → LaterDue p records earliest v w → StandsAtLimit w records → HasStood w
+has_stood p records earliest v w due h =
+    let P : ℕ → Type 0 = λ n. StandsAtLimit w n in
+    record { rests = due.rests; stands = subst P (sym due.read) h }
 
 -- the next table is due, and its area did not come free
 pub turns_long : (p : Tables) (u v w x : View) → HasTurns u v → NowDue p v w → HasTurns w x → HasTurns u x

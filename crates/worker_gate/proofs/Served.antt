@@ -322,6 +322,7 @@ of_round_on areas items start end v w h k work idle =
             judged = subst Q (sym k.outcomes) (All-append (IsJudged areas.plan items start) v.outcomes.items k.news h.judged.judged k.judged);
             reads = omega (arith, h.judged.reads, k.reads, asked);
           };
+      compiled = h.compiled;
     }
 
 pub put_one_length : (p : Tables) (items : List Item) (start number version : ℕ) (v w : Worker) → IsPutDown p items start number version v w

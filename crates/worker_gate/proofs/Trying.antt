@@ -13,7 +13,7 @@ use Rattle.area_swap.specs.Answers.{HoldsNow, HasMoved, HasDrawn, IsNotHeld, IsA
 use Rattle.area_swap.specs.Reading.{OnlyReads}
 use Rattle.area_swap.specs.Rule.{IsDrawnBy}
 use Rattle.area_swap.specs.Values.{AreasValue, SeatValue, HoldsStill, IsIdle, IsOf}
-use Rattle.area_swap.specs.Views.{IsUpTo, acting, held_table, held_version}
+use Rattle.area_swap.specs.Views.{IsUpTo, acting, held_table, held_version, reading}
 use Rattle.table_words.specs.Layout.{IsCompiled, AreCompiled}
 use Rattle.table_words.specs.Reads.{read_more}
 use Rattle.verdict_core.specs.Fitting.{AsksTable}
@@ -21,7 +21,7 @@ use Rattle.verdict_core.specs.Verdicts.{verdict_of}
 use Rattle.verdict_core.specs.declared.verdicts.Verdict.{Verdict}
 use Rattle.worker_gate.specs.declared.outcomes.Stop.TheVariants as stop
 use Rattle.worker_gate.specs.Outcomes.{asks, asking, IsJudged}
-use Rattle.worker_gate.specs.Serving.{IsHolding}
+use Rattle.worker_gate.specs.Serving.{HeldLast, HoldsLast, IsHolding}
 use Rattle.worker_gate.specs.Turns.{DrawsNothing, HasHeld, HasStayedIdle, HasTakenRun, HasStoppedNow, HasTried}
 use Rattle.worker_gate.proofs.Served.{upto_same, upto_on}
 
@@ -91,8 +91,12 @@ not_held_is now held v w h =
       same_share = ap (λ (x : View). x.share) h.after;
     }
 
-pub at_end_is : (end held : ℕ) (v w : View) → IsAtEnd end held v w → HasStoppedNow stop.End end v w
-at_end_is end held v w h =
+-- a reading of the version word that finds the held version in force
+still_held : (v w : View) → w ≡ reading v w.seen → w.seen.version ≡ held_version v → held_version w ≡ w.seen.version
+still_held v w after in_force = ap (λ (x : View). held_version x) after ∙ sym in_force
+
+pub at_end_is : (end : ℕ) (v w : View) → IsAtEnd end (held_version v) v w → HasStoppedNow stop.End end v w
+at_end_is end v w h =
     let draws : w.actor.draws ≡ v.actor.draws = ap (λ (x : View). x.actor.draws) h.after in
     let P : List (ℕ × ℕ) → Type 0 = λ l. All (IsDrawnBy w.seen) l in
     record {
@@ -104,11 +108,12 @@ at_end_is end held v w h =
             same_share = ap (λ (x : View). x.share) h.after;
           };
       ended = record { stopped = h.reached; drawn = subst P (sym draws) h.sees.drawn };
+      in_force = still_held v w h.after h.in_force;
     }
 
-pub at_limit_is : (p : Tables) (end records held : ℕ) (v w : View) → w.plan ≡ p → IsAtLimit p end records held v w
+pub at_limit_is : (p : Tables) (end records : ℕ) (v w : View) → w.plan ≡ p → IsAtLimit p end records (held_version v) v w
     → HasStoppedNow (stop.Hold records) end v w
-at_limit_is p end records held v w plan h =
+at_limit_is p end records v w plan h =
     let draws : w.actor.draws ≡ v.actor.draws = ap (λ (x : View). x.actor.draws) h.after in
     let P : List (ℕ × ℕ) → Type 0 = λ l. All (IsDrawnBy w.seen) l in
     let below : records < end = omega (arith, h.below_end, h.reached) in
@@ -125,6 +130,7 @@ at_limit_is p end records held v w plan h =
             stopped = (ap (λ (q : Tables). limit q w.seen.version) plan ∙ ap (λ (n : ℕ). limit p n) h.in_force ∙ h.limit_is, h.reached, below);
             drawn = subst P (sym draws) h.sees.drawn;
           };
+      in_force = still_held v w h.after h.in_force;
     }
 
 pub left_is : (v w : View) → w ≡ acting v Idle → DrawsNothing v w
@@ -135,6 +141,9 @@ left_is v w e =
       same_reads = ap (λ (x : View). x.reads) e;
       same_share = ap (λ (x : View). x.share) e;
     }
+
+pub left_last : (v w : View) → HoldsLast v → w ≡ acting v Idle → HeldLast w
+left_last v w h e = record { held = v; last = h; after = e }
 
 -- A seat that holds goes on holding.
 

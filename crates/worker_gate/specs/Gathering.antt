@@ -4,8 +4,9 @@ use Rattle.std.specs.List.{Contains}
 use Rattle.ip_codec.specs.declared.items.Item.{Item}
 use Rattle.swap_core.specs.Plans.{Tables}
 use Rattle.area_swap.specs.declared.board.View.{View}
-use Rattle.area_swap.specs.Values.{AreasValue, IsIdle}
+use Rattle.area_swap.specs.Values.{AreasValue, SeatValue, IsIdle, IsOf}
 use Rattle.area_swap.specs.Views.{IsUpTo}
+use Rattle.table_words.specs.Layout.{AreCompiled}
 use Rattle.worker_gate.specs.declared.crew.Place.{Place}
 use Rattle.worker_gate.specs.declared.crew.Sheet.{Sheet}
 use Rattle.worker_gate.specs.declared.worker.Worker.{Worker}
@@ -25,9 +26,16 @@ pub record HasJudged (p : Tables) (items : List Item) (start : ℕ) (w : Worker)
   pub judged : All (IsJudged p items start) w.outcomes.items
   pub reads : asking items start w.seat.known.actor.draws ≤ w.seat.known.reads
 
+-- a worker of a round between two passes, under tables that are compiled
 pub record IsOfRound (areas : AreasValue) (items : List Item) (start end : ℕ) (w : Worker) : Type 0 where
   pub at_hand : IsAtHand areas start end w
   pub judged : HasJudged areas.plan items start w
+  pub compiled : All AreCompiled areas.plan.tables
+
+-- an idle seat of these areas
+pub record IsIdleSeat (areas : AreasValue) (seat : SeatValue) : Type 0 where
+  pub its_areas : IsOf areas seat
+  pub idle : IsIdle seat.known
 
 -- what no pass changes of a worker: its share, and for how many outcomes it has room
 abbrev pub hand_of : Worker → ℕ × ℕ

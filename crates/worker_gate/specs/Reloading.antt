@@ -1,9 +1,14 @@
 -- What the reloader leaves of the desk, and when what is due is in force. All of it is ours.
-use Rattle.std.specs.Prelude.{◌≡◌, ℕ, ◌+◌, ◌<◌, ◌≤◌, ◌⊎◌, List, ◌++◌, All, length}
-use Rattle.swap_core.specs.Plans.{window}
+use Rattle.std.specs.Prelude.{◌≡◌, ℕ, ◌+◌, ◌-◌, ◌<◌, ◌≤◌, ◌⊎◌, List, ◌++◌, All, length, get_or}
+use Rattle.swap_core.specs.Plans.{limit, window}
 use Rattle.area_swap.specs.declared.board.View.{View}
 use Rattle.area_swap.specs.Rule.{IsDrawnBy}
-use Rattle.area_swap.specs.Values.{HasWholeShare, IsReady, IsResting}
+use Rattle.area_swap.specs.Values.{AreasValue, SeatValue, HasWholeShare, IsOf, IsReady, IsResting}
+
+-- the desk of these areas between two tables
+pub record CanReload (areas : AreasValue) (desk : SeatValue) : Type 0 where
+  pub its_areas : IsOf areas desk
+  pub phase : IsResting desk.known ⊎ IsReady desk.known
 
 -- the desk has so many points more, behind those that it had
 pub record HasMorePoints (count : ℕ) (before after : View) : Type 0 where
@@ -57,6 +62,28 @@ pub record HasCountedLong (before v : View) : Type 0 where
 
 abbrev pub IsReloaded : ℕ → View → View → Type 0
 IsReloaded end before v = HasNoneLeft v ⊎ (HasReachedEnd end before v ⊎ (HasLookedLong before v ⊎ HasCountedLong before v))
+
+-- There is a next table, and its window opens at this number of records or behind it.
+pub record OpensBehind (end : ℕ) (v : View) : Type 0 where
+  pub rests : IsResting v
+  pub next : length v.points + 1 < length v.plan.tables
+  pub opens : end ≤ (window v.plan (length v.points + 1)).earliest
+
+-- The table in force came where the version before it allowed no record more, and no record was drawn under it at this reading: all
+-- seats may have stopped.
+pub record StandsAtLimit (v : View) (records : ℕ) : Type 0 where
+  pub came : 0 < length v.points
+  pub point : get_or v.points (length v.points - 1) 0 ≡ records
+  pub allowed : limit v.plan (length v.points - 1) ≡ records
+
+pub record HasStood (v : View) : Type 0 where
+  pub rests : IsResting v
+  pub stands : StandsAtLimit v v.seen.records
+
+-- The ends of a reloader beside workers that draw records below the end: no table is left; the next window does not open before the
+-- end; all workers may have stopped; it looked for a million turns in a row, or counted.
+abbrev pub IsOver : ℕ → View → View → Type 0
+IsOver end before v = HasNoneLeft v ⊎ (OpensBehind end v ⊎ (HasStood v ⊎ (HasLookedLong before v ⊎ HasCountedLong before v)))
 
 -- What is due is in force, by the last reading of the seat, which is later than all its draws.
 pub record IsSettled (seat desk : View) : Type 0 where

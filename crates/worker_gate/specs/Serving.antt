@@ -5,12 +5,13 @@ use Rattle.binding_rules.specs.declared.settings.Softwire.{Softwire}
 use Rattle.ip_codec.specs.declared.items.Item.{Item}
 use Rattle.swap_core.specs.Plans.{Tables, limit}
 use Rattle.swap_core.specs.States.{consecutive}
+use Rattle.swap_core.specs.declared.actors.ActorState.TheVariants.{Idle}
 use Rattle.area_swap.specs.declared.answers.Seen.{Seen}
 use Rattle.area_swap.specs.declared.board.View.{View}
 use Rattle.area_swap.specs.Reading.{OnlyReads}
-use Rattle.area_swap.specs.Rule.{IsDrawnBy}
+use Rattle.area_swap.specs.Rule.{IsDrawnBy, Moment}
 use Rattle.area_swap.specs.Values.{AreasValue, SeatValue, HoldsOne, IsOf}
-use Rattle.area_swap.specs.Views.{IsUpTo, held_table, held_version}
+use Rattle.area_swap.specs.Views.{IsUpTo, acting, held_table, held_version}
 use Rattle.table_words.specs.Layout.{IsCompiled, AreCompiled}
 use Rattle.verdict_core.specs.declared.verdicts.Verdict.{Verdict}
 use Rattle.worker_gate.specs.declared.outcomes.Outcome.{Outcome}
@@ -55,6 +56,19 @@ IsStopped (stop.Hold most) end v = (limit v.plan v.seen.version ≡ most) × (v.
 pub record HasEnded (why : Stop) (end : ℕ) (v : View) : Type 0 where
   pub stopped : IsStopped why end v
   pub drawn : All (IsDrawnBy v.seen) v.actor.draws
+
+-- The seat holds the version of its last reading, at a moment at which the rule of the areas held.
+pub record HoldsLast (v : View) : Type 0 where
+  pub moment : Moment v
+  pub holds : HoldsOne v
+  pub in_force : held_version v ≡ v.seen.version
+
+-- The claim was given up, and nothing else has changed since the seat held the version of its last reading: that version is the one
+-- that it held last.
+pub record HeldLast (v : View) : Type 0 where
+  pub held : View
+  pub last : HoldsLast held
+  pub after : v ≡ acting held Idle
 
 -- the seat holds this version of these areas, whose words are those of a table with these settings
 pub record IsHolding (areas : AreasValue) (version : ℕ) (settings : Softwire) (s : SeatValue) : Type 0 where

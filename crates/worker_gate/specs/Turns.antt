@@ -44,6 +44,7 @@ pub record HasTakenRun (end first count : ℕ) (v w : View) : Type 0 where
 pub record HasStoppedNow (why : Stop) (end : ℕ) (v w : View) : Type 0 where
   pub nothing : DrawsNothing v w
   pub ended : HasEnded why end w
+  pub in_force : held_version w ≡ w.seen.version
 
 abbrev pub HasTurned : Turn → ℕ → View → View → Type 0
 HasTurned (turn.Run first count) end v w = HasTakenRun end first count v w

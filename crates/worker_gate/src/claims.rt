@@ -2,8 +2,10 @@
 ghost use Rattle.std.specs.Prelude.{◌≡◌, ℕ, ◌≤◌, All, IfSome};
 ghost use Rattle.binding_rules.specs.declared.settings.Softwire.{Softwire};
 ghost use Rattle.table_words.specs.Layout.{AreCompiled};
+ghost use Rattle.swap_core.specs.declared.actors.ActorState.TheVariants.{Idle};
+ghost use Rattle.area_swap.specs.Rule.{Moment};
 ghost use Rattle.area_swap.specs.Values.{HoldsOne, HoldsStill, IsIdle, IsOf};
-ghost use Rattle.area_swap.specs.Views.{held_table};
+ghost use Rattle.area_swap.specs.Views.{acting, held_table};
 ghost use Rattle.worker_gate.specs.Serving.{IsHolding};
 ghost use Rattle.worker_gate.specs.Turns.{DrawsNothing, HasTried, HasTurned};
 
@@ -45,6 +47,7 @@ pub(crate) fn take_run(areas: &Areas, seat: &mut WorkerSeat, end: u32, most: u32
     ensures areas { IsOf areas.now seat.new }
     ensures holding { HoldsStill seat.old.known seat.new.known }
     ensures turned { HasTurned result end seat.old.known seat.new.known }
+    ensures rule { Moment seat.new.known }
     ensures goes_on_holding { (version : ℕ) (settings : Softwire) → IsHolding areas.now version settings seat.old → IsHolding areas.now version settings seat.new }
 {
     match areas.draw_run(seat, end, most) {
@@ -66,6 +69,7 @@ pub(crate) fn give_up(areas: &Areas, seat: &mut WorkerSeat)
     ensures areas { IsOf areas.now seat.new }
     ensures idle { IsIdle seat.new.known }
     ensures nothing { DrawsNothing seat.old.known seat.new.known }
+    ensures after { seat.new.known ≡ acting seat.old.known Idle }
     ensures same { (seat.new.known.seen ≡ seat.old.known.seen) × (seat.new.known.actor.draws ≡ seat.old.known.actor.draws) }
 {
     areas.leave(seat);

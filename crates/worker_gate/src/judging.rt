@@ -48,6 +48,22 @@ impl<'a> Words for HeldArea<'a> {
     }
 }
 
+impl<'a> HeldArea<'a> {
+    ghost use Rattle.std.specs.Prelude.{◌≡◌};
+    ghost use Rattle.area_swap.specs.Values.{HoldsOne, IsOf};
+
+    /// The words of the table that the seat holds. What is read through them is the seat's reading: they keep the seat itself.
+    pub fn of(areas: &'a Areas, seat: &'a mut WorkerSeat) -> HeldArea<'a>
+        requires areas { IsOf areas.now seat.old }
+        requires holding { HoldsOne seat.old.known }
+        ensures same_reference { result.seat.ghost_name ≡ seat.entry.ghost_name }
+        ensures same_seat { result.seat.now ≡ seat.old }
+    {
+        let row = seat.row();
+        HeldArea { areas, seat, row }
+    }
+}
+
 /// The settings of the held table.
 pub(crate) fn held_settings<L: Ledger>(
     areas: &Areas,

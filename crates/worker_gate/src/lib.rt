@@ -14,6 +14,7 @@ mod reloading;
 mod rounds;
 mod serving;
 mod settling;
+mod task;
 mod worker;
 
 pub use crew::{Crew, Outcomes};

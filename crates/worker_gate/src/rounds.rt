@@ -4,8 +4,8 @@ ghost use Rattle.std.specs.Thread.{IsSync};
 ghost use Rattle.table_words.specs.Layout.{AreCompiled};
 ghost use Rattle.area_swap.specs.Values.{HasWholeShare, IsDesk, IsIdle, IsOf, IsReady, IsResting};
 ghost use Rattle.worker_gate.specs.Crews.{IsPlaced, outcomes_at};
-ghost use Rattle.worker_gate.specs.Gathering.{IsOfRound, hand_of};
-ghost use Rattle.worker_gate.specs.Reloading.{IsSettled, KeepsPoints};
+ghost use Rattle.worker_gate.specs.Gathering.{IsIdleSeat, IsOfRound, hand_of};
+ghost use Rattle.worker_gate.specs.Reloading.{CanReload, IsSettled, KeepsPoints};
 ghost use Rattle.worker_gate.specs.Rounds.{IsRound};
 ghost use Rattle.worker_gate.specs.Turns.{DrawsNothing};
 
@@ -13,12 +13,15 @@ use crate::crew::{Crew, Place, Sheet};
 use crate::gate::Gate;
 use crate::gathering::{gather, hire};
 use crate::reloading::reload_beside;
-use crate::serving::serve;
+use crate::serving::serve_in;
 use crate::settling::settle;
+use crate::task::Task;
 use crate::worker::Worker;
 use area_swap::{Areas, Desk, Due, WorkerSeat};
 use item_stage::RoundItems;
+use std::marker::Brand;
 use std::sync::Wait;
+use std::sync::ledger::Blank;
 use std::thread::{Threads, join_mut};
 
 // At most so many numbers are drawn at once.
@@ -34,57 +37,37 @@ fn draw_size(count: u32, workers: usize) -> u32
 }
 
 // One worker serves for a pass of a round.
-fn serve_one<R: Wait, S: RoundItems, G: Gate>(
-    rt: &R,
-    worker: &mut Worker,
-    areas: &Areas,
-    items: &S,
-    start: u32,
-    end: u32,
-    most: u32,
-    gate: &G,
-)
-    requires round { IsOfRound areas.now (S.items items.now) start end worker.old }
-    requires compiled { All AreCompiled areas.now.plan.tables }
-    requires inside { end ≤ start + length (S.items items.now) }
-    requires some_one { 1 ≤ most }
-    ensures round { IsOfRound areas.now (S.items items.now) start end worker.new }
+fn serve_one<R: Wait, S: RoundItems, G: Gate>(rt: &R, task: &Task<'_, S, G>, worker: &mut Worker)
+    requires round { IsOfRound task.now.areas.now (S.items task.now.items.now) task.now.start task.now.end worker.old }
+    ensures round { IsOfRound task.now.areas.now (S.items task.now.items.now) task.now.start task.now.end worker.new }
     ensures hand { hand_of worker.new ≡ hand_of worker.old }
 {
-    serve(rt, worker, areas, items, start, end, most, gate);
+    serve_in::<R, S, G, Brand>(rt, task, worker, Blank::new(1));
 }
 
 // The first worker serves in a new thread, and the others beside it.
 #[cycle(beside)]
 fn serve_beside<R: Threads + Wait + Sync, S: RoundItems + Sync, G: Gate + Sync>(
     rt: &R,
+    task: &Task<'_, S, G>,
     first: &mut Worker,
     others: &mut [Worker],
-    areas: &Areas,
-    items: &S,
-    start: u32,
-    end: u32,
-    most: u32,
-    gate: &G,
 )
-    requires first { IsOfRound areas.now (S.items items.now) start end first.old }
-    requires others { All (IsOfRound areas.now (S.items items.now) start end) others.old }
-    requires compiled { All AreCompiled areas.now.plan.tables }
-    requires inside { end ≤ start + length (S.items items.now) }
-    requires most { 1 ≤ most }
-    ensures first { IsOfRound areas.now (S.items items.now) start end first.new }
-    ensures others { All (IsOfRound areas.now (S.items items.now) start end) others.new }
+    requires first { IsOfRound task.now.areas.now (S.items task.now.items.now) task.now.start task.now.end first.old }
+    requires others { All (IsOfRound task.now.areas.now (S.items task.now.items.now) task.now.start task.now.end) others.old }
+    ensures first { IsOfRound task.now.areas.now (S.items task.now.items.now) task.now.start task.now.end first.new }
+    ensures others { All (IsOfRound task.now.areas.now (S.items task.now.items.now) task.now.start task.now.end) others.new }
     ensures first_hand { hand_of first.new ≡ hand_of first.old }
     ensures other_hands { map hand_of others.new ≡ map hand_of others.old }
 {
     let mut one = ||
-        requires { IsSync R.row × (IsSync S.row × (IsSync G.row × (IsOfRound areas.now (S.items items.now) start end first.now × (All AreCompiled areas.now.plan.tables × ((end ≤ start + length (S.items items.now)) × (1 ≤ most)))))) }
-        ensures { IsOfRound areas.entry.now (S.items items.entry.now) start end first.exit.now × (hand_of first.exit.now ≡ hand_of first.entry.now) }
-    { serve_one(rt, first, areas, items, start, end, most, gate) };
+        requires { IsSync R.row × (IsSync S.row × (IsSync G.row × (IsOfRound task.now.areas.now (S.items task.now.items.now) task.now.start task.now.end first.now))) }
+        ensures { IsOfRound task.entry.now.areas.now (S.items task.entry.now.items.now) task.entry.now.start task.entry.now.end first.exit.now × (hand_of first.exit.now ≡ hand_of first.entry.now) }
+    { serve_one(rt, task, first) };
     let mut rest = ||
-        requires { IsSync R.row × (IsSync S.row × (IsSync G.row × (All (IsOfRound areas.now (S.items items.now) start end) others.now × (All AreCompiled areas.now.plan.tables × ((end ≤ start + length (S.items items.now)) × (1 ≤ most)))))) }
-        ensures { All (IsOfRound areas.entry.now (S.items items.entry.now) start end) others.exit.now × (map hand_of others.exit.now ≡ map hand_of others.entry.now) }
-    { serve_all(rt, others, areas, items, start, end, most, gate) };
+        requires { IsSync R.row × (IsSync S.row × (IsSync G.row × (All (IsOfRound task.now.areas.now (S.items task.now.items.now) task.now.start task.now.end) others.now))) }
+        ensures { All (IsOfRound task.entry.now.areas.now (S.items task.entry.now.items.now) task.entry.now.start task.entry.now.end) others.exit.now × (map hand_of others.exit.now ≡ map hand_of others.entry.now) }
+    { serve_all(rt, task, others) };
     join_mut(rt, &mut one, &mut rest);
 }
 
@@ -93,37 +76,27 @@ fn serve_beside<R: Threads + Wait + Sync, S: RoundItems + Sync, G: Gate + Sync>(
 #[cycle(beside)]
 fn serve_all<R: Threads + Wait + Sync, S: RoundItems + Sync, G: Gate + Sync>(
     rt: &R,
+    task: &Task<'_, S, G>,
     workers: &mut [Worker],
-    areas: &Areas,
-    items: &S,
-    start: u32,
-    end: u32,
-    most: u32,
-    gate: &G,
 )
-    requires round { All (IsOfRound areas.now (S.items items.now) start end) workers.old }
-    requires compiled { All AreCompiled areas.now.plan.tables }
-    requires inside { end ≤ start + length (S.items items.now) }
-    requires most { 1 ≤ most }
-    ensures round { All (IsOfRound areas.now (S.items items.now) start end) workers.new }
+    requires round { All (IsOfRound task.now.areas.now (S.items task.now.items.now) task.now.start task.now.end) workers.old }
+    ensures round { All (IsOfRound task.now.areas.now (S.items task.now.items.now) task.now.start task.now.end) workers.new }
     ensures hands { map hand_of workers.new ≡ map hand_of workers.old }
 {
     let Some((first, others)) = workers.split_first_mut() else {
         return;
     };
     if others.is_empty() {
-        serve_one(rt, first, areas, items, start, end, most, gate);
+        serve_one(rt, task, first);
     } else {
-        serve_beside(rt, first, others, areas, items, start, end, most, gate);
+        serve_beside(rt, task, first, others);
     }
 }
 
 // Whether a table can come into force before so many records are drawn.
 fn may_come(areas: &Areas, desk: &mut Desk, end: u32) -> bool
-    requires areas { IsOf areas.now desk.old }
-    requires phase { IsResting desk.old.known ⊎ IsReady desk.old.known }
-    ensures areas { IsOf areas.now desk.new }
-    ensures phase { IsResting desk.new.known ⊎ IsReady desk.new.known }
+    requires desk { CanReload areas.now desk.old }
+    ensures desk { CanReload areas.now desk.new }
     ensures points { KeepsPoints desk.old.known desk.new.known }
 {
     match areas.due(desk) {
@@ -137,172 +110,104 @@ fn may_come(areas: &Areas, desk: &mut Desk, end: u32) -> bool
 // beside them.
 fn pass<R: Threads + Wait + Sync, S: RoundItems + Sync, G: Gate + Sync>(
     rt: &R,
+    task: &Task<'_, S, G>,
     workers: &mut [Worker],
-    areas: &Areas,
     desk: &mut Desk,
-    items: &S,
-    start: u32,
-    end: u32,
-    most: u32,
-    gate: &G,
 )
-    requires round { All (IsOfRound areas.now (S.items items.now) start end) workers.old }
-    requires compiled { All AreCompiled areas.now.plan.tables }
-    requires inside { end ≤ start + length (S.items items.now) }
-    requires most { 1 ≤ most }
-    requires areas { IsOf areas.now desk.old }
-    requires phase { IsResting desk.old.known ⊎ IsReady desk.old.known }
-    ensures round { All (IsOfRound areas.now (S.items items.now) start end) workers.new }
+    requires round { All (IsOfRound task.now.areas.now (S.items task.now.items.now) task.now.start task.now.end) workers.old }
+    requires desk { CanReload task.now.areas.now desk.old }
+    ensures round { All (IsOfRound task.now.areas.now (S.items task.now.items.now) task.now.start task.now.end) workers.new }
     ensures hands { map hand_of workers.new ≡ map hand_of workers.old }
-    ensures areas { IsOf areas.now desk.new }
-    ensures phase { IsResting desk.new.known ⊎ IsReady desk.new.known }
+    ensures desk { CanReload task.now.areas.now desk.new }
     ensures points { KeepsPoints desk.old.known desk.new.known }
 {
-    if !may_come(areas, desk, end) {
-        serve_all(rt, workers, areas, items, start, end, most, gate);
+    if !may_come(task.areas, desk, task.end) {
+        serve_all(rt, task, workers);
         return;
     }
     join_mut(
         rt,
         &mut ||
-            requires { IsSync R.row × (IsSync S.row × (IsSync G.row × (All (IsOfRound areas.now (S.items items.now) start end) workers.now × (All AreCompiled areas.now.plan.tables × ((end ≤ start + length (S.items items.now)) × (1 ≤ most)))))) }
-            ensures { All (IsOfRound areas.entry.now (S.items items.entry.now) start end) workers.exit.now × (map hand_of workers.exit.now ≡ map hand_of workers.entry.now) }
-        { serve_all(rt, workers, areas, items, start, end, most, gate) },
+            requires { IsSync R.row × (IsSync S.row × (IsSync G.row × (All (IsOfRound task.now.areas.now (S.items task.now.items.now) task.now.start task.now.end) workers.now))) }
+            ensures { All (IsOfRound task.entry.now.areas.now (S.items task.entry.now.items.now) task.entry.now.start task.entry.now.end) workers.exit.now × (map hand_of workers.exit.now ≡ map hand_of workers.entry.now) }
+        { serve_all(rt, task, workers) },
         &mut ||
-            requires { IsOf areas.now desk.now × (IsResting desk.now.known ⊎ IsReady desk.now.known) }
-            ensures { IsOf areas.entry.now desk.exit.now × ((IsResting desk.exit.now.known ⊎ IsReady desk.exit.now.known) × KeepsPoints desk.entry.now.known desk.exit.now.known) }
-        { reload_beside(areas, desk, end) },
+            requires { CanReload task.now.areas.now desk.now }
+            ensures { CanReload task.entry.now.areas.now desk.exit.now × KeepsPoints desk.entry.now.known desk.exit.now.known }
+        { reload_beside(task.areas, desk, task.end) },
     );
 }
 
 // Passes, and between them all that is due is put into force, until all records of the round are drawn.
 fn passes<R: Threads + Wait + Sync, S: RoundItems + Sync, G: Gate + Sync>(
     rt: &R,
-    workers: &mut [Worker],
-    areas: &Areas,
-    seat: &mut WorkerSeat,
-    desk: &mut Desk,
-    items: &S,
-    start: u32,
-    end: u32,
-    gate: &G,
-)
-    requires some_one { 0 < length workers.old }
-    requires round { All (IsOfRound areas.now (S.items items.now) start end) workers.old }
-    requires compiled { All AreCompiled areas.now.plan.tables }
-    requires range { start ≤ end }
-    requires inside { end ≤ start + length (S.items items.now) }
-    requires areas { IsOf areas.now seat.old × IsOf areas.now desk.old }
-    requires idle { IsIdle seat.old.known }
-    requires phase { IsResting desk.old.known ⊎ IsReady desk.old.known }
-    ensures round { All (IsOfRound areas.now (S.items items.now) start end) workers.new }
-    ensures hands { map hand_of workers.new ≡ map hand_of workers.old }
-    ensures areas { IsOf areas.now seat.new × IsOf areas.now desk.new }
-    ensures idle { IsIdle seat.new.known }
-    ensures nothing { DrawsNothing seat.old.known seat.new.known }
-    ensures reached { end ≤ seat.new.known.seen.records }
-    ensures phase { IsResting desk.new.known ⊎ IsReady desk.new.known }
-    ensures points { KeepsPoints desk.old.known desk.new.known }
-{
-    let most = draw_size(end - start, workers.len());
-    'passes: for _ in rt.forever() {
-        pass(rt, workers, areas, desk, items, start, end, most, gate);
-        if areas.see(seat).records >= end {
-            return;
-        }
-        settle(rt, areas, seat, desk);
-    }
-    unreachable!()
-}
-
-// The same over a list of workers.
-fn serve_round<R: Threads + Wait + Sync, S: RoundItems + Sync, G: Gate + Sync>(
-    rt: &R,
+    task: &Task<'_, S, G>,
     workers: &mut Vec<Worker>,
-    areas: &Areas,
     seat: &mut WorkerSeat,
     desk: &mut Desk,
-    items: &S,
-    start: u32,
-    end: u32,
-    gate: &G,
 )
-    requires some_one { 0 < length workers.old.items }
-    requires round { All (IsOfRound areas.now (S.items items.now) start end) workers.old.items }
-    requires compiled { All AreCompiled areas.now.plan.tables }
-    requires range { start ≤ end }
-    requires inside { end ≤ start + length (S.items items.now) }
-    requires areas { IsOf areas.now seat.old × IsOf areas.now desk.old }
-    requires idle { IsIdle seat.old.known }
-    requires phase { IsResting desk.old.known ⊎ IsReady desk.old.known }
-    ensures round { All (IsOfRound areas.now (S.items items.now) start end) workers.new.items }
+    requires round { All (IsOfRound task.now.areas.now (S.items task.now.items.now) task.now.start task.now.end) workers.old.items }
+    requires seat { IsIdleSeat task.now.areas.now seat.old }
+    requires desk { CanReload task.now.areas.now desk.old }
+    ensures round { All (IsOfRound task.now.areas.now (S.items task.now.items.now) task.now.start task.now.end) workers.new.items }
     ensures hands { map hand_of workers.new.items ≡ map hand_of workers.old.items }
     ensures room { vec_capacity workers.new ≡ vec_capacity workers.old }
-    ensures areas { IsOf areas.now seat.new × IsOf areas.now desk.new }
-    ensures idle { IsIdle seat.new.known }
+    ensures seat { IsIdleSeat task.now.areas.now seat.new }
+    ensures desk { CanReload task.now.areas.now desk.new }
     ensures nothing { DrawsNothing seat.old.known seat.new.known }
-    ensures reached { end ≤ seat.new.known.seen.records }
-    ensures phase { IsResting desk.new.known ⊎ IsReady desk.new.known }
+    ensures reached { task.now.end ≤ seat.new.known.seen.records }
     ensures points { KeepsPoints desk.old.known desk.new.known }
 {
-    passes(
-        rt,
-        workers.as_mut_slice(),
-        areas,
-        seat,
-        desk,
-        items,
-        start,
-        end,
-        gate,
-    );
+    'passes: for _ in rt.forever() {
+        pass(rt, task, workers.as_mut_slice(), desk);
+        if task.areas.see(seat).records >= task.end {
+            return;
+        }
+        settle(rt, task.areas, seat, desk);
+    }
+    unreachable!()
 }
 
 // A round over the parts of a crew.
 fn run<R: Threads + Wait + Sync, S: RoundItems + Sync, G: Gate + Sync>(
     rt: &R,
-    areas: &Areas,
+    task: &Task<'_, S, G>,
     seat: &mut WorkerSeat,
     desk: &mut Desk,
     sheets: &mut Vec<Sheet>,
     workers: &mut Vec<Worker>,
     places: &mut Vec<Place>,
-    items: &S,
-    start: u32,
-    end: u32,
-    gate: &G,
 )
-    requires areas { IsOf areas.now seat.old × IsOf areas.now desk.old }
-    requires idle { IsIdle seat.old.known }
+    requires seat { IsIdleSeat task.now.areas.now seat.old }
+    requires desk { CanReload task.now.areas.now desk.old }
     requires whole { HasWholeShare seat.old.known }
-    requires drawn { length seat.old.known.actor.draws ≡ start }
-    requires phase { IsResting desk.old.known ⊎ IsReady desk.old.known }
-    requires compiled { All AreCompiled areas.now.plan.tables }
-    requires range { start ≤ end }
-    requires inside { end ≡ start + length (S.items items.now) }
-    requires some_one { 1 ≤ length sheets.old.items }
+    requires drawn { length seat.old.known.actor.draws ≡ task.now.start }
+    requires compiled { All AreCompiled task.now.areas.now.plan.tables }
+    requires range { task.now.start ≤ task.now.end }
     requires few { length sheets.old.items ≤ 16 }
-    requires rooms { All (λ s. end - start ≤ s.outcomes.room) sheets.old.items }
+    requires rooms { All (λ s. task.now.end - task.now.start ≤ s.outcomes.room) sheets.old.items }
     requires sheets { length sheets.old.items ≤ vec_capacity sheets.old }
     requires workers { (workers.old.items ≡ []) × (length sheets.old.items ≤ vec_capacity workers.old) }
-    requires places { end - start ≤ vec_capacity places.old }
-    ensures areas { IsOf areas.now seat.new × IsOf areas.now desk.new }
-    ensures round { IsRound (S.items items.now) start end seat.old.known seat.new.known (outcomes_at sheets.new.items places.new.items) }
+    requires places { task.now.end - task.now.start ≤ vec_capacity places.old }
+    ensures areas { IsOf task.now.areas.now seat.new × IsOf task.now.areas.now desk.new }
+    ensures round { IsRound (S.items task.now.items.now) task.now.start task.now.end seat.old.known seat.new.known (outcomes_at sheets.new.items places.new.items) }
     ensures points { KeepsPoints desk.old.known desk.new.known }
     ensures desk { IsDesk desk.new.known }
     ensures settled { IsSettled seat.new.known desk.new.known }
     ensures sheets { (length sheets.new.items ≡ length sheets.old.items) × (vec_capacity sheets.new ≡ vec_capacity sheets.old) }
     ensures rooms { (room : ℕ) → All (λ s. room ≤ s.outcomes.room) sheets.old.items → All (λ s. room ≤ s.outcomes.room) sheets.new.items }
     ensures workers { (workers.new.items ≡ []) × (vec_capacity workers.new ≡ vec_capacity workers.old) }
-    ensures places { All (IsPlaced sheets.new.items) places.new.items × (start + length places.new.items ≡ end) }
+    ensures places { All (IsPlaced sheets.new.items) places.new.items × (task.now.start + length places.new.items ≡ task.now.end) }
     ensures room { vec_capacity places.old ≤ vec_capacity places.new }
 {
-    areas.see(seat);
-    hire(areas, seat, sheets, workers, start, end);
-    serve_round(rt, workers, areas, seat, desk, items, start, end, gate);
-    gather(areas, seat, workers, sheets, places, start, end);
-    areas.tally(seat);
-    settle(rt, areas, seat, desk);
+    task.areas.see(seat);
+    hire(task.areas, seat, sheets, workers, task.start, task.end);
+    passes(rt, task, workers, seat, desk);
+    gather(
+        task.areas, seat, workers, sheets, places, task.start, task.end,
+    );
+    task.areas.tally(seat);
+    settle(rt, task.areas, seat, desk);
 }
 
 /// All records with the numbers from `start` to below `end` are drawn and judged by the crew's workers, beside the desk that puts
@@ -341,17 +246,21 @@ pub fn round<R: Threads + Wait + Sync, S: RoundItems + Sync, G: Gate + Sync>(
     ensures settled { IsSettled seat.new.known desk.new.known }
     ensures versions { All (λ o. o.version ≤ length desk.new.known.points) crew.new.outcomes }
 {
+    let task = Task {
+        areas,
+        items,
+        start,
+        end,
+        most: draw_size(end - start, crew.sheets.len()),
+        gate,
+    };
     run(
         rt,
-        areas,
+        &task,
         seat,
         desk,
         &mut crew.sheets,
         &mut crew.workers,
         &mut crew.places,
-        items,
-        start,
-        end,
-        gate,
     );
 }

@@ -3,12 +3,13 @@ ghost use Rattle.std.specs.Prelude.{◌≡◌, ◌+◌, ◌-◌, ◌<◌, ◌≤
 ghost use Rattle.table_words.specs.Layout.{AreCompiled};
 ghost use Rattle.area_swap.specs.Values.{HoldsOne, IsIdle};
 ghost use Rattle.area_swap.specs.Views.{held_table, held_version};
-ghost use Rattle.worker_gate.specs.Serving.{ArePutDown, HasEnded, HasServed, CanServe, IsHolding, IsPutDown};
+ghost use Rattle.worker_gate.specs.Serving.{ArePutDown, CanServe, HasEnded, HasServed, HeldLast, HoldsLast, IsHolding, IsPutDown};
 
 use crate::claims::{Turn, give_up, take_run, try_claim};
 use crate::gate::Gate;
 use crate::judging::held_settings;
 use crate::outcomes::Stop;
+use crate::task::Task;
 use crate::worker::Worker;
 use area_swap::Areas;
 use binding_rules::Softwire;
@@ -21,29 +22,27 @@ use table_words::Steps;
 
 // Judges the item of a record under the held table, and puts its outcome down. The item is written to a place that the caller
 // keeps.
-fn put_down<'a, S: RoundItems, L: Ledger>(
+fn put_down<'a, S: RoundItems, G: Gate, L: Ledger>(
+    task: &Task<'a, S, G>,
     worker: &mut Worker,
-    areas: &Areas,
-    items: &'a S,
-    start: u32,
     settings: &Softwire,
     number: u32,
     version: u32,
     item: &mut ItemView<'a>,
     steps: &mut Steps<L>,
 )
-    requires holding { IsHolding areas.now version settings.now worker.old.seat }
-    requires from { start ≤ number }
-    requires inside { number < start + length (S.items items.now) }
+    requires holding { IsHolding task.now.areas.now version settings.now worker.old.seat }
+    requires from { task.now.start ≤ number }
+    requires inside { number < task.now.start + length (S.items task.now.items.now) }
     requires room { length worker.old.outcomes.items < worker.old.outcomes.room }
-    ensures holding { IsHolding areas.now version settings.now worker.new.seat }
-    ensures down { IsPutDown areas.now.plan (S.items items.now) start number version worker.old worker.new }
+    ensures holding { IsHolding task.now.areas.now version settings.now worker.new.seat }
+    ensures down { IsPutDown task.now.areas.now.plan (S.items task.now.items.now) task.now.start number version worker.old worker.new }
 {
-    items.item_into((number - start) as usize, item);
+    task.items.item_into((number - task.start) as usize, item);
     worker.outcomes.put_judged(
         number,
         version,
-        areas,
+        task.areas,
         &mut worker.seat,
         settings,
         item,
@@ -53,71 +52,50 @@ fn put_down<'a, S: RoundItems, L: Ledger>(
 
 // The same for the records of a draw, with one place for the items of all.
 fn put_run<S: RoundItems, G: Gate, L: Ledger>(
+    task: &Task<'_, S, G>,
     worker: &mut Worker,
-    areas: &Areas,
-    items: &S,
-    start: u32,
     settings: &Softwire,
+    version: u32,
     first: u32,
     count: u32,
-    version: u32,
-    gate: &G,
     steps: &mut Steps<L>,
 )
-    requires holding { IsHolding areas.now version settings.now worker.old.seat }
-    requires from { start ≤ first }
-    requires inside { first + count ≤ start + length (S.items items.now) }
+    requires holding { IsHolding task.now.areas.now version settings.now worker.old.seat }
+    requires from { task.now.start ≤ first }
+    requires inside { first + count ≤ task.now.start + length (S.items task.now.items.now) }
     requires small { first + count < 4294967296 }
     requires room { length worker.old.outcomes.items + count ≤ worker.old.outcomes.room }
-    ensures holding { IsHolding areas.now version settings.now worker.new.seat }
-    ensures down { ArePutDown areas.now.plan (S.items items.now) start first count version worker.old worker.new }
+    ensures holding { IsHolding task.now.areas.now version settings.now worker.new.seat }
+    ensures down { ArePutDown task.now.areas.now.plan (S.items task.now.items.now) task.now.start first count version worker.old worker.new }
 {
     let mut item = ItemView::Held;
     'numbers: for i in 0..count {
-        gate.pass(first + i, version);
-        put_down(
-            worker,
-            areas,
-            items,
-            start,
-            settings,
-            first + i,
-            version,
-            &mut item,
-            steps,
-        );
+        task.gate.pass(first + i, version);
+        put_down(task, worker, settings, first + i, version, &mut item, steps);
     }
 }
 
 // Draws and judges under the held table, until another is in force or there is a reason to stop.
 fn serve_under<R: Wait, S: RoundItems, G: Gate, L: Ledger>(
     rt: &R,
+    task: &Task<'_, S, G>,
     worker: &mut Worker,
-    areas: &Areas,
-    items: &S,
-    start: u32,
-    end: u32,
-    most: u32,
     version: u32,
     settings: &Softwire,
-    gate: &G,
     steps: &mut Steps<L>,
 ) -> Option<Stop>
-    requires work { CanServe areas.now start end worker.old }
-    requires holding { IsHolding areas.now version settings.now worker.old.seat }
-    requires inside { end ≤ start + length (S.items items.now) }
-    requires some_one { 1 ≤ most }
-    ensures work { CanServe areas.now start end worker.new }
-    ensures holding { IsHolding areas.now version settings.now worker.new.seat }
-    ensures served { HasServed areas.now.plan (S.items items.now) start worker.old worker.new }
-    ensures ended { IfSome result (λ stop. HasEnded stop end worker.new.seat.known) }
+    requires work { CanServe task.now.areas.now task.now.start task.now.end worker.old }
+    requires holding { IsHolding task.now.areas.now version settings.now worker.old.seat }
+    ensures work { CanServe task.now.areas.now task.now.start task.now.end worker.new }
+    ensures holding { IsHolding task.now.areas.now version settings.now worker.new.seat }
+    ensures served { HasServed task.now.areas.now.plan (S.items task.now.items.now) task.now.start worker.old worker.new }
+    ensures ended { IfSome result (λ stop. HasEnded stop task.now.end worker.new.seat.known) }
+    ensures last { IfSome result (λ _. HoldsLast worker.new.seat.known) }
 {
     'turns: for _ in rt.forever() {
-        match take_run(areas, &mut worker.seat, end, most) {
+        match take_run(task.areas, &mut worker.seat, task.end, task.most) {
             Turn::Run { first, count } => {
-                put_run(
-                    worker, areas, items, start, settings, first, count, version, gate, steps,
-                );
+                put_run(task, worker, settings, version, first, count, steps);
                 worker.next = first + count;
             }
             Turn::Lost => {}
@@ -131,64 +109,49 @@ fn serve_under<R: Wait, S: RoundItems, G: Gate, L: Ledger>(
 // The same, with the settings of the held table, which are read once.
 fn serve_held<R: Wait, S: RoundItems, G: Gate, L: Ledger>(
     rt: &R,
+    task: &Task<'_, S, G>,
     worker: &mut Worker,
-    areas: &Areas,
-    items: &S,
-    start: u32,
-    end: u32,
-    most: u32,
     version: u32,
-    gate: &G,
     steps: &mut Steps<L>,
 ) -> Option<Stop>
-    requires work { CanServe areas.now start end worker.old }
+    requires work { CanServe task.now.areas.now task.now.start task.now.end worker.old }
     requires holding { HoldsOne worker.old.seat.known }
     requires version { held_version worker.old.seat.known ≡ version }
     requires compiled { AreCompiled (held_table worker.old.seat.known) }
-    requires inside { end ≤ start + length (S.items items.now) }
-    requires some_one { 1 ≤ most }
-    ensures work { CanServe areas.now start end worker.new }
+    ensures work { CanServe task.now.areas.now task.now.start task.now.end worker.new }
     ensures holding { HoldsOne worker.new.seat.known }
-    ensures served { HasServed areas.now.plan (S.items items.now) start worker.old worker.new }
-    ensures ended { IfSome result (λ stop. HasEnded stop end worker.new.seat.known) }
+    ensures served { HasServed task.now.areas.now.plan (S.items task.now.items.now) task.now.start worker.old worker.new }
+    ensures ended { IfSome result (λ stop. HasEnded stop task.now.end worker.new.seat.known) }
+    ensures last { IfSome result (λ _. HoldsLast worker.new.seat.known) }
 {
-    let settings = held_settings(areas, &mut worker.seat, steps);
-    serve_under(
-        rt, worker, areas, items, start, end, most, version, &settings, gate, steps,
-    )
+    let settings = held_settings(task.areas, &mut worker.seat, steps);
+    serve_under(rt, task, worker, version, &settings, steps)
 }
 
-fn serve_in<R: Wait, S: RoundItems, G: Gate, L: Ledger>(
+// Draws and judges, until all records are drawn or the version in force allows no record more.
+pub(crate) fn serve_in<R: Wait, S: RoundItems, G: Gate, L: Ledger>(
     rt: &R,
+    task: &Task<'_, S, G>,
     worker: &mut Worker,
-    areas: &Areas,
-    items: &S,
-    start: u32,
-    end: u32,
-    most: u32,
-    gate: &G,
     blank: Blank,
 ) -> Stop
-    requires work { CanServe areas.now start end worker.old }
+    requires work { CanServe task.now.areas.now task.now.start task.now.end worker.old }
     requires idle { IsIdle worker.old.seat.known }
-    requires compiled { All AreCompiled areas.now.plan.tables }
-    requires inside { end ≤ start + length (S.items items.now) }
-    requires some_one { 1 ≤ most }
+    requires compiled { All AreCompiled task.now.areas.now.plan.tables }
     requires name { blank.name ≡ L.name }
     requires parts { blank.parts ≡ L.parts }
     requires some { 0 < blank.parts }
-    ensures work { CanServe areas.now start end worker.new }
+    ensures work { CanServe task.now.areas.now task.now.start task.now.end worker.new }
     ensures idle { IsIdle worker.new.seat.known }
-    ensures served { HasServed areas.now.plan (S.items items.now) start worker.old worker.new }
-    ensures ended { HasEnded result end worker.new.seat.known }
+    ensures served { HasServed task.now.areas.now.plan (S.items task.now.items.now) task.now.start worker.old worker.new }
+    ensures ended { HasEnded result task.now.end worker.new.seat.known }
+    ensures last { HeldLast worker.new.seat.known }
 {
     let mut steps = Steps::<L>::start(blank);
     'claims: for _ in rt.forever() {
-        if let Some(version) = try_claim(areas, &mut worker.seat) {
-            let ended = serve_held(
-                rt, worker, areas, items, start, end, most, version, gate, &mut steps,
-            );
-            give_up(areas, &mut worker.seat);
+        if let Some(version) = try_claim(task.areas, &mut worker.seat) {
+            let ended = serve_held(rt, task, worker, version, &mut steps);
+            give_up(task.areas, &mut worker.seat);
             if let Some(stop) = ended {
                 return stop;
             }
@@ -219,16 +182,15 @@ pub fn serve<R: Wait, S: RoundItems, G: Gate>(
     ensures idle { IsIdle worker.new.seat.known }
     ensures served { HasServed areas.now.plan (S.items items.now) start worker.old worker.new }
     ensures ended { HasEnded result end worker.new.seat.known }
+    ensures last { HeldLast worker.new.seat.known }
 {
-    serve_in::<R, S, G, Brand>(
-        rt,
-        worker,
+    let task = Task {
         areas,
         items,
         start,
         end,
         most,
         gate,
-        Blank::new(1),
-    )
+    };
+    serve_in::<R, S, G, Brand>(rt, &task, worker, Blank::new(1))
 }

@@ -7,12 +7,12 @@ claims-init g c =
     record {
       work = c.requires.work;
       idle = c.requires.idle;
-      served = served_none c.args.areas.now.plan (g.S.RoundItems.items c.args.items.now) c.args.start c.args.worker.now;
+      served = served_none c.args.task.now.areas.now.plan (g.S.RoundItems.items c.args.task.now.items.now) c.args.task.now.start c.args.worker.now;
     }
 
 pub returns-in-Some-ended-clause-served : goal.returns-in-Some-ended-clause-served
 returns-in-Some-ended-clause-served g c =
-    claim_served c.args.areas.now.plan (g.S.RoundItems.items c.args.items.now) c.args.start c.args.worker.now c.claims.worker
+    claim_served c.args.task.now.areas.now.plan (g.S.RoundItems.items c.args.task.now.items.now) c.args.task.now.start c.args.worker.now c.claims.worker
     c.serve_held-ended.new.worker c.try_claim.new.seat c.give_up.new.seat c.claims.invariant.served (tried_nothing c.try_claim.result c.claims.worker.seat.known c.try_claim.new.seat.known c.try_claim.ensures.tried)
     c.serve_held-ended.ensures.served c.give_up.ensures.nothing
 
@@ -20,11 +20,11 @@ pub claims-preserved-in_default-ended : goal.claims-preserved-in_default-ended
 claims-preserved-in_default-ended g c =
     record {
       work =
-          nothing_work c.args.areas.now c.args.start c.args.end c.serve_held-ended.new.worker c.give_up.new.seat c.give_up.ensures.areas
+          nothing_work c.args.task.now.areas.now c.args.task.now.start c.args.task.now.end c.serve_held-ended.new.worker c.give_up.new.seat c.give_up.ensures.areas
           c.give_up.ensures.nothing c.serve_held-ended.ensures.work;
       idle = c.give_up.ensures.idle;
       served =
-          claim_served c.args.areas.now.plan (g.S.RoundItems.items c.args.items.now) c.args.start c.args.worker.now c.claims.worker
+          claim_served c.args.task.now.areas.now.plan (g.S.RoundItems.items c.args.task.now.items.now) c.args.task.now.start c.args.worker.now c.claims.worker
           c.serve_held-ended.new.worker c.try_claim.new.seat c.give_up.new.seat c.claims.invariant.served (tried_nothing c.try_claim.result c.claims.worker.seat.known c.try_claim.new.seat.known c.try_claim.ensures.tried)
           c.serve_held-ended.ensures.served c.give_up.ensures.nothing;
     }

@@ -1,0 +1,15 @@
+use Rattle.std.proofs.Common.{◌-◌, ◌≤◌, length}
+use Rattle.worker_gate.specs.Reloading.{CanReload, KeepsPoints}
+use Rattle.worker_gate.proofs.reloading.reload_beside.Given as goal
+
+abbrev pub invariant-tables : goal.invariant-tables
+invariant-tables l =
+    record {
+      desk : CanReload l.areas l.desk;
+      points : KeepsPoints l.initial.desk.known l.desk.known;
+      looks : l.initial.desk.known.looks ≤ l.desk.known.looks;
+      counts : l.initial.desk.known.counts ≤ l.desk.known.counts;
+    }
+
+abbrev pub decreases-tables : goal.decreases-tables
+decreases-tables l = 256 - length l.desk.known.points
