@@ -1,5 +1,5 @@
 #!/usr/bin/env bash
-# Times a stage over packets that wait for nothing and over floods of fragments, the latter by four threads and by one: builds the
+# Times a stage over packets that wait for nothing and over floods of fragments, the latter in one round and in parts: builds the
 # program in a temporary repository, which proves it first, and runs it. It says too how many of the entries are equal.
 # The crates are those of this repository, or of the one that is named.
 #     bench/stage_floods/run.sh [REPOSITORY]

@@ -1,15 +1,8 @@
-mod BesideLemmas
 mod HeadLemmas
-mod LaidLemmas
-mod LaneLemmas
-mod LentLemmas
 mod LookLemmas
 mod MarkLemmas
-mod OpLemmas
 mod OrderLemmas
 mod RowLemmas
 mod RunLemmas
 mod StepLemmas
-mod TellingLemmas
-mod TrackLemmas
 mod WholeLemmas

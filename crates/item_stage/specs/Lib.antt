@@ -1,9 +1,7 @@
 pub mod Alone
-pub mod Beside
 pub mod Fragments
 pub mod Heads
 pub mod Items
-pub mod Lanes
 pub mod Looks
 pub mod Marks
 pub mod Ordered
@@ -11,6 +9,5 @@ pub mod Packets
 pub mod Rejoined
 pub mod Shown
 pub mod Stages
-pub mod Tracks
 pub mod Turns
 pub mod Waiting

@@ -4,23 +4,17 @@
 #![tactic(auto)]
 
 mod alone;
-mod beside;
 mod entries;
 mod joining;
 mod keys;
-mod lane_steps;
-mod lanes;
 mod looking;
 mod marks;
 mod packets;
 mod reading;
 mod rounds;
 mod row;
-mod row_steps;
 mod rows;
 mod stage;
-mod telling;
-mod tracks;
 mod turns;
 
 pub use entries::Entry;

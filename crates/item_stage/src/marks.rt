@@ -1,15 +1,13 @@
 // What is kept of the records of which a lane took a fragment.
-ghost use Rattle.std.specs.Prelude.{◌≡◌};
+ghost use Rattle.std.specs.Prelude.{◌≡◌, None, true};
 ghost use Rattle.ip_codec.specs.Seen.{seen};
 ghost use Rattle.ip_codec.specs.declared.items.Item.TheVariants as item;
 ghost use Rattle.item_stage.specs.Alone.{told_item};
-ghost use Rattle.item_stage.specs.Lanes.{mark_lane};
-ghost use Rattle.item_stage.specs.Marks.{item_became};
+ghost use Rattle.item_stage.specs.Marks.{entry_by, item_became, marked};
 ghost use Rattle.item_stage.specs.Shown.{shown_inside};
 
 use crate::alone::{Inside, behind_fragment};
 use crate::joining::Datagram;
-use crate::lanes::{NONE, inside_lane};
 use aftr_base::{Bytes, Numbers, OutOfMemory};
 use ip_codec::{ItemView, Outer, Rule, read_packet};
 use std::alloc::Global;
@@ -49,43 +47,34 @@ impl Mark {
         *item = self.became.item();
     }
 
-    /// The lane of what it carries on, in the inner row.
-    fn inner_lane(&self) -> u8
-        ensures { result ≡ mark_lane self.now }
+    /// Whether its fragment waits, and nothing ended with it.
+    pub(crate) fn only_waits(&self) -> bool
+        ensures { result ≡ true → marked self.now ≡ entry_by item.Held None }
     {
         match &self.became {
-            Became::Carries { outer, next, body } => inside_lane(&behind_fragment(
-                *outer,
-                *next,
-                body.as_slice(),
-            )),
-            Became::Held => NONE,
-            Became::Bad(_) => NONE,
-            Became::Down(_) => NONE,
-            Became::Up { .. } => NONE,
+            Became::Held => self.ended.as_slice().is_empty(),
+            Became::Bad(_) => false,
+            Became::Down(_) => false,
+            Became::Up { .. } => false,
+            Became::Carries { .. } => false,
         }
     }
 }
 
-/// The place of a record's mark, in two words: seen as the mark, if there is one.
+/// The place of a record's mark, in one word: seen as the mark, if there is one.
 #[derive(Debug, Drop)]
 pub(crate) struct Slot {
     mark: Option<Box<Mark>>,
-    // the lane of what the mark carries on, in the inner row, if it was told when the mark was made
-    lane: Option<u8>,
 }
 
 impl Model for Slot {
-    ghost use Rattle.std.specs.Prelude.{◌≡◌, ℕ, Option, Some};
+    ghost use Rattle.std.specs.Prelude.{Option};
     ghost use Rattle.std.specs.Option.{option_map};
-    ghost use Rattle.item_stage.specs.Lanes.{mark_lane};
     ghost use Rattle.item_stage.specs.declared.marks.Mark.{Mark as Marked};
 
     ghost Value = { Option Marked };
 
     ghost view = { λ s. option_map (λ mark. mark.value) s.mark };
-
-    ghost invariant = { λ s. (lane : ℕ) → s.lane ≡ Some lane → option_map (λ mark. mark_lane mark.value) s.mark ≡ Some lane };
 }
 
 impl Slot {
@@ -96,10 +85,7 @@ impl Slot {
     pub(crate) fn empty() -> Self
         ensures { result ≡ None }
     {
-        Slot {
-            mark: None,
-            lane: None,
-        }
+        Slot { mark: None }
     }
 
     pub(crate) fn of(alloc: Global, mark: Mark) -> Result<Self, OutOfMemory>
@@ -107,32 +93,7 @@ impl Slot {
     {
         Ok(Slot {
             mark: Some(Box::new(alloc, mark)?),
-            lane: None,
         })
-    }
-
-    /// The same, with the lane of what the mark carries on: who asks for that does not have to wait for the mark.
-    pub(crate) fn told(alloc: Global, mark: Mark) -> Result<Self, OutOfMemory>
-        ensures { IfOk result (λ slot. slot ≡ Some mark) }
-    {
-        let lane = mark.inner_lane();
-        Ok(Slot {
-            mark: Some(Box::new(alloc, mark)?),
-            lane: Some(lane),
-        })
-    }
-
-    /// The lane of what its mark carries on, in the inner row.
-    pub(crate) fn inner_lane(&self) -> Option<u8>
-        ensures { result ≡ option_map mark_lane self.now }
-    {
-        if self.lane.is_some() {
-            return self.lane;
-        }
-        match &self.mark {
-            Some(mark) => Some(mark.inner_lane()),
-            None => None,
-        }
     }
 
     pub(crate) fn get(&self) -> Option<&Mark>

@@ -6,12 +6,10 @@ ghost use Rattle.item_stage.specs.Waiting.{no_row, numbers_in, row_fed, row_turn
 ghost use Rattle.reassembly_lane.specs.Lanes.{arrival};
 
 use crate::keys::LANES;
-use crate::tracks::{LaneSteps, Track, run_lanes};
 use aftr_base::{Numbers, OutOfMemory};
 use reassembly_lane::{Fed, Lane, Piece};
 use std::alloc::Global;
 use std::marker::Model;
-use std::thread::Threads;
 
 /// Sixteen lanes of fragments that wait, seen as the list of what waits in each.
 #[derive(Debug, Drop)]
@@ -61,28 +59,6 @@ impl<K: Ord + Copy + Drop> Row<K> {
         ensures { IfOk result (λ said. row_turn said self.new ≡ row_fed K.cmp self.old lane (arrival piece.entry)) }
     {
         Ok(self.lanes[lane].feed(alloc, piece)?)
-    }
-}
-
-impl<K: Ord + Copy + Drop + Send> Row<K> {
-    ghost use Rattle.std.specs.Prelude.{All, length};
-    ghost use Rattle.item_stage.specs.Beside.{lanes_in};
-    ghost use Rattle.item_stage.specs.Tracks.{IsRowRun};
-
-    /// Takes the records of a round, which go to these lanes, several lanes at once.
-    pub(crate) fn run<R: Threads + Sync, S: LaneSteps<K> + Sync>(
-        &mut self,
-        rt: &R,
-        alloc: Global,
-        steps: &S,
-        lanes: &[u8],
-    ) -> Result<Vec<Track<K>>, OutOfMemory>
-        requires lanes { lanes.now ≡ lanes_in (S.ops steps.now) }
-        requires keeps { All (S.keeps steps.now) self.old }
-        ensures run { IfOk result (λ tracks. IsRowRun (S.ops steps.now) (S.keeps steps.now) self.old self.new tracks.items) }
-        ensures tracks { IfOk result (λ tracks. length tracks.items ≡ lane_count) }
-    {
-        run_lanes(rt, alloc, steps, lanes, &mut self.lanes)
     }
 }
 

@@ -10,7 +10,6 @@ ghost use Rattle.item_stage.specs.Heads.{HaveHeaders};
 ghost use Rattle.item_stage.specs.Turns.{entries_from, rows_after, turn};
 
 use crate::alone::read_alone;
-use crate::beside::take_beside;
 use crate::looking::needs_no_lane;
 use crate::marks::Slot;
 use crate::rounds::Items;
@@ -21,12 +20,6 @@ use capture_io::{Form, RecordView, Records, time_of};
 use std::alloc::Global;
 use std::marker::Model;
 use std::thread::Threads;
-
-/// A look for a flood of fragments is at each so many records, and it is one where so many were looked at and each was a
-/// fragment.
-const LOOK_EVERY: usize = 16;
-
-const FLOOD: u32 = 128;
 
 /// What takes the records of one capture, in their order, and says what each becomes. Fragments wait in it for the rest of
 /// their datagrams, from one call to the next.
@@ -67,11 +60,11 @@ impl Stage {
     }
 
     /// Takes the next records, and gives an entry for each. The first of them has the number `start`, which is how many were
-    /// taken before; all numbers are below 2^31. In a flood of fragments lanes are worked beside one another, by four threads.
+    /// taken before; all numbers are below 2^31.
     /// After `OutOfMemory` the stage has failed, and answers that to every later call.
     pub fn items<'a, R: Threads + Sync>(
         &mut self,
-        rt: &R,
+        _rt: &R,
         alloc: Global,
         records: &'a Records,
         start: u32,
@@ -88,7 +81,7 @@ impl Stage {
         ensures failed { HasFailed self.old → IsErr result }
     {
         self.still_takes()?;
-        match take_round(rt, alloc, self.form, &mut self.rows, records, start) {
+        match take_all(alloc, self.form, &mut self.rows, records, start) {
             Ok(marks) => {
                 self.number = number_behind(start, records.len());
                 Ok(Items::of(self.form, records, marks))
@@ -127,47 +120,6 @@ fn number_behind(start: u32, count: usize) -> u32
     ensures { result ≡ start + count }
 {
     start + count as u32
-}
-
-// Whether the records begin with a flood of fragments, some two thousand, by a look at each sixteenth one.
-fn is_flood(form: Form, records: &Records) -> bool
-    requires { length records.now ≤ 2 ^ 31 }
-{
-    let mut found = 0;
-    let mut index = 0;
-    'records: while index < records.len() {
-        if needs_no_lane(form, records.get(index).bytes) {
-            return false;
-        }
-        found += 1;
-        if found >= FLOOD {
-            return true;
-        }
-        index += LOOK_EVERY;
-    }
-    false
-}
-
-// Gives records to the lanes, the first of which has this number: beside one another in a flood of fragments.
-fn take_round<R: Threads + Sync>(
-    rt: &R,
-    alloc: Global,
-    form: Form,
-    rows: &mut Rows,
-    records: &Records,
-    start: u32,
-) -> Result<Vec<Slot>, OutOfMemory>
-    requires few { start + length records.now ≤ 2 ^ 31 }
-    requires headers { HaveHeaders rows.old }
-    ensures headers { IfOk result (λ _. HaveHeaders rows.new) }
-    ensures marks { IfOk result (λ marks. entries_by form records.now marks.items ≡ entries_from form rows.old start records.now) }
-    ensures count { IfOk result (λ marks. length marks.items ≡ length records.now) }
-    ensures rows { IfOk result (λ _. rows.new ≡ rows_after form rows.old start records.now) }
-{
-    if is_flood(form, records) {
-        return take_beside(rt, alloc, form, rows, records, start);
-    }
-    take_all(alloc, form, rows, records, start)
 }
 
 // Gives records to the lanes, one after the other, the first of which has this number.

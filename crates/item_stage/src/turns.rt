@@ -1,8 +1,8 @@
 // What a record does to the rows of lanes.
 ghost use Rattle.std.specs.Prelude.{◌≡◌, ◌<◌, [], ◌++◌, IfOk};
 ghost use Rattle.ip_codec.specs.Packet4.{packet4};
-ghost use Rattle.item_stage.specs.Alone.{Told, behind_fragment, item_alone, told_item};
-ghost use Rattle.item_stage.specs.Beside.{became_inside};
+ghost use Rattle.ip_codec.specs.declared.items.Item.TheVariants as item;
+ghost use Rattle.item_stage.specs.Alone.{behind_fragment, item_alone, told_item};
 ghost use Rattle.item_stage.specs.Fragments.{down_key, inner_key, lane_count, outer_key, part_of4, part_of6};
 ghost use Rattle.item_stage.specs.Heads.{CanBeJoined, EachLane, HaveHeaders};
 ghost use Rattle.item_stage.specs.Marks.{entry_by, item_became, marked, turning};
@@ -46,10 +46,20 @@ pub(crate) fn take(
 {
     match alone {
         Alone::Ready(_) => Ok(None),
-        Alone::Downstream(packet) => { Ok(Some(take_down(alloc, &mut rows.down, at, packet)?)) }
-        Alone::Outside(cut) => Ok(Some(take_outside(alloc, rows, at, cut)?)),
+        Alone::Downstream(packet) => Ok(noted(take_down(alloc, &mut rows.down, at, packet)?)),
+        Alone::Outside(cut) => Ok(noted(take_outside(alloc, rows, at, cut)?)),
         Alone::Carries(inside) => take_carried(alloc, &mut rows.inner, at, inside),
     }
+}
+
+// A mark, unless its fragment waits and nothing ended with it: a fragment alone is told so without one.
+fn noted(mark: Mark) -> Option<Mark>
+    ensures { entry_by item.Held result ≡ marked mark }
+{
+    if mark.only_waits() {
+        return None;
+    }
+    Some(mark)
 }
 
 // A fragment from outside.
@@ -73,10 +83,9 @@ fn take_down(
     })
 }
 
-pub(crate) fn down_became(alloc: Global, answer: Answer) -> Result<Became, OutOfMemory>
+fn down_became(alloc: Global, answer: Answer) -> Result<Became, OutOfMemory>
     requires { CanBeJoined answer }
     ensures item { IfOk result (λ became. item_became became ≡ down_item answer) }
-    ensures inside { IfOk result (λ became. became_inside became ≡ Told (down_item answer)) }
 {
     match answer {
         Answer::Held => Ok(Became::Held),
@@ -102,7 +111,7 @@ fn take_carried(
         Inside::Told(_) => Ok(None),
         Inside::Fragment { outer, packet } => {
             let none = Numbers::of(Vec::new(alloc));
-            Ok(Some(take_inside(alloc, row, at, none, *outer, packet)?))
+            Ok(noted(take_inside(alloc, row, at, none, *outer, packet)?))
         }
     }
 }
@@ -130,10 +139,9 @@ fn take_inside(
     })
 }
 
-pub(crate) fn up_became(alloc: Global, outer: Outer, answer: Answer) -> Result<Became, OutOfMemory>
+fn up_became(alloc: Global, outer: Outer, answer: Answer) -> Result<Became, OutOfMemory>
     requires { CanBeJoined answer }
     ensures item { IfOk result (λ became. item_became became ≡ up_item outer answer) }
-    ensures inside { IfOk result (λ became. became_inside became ≡ Told (up_item outer answer)) }
 {
     match answer {
         Answer::Held => Ok(Became::Held),
@@ -245,7 +253,7 @@ fn feed4<K: Ord + Copy + Drop>(
 }
 
 // An IPv4 fragment as a piece of its datagram. Of the first one the header is kept.
-pub(crate) fn piece_of<'a, K: Copy>(key: K, at: Moment, packet: &ReadPacket<'a>) -> Piece<'a, K>
+fn piece_of<'a, K: Copy>(key: K, at: Moment, packet: &ReadPacket<'a>) -> Piece<'a, K>
     ensures { arrival result ≡ arriving key at.time at.number (part_of4 (packet4 packet.now.view)) }
 {
     Piece {
@@ -261,7 +269,7 @@ pub(crate) fn piece_of<'a, K: Copy>(key: K, at: Moment, packet: &ReadPacket<'a>)
 }
 
 // The rule of a refused fragment.
-pub(crate) fn rule_of(why: FragBad) -> Rule
+fn rule_of(why: FragBad) -> Rule
     ensures { result ≡ rule_of why }
 {
     match why {

@@ -12,7 +12,7 @@ returns-in-Ok-clause-entries g c taken stands =
 pub returns-in-Ok-clause-stands : goal.returns-in-Ok-clause-stands
 returns-in-Ok-clause-stands g c taken stands =
     let inside = c.self.inside in
-    staged_stands inside.form inside.number inside.failed inside.rows c.args.records.now taken c.args.self.now c.args.start c.number_behind-self-inside.result c.take_round.new.rows c.self.view_is
+    staged_stands inside.form inside.number inside.failed inside.rows c.args.records.now taken c.args.self.now c.args.start c.number_behind-self-inside.result c.take_all.new.rows c.self.view_is
     c.requires.start stands (omega (arith, c.number_behind-self-inside.ensures, c.len.ensures)) c.in-Ok.ensures.rows
 
 pub returns-in-Ok-clause-count : goal.returns-in-Ok-clause-count
