@@ -1,6 +1,5 @@
 -- A round, from what its calls did.
-use Rattle.std.proofs.Common.{◌≡◌, ℕ, zero, suc, ◌+◌, ◌*◌, ◌/◌, ◌%◌, ◌<◌, ◌≤◌, min, Bool, false, List, ◌++◌, All, length, Option, sym, ◌∙◌, subst, arith}
-use Rattle.std.proofs.lemmas.Nat.{div-add-mod', mod_below}
+use Rattle.std.proofs.Common.{◌≡◌, ℕ, ◌+◌, ◌*◌, ◌≤◌, Bool, false, List, ◌++◌, All, length, Option, ◌∙◌, subst, arith}
 use Rattle.aftr_text.specs.declared.summaries.Totals.{Totals}
 use Rattle.capture_io.specs.declared.forms.Form.{Form}
 use Rattle.capture_io.specs.declared.forms.Rec.{Rec}
@@ -64,13 +63,3 @@ round_rendered law form w start records entries os old new limited parts before 
       lines = lines_joined w done.size all parts done.are done.whole few ∙ lines_are c start records entries os limited done.ready.same match;
       totals = (counted_last done.size all start (length parts) before now few done.counted_so).0 ∙ counts_are c before start records entries os limited done.ready.same match;
     }
-
--- so many chunks hold all
-by_rest : (n m q r s : ℕ) → q * m + r ≡ n → r < m → s ≡ q + min 1 r → n ≤ m * s
-by_rest n m q zero s whole below is =
-    let here : s ≡ q = omega (arith, is) in subst (λ (k : ℕ). n ≤ m * k) (sym here) (omega (arith, whole))
-by_rest n m q (suc r) s whole below is =
-    let here : s ≡ q + 1 = omega (arith, is) in subst (λ (k : ℕ). n ≤ m * k) (sym here) (omega (arith, whole, below))
-
-pub covered : (n m s : ℕ) → 0 < m → s ≡ n / m + min 1 (n % m) → n ≤ m * s
-covered n m s some is = by_rest n m (n / m) (n % m) s (div-add-mod' n m) (mod_below n m some) is

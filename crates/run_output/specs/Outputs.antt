@@ -24,10 +24,6 @@ pub record Course : Type 0 where
   pub limited : ℕ → Bool
   pub loaded : ℕ
 
--- one table from the first record to the last, and no limit
-abbrev pub steady : BindingTable → Course
-steady t = record { tables = λ _. t; version = λ _. 0; limited = λ _. false; loaded = 0 }
-
 -- the verdict on the item of the record with this number
 abbrev pub verdict_at : Course → ℕ → Item → Verdict
 verdict_at c number i = verdict_of (c.tables (c.version number)) i

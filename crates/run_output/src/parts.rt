@@ -22,7 +22,10 @@ pub struct Part {
 
 impl Part {
     /// Nothing, and no room yet.
-    fn new(alloc: Global) -> Part {
+    fn new(alloc: Global) -> Part
+        ensures packets { result.packets.items ≡ [] }
+        ensures lines { result.lines.items ≡ [] }
+    {
         Part {
             packets: Vec::new(alloc),
             lines: Vec::new(alloc),
@@ -79,11 +82,15 @@ impl Model for Rendered {
 }
 
 impl Rendered {
+    ghost use Rattle.run_output.specs.Rendering.{lines_in, packets_in};
+
     /// Room for a round whose records are rendered by so many threads, from 1 to 16: one part a thread, with nothing in it.
     pub fn new(alloc: Global, threads: u32) -> Result<Rendered, OutOfMemory>
         requires some { 1 ≤ threads }
         requires most { threads ≤ 16 }
-        ensures { IfOk result (λ rendered. length rendered ≡ threads) }
+        ensures parts { IfOk result (λ rendered. length rendered ≡ threads) }
+        ensures packets { IfOk result (λ rendered. packets_in rendered ≡ []) }
+        ensures lines { IfOk result (λ rendered. lines_in rendered ≡ []) }
     {
         let mut parts = Vec::with_capacity(alloc, threads as usize)?;
         for _ in 0..threads {

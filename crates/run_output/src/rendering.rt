@@ -31,9 +31,15 @@ use std::thread::{Threads, join_mut};
 use verdict_core::Verdict;
 use worker_gate::{Outcome, Outcomes};
 
+/// Parts of fewer records than this cost more than they take off, since each part has a thread.
+const FEW_RECORDS: usize = 8_192;
+
+/// So many records are one part then, or the first one.
+const ONE_PART: usize = 16_384;
+
 /// Renders the records of a round, of which the first has the number `start`, by their outcomes: asks the limit about their
-/// errors, in the order of the records, and then writes packets and lines in as many parts as `rendered` has, each by a thread of
-/// its own where there are several. What is written takes the place of what stood in `rendered`, and the records are counted. After
+/// errors, in the order of the records, and then writes packets and lines in the parts of `rendered`, each by a thread of its own
+/// where there are records for several. What is written takes the place of what stood in `rendered`, and the records are counted. After
 /// an error `rendered` and the limit say nothing, and the totals are as they were.
 pub fn render_round<R: Threads + Sync>(
     rt: &R,
@@ -73,11 +79,25 @@ pub fn render_round<R: Threads + Sync>(
         items,
         outcomes,
         limited: limited.as_slice(),
-        size: records.len().div_ceil(parts.len()),
+        size: part_size(records.len(), parts.len()),
     };
     render_parts(rt, &round, parts);
     count_parts(parts, totals)?;
     Ok(())
+}
+
+// How many records a part has, where so many are left.
+fn part_size(count: usize, parts: usize) -> usize
+    requires some { 0 < parts }
+    requires few { count ≤ 2 ^ 31 }
+    ensures covers { count ≤ parts * result }
+    ensures small { result ≤ 2 ^ 31 }
+{
+    let each = count.div_ceil(parts);
+    if each < FEW_RECORDS {
+        return ONE_PART;
+    }
+    each
 }
 
 // Renders all parts.
@@ -91,7 +111,7 @@ fn render_parts<R: Threads + Sync>(rt: &R, round: &Round<'_>, parts: &mut Vec<Pa
     render_each(rt, round, parts.as_mut_slice());
 }
 
-// Renders each part by a thread of its own.
+// Renders each part, by a thread of its own where there are records for it.
 fn render_each<R: Threads + Sync>(rt: &R, round: &Round<'_>, parts: &mut [Part])
     requires fitting { IsFitting round.now }
     requires few { length parts.old ≤ 16 }
@@ -112,11 +132,19 @@ fn render_from<R: Threads + Sync>(rt: &R, round: &Round<'_>, place: usize, parts
     let Some((first, others)) = parts.split_first_mut() else {
         return;
     };
-    if others.is_empty() {
-        render_part(round, place, first);
-    } else {
+    if are_left(round, place) {
         render_beside(rt, round, place, first, others);
+    } else {
+        render_part(round, place, first);
+        render_from(rt, round, place + 1, others);
     }
+}
+
+// Whether there are records behind those of a part.
+fn are_left(round: &Round<'_>, place: usize) -> bool
+    requires place { place < 16 }
+{
+    (place + 1) * round.size < round.records.len()
 }
 
 // Renders the first part in a new thread, and the others beside it.

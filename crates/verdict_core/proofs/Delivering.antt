@@ -23,7 +23,7 @@ goes_to t i p to lawful has is =
     let owned = owner_known t p.dst (downstream_key p) to lawful is in
     record { packet = p; carried = has; want = owned.want; key = owned.key; receiver = owned.owner }
 
-abbrev is_drop : Verdict → Bool
+abbrev pub is_drop : Verdict → Bool
 is_drop (verdict.Drop why told) = true
 is_drop (verdict.Outward mtu) = false
 is_drop (verdict.Inward from to hop mtu back) = false

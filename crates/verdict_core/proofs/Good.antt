@@ -55,7 +55,7 @@ drop_good i p has up is_up (verdict.Inward from to hop mtu back) is = absurd cc
 drop_good i p has up is_up verdict.Held is = absurd cc
 
 -- a packet that may be cut, or fits
-small : (p : Packet4) (room : ℕ) → is_too_large room p ≡ false → p.df ≡ true → packet_len p ≤ room
+pub small : (p : Packet4) (room : ℕ) → is_too_large room p ≡ false → p.df ≡ true → packet_len p ≤ room
 small p room is whole = by_df p.df is whole
   where
     by_df : (df : Bool) → (df && nat_lt room (packet_len p)) ≡ false → df ≡ true → packet_len p ≤ room

@@ -1,10 +1,12 @@
 pub mod Delivering
 pub mod Firsts
+pub mod Going
 pub mod Good
 pub mod Items
 pub mod Joins
 pub mod Looks
 pub mod Owned
+pub mod Passing
 pub mod Permits
 pub mod Relaying
 pub mod Sending

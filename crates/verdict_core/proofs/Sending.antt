@@ -20,7 +20,7 @@ use Rattle.verdict_core.proofs.Firsts.{Parts, decided_by, parted}
 use Rattle.verdict_core.proofs.Permits.{may_send, one_packet, permitted_none}
 
 -- dropped by such a rule
-abbrev IsDropBy : (Rule → Bool) → Verdict → Type 0
+abbrev pub IsDropBy : (Rule → Bool) → Verdict → Type 0
 IsDropBy among v = (why : Rule) × ((among why ≡ true) × ((told : Reply) × (v ≡ verdict.Drop why told)))
 
 -- what lines of a kind answer: a refusal one of the six rules, any other line one of the five or a way out
@@ -90,18 +90,18 @@ unread_as_kind : (t : BindingTable) (outer : Outer) (refusal : Ip4Bad) → list_
 unread_as_kind t outer refusal = refl
 
 -- the sender may not send
-record IsDenied (t : BindingTable) (outer : Outer) (inner : List ℕ) (v : Verdict) : Type 0 where
-  not_permitted : Permits t outer inner → ⊥
-  dropped : IsDropBy is_refusal v
+pub record IsDenied (t : BindingTable) (outer : Outer) (inner : List ℕ) (v : Verdict) : Type 0 where
+  pub not_permitted : Permits t outer inner → ⊥
+  pub dropped : IsDropBy is_refusal v
 
 -- it may, and the lines behind decide
-record IsLetOn (t : BindingTable) (outer : Outer) (inner : List ℕ) (v : Verdict) : Type 0 where
-  permitted : Permits t outer inner
-  packet : Packet4
-  read : ip4_of inner ≡ Ok packet
-  first : verdict_in (onward_lines t outer packet) ≡ Some v
+pub record IsLetOn (t : BindingTable) (outer : Outer) (inner : List ℕ) (v : Verdict) : Type 0 where
+  pub permitted : Permits t outer inner
+  pub packet : Packet4
+  pub read : ip4_of inner ≡ Ok packet
+  pub first : verdict_in (onward_lines t outer packet) ≡ Some v
 
-outcome : (t : BindingTable) (outer : Outer) (inner : List ℕ) (v : Verdict) → IsLawful t →
+pub outcome : (t : BindingTable) (outer : Outer) (inner : List ℕ) (v : Verdict) → IsLawful t →
     verdict_in (up_lines t outer (ip4_of inner)) ≡ Some v → IsDenied t outer inner v ⊎ IsLetOn t outer inner v
 outcome t outer inner v lawful is = by_reading (ip4_of inner) refl is
   where
@@ -125,7 +125,7 @@ outcome t outer inner v lawful is = by_reading (ip4_of inner) refl is
     })
 
 -- what is dropped does not go on
-not_forwarded : (v : Verdict) (why : Rule) (told : Reply) → v ≡ verdict.Drop why told → IsForwarded v → ⊥
+pub not_forwarded : (v : Verdict) (why : Rule) (told : Reply) → v ≡ verdict.Drop why told → IsForwarded v → ⊥
 not_forwarded v why told is goes = subst (λ (w : Verdict). IsForwarded w) is goes
 
 module _ (t : BindingTable) (outer : Outer) (inner : List ℕ) (v : Verdict) where

@@ -1,6 +1,7 @@
 -- Who may send, who receives, and whom errors reach: the tunnel's address, the IPv4 address and the port of a subscriber stand
 -- in one binding (RFC 7596, section 6.2; RFC 2473, section 8).
-use Rattle.std.specs.Prelude.{◌≡◌, ℕ, ◌↔◌, Bool, false, true, List, [], ◌∷◌, Some, None, Ok}
+use Rattle.std.specs.Prelude.{◌≡◌, ℕ, ◌+◌, ◌≤◌, ◌↔◌, Bool, false, true, List, [], ◌∷◌, Some, None, Ok}
+use Rattle.std.specs.List.{Any}
 use Rattle.aftr_base.specs.declared.numbers.V6.{V6}
 use Rattle.binding_rules.specs.Bindings.{bound}
 use Rattle.binding_rules.specs.Tables.{BindingTable}
@@ -9,7 +10,7 @@ use Rattle.binding_rules.specs.declared.binding.Want.{Want}
 use Rattle.icmp_codec.specs.Message6.{Message6, icmp6_of}
 use Rattle.icmp_relay.specs.Quotes.{TunnelQuote, quote_of}
 use Rattle.icmp_errors.specs.Answers.{gets_answer}
-use Rattle.ip_codec.specs.Packet4.{Packet4, ip4_of}
+use Rattle.ip_codec.specs.Packet4.{Packet4, ip4_of, packet_len}
 use Rattle.ip_codec.specs.declared.items.Item.{Item}
 use Rattle.ip_codec.specs.declared.items.Item.TheVariants as item
 use Rattle.ip_codec.specs.declared.items.Outer.{Outer}
@@ -111,6 +112,95 @@ abbrev pub Delivers : BindingTable → Item → Verdict → Type 0
 Delivers t i (verdict.Inward from to hop mtu back) = GoesTo t i to
 Delivers t i _ = Unit {0}
 
+-- some binding has the address, whatever it owns there
+abbrev pub IsSubscriberAddress : BindingTable → ℕ → Type 0
+IsSubscriberAddress t address = Any (λ b. b.v4.0 ≡ address) t.bindings
+
+-- exactly one binding has the packet's destination and owns the port there, or whatever else the packet asks for
+pub record HasReceiver (t : BindingTable) (p : Packet4) : Type 0 where
+  pub want : Want
+  pub key : downstream_key p ≡ key.At want
+  pub binding : Binding
+  pub owner : bound t.bindings (record { 0 = p.dst }) want ≡ binding ∷ []
+
+-- it may be cut, or a tunnel packet of 40 bytes more is no larger than the subscribers' network takes (RFC 2473, section 7.2)
+abbrev pub FitsTunnel : BindingTable → Packet4 → Type 0
+FitsTunnel t p = p.df ≡ true → packet_len p + 40 ≤ t.softwire.mtu6
+
+-- it may be cut, or is no larger than the IPv4 network takes (RFC 1191, section 4)
+abbrev pub FitsOutside : BindingTable → Packet4 → Type 0
+FitsOutside t p = p.df ≡ true → packet_len p ≤ t.softwire.mtu4
+
+-- from subscriber to subscriber (RFC 7596, section 6.2)
+pub record IsFreeBack (t : BindingTable) (p : Packet4) : Type 0 where
+  pub hairpin : t.softwire.hairpin ≡ true
+  pub receiver : HasReceiver t p
+  pub fits : FitsTunnel t p
+
+-- from a subscriber to the IPv4 network
+pub record IsFreeOut (t : BindingTable) (p : Packet4) : Type 0 where
+  pub not_own : p.dst ≡ t.softwire.own.0 → ⊥
+  pub fits : FitsOutside t p
+
+-- nothing keeps a packet whose sender may send: its time to live lasts, and so it is on its way to a subscriber's address or
+-- to any other
+pub record IsFree (t : BindingTable) (p : Packet4) : Type 0 where
+  pub alive : 2 ≤ p.ttl
+  pub back : IsSubscriberAddress t p.dst → IsFreeBack t p
+  pub out : (IsSubscriberAddress t p.dst → ⊥) → IsFreeOut t p
+
+pub record GoesOn (t : BindingTable) (outer : Outer) (inner : List ℕ) : Type 0 where
+  pub sender : Permits t outer inner
+  pub free : IsFree t sender.packet
+
+-- where it goes on: to a subscriber's address into the tunnel of its owner, to any other address out
+pub record IsOnItsWay (t : BindingTable) (p : Packet4) (v : Verdict) : Type 0 where
+  pub back : IsSubscriberAddress t p.dst →
+      (r : HasReceiver t p) × (v ≡ verdict.Inward t.softwire.aftr r.binding.b4 t.softwire.hop_limit t.softwire.mtu6 true)
+  pub out : (IsSubscriberAddress t p.dst → ⊥) → v ≡ verdict.Outward t.softwire.mtu4
+
+-- A subscriber's packet goes on exactly where its sender may send and nothing of the above keeps it. No list of rules is part
+-- of this.
+pub record IsSentOn (t : BindingTable) (outer : Outer) (inner : List ℕ) (v : Verdict) : Type 0 where
+  pub exactly : IsForwarded v ↔ GoesOn t outer inner
+  pub way : (g : GoesOn t outer inner) → IsOnItsWay t g.sender.packet v
+
+abbrev pub SendsOn : BindingTable → Item → Verdict → Type 0
+SendsOn t i v = IfUp i (λ outer inner. IsSentOn t outer inner v)
+
+-- this holds of the item if it is a packet from the IPv4 network
+abbrev pub IfDown : Item → (List ℕ → Type 0) → Type 0
+IfDown (item.Down bytes) P = P bytes
+IfDown _ P = Unit {0}
+
+-- the packet goes to a subscriber
+abbrev pub IsDelivered : Verdict → Type 0
+IsDelivered (verdict.Inward from to hop mtu back) = Unit {0}
+IsDelivered (verdict.Outward mtu) = ⊥
+IsDelivered (verdict.Drop why told) = ⊥
+IsDelivered verdict.Held = ⊥
+
+-- The bytes are a packet that one subscriber owns the destination of, and nothing keeps it: it is not for the router itself,
+-- ICMP is let in where it is ICMP, its time to live lasts, and it fits the tunnel or may be cut.
+pub record IsDeliverable (t : BindingTable) (bytes : List ℕ) : Type 0 where
+  pub packet : Packet4
+  pub read : ip4_of bytes ≡ Ok packet
+  pub receiver : HasReceiver t packet
+  pub not_own : packet.dst ≡ t.softwire.own.0 → ⊥
+  pub icmp : packet.protocol ≡ 1 → t.softwire.icmp_in ≡ true
+  pub alive : 2 ≤ packet.ttl
+  pub fits : FitsTunnel t packet
+
+-- A packet from the IPv4 network is delivered exactly where all that is so, and into the tunnel of the subscriber that owns
+-- its destination.
+pub record IsBroughtIn (t : BindingTable) (bytes : List ℕ) (v : Verdict) : Type 0 where
+  pub exactly : IsDelivered v ↔ IsDeliverable t bytes
+  pub way : (d : IsDeliverable t bytes) →
+      v ≡ verdict.Inward t.softwire.aftr d.receiver.binding.b4 t.softwire.hop_limit t.softwire.mtu6 false
+
+abbrev pub BringsIn : BindingTable → Item → Verdict → Type 0
+BringsIn t i v = IfDown i (λ bytes. IsBroughtIn t bytes v)
+
 -- the message is an error about a packet that the router sent through the tunnel of the owner of that packet's destination
 pub record RelayPermits (t : BindingTable) (src dst : V6) (message : List ℕ) : Type 0 where
   pub ours : dst.0 ≡ t.softwire.aftr.0
@@ -151,3 +241,31 @@ RelaysAll t i v = IfMessage i (λ src dst message. (permitted : RelayPermits t s
     (is_bound_address t permitted.quote.inner.src ≡ true → owner_end t permitted.quote.inner.src (quoted_source permitted.quote) ≡ None → ⊥) →
     gets_answer permitted.quote.inner ≡ true →
     (way : Path) × (v ≡ relayed t.softwire permitted.error.kind permitted.error.word way))
+
+-- exactly one binding has the source of a quoted packet and owns the port there, or whatever else stands for it
+pub record HasQuotedSender (t : BindingTable) (quote : TunnelQuote) : Type 0 where
+  pub want : Want
+  pub key : quoted_source quote ≡ key.At want
+  pub binding : Binding
+  pub owner : bound t.bindings (record { 0 = quote.inner.src }) want ≡ binding ∷ []
+
+-- the message is an error of a type that a tunnel's way can give, about a packet that the router sent to its owner; that packet's
+-- source is no subscriber's address or has one owner, and an ICMP error may be sent about it
+pub record IsOwedOn (t : BindingTable) (src dst : V6) (message : List ℕ) : Type 0 where
+  pub about : RelayPermits t src dst message
+  pub error : is_tunnel_error message ≡ true
+  pub source : IsSubscriberAddress t about.quote.inner.src → HasQuotedSender t about.quote
+  pub answered : gets_answer about.quote.inner ≡ true
+
+abbrev pub IsRelayed : Verdict → Type 0
+IsRelayed (verdict.Drop why (reply.Relay own code mtu way)) = Unit {0}
+IsRelayed _ = ⊥
+
+-- An error about a tunnel packet is passed on exactly where all that is so, and to the quoted packet's source.
+pub record IsPassedOn (t : BindingTable) (src dst : V6) (message : List ℕ) (v : Verdict) : Type 0 where
+  pub exactly : IsRelayed v ↔ IsOwedOn t src dst message
+  pub way : (o : IsOwedOn t src dst message) →
+      (way : Path) × (LeadsTo t o.about.quote way × (v ≡ relayed t.softwire o.about.error.kind o.about.error.word way))
+
+abbrev pub PassesOn : BindingTable → Item → Verdict → Type 0
+PassesOn t i v = IfMessage i (λ src dst message. IsPassedOn t src dst message v)

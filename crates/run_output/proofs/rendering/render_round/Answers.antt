@@ -2,7 +2,7 @@ use Rattle.std.proofs.Common.{◌≡◌, ℕ, ◌*◌, ◌≤◌, Bool, false, L
 use Rattle.run_output.specs.Cells.{AreCounted, ArePartsUnless, AreReady, Cell, HasMarked, cells}
 use Rattle.run_output.specs.declared.parts.Part.{Part}
 use Rattle.run_output.proofs.LimitLemmas.{asked_more}
-use Rattle.run_output.proofs.RoundLemmas.{IsDone, all_cells, covered, round_rendered, round_within}
+use Rattle.run_output.proofs.RoundLemmas.{IsDone, all_cells, round_rendered, round_within}
 use Rattle.run_output.proofs.rendering.render_round.Given as given
 use Rattle.run_output.proofs.rendering.render_round.Goals as goal
 
@@ -17,7 +17,7 @@ done g c =
     } in
     let all : List Cell = cells c.args.start c.args.records.now c.args.items.now c.args.outcomes.now c.as_slice.result.now in
     let many : length all ≡ length c.args.records.now = all_cells c.args.start c.args.records.now c.args.items.now c.args.outcomes.now c.as_slice.result.now ready in
-    let size : ℕ = c.div_ceil.result in
+    let size : ℕ = c.part_size.result in
     let are : ArePartsUnless c.args.written size all c.render_parts.new.parts.items = c.render_parts.ensures.parts in
     let parts : c.len-2.result ≡ length c.render_parts.new.parts.items = omega (arith, c.len-2.ensures, c.render_parts.ensures.count) in
     record {
@@ -30,7 +30,7 @@ done g c =
       whole = subst (λ (ps : List Part). All (λ (p : Part). p.failed ≡ false) ps) c.deref.ensures.value c.in_ok-count_parts.ensures.whole;
       covers = subst (λ (k : ℕ). length c.args.records.now ≤ k * size) parts
           (subst (λ (k : ℕ). k ≤ c.len-2.result * size) c.len.ensures
-          (covered c.len.result c.len-2.result size (omega (arith, c.len-2.ensures, c.rendered.invariant.0)) c.div_ceil.ensures));
+          c.part_size.ensures.covers);
       counted_so = subst (λ (ps : List Part). AreCounted size all c.args.start (length ps) c.args.totals.now c.count_parts.new.totals) c.deref.ensures.value
           (c.in_ok-count_parts.ensures.totals c.args.written size c.args.start all (subst (ArePartsUnless c.args.written size all) (sym c.deref.ensures.value) are)
           c.requires.within (omega (arith, many, c.requires.few)));
