@@ -8,8 +8,7 @@ here="$(cd "$(dirname "$0")" && pwd)"
 top="$(cd "$here/../.." && pwd)"
 program="${1:-}"
 if [ -z "$program" ]; then
-    "$top/lwaftr" > /dev/null 2>&1 || true
-    program="$top/crates/lwaftr_main/out/lwaftr_main"
+    program="$("$top/build" --program)"
 fi
 program="$(realpath "$program")"
 work="$(mktemp -d /tmp/points_and_files.XXXXXX)"

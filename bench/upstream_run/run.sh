@@ -8,8 +8,7 @@ top="$(cd "$here/../.." && pwd)"
 work=/tmp/upstream_run_bench
 mkdir -p "$work"
 cd "$work"
-"$top/lwaftr" > /dev/null 2>&1 || true
-program="$top/crates/lwaftr_main/out/lwaftr_main"
+program="$("$top/build" --program)"
 for count in 10000 100000 1000000; do
     [ -f "in$count.pcap" ] || python3 "$here/make.py" "$count" "in$count.pcap" t0.toml
     cat "in$count.pcap" t0.toml > /dev/null

@@ -53,7 +53,8 @@ fn keeps_inputs(ran: &Ran, capture: &[u8]) -> bool {
 }
 
 /// What each call that fails leaves of a run over two records: OUT has 24 bytes and 48 for each, VERDICTS 9 for each, VERSIONS
-/// 18, and the summary 59. The table and the capture are read until nothing is left.
+/// 18, and the summary 59. The table and the capture are read until nothing is left, and the records are written behind the read that
+/// finds nothing more.
 const LEFT: &str = "\
 read t0.toml: read fault - - - 0
 read t0.toml: read fault - - - 0
@@ -65,9 +66,9 @@ create versions.txt: write fault 0 0 - 0
 append out.pcap: write fault 0 0 0 0
 append versions.txt: write fault 24 0 0 0
 read in.pcap: read fault 24 0 18 59
+read in.pcap: read fault 120 18 18 59
 append out.pcap: write fault 24 0 18 0
 append verdicts.txt: write fault 120 0 18 0
-read in.pcap: read fault 120 18 18 59
 : done 120 18 18 59
 ";
 

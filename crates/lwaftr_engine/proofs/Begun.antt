@@ -15,7 +15,8 @@ use Rattle.run_output.specs.Rendering.{HasOutcomes, lines_in, packets_in}
 use Rattle.run_output.specs.Versions.{NamedSlot, load_lines, slot_text}
 use Rattle.run_output.specs.declared.parts.Part.{Part}
 use Rattle.worker_gate.specs.declared.outcomes.Outcome.{Outcome}
-use Rattle.lwaftr_engine.proofs.Going.{IsRoundOf, Joins, asked_more, entries_count, limited_before, lines_are, packets_are, spoken_more, versions_are}
+use Rattle.lwaftr_engine.specs.Underway.{IsRoundOf}
+use Rattle.lwaftr_engine.proofs.Going.{Joins, asked_more, entries_count, limited_before, lines_are, packets_are, spoken_more, versions_are}
 
 -- what stands before something more is a front of both
 pub front_of : (whole part rest : List ℕ) → whole ≡ part ++ rest → part ≡ take (length part) whole
@@ -66,18 +67,24 @@ still_begun x c opened a p s t news reader taken points_are h =
 
 module _ (joins : Joins) (x : Setup) (c : Course) (p q : Progress) (s t : Seats) (news : List ℕ) (records : List Rec) (es : List Entry) (os : List Outcome) (vs : List ℕ) (parts : List Part)
     (round : IsRoundOf x p q s t news records es os vs parts) (outcomes : HasOutcomes c p.number es os)
-    (opened a : Contents) (here : Spot) (taken : List Rec) (h : HasWritten x c opened (mark a p s here) taken) (d : Contents) where
+    (opened a : Contents) (here : Spot) (taken : List Rec) (h : HasWritten x c opened (mark a p s here) taken) (d : Contents) (later : List ℕ) where
+  abbrev end : Seats
+  end = record { points = t.points ++ later; reads = t.reads }
+
+  points_end : t.points ++ later ≡ s.points ++ (news ++ later)
+  points_end = ap (λ (l : List ℕ). l ++ later) round.new_lines.points_are ∙ append_assoc s.points news later
+
   abbrev before : List ℕ
-  before = load_lines (s.points ++ (news ++ [])) (take p.printed (loads_of x))
+  before = load_lines (s.points ++ (news ++ later)) (take p.printed (loads_of x))
 
   abbrev all : List ℕ
-  all = load_lines t.points (loads_of x)
+  all = load_lines (t.points ++ later) (loads_of x)
 
-  both : load_lines (s.points ++ (news ++ [])) (take p.printed (loads_of x)) ++ vs ≡ load_lines t.points (take q.printed (loads_of x))
-  both = versions_are joins x c p q s t news records es os vs parts round outcomes opened a here taken h [] ∙ ap (λ (l : List ℕ). load_lines l (take q.printed (loads_of x))) (append-nil t.points)
+  both : load_lines (s.points ++ (news ++ later)) (take p.printed (loads_of x)) ++ vs ≡ load_lines (t.points ++ later) (take q.printed (loads_of x))
+  both = versions_are joins x c p q s t news records es os vs parts round outcomes opened a here taken h later
 
-  whole : load_lines t.points (loads_of x) ≡ (load_lines (s.points ++ (news ++ [])) (take p.printed (loads_of x)) ++ vs) ++ load_lines t.points (drop q.printed (loads_of x))
-  whole = lines_split t.points q.printed (loads_of x) ∙ ap (λ (l : List ℕ). l ++ load_lines t.points (drop q.printed (loads_of x))) (sym both)
+  whole : load_lines (t.points ++ later) (loads_of x) ≡ (load_lines (s.points ++ (news ++ later)) (take p.printed (loads_of x)) ++ vs) ++ load_lines (t.points ++ later) (drop q.printed (loads_of x))
+  whole = lines_split (t.points ++ later) q.printed (loads_of x) ∙ ap (λ (l : List ℕ). l ++ load_lines (t.points ++ later) (drop q.printed (loads_of x))) (sym both)
 
   abbrev P : List ℕ
   P = packets_from c x.written 0 taken (entries_of x.form taken)
@@ -86,10 +93,10 @@ module _ (joins : Joins) (x : Setup) (c : Course) (p q : Progress) (s t : Seats)
   L = lines_from c 0 (entries_of x.form taken)
 
   -- a part of the lines of tables
-  pub at_versions : (count : ℕ) → Wrote x.run (take count vs) [] [] a d → HasBegun x c t.points opened d taken p.limit
+  pub at_versions : (count : ℕ) → Wrote x.run (take count vs) [] [] a d → HasBegun x c (t.points ++ later) opened d taken p.limit
   at_versions count wrote =
-      let still = still_begun x c opened a p s t news here taken round.new_lines.points_are h in
-      let front : before ++ take count vs ≡ take (length (before ++ take count vs)) all = front_more all before vs (load_lines t.points (drop q.printed (loads_of x))) count whole in
+      let still = still_begun x c opened a p s end (news ++ later) here taken points_end h in
+      let front : before ++ take count vs ≡ take (length (before ++ take count vs)) all = front_more all before vs (load_lines (t.points ++ later) (drop q.printed (loads_of x))) count whole in
       record {
         entries = still.entries;
         asked = still.asked;
@@ -100,7 +107,7 @@ module _ (joins : Joins) (x : Setup) (c : Course) (p q : Progress) (s t : Seats)
         none_due = still.none_due;
         spoken = still.spoken;
         wrote = λ limited.
-            let f = h.files (news ++ []) limited in
+            let f = h.files (news ++ later) limited in
             let g = still.wrote limited in record {
               versions_count = length (before ++ take count vs);
               versions_is = wrote.versions_is ∙ (ap (λ (l : List ℕ). l ++ take count vs) f.versions_is ∙ (append_assoc (content opened x.run.versions) before (take count vs) ∙ ap (λ (l : List ℕ). content opened x.run.versions ++ l) front));
@@ -115,22 +122,22 @@ module _ (joins : Joins) (x : Setup) (c : Course) (p q : Progress) (s t : Seats)
 
   -- all lines of tables, and fronts of the packets and of the lines of records
   behind_versions : (packets lines more_packets more_lines : List ℕ) → packets_in parts ≡ packets ++ more_packets → lines_in parts ≡ lines ++ more_lines → Wrote x.run vs packets lines a d →
-      HasBegun x c t.points opened d (taken ++ records) q.limit
+      HasBegun x c (t.points ++ later) opened d (taken ++ records) q.limit
   behind_versions packets lines more_packets more_lines packets_is lines_is wrote =
-      let V = load_lines t.points (take q.printed (loads_of x)) in
+      let V = load_lines (t.points ++ later) (take q.printed (loads_of x)) in
       let every_packet = packets_from c x.written 0 (taken ++ records) (entries_of x.form (taken ++ records)) in
       let every_line = lines_from c 0 (entries_of x.form (taken ++ records)) in
       record {
         entries = entries_count joins x c p q s t news records es os vs parts round outcomes opened a here taken h;
         asked = asked_more joins x c p q s t news records es os vs parts round outcomes opened a here taken h;
         printed = t.points;
-        later = [];
-        all = sym (append-nil t.points);
+        later = later;
+        all = refl;
         loads = q.printed;
         none_due = round.new_lines.none_due;
         spoken = spoken_more joins x c p q s t news records es os vs parts round outcomes opened a here taken h;
         wrote = λ limited.
-            let f = h.files (news ++ []) (limited_before joins x c p q s t news records es os vs parts round outcomes opened a here taken h limited) in
+            let f = h.files (news ++ later) (limited_before joins x c p q s t news records es os vs parts round outcomes opened a here taken h limited) in
             let all_packets : every_packet ≡ (P ++ packets) ++ more_packets = sym (packets_are joins x c p q s t news records es os vs parts round outcomes opened a here taken h limited)
             ∙ (ap (λ (l : List ℕ). P ++ l) packets_is ∙ sym (append_assoc P packets more_packets)) in
             let all_lines : every_line ≡ (L ++ lines) ++ more_lines = sym (lines_are joins x c p q s t news records es os vs parts round outcomes opened a here taken h limited)
@@ -138,7 +145,7 @@ module _ (joins : Joins) (x : Setup) (c : Course) (p q : Progress) (s t : Seats)
             record {
               versions_count = length V;
               versions_is = wrote.versions_is ∙ (ap (λ (l : List ℕ). l ++ vs) f.versions_is ∙ (append_assoc (content opened x.run.versions) before vs
-                  ∙ ap (λ (l : List ℕ). content opened x.run.versions ++ l) (both ∙ front_of all V (load_lines t.points (drop q.printed (loads_of x))) (lines_split t.points q.printed (loads_of x)))));
+                  ∙ ap (λ (l : List ℕ). content opened x.run.versions ++ l) (both ∙ front_of all V (load_lines (t.points ++ later) (drop q.printed (loads_of x))) (lines_split (t.points ++ later) q.printed (loads_of x)))));
               output_count = length (P ++ packets);
               output = wrote.output ∙ (ap (λ (l : List ℕ). l ++ packets) f.output ∙ (append_assoc (content opened x.run.output) P packets ∙ ap (λ (l : List ℕ). content opened x.run.output ++ l) (front_of every_packet (P ++ packets) more_packets all_packets)));
               verdicts_count = length (L ++ lines);
@@ -146,7 +153,7 @@ module _ (joins : Joins) (x : Setup) (c : Course) (p q : Progress) (s t : Seats)
               others = λ name u v w. wrote.others name u v w ∙ f.others name u v w;
             };
         told = λ limited.
-            let f = h.files (news ++ []) (limited_before joins x c p q s t news records es os vs parts round outcomes opened a here taken h limited) in
+            let f = h.files (news ++ later) (limited_before joins x c p q s t news records es os vs parts round outcomes opened a here taken h limited) in
             omega (
               arith,
               ap (λ (l : List ℕ). length l) wrote.versions_is,
@@ -158,8 +165,8 @@ module _ (joins : Joins) (x : Setup) (c : Course) (p q : Progress) (s t : Seats)
             );
       }
 
-  pub at_packets : (count : ℕ) → Wrote x.run vs (take count (packets_in parts)) [] a d → HasBegun x c t.points opened d (taken ++ records) q.limit
+  pub at_packets : (count : ℕ) → Wrote x.run vs (take count (packets_in parts)) [] a d → HasBegun x c (t.points ++ later) opened d (taken ++ records) q.limit
   at_packets count wrote = behind_versions (take count (packets_in parts)) [] (drop count (packets_in parts)) (lines_in parts) (sym (take-append-drop count (packets_in parts))) refl wrote
 
-  pub at_lines : (count : ℕ) → Wrote x.run vs (packets_in parts) (take count (lines_in parts)) a d → HasBegun x c t.points opened d (taken ++ records) q.limit
+  pub at_lines : (count : ℕ) → Wrote x.run vs (packets_in parts) (take count (lines_in parts)) a d → HasBegun x c (t.points ++ later) opened d (taken ++ records) q.limit
   at_lines count wrote = behind_versions (packets_in parts) (take count (lines_in parts)) [] (drop count (lines_in parts)) (sym (append-nil (packets_in parts))) (sym (take-append-drop count (lines_in parts))) wrote

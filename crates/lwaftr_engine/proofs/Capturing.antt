@@ -1,6 +1,9 @@
 -- What a run leaves that was ended by a fault, from the opening of its outputs on.
-use Rattle.std.proofs.Common.{◌≡◌, ℕ, List, [], ◌++◌, length, Option, None, Result, Ok, Err, inr, sym, ◌∙◌, subst}
-use Rattle.std.specs.Prelude.{IsErr}
+use Rattle.std.proofs.Common.{◌≡◌, ◌⊎◌, ℕ, ◌≤◌, List, [], ◌++◌, All, length, Option, Some, None, Result, Ok, Err, inl, inr, sym, ◌∙◌, subst, arith, append-nil}
+use Rattle.std.specs.Prelude.{IfSome, IsErr}
+use Rattle.aftr_text.specs.Jobs.{IsRate}
+use Rattle.capture_io.specs.Rounds.{Precedes}
+use Rattle.capture_io.specs.declared.rounds.Ending.TheVariants as ending
 use Rattle.aftr_base.specs.Contents.{Contents, content, Moves}
 use Rattle.aftr_base.specs.declared.outside.Fault.{Fault}
 use Rattle.aftr_base.specs.declared.outside.Fault.TheVariants as fault
@@ -11,52 +14,75 @@ use Rattle.capture_io.specs.declared.forms.Rec.{Rec}
 use Rattle.capture_io.specs.declared.rounds.Ending.{Ending}
 use Rattle.item_stage.specs.Stages.{Stands}
 use Rattle.lwaftr_engine.specs.Broken.{Breaks, IsBrokenFrom}
-use Rattle.lwaftr_engine.specs.Ended.{Ends, EndsBroken}
+use Rattle.lwaftr_engine.specs.Ended.{AreSlotsOf, Ends, EndsBroken, TakesAll, TakesBefore}
 use Rattle.lwaftr_engine.specs.Finishing.{Finishes, IsFinished, IsFirst, IsHalfFinished}
 use Rattle.lwaftr_engine.specs.Opened.{IsHalfOpened, IsOpened}
-use Rattle.lwaftr_engine.specs.Progress.{Goes, HasWritten, IsInRange, Seats, Setup, Spot, Suits, TakesOn, mark}
+use Rattle.lwaftr_engine.specs.Progress.{Goes, HasWritten, IsInRange, Seats, Setup, Spot, Stops, Suits, TakesOn, mark}
 use Rattle.lwaftr_engine.specs.Runs.{IsPlanOf}
 use Rattle.lwaftr_engine.specs.declared.rounds.Progress.{Progress}
 use Rattle.run_output.specs.Outputs.{Course}
-use Rattle.swap_core.specs.Plans.{Tables}
+use Rattle.swap_core.specs.Plans.{IsPlan, Tables}
 use Rattle.swap_core.specs.Points.{AreAllPoints}
 use Rattle.swap_core.specs.declared.plan.Window.{Window}
 use Rattle.lwaftr_engine.proofs.Apart.{AreFilesApart}
-use Rattle.lwaftr_engine.proofs.Closing.{EndLaws, HasCourse, IsClosed, bare, none_written, suits_bare, with_limit}
-use Rattle.lwaftr_engine.proofs.EndLemmas.{IsAtEnd, IsHalfDone, SomeLeft, same_input}
+use Rattle.lwaftr_engine.proofs.Closing.{EndLaws, IsClosed, bare, none_written, suits_bare}
+use Rattle.lwaftr_engine.proofs.EndLemmas.{IsAtEnd, IsHalfDone, SomeLeft, is_behind, same_input}
 use Rattle.lwaftr_engine.proofs.Fronting.{at_finish, at_opening, at_rounds}
 use Rattle.lwaftr_engine.proofs.Moving.{moves_by, moves_join}
 
--- a broken run, under every list of tables of which the plan's words are
-abbrev pub Broken : Setup → Tables → Spot → Option (List ℕ) → Option (List ℕ) → Contents → Contents → Type 0
-Broken x plan reader said now m n = (tables : ℕ → BindingTable) (windows : List Window) → IsPlanOf tables windows plan → reader.stood (content m x.run.input) → EndsBroken x tables windows reader m n said now
-
-pub ended_err : (x : Setup) (plan : Tables) (reader : Spot) (r : Result Ending Fault) (a b : Option Contents) (said now : Option (List ℕ)) (last : Option (List ℕ × ℕ)) (history : Option HistoryValue) → IsErr r → history ≡ None →
-    Moves a b (λ m n. Broken x plan reader said now m n) → Moves a b (λ m n. Ends x plan reader r m n said now last history)
-ended_err x plan reader (Ok ending) a b said now last history is none step = absurd (cc is)
-ended_err x plan reader (Err fault.Failed) a b said now last history is none step =
-    moves_by a b (λ m n. Broken x plan reader said now m n) (λ m n. Ends x plan reader (Err fault.Failed) m n said now last history)
-    (λ m n broken tables windows of stood. (broken tables windows of stood, none)) step
-ended_err x plan reader (Err fault.OutOfMemory) a b said now last history is none step =
-    moves_by a b (λ m n. Broken x plan reader said now m n) (λ m n. Ends x plan reader (Err fault.OutOfMemory) m n said now last history)
-    (λ m n broken tables windows of stood. (inr (broken tables windows of stood), none)) step
-
-pub opening_broken : (laws : EndLaws) (x : Setup) (plan : Tables) (p : Progress) (reader : Spot) (said : Option (List ℕ)) → SomeLeft reader.left → IsFirst x.form x.run.errors p → (a b : Option Contents) →
-    Moves a b (IsHalfOpened x.run x.written) → Moves a b (λ m n. Broken x plan reader said said m n)
-opening_broken laws x plan p reader said some start a b step =
-    moves_by a b (IsHalfOpened x.run x.written) (λ m n. Broken x plan reader said said m n)
-    (λ m n half tables windows of stood.
-    let rest = some (content m x.run.input) 0 in
-    record {
-      taken = [];
+-- which records were taken, by how they stopped
+takes_by : (x : Setup) (first reader : Spot) (a : Contents) (number : ℕ) (bytes : List ℕ) (rs : List Rec) (stop : Ending) (last : Option (List ℕ × ℕ)) → bytes ≡ content a x.run.input → SomeLeft reader.left → first.at ≤ reader.at → All (λ r. r.next_at ≤ reader.at) rs →
+    Precedes first.left reader.left bytes 0 rs number → Stops x.run.input reader bytes number (Some stop) last → TakesAll x first a rs ⊎ TakesBefore x first a rs last
+takes_by x first reader a number bytes rs ending.End last same some forward within follows stopped =
+    let P : List Rec → Type 0 = λ l. first.left bytes 0 l None in
+    let B : List ℕ → Type 0 = λ b. first.left b 0 rs None in
+    inl (None, subst B same (subst P (append-nil rs) (follows [] None stopped)))
+takes_by x first reader a number bytes rs (ending.Bad refusal) last same some forward within follows stopped =
+    let P : List Rec → Type 0 = λ l. first.left bytes 0 l (Some refusal) in
+    let B : List ℕ → Type 0 = λ b. first.left b 0 rs (Some refusal) in
+    inl (Some refusal, subst B same (subst P (append-nil rs) (follows [] (Some refusal) stopped)))
+takes_by x first reader a number bytes rs ending.ReadFault last same some forward within follows stopped =
+    let rest = some bytes number in
+    let B : List ℕ → Type 0 = λ b. first.left b 0 (rs ++ rest.0) rest.1 in
+    inr (record {
       rest = rest.0;
       ended = rest.1;
-      capture = rest.2;
-      front = at_opening laws x tables windows p start m n said half;
+      capture = subst B same (follows rest.0 rest.1 rest.2);
+      place = stopped.place;
+      last_is = stopped.last_is;
+      behind = omega (arith, forward, stopped.begun);
+      reached = λ k d inside. omega (arith, within k d inside, stopped.begun);
+      next = is_behind stopped.place reader.left bytes number rest.0 rest.1 rest.2 stopped.before;
+    })
+
+-- a broken run, under every list of tables of which the plan's words are
+abbrev pub Broken : Setup → Tables → Spot → Option (List ℕ × ℕ) → Option (List ℕ) → Option (List ℕ) → Contents → Contents → Type 0
+Broken x plan reader last said now m n = (tables : ℕ → BindingTable) (windows : List Window) → IsPlanOf tables windows plan → AreSlotsOf x.run windows x.slots → reader.stood (content m x.run.input) → EndsBroken x tables windows reader m n said now last
+
+pub ended_err : (x : Setup) (plan : Tables) (reader : Spot) (r : Result Ending Fault) (a b : Option Contents) (said now : Option (List ℕ)) (last : Option (List ℕ × ℕ)) (history : Option HistoryValue) → IsErr r → history ≡ None →
+    Moves a b (λ m n. Broken x plan reader last said now m n) → Moves a b (λ m n. Ends x plan reader r m n said now last history)
+ended_err x plan reader (Ok ending) a b said now last history is none step = absurd (cc is)
+ended_err x plan reader (Err fault.Failed) a b said now last history is none step =
+    moves_by a b (λ m n. Broken x plan reader last said now m n) (λ m n. Ends x plan reader (Err fault.Failed) m n said now last history)
+    (λ m n broken tables windows of stood. ((λ slots_of. broken tables windows of slots_of stood), none)) step
+ended_err x plan reader (Err fault.OutOfMemory) a b said now last history is none step =
+    moves_by a b (λ m n. Broken x plan reader last said now m n) (λ m n. Ends x plan reader (Err fault.OutOfMemory) m n said now last history)
+    (λ m n broken tables windows of stood. (inr (λ slots_of. broken tables windows of slots_of stood), none)) step
+
+pub opening_broken : (laws : EndLaws) (x : Setup) (plan : Tables) → IsPlan plan → IfSome x.run.errors IsRate → (reader : Spot) (last : Option (List ℕ × ℕ)) (said : Option (List ℕ)) → SomeLeft reader.left → (a b : Option Contents) →
+    Moves a b (IsHalfOpened x.run x.written) → Moves a b (λ m n. Broken x plan reader last said said m n)
+opening_broken laws x plan planned rate reader last said some a b step =
+    moves_by a b (IsHalfOpened x.run x.written) (λ m n. Broken x plan reader last said said m n)
+    (λ m n half tables windows of slots_of stood.
+    let rest = some (content m x.run.input) 0 in
+    record {
+      records = rest.0;
+      taken = inl (rest.1, rest.2);
+      front = at_opening laws x tables windows plan planned of rate rest.0 m n said half;
     }) step
 
 module _ (laws : EndLaws) (x : Setup) (far : AreFilesApart x.run) (plan : Tables) (draws : List (ℕ × ℕ)) (s0 s : Seats) (h : HistoryValue) (closed : IsClosed plan draws s h) (p : Progress) (first : Spot)
-    (start : IsFirst x.form x.run.errors p) (no_points : s0.points ≡ []) where
+    (start : IsFirst x.form x.run.errors p) (no_points : s0.points ≡ []) (rate : IfSome x.run.errors IsRate) where
   -- what was left at first, by the bytes of the capture before the outputs were opened
   left_at_first : (a b : Contents) (rs : List Rec) (e : Option CaptureBad) → IsOpened x.run x.written a b → first.left (content b x.run.input) p.number rs e → first.left (content a x.run.input) 0 rs e
   left_at_first a b rs e opened left =
@@ -64,58 +90,54 @@ module _ (laws : EndLaws) (x : Setup) (far : AreFilesApart x.run) (plan : Tables
       let B : List ℕ → Type 0 = λ bytes. first.left bytes 0 rs e in
       subst B (same_input x far a b opened) (subst N start.number left)
 
-  pub rounds_broken : (said : Option (List ℕ)) (h0 h1 h2 : Option Contents) → Moves h0 h1 (IsOpened x.run x.written) →
-      Moves h1 h2 (λ b d. Breaks x plan draws s.points (mark b p s0 first) d) → Moves h0 h2 (λ a d. Broken x plan first said said a d)
-  rounds_broken said h0 h1 h2 opening breaking =
-      moves_join h0 h1 h2 (IsOpened x.run x.written) (λ b d. Breaks x plan draws s.points (mark b p s0 first) d) (λ a d. Broken x plan first said said a d)
-      (λ a b d opened breaks tables windows of stood.
+  pub rounds_broken : (last : Option (List ℕ × ℕ)) (said : Option (List ℕ)) (h0 h1 h2 : Option Contents) → Moves h0 h1 (IsOpened x.run x.written) →
+      Moves h1 h2 (λ b d. Breaks x plan draws s.points (mark b p s0 first) d) → Moves h0 h2 (λ a d. Broken x plan first last said said a d)
+  rounds_broken last said h0 h1 h2 opening breaking =
+      moves_join h0 h1 h2 (IsOpened x.run x.written) (λ b d. Breaks x plan draws s.points (mark b p s0 first) d) (λ a d. Broken x plan first last said said a d)
+      (λ a b d opened breaks tables windows of slots_of stood.
       let S : List ℕ → Type 0 = λ bytes. first.stood bytes in
       let here : first.stood (content b x.run.input) = subst S (sym (same_input x far a b opened)) stood in
       let broken : IsBrokenFrom x plan draws s.points (mark b p s0 first) d = breaks here in
       record {
-        taken = broken.records;
-        rest = broken.rest;
-        ended = broken.ended;
-        capture = left_at_first a b (broken.records ++ broken.rest) broken.ended opened (broken.capture here);
-        front = at_rounds laws x far tables windows plan draws s h of closed a b opened p s0 first start no_points d said broken;
+        records = broken.records ++ broken.rest;
+        taken = inl (broken.ended, left_at_first a b (broken.records ++ broken.rest) broken.ended opened (broken.capture here));
+        front = at_rounds laws x far tables windows plan draws s h of closed slots_of rate a b opened p s0 first start no_points d said broken;
       }) opening breaking
 
-  module _ (q : Progress) (reader : Spot) (some : SomeLeft reader.left) (bounded : IsInRange x q) (end : IsAtEnd plan draws s h q.number) (stop : Option Ending) (last : Option (List ℕ × ℕ)) (said now : Option (List ℕ)) where
-    at_finish_broken : (a d e : Contents) → IsHalfDone x plan draws p q s0 s first reader stop last a d → ((taken : List Rec) → Stands q.stage taken → IsHalfFinished x q s.points taken d e said now) → Broken x plan first said now a e
-    at_finish_broken a d e half done tables windows of stood =
+  module _ (q : Progress) (reader : Spot) (some : SomeLeft reader.left) (bounded : IsInRange x q) (end : IsAtEnd plan draws s h q.number) (stop : Ending) (last : Option (List ℕ × ℕ)) (said now : Option (List ℕ)) where
+    at_finish_broken : (a d e : Contents) → IsHalfDone x plan draws p q s0 s first reader (Some stop) last a d → ((taken : List Rec) → Stands q.stage taken → IsHalfFinished x q s.points taken d e said now) → (shown : Option (List ℕ × ℕ)) → shown ≡ last → Broken x plan first shown said now a e
+    at_finish_broken a d e half done shown shown_is tables windows of slots_of stood =
         let b : Contents = half.middle in
         let input : content half.middle x.run.input ≡ content a x.run.input = same_input x far a half.middle half.opened in
         let S : List ℕ → Type 0 = λ bytes. first.stood bytes in
-        let took : TakesOn x plan draws (mark half.middle p s0 first) (mark d q s reader) stop last = half.goes (subst S (sym input) stood) in
+        let took : TakesOn x plan draws (mark half.middle p s0 first) (mark d q s reader) (Some stop) last = half.goes (subst S (sym input) stood) in
         let written : (c : Course) → Suits plan draws c → HasWritten x c half.middle (mark d q s reader) took.records = λ c suits. took.written c suits half.middle [] (none_written x c half.middle p s0 first start no_points) in
         let c0 : q.number ≡ length took.records = (written (bare tables s.points) (suits_bare tables windows plan draws s h of closed)).number in
         let W : List Window → Type 0 = λ w. AreAllPoints w s.points q.number in
         let A : ℕ → Type 0 = λ n. AreAllPoints windows s.points n in
         let placed : AreAllPoints windows s.points (length took.records) = subst A c0 (subst W of.same_windows end.points) in
-        let has : HasCourse x tables windows s half.middle (mark d q s reader) took.records = with_limit laws x tables windows plan draws s h of closed end.few half.middle (mark d q s reader) took.records bounded.rate written placed in
-        let rest = some (content half.middle x.run.input) q.number in
+        let N : ℕ → Type 0 = λ n. Precedes first.left reader.left (content half.middle x.run.input) n took.records q.number in
+        let T : Option (List ℕ × ℕ) → Type 0 = λ l. TakesAll x first a took.records ⊎ TakesBefore x first a took.records l in
         record {
-          taken = took.records;
-          rest = rest.0;
-          ended = rest.1;
-          capture = left_at_first a half.middle (took.records ++ rest.0) rest.1 half.opened (took.follows rest.0 rest.1 rest.2);
-          front = at_finish laws x far tables windows plan draws s h of closed a half.middle half.opened q reader d e said now took.records has (done took.records has.written.stands);
+          records = took.records;
+          taken = subst T (sym shown_is) (takes_by x first reader a q.number (content half.middle x.run.input) took.records stop last input some took.forward took.within (subst N start.number took.follows) took.stopped);
+          front = at_finish laws x far tables windows plan draws s h of closed slots_of rate a half.middle half.opened q reader d e said now took.records written placed (done took.records (written (bare tables s.points) (suits_bare tables windows plan draws s h of closed)).stands);
         }
 
-    pub finish_broken : (r : Result Unit Fault) (points : List ℕ) → IsErr r → points ≡ s.points → (h0 h1 h2 h3 : Option Contents) → Moves h0 h1 (IsOpened x.run x.written) →
-        Moves h1 h2 (λ b d. Goes x plan draws (mark b p s0 first) (mark d q s reader) stop last) →
+    pub finish_broken : (shown : Option (List ℕ × ℕ)) → shown ≡ last → (r : Result Unit Fault) (points : List ℕ) → IsErr r → points ≡ s.points → (h0 h1 h2 h3 : Option Contents) → Moves h0 h1 (IsOpened x.run x.written) →
+        Moves h1 h2 (λ b d. Goes x plan draws (mark b p s0 first) (mark d q s reader) (Some stop) last) →
         Moves h2 h3 (λ d e. (taken : List Rec) → Stands q.stage taken → Finishes x q points taken r d e said now) →
-        Moves h0 h3 (λ a e. Broken x plan first said now a e)
-    finish_broken (Ok done) points is same h0 h1 h2 h3 opening going finishing = absurd (cc is)
-    finish_broken (Err why) points is same h0 h1 h2 h3 opening going finishing =
-        let half : Moves h0 h2 (λ a d. IsHalfDone x plan draws p q s0 s first reader stop last a d) =
-        moves_join h0 h1 h2 (IsOpened x.run x.written) (λ b d. Goes x plan draws (mark b p s0 first) (mark d q s reader) stop last)
-        (λ a d. IsHalfDone x plan draws p q s0 s first reader stop last a d) (λ a b d u w. record { middle = b; opened = u; goes = w }) opening going in
+        Moves h0 h3 (λ a e. Broken x plan first shown said now a e)
+    finish_broken shown shown_is (Ok done) points is same h0 h1 h2 h3 opening going finishing = absurd (cc is)
+    finish_broken shown shown_is (Err why) points is same h0 h1 h2 h3 opening going finishing =
+        let half : Moves h0 h2 (λ a d. IsHalfDone x plan draws p q s0 s first reader (Some stop) last a d) =
+        moves_join h0 h1 h2 (IsOpened x.run x.written) (λ b d. Goes x plan draws (mark b p s0 first) (mark d q s reader) (Some stop) last)
+        (λ a d. IsHalfDone x plan draws p q s0 s first reader (Some stop) last a d) (λ a b d u w. record { middle = b; opened = u; goes = w }) opening going in
         let F : List ℕ → Type 0 = λ l. Moves h2 h3 (λ d e. (taken : List Rec) → Stands q.stage taken → IsHalfFinished x q l taken d e said now) in
-        moves_join h0 h2 h3 (λ a d. IsHalfDone x plan draws p q s0 s first reader stop last a d)
+        moves_join h0 h2 h3 (λ a d. IsHalfDone x plan draws p q s0 s first reader (Some stop) last a d)
         (λ d e. (taken : List Rec) → Stands q.stage taken → IsHalfFinished x q s.points taken d e said now)
-        (λ a e. Broken x plan first said now a e)
-        (λ a d e u w. at_finish_broken a d e u w) half (subst F same finishing)
+        (λ a e. Broken x plan first shown said now a e)
+        (λ a d e u w. at_finish_broken a d e u w shown shown_is) half (subst F same finishing)
 
 -- the points of the summary are those of the desk
 pub finished_at : (x : Setup) (q : Progress) (points now_points : List ℕ) → points ≡ now_points → (said now : Option (List ℕ)) (a b : Option Contents) →

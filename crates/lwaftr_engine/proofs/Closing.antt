@@ -22,7 +22,7 @@ use Rattle.lwaftr_engine.specs.declared.rounds.Progress.{Progress}
 use Rattle.reload_plan.specs.declared.loads.Slot.{Slot}
 use Rattle.reload_plan.specs.declared.loads.Slot.TheVariants as slot
 use Rattle.run_output.specs.Counting.{no_totals, totals_from, with_version}
-use Rattle.run_output.specs.Laws.{CountsAreTotals, IsLimitedAs, IsSameBut, LimitsAreSome}
+use Rattle.run_output.specs.Laws.{CountsAreTotals, IsLimitedAs, IsSameBut, LimitsAreSome, LimitsBegin, RoundsJoin}
 use Rattle.run_output.specs.Limiting.{IsLimited, rate_of}
 use Rattle.run_output.specs.Outputs.{Course, lines_from, packets_from, totals_of, verdict_at}
 use Rattle.run_output.specs.Versions.{NamedSlot, NoneIsDue, load_lines, slot_text}
@@ -30,20 +30,28 @@ use Rattle.swap_core.specs.Plans.{Tables, table}
 use Rattle.swap_core.specs.Points.{AreAllPoints, in_force}
 use Rattle.swap_core.specs.declared.plan.Window.{Window}
 use Rattle.table_words.specs.Layout.{IsCompiled}
-use Rattle.verdict_core.specs.Access.{Forbidden, Forwards, Refused}
+use Rattle.verdict_core.specs.Access.{BringsIn, Delivers, Forbidden, Forwards, PassesOn, Refused, RelaysAll, RelaysOwn, SendsOn}
 use Rattle.verdict_core.specs.Verdicts.{verdict_of}
 use Rattle.lwaftr_engine.proofs.Apart.{AreFilesApart}
 
--- what holds of every verdict: who may send, and why a packet is dropped
+-- what holds of every verdict: who may send, who receives, whom errors reach, and why a packet is dropped
 pub record AllAccess : Type 0 where
   pub forwards : (t : BindingTable) (i : Item) → IsLawful t → Forwards t i (verdict_of t i)
   pub forbidden : (t : BindingTable) (i : Item) → IsLawful t → Forbidden t i (verdict_of t i)
   pub refused : (t : BindingTable) (i : Item) → IsLawful t → Refused t i (verdict_of t i)
+  pub sends_on : (t : BindingTable) (i : Item) → IsLawful t → SendsOn t i (verdict_of t i)
+  pub brings_in : (t : BindingTable) (i : Item) → IsLawful t → BringsIn t i (verdict_of t i)
+  pub delivers : (t : BindingTable) (i : Item) → IsLawful t → Delivers t i (verdict_of t i)
+  pub relays_own : (t : BindingTable) (i : Item) → IsLawful t → RelaysOwn t i (verdict_of t i)
+  pub relays_all : (t : BindingTable) (i : Item) → IsLawful t → RelaysAll t i (verdict_of t i)
+  pub passes_on : (t : BindingTable) (i : Item) → IsLawful t → PassesOn t i (verdict_of t i)
 
 pub record EndLaws : Type 0 where
   pub access : AllAccess
   pub limits : LimitsAreSome
   pub totals : CountsAreTotals
+  pub begins : LimitsBegin
+  pub joins : RoundsJoin
 
 -- the areas are closed
 pub record IsClosed (plan : Tables) (draws : List (ℕ × ℕ)) (s : Seats) (h : HistoryValue) : Type 0 where
@@ -111,7 +119,7 @@ pub record HasCourse (x : Setup) (tables : ℕ → BindingTable) (windows : List
 
 module _ (laws : EndLaws) (x : Setup) (tables : ℕ → BindingTable) (windows : List Window) (plan : Tables) (draws : List (ℕ × ℕ)) (s : Seats) (h : HistoryValue)
     (of : IsPlanOf tables windows plan) (closed : IsClosed plan draws s h) (few : length s.points < length plan.tables) where
-  access_at : (c : Course) → c.tables ≡ tables → c.version ≡ in_force s.points → (number : ℕ) (i : Item) → HasAccess (c.tables (c.version number)) i (verdict_at c number i)
+  pub access_at : (c : Course) → c.tables ≡ tables → c.version ≡ in_force s.points → (number : ℕ) (i : Item) → HasAccess (c.tables (c.version number)) i (verdict_at c number i)
   access_at c tables_are version_are number i =
       let T : (ℕ → BindingTable) → Type 0 = λ f. (n : ℕ) → n < length plan.tables → IsLawful (f n) in
       let lawful : (n : ℕ) → n < length plan.tables → IsLawful (c.tables n) = subst T (sym tables_are) (λ n inside. (of.compiled n inside).lawful) in
@@ -121,6 +129,12 @@ module _ (laws : EndLaws) (x : Setup) (tables : ℕ → BindingTable) (windows :
         forwards = laws.access.forwards (c.tables (c.version number)) i good;
         forbidden = laws.access.forbidden (c.tables (c.version number)) i good;
         refused = laws.access.refused (c.tables (c.version number)) i good;
+        sends_on = laws.access.sends_on (c.tables (c.version number)) i good;
+        brings_in = laws.access.brings_in (c.tables (c.version number)) i good;
+        delivers = laws.access.delivers (c.tables (c.version number)) i good;
+        relays_own = laws.access.relays_own (c.tables (c.version number)) i good;
+        relays_all = laws.access.relays_all (c.tables (c.version number)) i good;
+        passes_on = laws.access.passes_on (c.tables (c.version number)) i good;
       }
 
   pub with_limit : (opened : Contents) (m : Mark) (rs : List Rec) → rate_of m.progress.limit ≡ x.run.errors → ((c : Course) → Suits plan draws c → HasWritten x c opened m rs) →

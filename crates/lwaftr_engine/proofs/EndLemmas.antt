@@ -66,7 +66,7 @@ at_end law plan seat desk s h number closed settled whole same_plan same_points 
 abbrev pub SomeLeft : Left → Type 0
 SomeLeft left = (bytes : List ℕ) (number : ℕ) → (rs : List Rec) × (ended : Option CaptureBad) × left bytes number rs ended
 
-is_behind : (place : ℕ) (left : Left) (bytes : List ℕ) (number : ℕ) (rest : List Rec) (ended : Option CaptureBad) → left bytes number rest ended →
+pub is_behind : (place : ℕ) (left : Left) (bytes : List ℕ) (number : ℕ) (rest : List Rec) (ended : Option CaptureBad) → left bytes number rest ended →
     ((r : Rec) (rs : List Rec) (e : Option CaptureBad) → left bytes number (r ∷ rs) e → place < r.next_at) → IsBehind place rest
 is_behind place left bytes number [] ended it before = tt
 is_behind place left bytes number (r ∷ rs) ended it before = before r rs ended it

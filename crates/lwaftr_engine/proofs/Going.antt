@@ -1,5 +1,5 @@
 -- A round: what was read, judged and written, put together.
-use Rattle.std.proofs.Common.{◌≡◌, ℕ, ◌+◌, ◌-◌, ◌<◌, ◌≤◌, List, ◌++◌, length, get_or, All, take, drop, Option, Some, inl, inr, sym, ◌∙◌, ap, subst, arith, append_assoc, length-append}
+use Rattle.std.proofs.Common.{◌≡◌, ℕ, ◌+◌, ◌-◌, ◌<◌, ◌≤◌, List, ◌++◌, length, get_or, take, Option, Some, inl, inr, sym, ◌∙◌, ap, subst, arith, append_assoc, length-append}
 use Rattle.std.specs.List.{slice_get}
 use Rattle.std.proofs.lemmas.Bool.{cases_lt}
 use Rattle.std.proofs.lemmas.Option.{slice_get-get_or}
@@ -8,20 +8,20 @@ use Rattle.aftr_text.specs.declared.jobs.RunJob.{RunJob}
 use Rattle.aftr_text.specs.declared.summaries.Totals.{Totals}
 use Rattle.capture_io.specs.declared.forms.Form.{Form}
 use Rattle.capture_io.specs.declared.forms.Rec.{Rec}
-use Rattle.error_limit.specs.Limits.{Bucket}
 use Rattle.item_stage.specs.declared.entries.Entry.{Entry}
 use Rattle.item_stage.specs.Items.{entries_of, items_in}
 use Rattle.ip_codec.specs.declared.items.Item.{Item}
 use Rattle.item_stage.specs.Stages.{Staged, Stands}
 use Rattle.lwaftr_engine.specs.Progress.{HasWritten, IsLimitedRun, Seats, Setup, Spot, Wrote, loads_of, mark}
 use Rattle.lwaftr_engine.specs.Runs.{all_asking}
+use Rattle.lwaftr_engine.specs.Underway.{IsRoundOf, IsStaged}
 use Rattle.lwaftr_engine.specs.declared.rounds.Progress.{Progress}
 use Rattle.run_output.specs.Counting.{no_totals, totals_from}
 use Rattle.run_output.specs.Laws.{AreJoined, LimitsBegin, LoadLinesJoin, RoundsJoin}
-use Rattle.run_output.specs.Limiting.{HasAsked, IsLimited, rate_of}
+use Rattle.run_output.specs.Limiting.{HasAsked, IsLimited}
 use Rattle.run_output.specs.Outputs.{Course, lines_from, packets_from}
 use Rattle.run_output.specs.Rendering.{HasOutcomes, IsCourseOf, IsRendered, lines_in, packets_in}
-use Rattle.run_output.specs.Versions.{NoneIsDue, between, load_lines}
+use Rattle.run_output.specs.Versions.{load_lines}
 use Rattle.run_output.specs.declared.parts.Part.{Part}
 use Rattle.worker_gate.specs.declared.outcomes.Outcome.{Outcome}
 use Rattle.worker_gate.specs.Crews.{no_outcome}
@@ -31,42 +31,10 @@ use Rattle.std.proofs.lemmas.List.{map-append}
 use Rattle.std.proofs.lemmas.List.Sums.{sum_by-append}
 use Rattle.lwaftr_engine.proofs.Elements.{all_at}
 
--- what the stage says of the round's records
-pub record IsStaged (before after : Staged) (records : List Rec) (es : List Entry) : Type 0 where
-  pub entries : (taken : List Rec) → Stands before taken → entries_of before.form (taken ++ records) ≡ entries_of before.form taken ++ es
-  pub stands : (taken : List Rec) → Stands before taken → Stands after (taken ++ records)
-  pub count : length es ≡ length records
-  pub form : after.form ≡ before.form
-
 pub entries_more : (form : Form) (before after : Staged) (records : List Rec) (es : List Entry) (taken : List Rec) → before.form ≡ form → Stands before taken →
     IsStaged before after records es → entries_of form (taken ++ records) ≡ entries_of form taken ++ es
 entries_more form before after records es taken is stands staged =
     let P : Form → Type 0 = λ f. entries_of f (taken ++ records) ≡ entries_of f taken ++ es in subst P is (staged.entries taken stands)
-
--- what the limit on errors and the rendering say of the round
-pub record AreRendered (x : Setup) (start : ℕ) (records : List Rec) (es : List Entry) (os : List Outcome) (limit now : Option Bucket) (before after : Totals) (parts : List Part) : Type 0 where
-  pub rendered : (c : Course) (taken : List Rec) (front : List Entry) → length taken ≡ start → IsCourseOf c x.form taken records front es os limit →
-      IsLimited (rate_of limit) x.form (taken ++ records) (front ++ es) c → IsRendered c x.written start records es before after parts
-  pub asked : (c : Course) (taken : List Rec) (front : List Entry) → length taken ≡ start → IsCourseOf c x.form taken records front es os limit →
-      HasAsked x.form (taken ++ records) (front ++ es) c now
-
--- the new lines of tables
-pub record AreNewLines (x : Setup) (points now news : List ℕ) (from to : ℕ) (lines : List ℕ) : Type 0 where
-  pub points_are : now ≡ points ++ news
-  pub forward : from ≤ to
-  pub lines_are : (later : List ℕ) → lines ≡ load_lines (now ++ later) (between from to (loads_of x))
-  pub none_due : NoneIsDue now (drop to x.slots)
-
--- all that is known of a round, whatever the course is
-pub record IsRoundOf (x : Setup) (p q : Progress) (s t : Seats) (news : List ℕ) (records : List Rec) (es : List Entry) (os : List Outcome) (lines : List ℕ) (parts : List Part) : Type 0 where
-  pub numbered : q.number ≡ p.number + length records
-  pub staged : IsStaged p.stage q.stage records es
-  pub outcomes_count : length os ≡ length es
-  pub versions : All (λ (o : Outcome). o.version ≤ length t.points) os
-  pub reads : s.reads + all_asking (items_in es) ≤ t.reads
-  pub rate : rate_of p.limit ≡ x.run.errors
-  pub made : AreRendered x p.number records es os p.limit q.limit p.totals q.totals parts
-  pub new_lines : AreNewLines x s.points t.points news p.printed q.printed lines
 
 pub record Joins : Type 0 where
   pub rounds : RoundsJoin

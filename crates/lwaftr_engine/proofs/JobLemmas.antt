@@ -1,5 +1,5 @@
 -- What a run leaves, in the words of the whole files.
-use Rattle.std.proofs.Common.{◌≡◌, ℕ, ◌<◌, nat_lt, Bool, true, false, not, List, [], ◌∷◌, ◌++◌, length, Option, Some, None, Result, Ok, Err, inl, inr, refl, sym, ◌∙◌, ap, subst, arith}
+use Rattle.std.proofs.Common.{◌≡◌, ◌⊎◌, ℕ, ◌<◌, nat_lt, Bool, true, false, not, List, [], ◌∷◌, ◌++◌, length, Option, Some, None, Result, Ok, Err, inl, inr, refl, sym, ◌∙◌, ap, subst, arith}
 use Rattle.aftr_base.specs.Contents.{Contents, content, Moves, Told}
 use Rattle.aftr_base.specs.Outside.{FailsAt, Outside, Rises, has_failed}
 use Rattle.std.specs.Prelude.{IfOk, IsSome}
@@ -23,9 +23,9 @@ use Rattle.capture_io.specs.declared.rounds.Ending.{Ending}
 use Rattle.capture_io.specs.declared.rounds.Ending.TheVariants as ending
 use Rattle.capture_io.specs.declared.written.Written.{Written}
 use Rattle.capture_io.specs.declared.written.Written.TheVariants as written
-use Rattle.lwaftr_engine.specs.Ended.{Ends, EndsBroken, EndsBy, EndsWhole}
+use Rattle.lwaftr_engine.specs.Ended.{Ends, EndsBroken, EndsBy, EndsWhole, TakesAll, TakesBefore}
 use Rattle.lwaftr_engine.specs.Endings.{IsWhole}
-use Rattle.lwaftr_engine.specs.Fronts.{IsBroken, IsFront}
+use Rattle.lwaftr_engine.specs.Fronts.{AreTaken, IsBroken, IsFront}
 use Rattle.lwaftr_engine.specs.Inputs.{Header, IsInputBy, blocks_of, classic_of, header_by, in_blocks, in_classic}
 use Rattle.lwaftr_engine.specs.Planned.{IsAtFirst, IsEarly, LeavesBy, LeavesMade, ended_status, some_slot_refused}
 use Rattle.lwaftr_engine.specs.Progress.{OneRises, ReadsOf, Setup, Spot, spot}
@@ -102,15 +102,26 @@ module _ (x : Setup) (tables : ℕ → BindingTable) (windows : List Window) (re
     is_run = same_run x.run tables windows x.slots x.form x.written first.header ran.records old new said now history first.form_is first.written_is ran.is_run;
   }
 
-  broken : EndsBroken x tables windows reader old new said now → IsBroken x.run tables windows x.slots old new said now
+  taken : (rs : List Rec) → TakesAll x reader old rs ⊎ TakesBefore x reader old rs last → AreTaken x.run old first.header rs last
+  taken rs (inl all) = inl (all.0, first.all rs all.0 all.1)
+  taken rs (inr before) = inr (record {
+    rest = before.rest;
+    ending = before.ended;
+    capture = first.all (rs ++ before.rest) before.ended before.capture;
+    place = before.place;
+    last_is = before.last_is;
+    in_records = omega (arith, first.at_is, before.behind);
+    reached = before.reached;
+    next = before.next;
+  })
+
+  broken : EndsBroken x tables windows reader old new said now last → IsBroken x.run tables windows x.slots old new said now last
   broken ran = record {
     header = first.header;
     sound = first.sound;
-    taken = ran.taken;
-    rest = ran.rest;
-    ending = ran.ended;
-    capture = first.all (ran.taken ++ ran.rest) ran.ended ran.capture;
-    front = same_front x.run tables windows x.slots x.form x.written first.header ran.taken old new said now first.form_is first.written_is ran.front;
+    records = ran.records;
+    taken = taken ran.records ran.taken;
+    front = same_front x.run tables windows x.slots x.form x.written first.header ran.records old new said now first.form_is first.written_is ran.front;
   }
 
   done : (refused : Bool) → some_slot_refused x.slots ≡ refused → EndsWhole x tables windows reader old new said now history None →
@@ -135,9 +146,9 @@ module _ (x : Setup) (tables : ℕ → BindingTable) (windows : List Window) (re
     next = ran.next;
     is_run = same_run x.run tables windows x.slots x.form x.written first.header ran.taken old new said now history first.form_is first.written_is ran.is_run;
   })
-  leaves_by (Err fault.Failed) refused is ran = (broken ran.0, ran.1)
+  leaves_by (Err fault.Failed) refused is ran = ((λ slots_of. broken (ran.0 slots_of)), ran.1)
   leaves_by (Err fault.OutOfMemory) refused is (inl same, none) = inl (record { files = same.0; sink = same.1; none = none })
-  leaves_by (Err fault.OutOfMemory) refused is (inr ran, none) = inr (broken ran, none)
+  leaves_by (Err fault.OutOfMemory) refused is (inr ran, none) = inr ((λ slots_of. broken (ran slots_of)), none)
 
 has_history_done : (refused : Bool) (history : Option HistoryValue) → IsSome history → HasHistory (ended_status (Ok ending.End) refused) history
 has_history_done true history some = some
@@ -199,10 +210,6 @@ place_in (Some x) = x.1
 
 same_place : (name : List ℕ) (a b : ℕ) (last : Option (List ℕ × ℕ)) → last ≡ Some (name, a) → last ≡ Some (name, b) → a ≡ b
 same_place name a b last e f = ap place_in (sym e ∙ f)
-
-pub early_kind : (name bytes : List ℕ) (old last : Option (List ℕ × ℕ)) → FailsAt true name (λ place. place < 4) old last → IsEarly name bytes last
-early_kind name bytes old last failed = λ header place sound last_is few has_end behind.
-    absurd (omega (arith, failed.1, few, same_place name failed.0 place last failed.2 last_is))
 
 classic_end : (header : Header) (read : Result Form CaptureBad) → in_classic read ≡ Ok header → header.ends_at ≡ 24
 classic_end header (Ok form) e = cc e

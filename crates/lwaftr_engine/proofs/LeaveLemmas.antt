@@ -10,7 +10,8 @@ use Rattle.area_swap.specs.Histories.{HistoryValue}
 use Rattle.binding_file.specs.Files.{TableOf}
 use Rattle.binding_rules.specs.Tables.{BindingTable}
 use Rattle.lwaftr_engine.specs.Causes.{FailsIn, IsReadOf}
-use Rattle.lwaftr_engine.specs.Endings.{AreTables, IsUnread, table_names}
+use Rattle.lwaftr_engine.specs.Ended.{AreSlotsOf}
+use Rattle.lwaftr_engine.specs.Endings.{AreTables, IsBehindTable, IsUnread, table_names}
 use Rattle.lwaftr_engine.specs.Loads.{AreFitFor, AreLoadsOf}
 use Rattle.lwaftr_engine.specs.Planned.{IsMade, LeavesBy, LeavesMade, some_slot_refused}
 use Rattle.lwaftr_engine.specs.Promises.{Leaves}
@@ -22,7 +23,7 @@ use Rattle.reload_plan.specs.declared.loads.Load.{Load}
 use Rattle.reload_plan.specs.declared.loads.Made.{Made}
 use Rattle.reload_plan.specs.declared.loads.Slot.{Slot}
 use Rattle.lwaftr_engine.proofs.Moving.{told_then}
-use Rattle.lwaftr_engine.proofs.PlanLemmas.{answers_of, are_answers, loaded_as, plan_is, refused_are, slots_are}
+use Rattle.lwaftr_engine.proofs.PlanLemmas.{answers_of, are_answers, loaded_as, plan_is, refused_are, slots_are, slots_of_run}
 
 abbrev name_in : Option (List ℕ × ℕ) → List ℕ
 name_in None = []
@@ -32,15 +33,16 @@ same_read : (name other : List ℕ) (a b : ℕ) (last : Option (List ℕ × ℕ)
 same_read name other a b last e f = ap name_in (sym e ∙ f)
 
 -- a read of a table file that failed
-pub unread_tables : (run : RunJob) (m : Contents) (said : Option (List ℕ)) (last : Option (List ℕ × ℕ)) → IsReadOf (table_names run) last → IsUnread run m m said said None last
-unread_tables run m said last failed =
+pub unread_tables : (run : RunJob) (m : Contents) (said : Option (List ℕ)) (last : Option (List ℕ × ℕ)) → IsReadOf (table_names run) last →
+    IsBehindTable run m last → IsUnread run m m said said None last
+unread_tables run m said last failed accepted =
     let among : (place : ℕ) → last ≡ Some (run.input, place) → Contains (table_names run) run.input = λ place last_is.
     let P : List ℕ → Type 0 = λ name. Contains (table_names run) name in
     subst P (same_read failed.name run.input failed.place place last failed.last_is last_is) failed.among in
     record {
       kept = record { files = refl; sink = refl; none = refl };
       early = λ in_records. in_records.apart (among in_records.place in_records.last_is);
-      behind_table = λ place last_is apart. absurd (apart (among place last_is));
+      behind_table = accepted;
     }
 
 -- the tables of the run, as they were read
@@ -69,6 +71,9 @@ module _ (run : RunJob) (t : BindingTable) (ls : List Load) (made : Made) (of : 
   plan : IsPlanOf (table_by t (answers_of old run.loads ls read.loads)) (windows_in run.loads (answers_of old run.loads ls read.loads)) made.plan
   plan = plan_is t of.words (answers_of old run.loads ls read.loads) run.loads ls made.plan of.compiled of.plan fit (loaded_as old run.loads ls read.loads)
 
+  slots_of : AreSlotsOf run (windows_in run.loads (answers_of old run.loads ls read.loads)) (slots_in 0 (answers_of old run.loads ls read.loads))
+  slots_of = slots_of_run run old (answers_of old run.loads ls read.loads) (are_answers old run.loads ls read.loads)
+
   by_status : (result : Status) → LeavesBy run (table_by t (answers_of old run.loads ls read.loads)) (windows_in run.loads (answers_of old run.loads ls read.loads)) (slots_in 0 (answers_of old run.loads ls read.loads)) result old new said now last history →
       (some_slot_refused (slots_in 0 (answers_of old run.loads ls read.loads)) ≡ some_refused (answers_of old run.loads ls read.loads)) → Leaves run result old new said now last history
   by_status status.Done left same = record { first = t; answers = answers_of old run.loads ls read.loads; tables = tables; some_load_refused = sym same ∙ left.1; whole = left.0 }
@@ -80,11 +85,11 @@ module _ (run : RunJob) (t : BindingTable) (ls : List Load) (made : Made) (of : 
   by_status status.ReadFault (inr early) same = inr (record {
     kept = early.1;
     early = λ r. early.0 r.header r.place r.sound r.last_is r.behind.0 r.behind.1.0 r.behind.1.1;
-    behind_table = λ place last_is apart. (t, read.table);
+    behind_table = λ name place last_is apart. (t, read.table);
   })
-  by_status status.WriteFault left same = record { first = t; answers = answers_of old run.loads ls read.loads; tables = tables; broken = left.0; none = left.1 }
+  by_status status.WriteFault left same = record { first = t; answers = answers_of old run.loads ls read.loads; tables = tables; broken = left.0 slots_of; none = left.1 }
   by_status status.OutOfMemory (inl kept) same = inl kept
-  by_status status.OutOfMemory (inr broken) same = inr (record { first = t; answers = answers_of old run.loads ls read.loads; tables = tables; broken = broken.0; none = broken.1 })
+  by_status status.OutOfMemory (inr broken) same = inr (record { first = t; answers = answers_of old run.loads ls read.loads; tables = tables; broken = broken.0 slots_of; none = broken.1 })
   by_status status.Usage left same = absurd left
   by_status (status.BadTable refusal) left same = absurd left
 

@@ -1,14 +1,17 @@
 mod Adding
+mod Alike
 mod Apart
 mod Asking
 mod Begun
 mod BrokenLemmas
 mod Capturing
 mod Closing
+mod Courses
 mod DueLemmas
 mod Elements
 mod EndLemmas
 mod Exits
+mod Extending
 mod Finishes
 mod FrontLemmas
 mod Fronting
@@ -20,6 +23,7 @@ mod LeaveLemmas
 mod LineLemmas
 mod LoadLemmas
 mod MadeLemmas
+mod Marked
 mod MigrateLemmas
 mod Moving
 mod OpenLemmas
@@ -31,6 +35,8 @@ mod RunLemmas
 mod ShowLemmas
 mod Showing
 mod Steps
+mod Telling
 mod TopLemmas
+mod UnderwayLemmas
 mod UnopenedLemmas
 mod WriteLemmas

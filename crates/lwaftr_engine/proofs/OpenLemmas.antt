@@ -1,74 +1,40 @@
 -- A capture that is opened, by the names and values that the calls had.
-use Rattle.std.proofs.Common.{◌≡◌, ℕ, ◌<◌, Bool, true, false, List, Option, Some, None, Ok, Err, refl, sym, ◌∙◌, subst}
+use Rattle.std.proofs.Common.{◌≡◌, ℕ, List, Option, Some, None, Ok, refl, sym, subst}
 use Rattle.aftr_base.specs.Contents.{Contents, content, Moves, Told}
-use Rattle.aftr_base.specs.Outside.{FailsAt}
 use Rattle.aftr_text.specs.declared.jobs.RunJob.{RunJob}
 use Rattle.area_swap.specs.Histories.{HistoryValue}
-use Rattle.capture_io.specs.Answers.{Agrees}
-use Rattle.capture_io.specs.Classic.{IsOpened, left_of, stands_in}
-use Rattle.capture_io.specs.Header as classic_header
-use Rattle.capture_io.specs.declared.classic.ClassicReader.{ClassicReader}
-use Rattle.capture_io.specs.declared.forms.CaptureError.{CaptureError}
 use Rattle.capture_io.specs.declared.forms.Form.{Form}
 use Rattle.capture_io.specs.declared.written.Written.{Written}
-use Rattle.capture_io.specs.declared.written.Written.TheVariants as written
 use Rattle.lwaftr_engine.specs.Planned.{IsAtFirst, LeavesMade}
 use Rattle.lwaftr_engine.specs.Progress.{Spot, spot}
 use Rattle.lwaftr_engine.specs.declared.status.Status.{Status}
-use Rattle.pcapng_io.specs.Answers.{IsInHeader}
 use Rattle.pcapng_io.specs.Captures as blocks
-use Rattle.pcapng_io.specs.Rounds as rounds
-use Rattle.pcapng_io.specs.Standing as standing
-use Rattle.pcapng_io.specs.Standing.{Standing}
+use Rattle.pcapng_io.specs.Either.{IsFresh, OpensEither, form_either, left_either, place_either, stands_either, written_as}
+use Rattle.pcapng_io.specs.declared.either.Reader.{Reader}
+use Rattle.pcapng_io.specs.declared.either.Reader.TheVariants as reader
 use Rattle.reload_plan.specs.declared.loads.Slot.{Slot}
 use Rattle.swap_core.specs.Plans.{Tables}
 use Rattle.lwaftr_engine.proofs.JobLemmas.{blocks_first, classic_first}
-use Rattle.lwaftr_engine.proofs.UnopenedLemmas.{IsUnopened, blocks_unopened, classic_unopened, failed_as}
 
-pub kind_told : (h : Option Contents) (k name : List ℕ) (is b : Bool) → k ≡ name → is ≡ b → Told h (λ m. is ≡ blocks.is_pcapng (content m k)) → Told h (λ m. b ≡ blocks.is_pcapng (content m name))
-kind_told h k name is b named same told =
-    let K : List ℕ → Type 0 = λ q. Told h (λ m. b ≡ blocks.is_pcapng (content m q)) in
-    let B : Bool → Type 0 = λ c. Told h (λ m. c ≡ blocks.is_pcapng (content m k)) in
-    subst K named (subst B same told)
+abbrev spot_of : Reader → Spot
+spot_of r = spot (stands_either r) (left_either r) (place_either r)
 
-blocks_at : (r : Standing) (name : List ℕ) (h : Option Contents) → Told h (λ m. true ≡ blocks.is_pcapng (content m name)) → Told h (λ m. standing.Opens (Ok r) (content m name)) →
-    Told h (λ m. IsAtFirst (spot (standing.stands_in r) (rounds.left_of r.seen) r.seen.known.at) (blocks.form_of r.seen.known) written.Blocks (content m name))
-blocks_at r name None kind opened = tt
-blocks_at r name (Some m) kind opened = blocks_first r (blocks.form_of r.seen.known) (content m name) kind refl opened
+opened_by : (r : Reader) (bytes : List ℕ) → IsFresh r → OpensEither (Ok r) bytes → IsAtFirst (spot_of r) (form_either r) (written_as r) bytes
+opened_by (reader.Classic r) bytes fresh opened = classic_first r r.form bytes opened.0 refl fresh.0 opened.1
+opened_by (reader.Blocks s) bytes fresh opened = blocks_first s (blocks.form_of s.seen.known) bytes opened.0 refl opened.1
 
-pub blocks_told : (r : Standing) (k name : List ℕ) (is : Bool) → k ≡ name → is ≡ true → (h0 h1 h2 : Option Contents) → h1 ≡ h0 → h2 ≡ h1 → Told h0 (λ m. is ≡ blocks.is_pcapng (content m k)) → Told h1 (λ m. standing.Opens (Ok r) (content m k)) →
-    Told h2 (λ m. IsAtFirst (spot (standing.stands_in r) (rounds.left_of r.seen) r.seen.known.at) (blocks.form_of r.seen.known) written.Blocks (content m name))
-blocks_told r k name is named holds h0 h1 h2 e1 e2 kind opened =
-    let K : Option Contents → Type 0 = λ h. Told h (λ m. true ≡ blocks.is_pcapng (content m name)) in
-    let O : Option Contents → Type 0 = λ h. Told h (λ m. standing.Opens (Ok r) (content m name)) in
-    let N : List ℕ → Type 0 = λ q. Told h1 (λ m. standing.Opens (Ok r) (content m q)) in
-    blocks_at r name h2 (subst K (sym (e2 ∙ e1)) (kind_told h0 k name is true named holds kind)) (subst O (sym e2) (subst N named opened))
+opened_told : (r : Reader) (name : List ℕ) (h : Option Contents) → IsFresh r → Told h (λ m. OpensEither (Ok r) (content m name))
+    → Told h (λ m. IsAtFirst (spot_of r) (form_either r) (written_as r) (content m name))
+opened_told r name None fresh opened = tt
+opened_told r name (Some m) fresh opened = opened_by r (content m name) fresh opened
 
-classic_at : (r : ClassicReader) (name : List ℕ) (h : Option Contents) → r.at ≡ 24 → Told h (λ m. false ≡ blocks.is_pcapng (content m name)) → Told h (λ m. IsOpened r (content m name)) →
-    Told h (λ m. IsAtFirst (spot (stands_in r) (left_of r) r.at) r.form (written.Classic r.form.nano) (content m name))
-classic_at r name None at kind opened = tt
-classic_at r name (Some m) at kind opened = classic_first r r.form (content m name) kind refl at opened
-
-pub classic_told : (r : ClassicReader) (shown : Form) → shown ≡ r.form → r.at ≡ 24 → (k name : List ℕ) (is : Bool) → k ≡ name → is ≡ false → (h0 h1 h2 : Option Contents) → h1 ≡ h0 → h2 ≡ h1 → Told h0 (λ m. is ≡ blocks.is_pcapng (content m k)) → Told h1 (λ m. IsOpened r (content m k)) →
-    Told h2 (λ m. IsAtFirst (spot (stands_in r) (left_of r) r.at) r.form (written.Classic shown.nano) (content m name))
-classic_told r shown shown_is at k name is named fails h0 h1 h2 e1 e2 kind opened =
-    let K : Option Contents → Type 0 = λ h. Told h (λ m. false ≡ blocks.is_pcapng (content m name)) in
-    let O : Option Contents → Type 0 = λ h. Told h (λ m. IsOpened r (content m name)) in
-    let N : List ℕ → Type 0 = λ q. Told h1 (λ m. IsOpened r (content m q)) in
-    let F : Form → Type 0 = λ f. Told h2 (λ m. IsAtFirst (spot (stands_in r) (left_of r) r.at) r.form (written.Classic f.nano) (content m name)) in
-    subst F (sym shown_is) (classic_at r name h2 at (subst K (sym (e2 ∙ e1)) (kind_told h0 k name is false named fails kind)) (subst O (sym e2) (subst N named opened)))
-
-pub blocks_not : (T : Type 0) (run : RunJob) (k : List ℕ) → k ≡ run.input → (is : Bool) → is ≡ true → (h0 h1 : Option Contents) (error : CaptureError) (old last : Option (List ℕ × ℕ)) → h1 ≡ h0 → Told h0 (λ m. is ≡ blocks.is_pcapng (content m k)) →
-    Told h1 (λ m. Agrees (Err error) (blocks.header_in (content m k))) → FailsAt (failed_as T error) k (IsInHeader h1 k) old last → Told h0 (λ m. IsUnopened run m last error)
-blocks_not T run k named is holds h0 h1 error old last same kind =
-    let P : List ℕ → Type 0 = λ q. Told h1 (λ m. Agrees (Err error) (blocks.header_in (content m q))) → FailsAt (failed_as T error) q (IsInHeader h1 q) old last → Told h0 (λ m. IsUnopened run m last error) in
-    subst P (sym named) (blocks_unopened T run h0 h1 error old last same (kind_told h0 k run.input is true named holds kind))
-
-pub classic_not : (T : Type 0) (run : RunJob) (k : List ℕ) → k ≡ run.input → (is : Bool) → is ≡ false → (h0 h1 : Option Contents) (error : CaptureError) (old last : Option (List ℕ × ℕ)) → h1 ≡ h0 → Told h0 (λ m. is ≡ blocks.is_pcapng (content m k)) →
-    Told h1 (λ m. Agrees (Err error) (classic_header.header_in (content m k))) → FailsAt (failed_as T error) k (λ place. place < 24) old last → Told h0 (λ m. IsUnopened run m last error)
-classic_not T run k named is fails h0 h1 error old last same kind =
-    let P : List ℕ → Type 0 = λ q. Told h1 (λ m. Agrees (Err error) (classic_header.header_in (content m q))) → FailsAt (failed_as T error) q (λ place. place < 24) old last → Told h0 (λ m. IsUnopened run m last error) in
-    subst P (sym named) (classic_unopened T run h0 h1 error old last same (kind_told h0 k run.input is false named fails kind))
+pub opened_first : (r : Reader) (w : Written) → w ≡ written_as r → IsFresh r → (k name : List ℕ) → k ≡ name → (h0 h1 : Option Contents) → h1 ≡ h0
+    → Told h0 (λ m. OpensEither (Ok r) (content m k)) → Told h1 (λ m. IsAtFirst (spot_of r) (form_either r) w (content m name))
+opened_first r w w_is fresh k name named h0 h1 same opened =
+    let N : List ℕ → Type 0 = λ q. Told h0 (λ m. OpensEither (Ok r) (content m q)) in
+    let H : Option Contents → Type 0 = λ h. Told h (λ m. OpensEither (Ok r) (content m name)) in
+    let W : Written → Type 0 = λ v. Told h1 (λ m. IsAtFirst (spot_of r) (form_either r) v (content m name)) in
+    subst W (sym w_is) (opened_told r name h1 fresh (subst H (sym same) (subst N named opened)))
 
 -- what is left under slots that were shown
 pub slots_shown : (run : RunJob) (plan : Tables) (shown slots : List Slot) → shown ≡ slots → (result : Status) (a b : Option Contents) (said now : Option (List ℕ)) (last : Option (List ℕ × ℕ)) (history : Option HistoryValue) →

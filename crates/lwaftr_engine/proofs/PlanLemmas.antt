@@ -1,10 +1,14 @@
 -- The plan of the loads that were read, in the words of what their files say.
-use Rattle.std.proofs.Common.{◌≡◌, ℕ, zero, suc, ◌+◌, ◌<◌, List, [], ◌∷◌, ◌++◌, length, get_or, Ok, Err, refl, sym, ◌∙◌, ap, subst, arith}
+use Rattle.std.proofs.Common.{◌≡◌, ℕ, cond, count_by, zero, suc, ◌+◌, ◌<◌, List, [], ◌∷◌, ◌++◌, length, get_or, Ok, Err, refl, sym, ◌∙◌, ap, subst, arith}
 use Rattle.std.specs.Prelude.{slice_index_or}
 use Rattle.aftr_base.specs.Contents.{Contents}
 use Rattle.aftr_text.specs.declared.jobs.LoadWords.{LoadWords}
 use Rattle.binding_file.specs.declared.refusals.FileRefused.{FileRefused}
 use Rattle.binding_rules.specs.Tables.{BindingTable}
+use Rattle.std.proofs.lemmas.List.Sums.{sum_by-cons}
+use Rattle.aftr_text.specs.declared.jobs.RunJob.{RunJob}
+use Rattle.lwaftr_engine.specs.Ended.{AreNumbered, AreSlotsOf}
+use Rattle.lwaftr_engine.specs.Fronts.{is_table}
 use Rattle.lwaftr_engine.specs.Loads.{AreFitFor, AreLoadsOf, IsLoadedAs}
 use Rattle.lwaftr_engine.specs.Planned.{some_slot_refused}
 use Rattle.lwaftr_engine.specs.Runs.{IsPlanOf}
@@ -121,3 +125,28 @@ pub refused_are : (answers : List Answer) (before : ℕ) → some_slot_refused (
 refused_are [] before = refl
 refused_are (Ok t ∷ answers) before = refused_are answers (before + 1)
 refused_are (Err refusal ∷ answers) before = refl
+
+-- the versions of the loads are counted, and each has its window
+numbered_in : (before : ℕ) (answers : List Answer) → AreNumbered before (slots_in before answers)
+numbered_in before [] = tt
+numbered_in before (Ok t ∷ answers) = (refl, numbered_in (before + 1) answers)
+numbered_in before (Err refusal ∷ answers) = numbered_in before answers
+
+windows_count : (m : Contents) (ws : List LoadWords) (answers : List Answer) (before : ℕ) → AreAnswers m ws answers → length (windows_in ws answers) ≡ count_by is_table (slots_in before answers)
+windows_count m [] [] before are = refl
+windows_count m [] (a ∷ answers) before are = absurd are
+windows_count m (w ∷ ws) [] before are = absurd are
+windows_count m (w ∷ ws) (Ok t ∷ answers) before are =
+    omega (arith, windows_count m ws answers (before + 1) are.1, sum_by-cons (λ (s : Slot). cond (is_table s) 1 0) (slot.Version (before + 1)) (slots_in (before + 1) answers))
+windows_count m (w ∷ ws) (Err refusal ∷ answers) before are =
+    omega (arith, windows_count m ws answers before are.1, sum_by-cons (λ (s : Slot). cond (is_table s) 1 0) (slot.Refused refusal) (slots_in before answers))
+
+slots_count : (m : Contents) (ws : List LoadWords) (answers : List Answer) (before : ℕ) → AreAnswers m ws answers → length (slots_in before answers) ≡ length ws
+slots_count m [] [] before are = refl
+slots_count m [] (a ∷ answers) before are = absurd are
+slots_count m (w ∷ ws) [] before are = absurd are
+slots_count m (w ∷ ws) (Ok t ∷ answers) before are = ap suc (slots_count m ws answers (before + 1) are.1)
+slots_count m (w ∷ ws) (Err refusal ∷ answers) before are = ap suc (slots_count m ws answers before are.1)
+
+pub slots_of_run : (run : RunJob) (m : Contents) (answers : List Answer) → AreAnswers m run.loads answers → AreSlotsOf run (windows_in run.loads answers) (slots_in 0 answers)
+slots_of_run run m answers are = record { numbered = numbered_in 0 answers; windows_are = windows_count m run.loads answers 0 are; loads_are = slots_count m run.loads answers 0 are }

@@ -10,11 +10,16 @@ use Rattle.capture_io.specs.declared.rounds.Round.{Round}
 use Rattle.capture_io.specs.declared.forms.Rec.{Rec}
 use Rattle.error_limit.specs.Limits.{Bucket}
 use Rattle.item_stage.specs.declared.entries.Entry.{Entry}
-use Rattle.lwaftr_engine.specs.Progress.{Setup, loads_of}
+use Rattle.std.specs.Prelude.{Bool, false, string_bytes}
+use Rattle.aftr_base.specs.Outside.{OnlyWrites, Outside, Rises}
+use Rattle.lwaftr_engine.specs.Progress.{ReadsOf, Setup, Spot, Wrote, loads_of}
+use Rattle.lwaftr_engine.specs.Rounds.{HasBegunToWrite}
+use Rattle.lwaftr_engine.specs.declared.rounds.Pending.{Pending}
+use Rattle.run_output.specs.Rendering.{lines_in, packets_in}
 use Rattle.run_output.specs.Versions.{NoneIsDue, between, load_lines, named}
 use Rattle.run_output.specs.declared.parts.Part.{Part}
 use Rattle.worker_gate.specs.declared.outcomes.Outcome.{Outcome}
-use Rattle.lwaftr_engine.proofs.Going.{AreNewLines, AreRendered}
+use Rattle.lwaftr_engine.specs.Underway.{AreNewLines, AreRendered, HasRead, Puts, PutsPart, unwritten}
 
 -- the outcomes are those of the workers
 pub rendered_by : (x : Setup) (start : ℕ) (records : List Rec) (es : List Entry) (shown os : List Outcome) (limit now : Option Bucket) (before after : Totals) (parts : List Part) → shown ≡ os →
@@ -53,3 +58,37 @@ pub follows_of : (h : Option Contents) (name : List ℕ) (Stood Stands : List �
     Told h (λ m. Stood (content m name) → Precedes before now (content m name) number round.records round.number)
 follows_of None name Stood Stands before now number round told = tt
 follows_of (Some m) name Stood Stands before now number round told = λ stood. (told stood).follows
+
+-- what a round wrote, by another writing of it
+pub puts_shown : (x : Setup) (u : Pending) (vs : List ℕ) (parts : List Part) → vs ≡ string_bytes u.versions → parts ≡ u.rendered → (P : (Contents → Contents → Type 0) → Type 0) →
+    P (Wrote x.run vs (packets_in parts) (lines_in parts)) → P (Puts x (unwritten u))
+puts_shown x u vs parts vs_is parts_is P done =
+    let V : List ℕ → Type 0 = λ v. P (Wrote x.run v (packets_in parts) (lines_in parts)) in
+    let Q : List Part → Type 0 = λ ps. P (Wrote x.run (string_bytes u.versions) (packets_in ps) (lines_in ps)) in
+    subst Q parts_is (subst V vs_is done)
+
+pub part_shown : (x : Setup) (u : Pending) (vs : List ℕ) (parts : List Part) → vs ≡ string_bytes u.versions → parts ≡ u.rendered → (P : (Contents → Contents → Type 0) → Type 0) →
+    P (HasBegunToWrite x.run vs (packets_in parts) (lines_in parts)) → P (PutsPart x (unwritten u))
+part_shown x u vs parts vs_is parts_is P done =
+    let V : List ℕ → Type 0 = λ v. P (HasBegunToWrite x.run v (packets_in parts) (lines_in parts)) in
+    let Q : List Part → Type 0 = λ ps. P (HasBegunToWrite x.run (string_bytes u.versions) (packets_in ps) (lines_in ps)) in
+    subst Q parts_is (subst V vs_is done)
+
+-- what was read, where the files hold the same in another writing
+pub read_held : (x : Setup) (before now : Spot) (number : ℕ) (a b : Option Contents) (last : Option (List ℕ × ℕ)) (round : Round) → b ≡ a → HasRead x before now number a last round → HasRead x before now number b last round
+read_held x before now number a b last round is read = let R : Option Contents → Type 0 = λ h. HasRead x before now number h last round in subst R (sym is) read
+
+-- a read behind writes that went well, and writes behind a read
+pub reads_after : (failed : Bool) (name : List ℕ) (a b d : Outside) → OnlyWrites false a b → ReadsOf failed name b d → ReadsOf failed name a d
+reads_after failed name a b d wrote read = record {
+  faults = let R : ℕ → Type 0 = λ n. Rises failed n d.faults in subst R wrote.faults read.faults;
+  lost = let R : ℕ → Type 0 = λ n. Rises failed n d.lost in subst R wrote.lost read.lost;
+  last = let F : Option (List ℕ × ℕ) → Type 0 = λ l. FailsAt failed name (λ _. Unit {0}) l d.last in subst F wrote.last read.last;
+}
+
+pub reads_before : (failed : Bool) (name : List ℕ) (a b d : Outside) → ReadsOf failed name a b → OnlyWrites false b d → ReadsOf failed name a d
+reads_before failed name a b d read wrote = record {
+  faults = let R : ℕ → Type 0 = λ n. Rises failed a.faults n in subst R (sym wrote.faults) read.faults;
+  lost = let R : ℕ → Type 0 = λ n. Rises failed a.lost n in subst R (sym wrote.lost) read.lost;
+  last = let F : Option (List ℕ × ℕ) → Type 0 = λ l. FailsAt failed name (λ _. Unit {0}) a.last l in subst F (sym wrote.last) read.last;
+}

@@ -11,7 +11,7 @@ use Rattle.area_swap.specs.Histories.{HistoryValue}
 use Rattle.binding_file.specs.Files.{TableOf}
 use Rattle.binding_rules.specs.Tables.{BindingTable}
 use Rattle.lwaftr_engine.specs.Causes.{FailsIn, HasCause, IsReadOf}
-use Rattle.lwaftr_engine.specs.Endings.{table_names}
+use Rattle.lwaftr_engine.specs.Endings.{IsBehindTable, table_names}
 use Rattle.lwaftr_engine.specs.Loads.{AreFitFor, AreLoadsOf, OnlyReadsAmong}
 use Rattle.lwaftr_engine.specs.Planned.{IsMade, LeavesMade}
 use Rattle.lwaftr_engine.specs.Promises.{HasHistory, KeepsRun, Leaves}
@@ -62,19 +62,23 @@ module _ (one : AreSingle) (run : RunJob) (t : BindingTable) (ls : List Load) (m
         has_history = has;
       }
 
-unread_by : (run : RunJob) (h : Option Contents) (said : Option (List ℕ)) (last : Option (List ℕ × ℕ)) → IsReadOf (table_names run) last → Moves h h (λ m n. Leaves run status.ReadFault m n said said last None)
-unread_by run None said last failed = tt
-unread_by run (Some m) said last failed = inr (unread_tables run m said last failed)
+unread_by : (run : RunJob) (h : Option Contents) (said : Option (List ℕ)) (last : Option (List ℕ × ℕ)) → IsReadOf (table_names run) last → Told h (λ m. IsBehindTable run m last) → Moves h h (λ m n. Leaves run status.ReadFault m n said said last None)
+unread_by run None said last failed accepted = tt
+unread_by run (Some m) said last failed accepted = inr (unread_tables run m said last failed accepted)
+
+accepted_by : (run : RunJob) (h : Option Contents) (t : BindingTable) (last : Option (List ℕ × ℕ)) → Told h (λ m. TableOf (content m run.table) (Ok t)) → Told h (λ m. IsBehindTable run m last)
+accepted_by run None t last told = tt
+accepted_by run (Some m) t last told = λ name place last_is apart. (t, told)
 
 no_due : (P : Contents → Type 0) (h : Option Contents) → ((m : Contents) → P m) → Told h P
 no_due P None all = tt
 no_due P (Some m) all = all m
 
 -- a read of a load's file failed
-pub keeps_unread : {T : Type 0} (run : RunJob) (r : Result T Fault) → r ≡ Err fault.Failed → (k : List ℕ) (ws : List LoadWords) → ws ≡ run.loads → (a b d : Outside) (said : Option (List ℕ)) (puts : ℕ) (history : Option HistoryValue) → history ≡ None →
-    OnlyReads false k (λ _. Unit {0}) a b → OnlyReadsAmong (has_failed r) (map (λ (load : LoadWords). load.name) ws) b d →
+pub keeps_unread : {T : Type 0} (run : RunJob) (t : BindingTable) (r : Result T Fault) → r ≡ Err fault.Failed → (k : List ℕ) → k ≡ run.table → (ws : List LoadWords) → ws ≡ run.loads → (a b d : Outside) (said : Option (List ℕ)) (puts : ℕ) (history : Option HistoryValue) → history ≡ None →
+    OnlyReads false k (λ _. Unit {0}) a b → OnlyReadsAmong (has_failed r) (map (λ (load : LoadWords). load.name) ws) b d → Told a.held (λ m. TableOf (content m k) (Ok t)) →
     KeepsRun run status.ReadFault (world a said puts) (world d said puts) history
-keeps_unread {T} run r r_is k ws ws_is a b d said puts history none read reads =
+keeps_unread {T} run t r r_is k k_is ws ws_is a b d said puts history none read reads table =
     let B : Result T Fault → Type 0 = λ q. OnlyReadsAmong (has_failed q) (map (λ (load : LoadWords). load.name) ws) b d in
     let N : List LoadWords → Type 0 = λ l. OnlyReadsAmong true (map (λ (load : LoadWords). load.name) l) b d in
     let A : Outside → Type 0 = λ o. OnlyReadsAmong true (map (λ (load : LoadWords). load.name) run.loads) o d in
@@ -83,7 +87,7 @@ keeps_unread {T} run r r_is k ws ws_is a b d said puts history none read reads =
     let H : Option HistoryValue → Type 0 = λ x. Moves a.held d.held (λ m n. Leaves run status.ReadFault m n said said d.last x) in
     let M : Option Contents → Type 0 = λ h. Moves a.held h (λ m n. Leaves run status.ReadFault m n said said d.last None) in
     record {
-      files = subst H (sym none) (subst M (sym only.held) (unread_by run a.held said d.last failed));
+      files = subst H (sym none) (subst M (sym only.held) (unread_by run a.held said d.last failed (accepted_by run a.held t d.last (named_table a.held k run.table t k_is table))));
       others = others_same run a.held d.held only.held;
       due = no_due _ a.held (λ m s asked. inr tt);
       cause = record { lost = only.lost; spoiled = only.spoiled; puts = refl };

@@ -13,11 +13,12 @@ use Rattle.lwaftr_engine.specs.Planned.{IsEarly, LeavesMade, unopened_status}
 use Rattle.lwaftr_engine.specs.Runs.{OthersKept}
 use Rattle.lwaftr_engine.specs.declared.status.Status.{Status}
 use Rattle.pcapng_io.specs.Answers.{IsInHeader}
+use Rattle.pcapng_io.specs.Either.{IsInHead, IsInHeadBy, OpensEither, RefusesBy}
+use Rattle.pcapng_io.specs.declared.either.Reader.{Reader}
 use Rattle.pcapng_io.specs.Captures as blocks
-use Rattle.pcapng_io.specs.Files.{IsFault}
 use Rattle.reload_plan.specs.declared.loads.Slot.{Slot}
 use Rattle.swap_core.specs.Plans.{Tables}
-use Rattle.lwaftr_engine.proofs.JobLemmas.{early_blocks, early_classic, early_kind}
+use Rattle.lwaftr_engine.proofs.JobLemmas.{early_blocks, early_classic}
 
 -- a read failed, by an answer of some call
 abbrev pub failed_as : (T : Type 0) → CaptureError → Bool
@@ -29,29 +30,12 @@ IsUnopened run m last (failure.Bad refusal) = header_of (content m run.input) �
 IsUnopened run m last failure.ReadFault = IsEarly run.input (content m run.input) last
 IsUnopened run m last failure.OutOfMemory = Unit {0}
 
-kind_by : (T : Type 0) (run : RunJob) (m : Contents) (error : CaptureError) (old last : Option (List ℕ × ℕ)) → IsFault error → FailsAt (failed_as T error) run.input (λ place. place < 4) old last → IsUnopened run m last error
-kind_by T run m (failure.Bad refusal) old last fault failed = absurd fault
-kind_by T run m failure.ReadFault old last fault failed = early_kind run.input (content m run.input) old last failed
-kind_by T run m failure.OutOfMemory old last fault failed = tt
-
--- which kind of file it is was not told
-pub kind_unopened : (T : Type 0) (run : RunJob) (h : Option Contents) (error : CaptureError) (old last : Option (List ℕ × ℕ)) → IsFault error → FailsAt (failed_as T error) run.input (λ place. place < 4) old last → Told h (λ m. IsUnopened run m last error)
-kind_unopened T run None error old last fault failed = tt
-kind_unopened T run (Some m) error old last fault failed = kind_by T run m error old last fault failed
-
 classic_by : (T : Type 0) (run : RunJob) (m : Contents) (error : CaptureError) (old last : Option (List ℕ × ℕ)) → false ≡ blocks.is_pcapng (content m run.input) → Agrees (Err error) (classic_header.header_in (content m run.input)) →
     FailsAt (failed_as T error) run.input (λ place. place < 24) old last → IsUnopened run m last error
 classic_by T run m (failure.Bad refusal) old last kind agrees failed =
     let H : Bool → Type 0 = λ b. header_by b (content m run.input) ≡ Err refusal in subst H kind (ap in_classic agrees)
 classic_by T run m failure.ReadFault old last kind agrees failed = early_classic run.input (content m run.input) old last kind failed
 classic_by T run m failure.OutOfMemory old last kind agrees failed = tt
-
-pub classic_unopened : (T : Type 0) (run : RunJob) (h0 h1 : Option Contents) (error : CaptureError) (old last : Option (List ℕ × ℕ)) → h1 ≡ h0 → Told h0 (λ m. false ≡ blocks.is_pcapng (content m run.input)) →
-    Told h1 (λ m. Agrees (Err error) (classic_header.header_in (content m run.input))) → FailsAt (failed_as T error) run.input (λ place. place < 24) old last → Told h0 (λ m. IsUnopened run m last error)
-classic_unopened T run None h1 error old last same kind agrees failed = tt
-classic_unopened T run (Some m) h1 error old last same kind agrees failed =
-    let G : Option Contents → Type 0 = λ h. Told h (λ m. Agrees (Err error) (classic_header.header_in (content m run.input))) in
-    classic_by T run m error old last kind (subst G same agrees) failed
 
 blocks_by : (T : Type 0) (run : RunJob) (m : Contents) (error : CaptureError) (old last : Option (List ℕ × ℕ)) → true ≡ blocks.is_pcapng (content m run.input) → Agrees (Err error) (blocks.header_in (content m run.input)) →
     FailsAt (failed_as T error) run.input (IsInHeader (Some m) run.input) old last → IsUnopened run m last error
@@ -60,13 +44,22 @@ blocks_by T run m (failure.Bad refusal) old last kind agrees failed =
 blocks_by T run m failure.ReadFault old last kind agrees failed = early_blocks m run.input old last kind failed
 blocks_by T run m failure.OutOfMemory old last kind agrees failed = tt
 
-pub blocks_unopened : (T : Type 0) (run : RunJob) (h0 h1 : Option Contents) (error : CaptureError) (old last : Option (List ℕ × ℕ)) → h1 ≡ h0 → Told h0 (λ m. true ≡ blocks.is_pcapng (content m run.input)) →
-    Told h1 (λ m. Agrees (Err error) (blocks.header_in (content m run.input))) → FailsAt (failed_as T error) run.input (IsInHeader h1 run.input) old last → Told h0 (λ m. IsUnopened run m last error)
-blocks_unopened T run None h1 error old last same kind agrees failed = tt
-blocks_unopened T run (Some m) h1 error old last same kind agrees failed =
-    let G : Option Contents → Type 0 = λ h. Told h (λ m. Agrees (Err error) (blocks.header_in (content m run.input))) in
-    let F : Option Contents → Type 0 = λ h. FailsAt (failed_as T error) run.input (IsInHeader h run.input) old last in
-    blocks_by T run m error old last kind (subst G same agrees) (subst F same failed)
+-- which format it is, is told by the bytes
+by_format : (run : RunJob) (m : Contents) (error : CaptureError) (old last : Option (List ℕ × ℕ)) (is : Bool) → is ≡ blocks.is_pcapng (content m run.input)
+    → RefusesBy error is (content m run.input) → FailsAt (failed_as Reader error) run.input (IsInHeadBy is (content m run.input)) old last → IsUnopened run m last error
+by_format run m error old last true kind refuses failed = blocks_by Reader run m error old last kind refuses failed
+by_format run m error old last false kind refuses failed = classic_by Reader run m error old last kind refuses failed
+
+by_name : (run : RunJob) (h : Option Contents) (error : CaptureError) (old last : Option (List ℕ × ℕ)) → Told h (λ m. OpensEither (Err error) (content m run.input))
+    → FailsAt (failed_as Reader error) run.input (IsInHead h run.input) old last → Told h (λ m. IsUnopened run m last error)
+by_name run None error old last opened failed = tt
+by_name run (Some m) error old last opened failed = by_format run m error old last (blocks.is_pcapng (content m run.input)) refl opened failed
+
+pub either_unopened : (run : RunJob) (h : Option Contents) (k : List ℕ) → k ≡ run.input → (error : CaptureError) (old last : Option (List ℕ × ℕ))
+    → Told h (λ m. OpensEither (Err error) (content m k)) → FailsAt (failed_as Reader error) k (IsInHead h k) old last → Told h (λ m. IsUnopened run m last error)
+either_unopened run h k named error old last =
+    let P : List ℕ → Type 0 = λ q. Told h (λ m. OpensEither (Err error) (content m q)) → FailsAt (failed_as Reader error) q (IsInHead h q) old last → Told h (λ m. IsUnopened run m last error) in
+    subst P (sym named) (by_name run h error old last)
 
 leaves_by_error : (run : RunJob) (plan : Tables) (slots : List Slot) (error : CaptureError) (m : Contents) (said : Option (List ℕ)) (last : Option (List ℕ × ℕ)) → IsUnopened run m last error →
     LeavesMade run plan slots (unopened_status error) m m said said last None

@@ -5,7 +5,7 @@ use Rattle.capture_io.specs.declared.forms.CaptureBad.{CaptureBad}
 use Rattle.capture_io.specs.declared.forms.Rec.{Rec}
 use Rattle.error_limit.specs.Limits.{Bucket}
 use Rattle.item_stage.specs.Items.{entries_of}
-use Rattle.lwaftr_engine.specs.Progress.{HasWritten, IsLimitedRun, Mark, Setup, Suits, loads_of}
+use Rattle.lwaftr_engine.specs.Progress.{HasWritten, IsUpToDate, IsLimitedRun, Mark, Setup, Suits, loads_of}
 use Rattle.run_output.specs.Limiting.{HasAsked, rate_of}
 use Rattle.run_output.specs.Outputs.{Course, lines_from, packets_from}
 use Rattle.run_output.specs.Versions.{NoneIsDue, load_lines}
@@ -36,7 +36,8 @@ pub record HasBegun (x : Setup) (c : Course) (points : List ℕ) (opened now : C
       WroteFronts x (load_lines points (loads_of x)) (packets_from c x.written 0 taken (entries_of x.form taken)) (lines_from c 0 (entries_of x.form taken)) opened now
   pub told : IsLimitedRun x c taken → length (load_lines points (take loads (loads_of x))) + length (content opened x.run.versions) ≤ length (content now x.run.versions)
 
--- Rounds were ended by a fault: the next records of the capture were taken, and fronts of what they write were written.
+-- Rounds were ended by a fault: the next records of the capture were taken, and fronts of what they write were written, whichever
+-- points come later. No more records were drawn than there are.
 pub record IsBrokenFrom (x : Setup) (plan : Tables) (draws : List (ℕ × ℕ)) (points : List ℕ) (a : Mark) (now : Contents) : Type 0 where
   pub input : content now x.run.input ≡ content a.held x.run.input
   pub records : List Rec
@@ -45,7 +46,9 @@ pub record IsBrokenFrom (x : Setup) (plan : Tables) (draws : List (ℕ × ℕ)) 
   pub capture : a.reader.stood (content a.held x.run.input) → a.reader.left (content a.held x.run.input) a.progress.number (records ++ rest) ended
   pub limit : Option Bucket
   pub rate : rate_of limit ≡ x.run.errors
-  pub begun : (c : Course) → Suits plan draws c → (opened : Contents) (taken : List Rec) → HasWritten x c opened a taken → HasBegun x c points opened now (taken ++ records) limit
+  pub drawn : length draws ≤ a.progress.number + length (records ++ rest)
+  pub up_to_date : IsUpToDate plan (length draws) points
+  pub begun : (later : List ℕ) (c : Course) → Suits plan draws c → (opened : Contents) (taken : List Rec) → HasWritten x c opened a taken → HasBegun x c (points ++ later) opened now (taken ++ records) limit
 
 abbrev pub Breaks : Setup → Tables → List (ℕ × ℕ) → List ℕ → Mark → Contents → Type 0
 Breaks x plan draws points a now = a.reader.stood (content a.held x.run.input) → IsBrokenFrom x plan draws points a now

@@ -81,10 +81,9 @@ pub record IsInRecords (run : RunJob) (old : Contents) (last : Option (List ℕ 
   pub behind : (4 ≤ place) × ((header.has_end ≡ true) × (header.ends_at ≤ place))
   pub apart : Contains (table_names run) run.input → ⊥
 
--- The table files are read before the capture: where the read that failed is one of the capture, and no table is read from the
--- capture's file, the first table is accepted.
+-- The first table is read before all else: where the read that failed is one of another file, the first table is accepted.
 abbrev pub IsBehindTable : RunJob → Contents → Option (List ℕ × ℕ) → Type 0
-IsBehindTable run old last = (place : ℕ) → last ≡ Some (run.input, place) → (Contains (table_names run) run.input → ⊥) →
+IsBehindTable run old last = (name : List ℕ) (place : ℕ) → last ≡ Some (name, place) → (name ≡ run.table → ⊥) →
     (first : BindingTable) × TableOf (content old run.table) (Ok first)
 
 -- A read failed before the outputs were made, and nothing was written.

@@ -1,8 +1,8 @@
 -- What the outputs hold where a run was ended by a file or a sink that cannot be written, or for want of memory.
-use Rattle.std.specs.Prelude.{◌≡◌, ◌⊎◌, ℕ, ◌<◌, ◌≤◌, nat_lt, Bool, true, false, List, ◌++◌, length, take, drop, Option, None, Ok}
+use Rattle.std.specs.Prelude.{◌≡◌, ◌⊎◌, ℕ, suc, ◌-◌, ◌≤◌, nat_le, nat_lt, Bool, true, false, if◌then◌else◌, List, [], ◌∷◌, ◌++◌, All, count_by, length, take, Option, Some, None, Ok}
 use Rattle.std.specs.Option.{option_map}
 use Rattle.aftr_base.specs.Contents.{Contents, content}
-use Rattle.aftr_text.specs.Lines.{summary_text}
+use Rattle.aftr_text.specs.Lines.{initial_text, summary_text}
 use Rattle.aftr_text.specs.declared.jobs.RunJob.{RunJob}
 use Rattle.area_swap.specs.Histories.{HistoryValue}
 use Rattle.binding_rules.specs.Tables.{BindingTable}
@@ -10,16 +10,17 @@ use Rattle.capture_io.specs.declared.forms.CaptureBad.{CaptureBad}
 use Rattle.capture_io.specs.declared.forms.Form.{Form}
 use Rattle.capture_io.specs.declared.forms.Rec.{Rec}
 use Rattle.capture_io.specs.declared.written.Written.{Written}
-use Rattle.lwaftr_engine.specs.Endings.{AreTables}
+use Rattle.lwaftr_engine.specs.Endings.{AreTables, IsBehind}
 use Rattle.lwaftr_engine.specs.Inputs.{Header, IsInput, header_of}
 use Rattle.lwaftr_engine.specs.Runs.{OthersKept}
 use Rattle.lwaftr_engine.specs.Tables.{Answer, slots_in, table_by, windows_in}
 use Rattle.item_stage.specs.Items.{entries_of}
 use Rattle.reload_plan.specs.declared.loads.Slot.{Slot}
+use Rattle.reload_plan.specs.declared.loads.Slot.TheVariants as slot
 use Rattle.run_output.specs.Limiting.{IsLimited}
 use Rattle.run_output.specs.Outputs.{Course, output_of, totals_of, verdicts_of}
-use Rattle.run_output.specs.Versions.{NoneIsDue, named, versions_of}
-use Rattle.swap_core.specs.Points.{AreInWindows, in_force}
+use Rattle.run_output.specs.Versions.{NamedSlot, named, slot_text, versions_of}
+use Rattle.swap_core.specs.Points.{AreAllPoints, in_force}
 use Rattle.swap_core.specs.declared.plan.Window.{Window}
 
 -- the first bytes of these
@@ -31,12 +32,32 @@ abbrev pub HoldsFront : Bool → List ℕ → List ℕ → List ℕ → Type 0
 HoldsFront true due old new = IsFrontOf due new
 HoldsFront false due old new = new ≡ old
 
--- The points of the tables that came into force by the end, of which the first ones were in force for the records whose packets
--- and lines may stand in the outputs. Their lines, and those of the loads before them, are written.
-pub record ArePrinted (slots : List Slot) (points printed : List ℕ) (loads : ℕ) : Type 0 where
-  pub later : List ℕ
-  pub all : points ≡ printed ++ later
-  pub none_left : NoneIsDue printed (drop loads slots)
+-- how many of the loads' lines, from the first one on, stand whole in so many bytes
+abbrev pub whole_lines : List ℕ → ℕ → List NamedSlot → ℕ
+whole_lines points size [] = 0
+whole_lines points size (load ∷ loads) =
+    if nat_le (length (slot_text points load.name load.slot)) size then suc (whole_lines points (size - length (slot_text points load.name load.slot)) loads) else 0
+
+abbrev pub is_table : Slot → Bool
+is_table (slot.Version version) = true
+is_table (slot.Refused cause) = false
+
+-- the points of the tables whose lines VERSIONS holds whole
+abbrev pub told_points : RunJob → List Slot → List ℕ → List ℕ → List ℕ
+told_points run slots points text =
+    take (count_by is_table (take (whole_lines points (length text - length (initial_text run.table)) (named run.loads slots)) slots)) points
+
+-- none where VERSIONS was not made
+abbrev pub shown_points : Bool → RunJob → List Slot → List ℕ → List ℕ → List ℕ
+shown_points true run slots points text = told_points run slots points text
+shown_points false run slots points text = []
+
+-- the course of these records under tables that came into force at these points
+pub record IsUnder (tables : ℕ → BindingTable) (points : List ℕ) (errors : Option ℕ) (form : Form) (rs : List Rec) (c : Course) : Type 0 where
+  pub tables_are : c.tables ≡ tables
+  pub in_force_are : c.version ≡ in_force points
+  pub loaded : c.loaded ≡ length points
+  pub limited : IsLimited errors form rs (entries_of form rs) c
 
 -- The outputs are whole, and the sink took a front of the summary.
 pub record IsAtSummary (run : RunJob) (slots : List Slot) (c : Course) (points : List ℕ) (form : Form) (written : Written) (rs : List Rec) (new : Contents) (said now : Option (List ℕ)) : Type 0 where
@@ -46,43 +67,51 @@ pub record IsAtSummary (run : RunJob) (slots : List Slot) (c : Course) (points :
   pub count : ℕ
   pub took : now ≡ option_map (λ taken. taken ++ take count (summary_text (totals_of c form rs))) said
 
--- So many outputs were made, in the order of OUT, VERDICTS and VERSIONS. Each holds a front of what is due for records that are the
--- first ones of the capture; a record's packets and line come only behind the line of the table that was in force for it. The sink
--- took nothing, or all outputs are whole and it took a front of the summary.
+-- So many outputs were made, in the order of OUT, VERDICTS and VERSIONS. There are points for all tables whose windows open by the
+-- last of the records. VERSIONS holds a front of what is due for these points; OUT and VERDICTS hold fronts of what is due for all
+-- records under those tables alone whose lines VERSIONS holds whole. The sink took nothing, or all outputs are whole and it took a
+-- front of the summary.
 pub record IsFront (run : RunJob) (tables : ℕ → BindingTable) (windows : List Window) (slots : List Slot) (form : Form) (written : Written) (rs : List Rec) (old new : Contents) (said now : Option (List ℕ)) : Type 0 where
   pub made : ℕ
   pub points : List ℕ
-  pub drawn : ℕ
-  pub placed : AreInWindows windows points drawn
+  pub placed : AreAllPoints windows points (length rs)
   pub course : Course
-  pub tables_are : course.tables ≡ tables
-  pub in_force_are : course.version ≡ in_force points
-  pub limited : IsLimited run.errors form rs (entries_of form rs) course
-  pub printed : List ℕ
-  pub loads : ℕ
-  pub are_printed : ArePrinted slots points printed loads
-  pub spoken : (number : ℕ) → number < length rs → course.version number ≤ length printed
-  pub told : 0 < length rs → length (versions_of run.table (take loads (named run.loads slots)) points) ≤ length (content new run.versions)
-  pub output : HoldsFront (nat_lt 0 made) (output_of course written form rs) (content old run.output) (content new run.output)
-  pub verdicts : HoldsFront (nat_lt 1 made) (verdicts_of course form rs) (content old run.verdicts) (content new run.verdicts)
+  pub under_all : IsUnder tables points run.errors form rs course
+  pub shown : Course
+  pub under_told : IsUnder tables (shown_points (nat_lt 2 made) run slots points (content new run.versions)) run.errors form rs shown
+  pub output : HoldsFront (nat_lt 0 made) (output_of shown written form rs) (content old run.output) (content new run.output)
+  pub verdicts : HoldsFront (nat_lt 1 made) (verdicts_of shown form rs) (content old run.verdicts) (content new run.verdicts)
   pub versions : HoldsFront (nat_lt 2 made) (versions_of run.table (named run.loads slots) points) (content old run.versions) (content new run.versions)
   pub others : OthersKept run old new
   pub sink : (now ≡ said) ⊎ IsAtSummary run slots course points form written rs new said now
 
--- the run began under a header that is accepted, and was ended by a fault
-pub record IsBroken (run : RunJob) (tables : ℕ → BindingTable) (windows : List Window) (slots : List Slot) (old new : Contents) (said now : Option (List ℕ)) : Type 0 where
-  pub header : Header
-  pub sound : header_of (content old run.input) ≡ Ok header
-  pub taken : List Rec
+-- These are the records that end at or before the place of the read that failed: the next one, if there is one, ends behind it.
+pub record AreBefore (run : RunJob) (old : Contents) (header : Header) (rs : List Rec) (last : Option (List ℕ × ℕ)) : Type 0 where
   pub rest : List Rec
   pub ending : Option CaptureBad
-  pub capture : IsInput (content old run.input) header (taken ++ rest) ending
-  pub front : IsFront run tables windows slots header.form header.written taken old new said now
+  pub capture : IsInput (content old run.input) header (rs ++ rest) ending
+  pub place : ℕ
+  pub last_is : last ≡ Some (run.input, place)
+  pub in_records : header.ends_at ≤ place
+  pub reached : All (λ r. r.next_at ≤ place) rs
+  pub next : IsBehind place rest
+
+-- these are all whole records of the capture, or those before the read that failed
+abbrev pub AreTaken : RunJob → Contents → Header → List Rec → Option (List ℕ × ℕ) → Type 0
+AreTaken run old header rs last = ((ending : Option CaptureBad) × IsInput (content old run.input) header rs ending) ⊎ AreBefore run old header rs last
+
+-- the run began under a header that is accepted, and was ended by a fault
+pub record IsBroken (run : RunJob) (tables : ℕ → BindingTable) (windows : List Window) (slots : List Slot) (old new : Contents) (said now : Option (List ℕ)) (last : Option (List ℕ × ℕ)) : Type 0 where
+  pub header : Header
+  pub sound : header_of (content old run.input) ≡ Ok header
+  pub records : List Rec
+  pub taken : AreTaken run old header records last
+  pub front : IsFront run tables windows slots header.form header.written records old new said now
 
 -- it began under tables that are accepted
-pub record IsBrokenRun (run : RunJob) (old new : Contents) (said now : Option (List ℕ)) (history : Option HistoryValue) : Type 0 where
+pub record IsBrokenRun (run : RunJob) (old new : Contents) (said now : Option (List ℕ)) (last : Option (List ℕ × ℕ)) (history : Option HistoryValue) : Type 0 where
   pub first : BindingTable
   pub answers : List Answer
   pub tables : AreTables run old first answers
-  pub broken : IsBroken run (table_by first answers) (windows_in run.loads answers) (slots_in 0 answers) old new said now
+  pub broken : IsBroken run (table_by first answers) (windows_in run.loads answers) (slots_in 0 answers) old new said now last
   pub none : history ≡ None

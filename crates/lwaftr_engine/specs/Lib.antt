@@ -1,5 +1,5 @@
 -- The promises of the program's call stand in Promises, Questions, Migrations and Demos, over Causes, Endings, Fronts, Inputs, Runs,
--- Statuses, Tables and Worlds. What stands in Answered, Broken, Ended, Finishing, Loads, Opened, Planned, Progress, Rounds and Shows is
+-- Statuses, Tables and Worlds. What stands in Answered, Broken, Ended, Finishing, Loads, Opened, Planned, Progress, Rounds, Shows and Underway is
 -- for the parts of the engine alone.
 pub mod Causes
 pub mod Demos
@@ -23,3 +23,4 @@ pub mod Ended
 pub mod Finishing
 pub mod Planned
 pub mod Shows
+pub mod Underway

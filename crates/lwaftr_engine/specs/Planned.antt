@@ -15,6 +15,7 @@ use Rattle.capture_io.specs.declared.forms.Rec.{Rec}
 use Rattle.capture_io.specs.declared.rounds.Ending.{Ending}
 use Rattle.capture_io.specs.declared.rounds.Ending.TheVariants as ending
 use Rattle.capture_io.specs.declared.written.Written.{Written}
+use Rattle.lwaftr_engine.specs.Ended.{AreSlotsOf}
 use Rattle.lwaftr_engine.specs.Endings.{IsCut, IsUntouched, IsWhole}
 use Rattle.lwaftr_engine.specs.Fronts.{IsBroken}
 use Rattle.lwaftr_engine.specs.Inputs.{Header, IsInput, header_of}
@@ -89,9 +90,9 @@ LeavesBy run tables windows slots (status.BadCapture refusal) old new said now l
     IsWhole run tables windows slots old new said now history (Some refusal) ⊎ ((header_of (content old run.input) ≡ Err refusal) × IsUntouched old new said now history)
 LeavesBy run tables windows slots status.ReadFault old new said now last history =
     IsCut run tables windows slots old new said now history last ⊎ (IsEarly run.input (content old run.input) last × IsUntouched old new said now history)
-LeavesBy run tables windows slots status.WriteFault old new said now last history = IsBroken run tables windows slots old new said now × (history ≡ None)
+LeavesBy run tables windows slots status.WriteFault old new said now last history = (AreSlotsOf run windows slots → IsBroken run tables windows slots old new said now last) × (history ≡ None)
 LeavesBy run tables windows slots status.OutOfMemory old new said now last history =
-    IsUntouched old new said now history ⊎ (IsBroken run tables windows slots old new said now × (history ≡ None))
+    IsUntouched old new said now history ⊎ ((AreSlotsOf run windows slots → IsBroken run tables windows slots old new said now last) × (history ≡ None))
 LeavesBy run tables windows slots _ old new said now last history = ⊥
 
 abbrev pub LeavesMade : RunJob → Tables → List Slot → Status → Contents → Contents → Option (List ℕ) → Option (List ℕ) → Option (List ℕ × ℕ) → Option HistoryValue → Type 0

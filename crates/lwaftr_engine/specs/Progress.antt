@@ -1,5 +1,5 @@
 -- How far a run has come, and what its outputs hold by then.
-use Rattle.std.specs.Prelude.{◌≡◌, ◌≢◌, ℕ, ◌^◌, ◌<◌, ◌≤◌, ◌⊎◌, Bool, true, false, List, [], ◌∷◌, ◌++◌, length, take, drop, All, Option, Some, None}
+use Rattle.std.specs.Prelude.{◌≡◌, ◌≢◌, ℕ, ◌+◌, ◌^◌, ◌<◌, ◌≤◌, ◌⊎◌, Bool, true, false, List, [], ◌∷◌, ◌++◌, length, take, drop, All, Option, Some, None}
 use Rattle.aftr_base.specs.Contents.{Contents, content}
 use Rattle.aftr_base.specs.Outside.{FailsAt, Outside, Rises, Rose}
 use Rattle.aftr_text.specs.declared.jobs.RunJob.{RunJob}
@@ -22,7 +22,7 @@ use Rattle.run_output.specs.Counting.{IsWithin, no_totals, totals_from}
 use Rattle.run_output.specs.Limiting.{HasAsked, IsLimited, rate_of}
 use Rattle.run_output.specs.Outputs.{Course, lines_from, packets_from}
 use Rattle.run_output.specs.Versions.{NamedSlot, NoneIsDue, load_lines, named}
-use Rattle.swap_core.specs.Plans.{Tables, table}
+use Rattle.swap_core.specs.Plans.{Tables, table, window}
 use Rattle.table_words.specs.Layout.{IsCompiled}
 
 -- what a run is told before its first record
@@ -74,6 +74,10 @@ pub record IsOnDuty (plan : Tables) (s : Shift) : Type 0 where
   pub whole : HasWholeShare s.seat.known
   pub rests : IsResting s.desk.known
   pub room : s.crew.room ≡ 16384
+
+-- How far tables are told of behind so many draws: none was made, or no table is left, or its window is not open yet.
+abbrev pub IsUpToDate : Tables → ℕ → List ℕ → Type 0
+IsUpToDate plan drawn points = (drawn ≡ 0) ⊎ ((length plan.tables ≤ length points + 1) ⊎ (drawn < (window plan (length points + 1)).earliest))
 
 -- what rounds add: draws and points behind those that there were
 pub record AddsTo (before now : Shift) : Type 0 where

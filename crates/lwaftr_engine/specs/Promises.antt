@@ -27,9 +27,9 @@ Leaves run status.ReadFault old new said now last history =
     IsCutRun run old new said now history last ⊎ IsUnread run old new said now history last
 Leaves run (status.BadTable refusal) old new said now last history =
     TableOf (content old run.table) (Err refusal) × IsUntouched old new said now history
-Leaves run status.WriteFault old new said now last history = IsBrokenRun run old new said now history
+Leaves run status.WriteFault old new said now last history = IsBrokenRun run old new said now last history
 Leaves run status.OutOfMemory old new said now last history =
-    IsUntouched old new said now history ⊎ IsBrokenRun run old new said now history
+    IsUntouched old new said now history ⊎ IsBrokenRun run old new said now last history
 Leaves run status.Usage old new said now last history = ⊥
 
 -- The status that the table files and the capture ask for, whatever the outside does: the first table's refusal, else the

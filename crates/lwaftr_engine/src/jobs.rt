@@ -20,8 +20,8 @@ use aftr_text::RunJob;
 use area_swap::History;
 use binding_file::one_table;
 use binding_rules::Table;
-use capture_io::{CaptureError, CaptureReader, ClassicReader, Ending, Written, one_reading};
-use pcapng_io::{NgReader, is_ng};
+use capture_io::{CaptureError, CaptureReader, Ending, Written, one_reading};
+use pcapng_io::{NgReader, Reader};
 use reload_plan::{Load, Made, Slot, plan};
 use std::alloc::Global;
 use std::sync::Wait;
@@ -156,41 +156,22 @@ pub fn run_made<R: Threads + Wait + Sync, F: Files, O: Sink, G: Gate + Sync>(
     ensures failed_read { FailsIn (job.now.input ∷ []) result (F.outside files.old).last (F.outside files.new).last }
     ensures has_history { HasHistory result history.new }
 {
-    let name = job.input.as_str();
-    match is_ng(alloc, files, name) {
-        Ok(true) => match NgReader::open(alloc, files, name) {
-            Ok(mut reader) => run_opened(
+    match Reader::open(alloc, files, job.input.as_str()) {
+        Ok(mut reader) => {
+            let written = reader.written();
+            run_opened(
                 rt,
                 alloc,
                 files,
                 out,
                 job,
                 made,
-                Written::Blocks,
+                written,
                 &mut reader,
                 gate,
                 history,
-            ),
-            Err(error) => unopened(error),
-        },
-        Ok(false) => match ClassicReader::open(alloc, files, name) {
-            Ok(mut reader) => {
-                let nano = reader.form().nano;
-                run_opened(
-                    rt,
-                    alloc,
-                    files,
-                    out,
-                    job,
-                    made,
-                    Written::Classic { nano },
-                    &mut reader,
-                    gate,
-                    history,
-                )
-            }
-            Err(error) => unopened(error),
-        },
+            )
+        }
         Err(error) => unopened(error),
     }
 }

@@ -1,12 +1,16 @@
-// The records of a capture, taken in rounds: read, judged and written.
-ghost use Rattle.std.specs.Prelude.{◌≡◌, ◌<◌, ◌≤◌, ℕ, List, All, IfOk, IfErr, OnOk, None, Some, length};
+// The records of a capture, taken in rounds: while one is judged, what the one before it writes is put into the outputs, and then
+// the next one is read.
+ghost use Rattle.std.specs.Prelude.{◌≡◌, ◌<◌, ◌≤◌, ◌^◌, ℕ, List, [], All, IfOk, IfErr, OnOk, None, Some, length, string_bytes};
+ghost use Rattle.std.specs.Thread.{IsSync};
 ghost use Rattle.aftr_base.specs.Contents.{Contents, Moves, content};
-ghost use Rattle.aftr_base.specs.Outside.{Rises, has_failed};
+ghost use Rattle.aftr_base.specs.Outside.{OnlyWrites, Rises, has_failed};
 ghost use Rattle.aftr_text.specs.Jobs.{AreApart};
 ghost use Rattle.capture_io.specs.Rounds.{is_cut};
 ghost use Rattle.lwaftr_engine.specs.Broken.{Breaks};
-ghost use Rattle.lwaftr_engine.specs.Progress.{AddsTo, Goes, IsInRange, IsOnDuty, ReadsOf, mark, seats_of, setup_of, spot};
+ghost use Rattle.lwaftr_engine.specs.Progress.{AddsTo, Goes, IsInRange, IsOnDuty, IsUpToDate, ReadsOf, mark, seats_of, setup_of, spot};
 ghost use Rattle.lwaftr_engine.specs.Runs.{OthersKept};
+ghost use Rattle.lwaftr_engine.specs.Underway.{BreaksLast, CanJudge, HasDrawn, HasRead, IsInHand, IsNothing, Puts, PutsBoth, PutsPart, StaysOnDuty, WentWell, unwritten};
+ghost use Rattle.run_output.specs.Rendering.{lines_in, packets_in};
 ghost use Rattle.table_words.specs.Layout.{AreCompiled};
 ghost use Rattle.worker_gate.specs.Reloading.{IsSettled};
 
@@ -15,20 +19,23 @@ use crate::shift::{Shift, judge_round};
 use crate::tasks::Task;
 use aftr_base::{Fault, Files, OutOfMemory};
 use aftr_text::Totals;
-use capture_io::{CaptureReader, Ending, Records};
+use capture_io::{CaptureReader, Ending, Records, Round};
 use error_limit::Limiter;
 use item_stage::{RoundItems, Stage};
 use run_output::{
     Rendered, limits_begin, load_lines_join, push_new_versions, render_round, rounds_join,
 };
 use std::alloc::Global;
+use std::mem;
 use std::sync::Wait;
-use std::thread::Threads;
+use std::thread::{Threads, join_mut};
 use worker_gate::Gate;
 
-/// A round ends with the record that brings its captured bytes to this many for each worker, or more: so what each worker touches
-/// stays in a processor's caches.
-const ENOUGH_BYTES: usize = 524_288;
+/// A round ends with the record that brings its captured bytes to so many, or more: where one thread does all its steps, and where
+/// some are done beside others.
+const ENOUGH_ALONE: usize = 262_144;
+
+const ENOUGH_BESIDE: usize = 1_048_576;
 
 /// How far a run has come.
 #[derive(Drop)]
@@ -44,92 +51,40 @@ pub struct Progress {
     pub printed: usize,
 }
 
-/// The lists of a round. Each round gives theirs to the next one, so that memory is taken in the first ones alone.
+/// What a round writes, until it is in the outputs.
 #[derive(Drop)]
-pub struct Room {
-    pub records: Records,
+pub struct Pending {
     pub rendered: Rendered,
     /// The new lines of tables.
     pub versions: String,
 }
 
-/// What a round leaves: its room, and how the records ended, if they did.
+/// The lists of rounds. They change places from round to round, so that memory is taken in the first ones alone.
 #[derive(Drop)]
-pub struct Turn {
-    pub room: Room,
-    pub ending: Option<Ending>,
+pub struct Room {
+    pub records: Records,
+    pub spare: Records,
+    pub pending: Pending,
+    pub made: Pending,
 }
 
-// With how many captured bytes a round ends.
-fn enough_bytes(workers: u32) -> usize
-    requires some_one { 1 ≤ workers }
-    requires few { workers ≤ 16 }
-    ensures some { 1 ≤ result }
-    ensures most { result ≤ 67108864 }
-{
-    ENOUGH_BYTES * workers as usize
-}
-
-// Reads, judges and writes one round of records. A fault is one of writing.
-fn run_round<R: Threads + Wait + Sync, F: Files, C: CaptureReader, G: Gate + Sync>(
+// Judges a round, and renders what it writes.
+fn judge<R: Threads + Wait + Sync, G: Gate + Sync>(
     rt: &R,
     alloc: Global,
-    files: &mut F,
     task: Task<'_>,
-    reader: &mut C,
     gate: &G,
     shift: &mut Shift,
     progress: &mut Progress,
-    room: Room,
-) -> Result<Turn, Fault>
-    requires apart { AreApart (setup_of task).run }
-    requires workers { (1 ≤ (setup_of task).run.workers) × ((setup_of task).run.workers ≤ 16) }
-    requires loads { length (setup_of task).slots ≡ length (setup_of task).run.loads }
-    requires compiled { All AreCompiled shift.old.areas.plan.tables }
-    requires duty { IsOnDuty shift.old.areas.plan shift.old }
-    requires drawn { length shift.old.seat.known.actor.draws ≡ progress.old.number }
-    requires bounded { IsInRange (setup_of task) progress.old }
-    requires ready { C.ready reader.old progress.old.number }
-
-    // Where all went well.
-    ensures went { IfOk result (λ turn. Moves (F.outside files.old).held (F.outside files.new).held (λ m n.
-        Goes (setup_of task.entry) shift.old.areas.plan shift.new.seat.known.actor.draws
-        (mark m progress.old (seats_of shift.old) (spot (C.stands reader.old) (C.left reader.old) (C.at reader.old)))
-        (mark n progress.new (seats_of shift.new) (spot (C.stands reader.new) (C.left reader.new) (C.at reader.new)))
-        turn.ending (F.outside files.new).last)) }
-    ensures bounded { IfOk result (λ _. IsInRange (setup_of task.entry) progress.new) }
-    ensures ready { IfOk result (λ _. C.ready reader.new progress.new.number) }
-    ensures further { IfOk result (λ turn. turn.ending ≡ None → progress.old.number < progress.new.number) }
-    ensures drawn { IfOk result (λ _. length shift.new.seat.known.actor.draws ≡ progress.new.number) }
-    ensures settled { IfOk result (λ _. IsSettled shift.new.seat.known shift.new.desk.known) }
-    ensures reads { IfOk result (λ turn. ReadsOf (is_cut turn.ending) (setup_of task.entry).run.input (F.outside files.old) (F.outside files.new)) }
-
-    // Where it could not be written to its end.
-    ensures broken { IfErr result (λ _. Moves (F.outside files.old).held (F.outside files.new).held (λ m n.
-        Breaks (setup_of task.entry) shift.old.areas.plan shift.new.seat.known.actor.draws shift.new.desk.known.points
-        (mark m progress.old (seats_of shift.old) (spot (C.stands reader.old) (C.left reader.old) (C.at reader.old))) n)) }
-
-    // Whatever came.
-    ensures areas { shift.new.areas ≡ shift.old.areas }
-    ensures duty { IsOnDuty shift.new.areas.plan shift.new }
-    ensures adds { AddsTo shift.old shift.new }
-    ensures others { Moves (F.outside files.old).held (F.outside files.new).held (OthersKept (setup_of task.entry).run) }
-    ensures spoiled { Rises (has_failed result) (F.outside files.old).spoiled (F.outside files.new).spoiled }
+    round: &Round,
+    made: &mut Pending,
+) -> Result<(), OutOfMemory>
+    requires can { CanJudge (setup_of task) shift.old progress.old round.now }
+    ensures well { IfOk result (λ _. WentWell (setup_of task.entry) shift.old shift.new progress.old progress.new round.now made.new) }
+    ensures duty { StaysOnDuty shift.old shift.new }
+    ensures drawn { HasDrawn shift.new round.now.number }
 {
-    // Laws, and no steps: whatever is left has some ending, and what rounds write joins.
-    C::some_left();
-    rounds_join();
-    limits_begin();
-    load_lines_join();
-    let Room {
-        records,
-        mut rendered,
-        mut versions,
-    } = room;
     let start = progress.number;
-    let most_bytes = enough_bytes(task.job.workers);
-    let name = task.job.input.as_str();
-    let round = reader.read_round(alloc, files, name, start, most_bytes, records)?;
     let items = progress.stage.items(rt, alloc, &round.records, start)?;
     judge_round(rt, shift, &items, start, round.number, gate);
     render_round(
@@ -142,35 +97,219 @@ fn run_round<R: Threads + Wait + Sync, F: Files, C: CaptureReader, G: Gate + Syn
         &shift.crew.outcomes(),
         &mut progress.limit,
         &mut progress.totals,
-        &mut rendered,
+        &mut made.rendered,
     )?;
     drop(items);
-    versions.clear();
+    made.versions.clear();
     let printed = push_new_versions(
         alloc,
-        &mut versions,
+        &mut made.versions,
         task.job.loads.as_slice(),
         task.slots,
         shift.desk.points(),
         progress.printed,
     )?;
+    progress.printed = printed;
+    progress.number = round.number;
+    Ok(())
+}
+
+// Puts what a round wrote into the outputs.
+fn put<F: Files>(
+    alloc: Global,
+    files: &mut F,
+    task: Task<'_>,
+    pending: &Pending,
+) -> Result<(), Fault>
+    requires apart { AreApart (setup_of task).run }
+    ensures wrote { OnOk result (Moves (F.outside files.old).held (F.outside files.new).held (Puts (setup_of task.entry) (unwritten pending.now))) }
+    ensures begun { IfErr result (λ _. Moves (F.outside files.old).held (F.outside files.new).held (PutsPart (setup_of task.entry) (unwritten pending.now))) }
+    ensures others { Moves (F.outside files.old).held (F.outside files.new).held (OthersKept (setup_of task.entry).run) }
+    ensures writes { OnlyWrites (has_failed result) (F.outside files.old) (F.outside files.new) }
+{
     write_round(
         alloc,
         files,
         task.job,
-        versions.as_bytes(),
-        rendered.parts(),
-    )?;
-    progress.printed = printed;
-    progress.number = round.number;
-    Ok(Turn {
-        room: Room {
-            records: round.records,
-            rendered,
-            versions,
-        },
-        ending: round.ending,
-    })
+        pending.versions.as_bytes(),
+        pending.rendered.parts(),
+    )
+}
+
+// Room for records: that of an earlier round, where it is there.
+fn room_of(alloc: Global, spare: &mut Option<Records>) -> Records {
+    match spare.take() {
+        Some(records) => records,
+        None => Records::new(alloc),
+    }
+}
+
+// How many captured bytes end a round of so many workers.
+fn enough_bytes(workers: u32) -> usize
+    ensures some { 1 ≤ result }
+    ensures most { result ≤ 67108864 }
+{
+    if workers == 1 {
+        ENOUGH_ALONE
+    } else {
+        ENOUGH_BESIDE
+    }
+}
+
+// Reads the next round.
+fn read_next<F: Files, C: CaptureReader>(
+    alloc: Global,
+    files: &mut F,
+    task: Task<'_>,
+    reader: &mut C,
+    number: u32,
+    room: Records,
+) -> Result<Round, OutOfMemory>
+    requires number { number ≤ 2 ^ 31 }
+    requires ready { C.ready reader.old number }
+    ensures read { IfOk result (HasRead (setup_of task.entry)
+        (spot (C.stands reader.old) (C.left reader.old) (C.at reader.old)) (spot (C.stands reader.new) (C.left reader.new) (C.at reader.new))
+        number (F.outside files.old).held (F.outside files.new).last) }
+    ensures ready { IfOk result (λ round. C.ready reader.new round.number) }
+    ensures held { (F.outside files.new).held ≡ (F.outside files.old).held }
+    ensures spoiled { (F.outside files.new).spoiled ≡ (F.outside files.old).spoiled }
+    ensures reads { IfOk result (λ round. ReadsOf (is_cut round.ending) (setup_of task.entry).run.input (F.outside files.old) (F.outside files.new)) }
+{
+    let name = task.job.input.as_str();
+    let enough = enough_bytes(task.job.workers);
+    let round = reader.read_round(alloc, files, name, number, enough, room)?;
+    Ok(round)
+}
+
+// Puts what a round wrote into the outputs, and then reads the next round.
+fn put_and_read<F: Files, C: CaptureReader>(
+    alloc: Global,
+    files: &mut F,
+    task: Task<'_>,
+    reader: &mut C,
+    pending: &Pending,
+    number: u32,
+    spare: &mut Option<Records>,
+) -> Result<Round, Fault>
+    requires apart { AreApart (setup_of task).run }
+    requires number { number ≤ 2 ^ 31 }
+    requires ready { C.ready reader.old number }
+    ensures wrote { IfOk result (λ _. Moves (F.outside files.old).held (F.outside files.new).held (Puts (setup_of task.entry) (unwritten pending.now))) }
+    ensures part { Moves (F.outside files.old).held (F.outside files.new).held (PutsPart (setup_of task.entry) (unwritten pending.now)) }
+    ensures read { IfOk result (HasRead (setup_of task.entry)
+        (spot (C.stands reader.old) (C.left reader.old) (C.at reader.old)) (spot (C.stands reader.new) (C.left reader.new) (C.at reader.new))
+        number (F.outside files.new).held (F.outside files.new).last) }
+    ensures ready { IfOk result (λ round. C.ready reader.new round.number) }
+    ensures reads { IfOk result (λ round. ReadsOf (is_cut round.ending) (setup_of task.entry).run.input (F.outside files.old) (F.outside files.new)) }
+    ensures others { Moves (F.outside files.old).held (F.outside files.new).held (OthersKept (setup_of task.entry).run) }
+    ensures spoiled { Rises (has_failed result) (F.outside files.old).spoiled (F.outside files.new).spoiled }
+{
+    put(alloc, files, task, pending)?;
+    let room = room_of(alloc, spare);
+    let round = read_next(alloc, files, task, reader, number, room)?;
+    Ok(round)
+}
+
+// Calls both: the first in a new thread beside the second, or behind it where one thread is enough.
+fn call_both<R: Threads, F: FnMut() -> A + Send, G: FnMut() -> B, A: Send, B>(
+    rt: &R,
+    beside: bool,
+    first: &mut F,
+    second: &mut G,
+) -> (A, B)
+    requires { F.pre first.old × G.pre second.old }
+    ensures { F.step first.old result.0 first.new × G.step second.old result.1 second.new }
+{
+    if beside {
+        return join_mut(rt, first, second);
+    }
+    let b = second();
+    let a = first();
+    (a, b)
+}
+
+// Judges a round beside putting what the round before it wrote into the outputs and reading the next one: in a new thread, or, of
+// one worker, behind that.
+fn step<R: Threads + Wait + Sync, F: Files, C: CaptureReader, G: Gate + Sync>(
+    rt: &R,
+    alloc: Global,
+    files: &mut F,
+    task: Task<'_>,
+    reader: &mut C,
+    gate: &G,
+    shift: &mut Shift,
+    progress: &mut Progress,
+    round: &Round,
+    pending: &Pending,
+    made: &mut Pending,
+    spare: &mut Option<Records>,
+) -> Result<Round, Fault>
+    requires apart { AreApart (setup_of task).run }
+    requires can { CanJudge (setup_of task) shift.old progress.old round.now }
+    requires ready { C.ready reader.old round.now.number }
+    ensures well { IfOk result (λ _. WentWell (setup_of task.entry) shift.old shift.new progress.old progress.new round.now made.new) }
+    ensures duty { StaysOnDuty shift.old shift.new }
+    ensures drawn { HasDrawn shift.new round.now.number }
+    ensures wrote { IfOk result (λ _. Moves (F.outside files.old).held (F.outside files.new).held (Puts (setup_of task.entry) (unwritten pending.now))) }
+    ensures begun { IfErr result (λ _. Moves (F.outside files.old).held (F.outside files.new).held (PutsPart (setup_of task.entry) (unwritten pending.now))) }
+    ensures read { IfOk result (HasRead (setup_of task.entry)
+        (spot (C.stands reader.old) (C.left reader.old) (C.at reader.old)) (spot (C.stands reader.new) (C.left reader.new) (C.at reader.new))
+        round.now.number (F.outside files.new).held (F.outside files.new).last) }
+    ensures ready { IfOk result (λ next. C.ready reader.new next.number) }
+    ensures reads { IfOk result (λ next. ReadsOf (is_cut next.ending) (setup_of task.entry).run.input (F.outside files.old) (F.outside files.new)) }
+    ensures others { Moves (F.outside files.old).held (F.outside files.new).held (OthersKept (setup_of task.entry).run) }
+    ensures spoiled { Rises (has_failed result) (F.outside files.old).spoiled (F.outside files.new).spoiled }
+{
+    let number = round.number;
+    let mut judging = ||
+        requires { IsSync R.row × (IsSync G.row × CanJudge (setup_of task) shift.now progress.now round.now) }
+        ensures { IfOk result (λ _. WentWell (setup_of task.entry) shift.entry.now shift.exit.now progress.entry.now progress.exit.now round.entry.now made.exit.now) × (StaysOnDuty shift.entry.now shift.exit.now × HasDrawn shift.exit.now round.entry.now.number) }
+    { judge(rt, alloc, task, gate, shift, progress, round, made) };
+    let mut outside = ||
+        requires { AreApart (setup_of task).run × ((number ≤ 2 ^ 31) × C.ready reader.now number) }
+        ensures { IfOk result (λ _. Moves (F.outside files.entry.now).held (F.outside files.exit.now).held (Puts (setup_of task.entry) (unwritten pending.entry.now)))
+            × (Moves (F.outside files.entry.now).held (F.outside files.exit.now).held (PutsPart (setup_of task.entry) (unwritten pending.entry.now))
+            × (IfOk result (HasRead (setup_of task.entry)
+            (spot (C.stands reader.entry.now) (C.left reader.entry.now) (C.at reader.entry.now)) (spot (C.stands reader.exit.now) (C.left reader.exit.now) (C.at reader.exit.now))
+            number (F.outside files.exit.now).held (F.outside files.exit.now).last)
+            × (IfOk result (λ next. C.ready reader.exit.now next.number)
+            × (IfOk result (λ next. ReadsOf (is_cut next.ending) (setup_of task.entry).run.input (F.outside files.entry.now) (F.outside files.exit.now))
+            × (Moves (F.outside files.entry.now).held (F.outside files.exit.now).held (OthersKept (setup_of task.entry).run)
+            × Rises (has_failed result) (F.outside files.entry.now).spoiled (F.outside files.exit.now).spoiled))))) }
+    { put_and_read(alloc, files, task, reader, pending, number, spare) };
+    let beside = task.job.workers > 1;
+    let (judged, next) = call_both(rt, beside, &mut judging, &mut outside);
+    let next = next?;
+    judged?;
+    Ok(next)
+}
+
+// Puts what the round before the last one wrote, and judges and puts the last one.
+fn last_steps<R: Threads + Wait + Sync, F: Files, G: Gate + Sync>(
+    rt: &R,
+    alloc: Global,
+    files: &mut F,
+    task: Task<'_>,
+    gate: &G,
+    shift: &mut Shift,
+    progress: &mut Progress,
+    round: &Round,
+    before: &Pending,
+    made: &mut Pending,
+) -> Result<(), Fault>
+    requires apart { AreApart (setup_of task).run }
+    requires can { CanJudge (setup_of task) shift.old progress.old round.now }
+    ensures well { IfOk result (λ _. WentWell (setup_of task.entry) shift.old shift.new progress.old progress.new round.now made.new) }
+    ensures duty { StaysOnDuty shift.old shift.new }
+    ensures drawn { HasDrawn shift.new round.now.number }
+    ensures wrote { IfOk result (λ _. Moves (F.outside files.old).held (F.outside files.new).held (PutsBoth (setup_of task.entry) (unwritten before.now) (unwritten made.new))) }
+    ensures begun { IfErr result (λ _. Moves (F.outside files.old).held (F.outside files.new).held (BreaksLast (setup_of task.entry) shift.old shift.new progress.old progress.new round.now (unwritten before.now) made.new)) }
+    ensures others { Moves (F.outside files.old).held (F.outside files.new).held (OthersKept (setup_of task.entry).run) }
+    ensures writes { OnlyWrites (has_failed result) (F.outside files.old) (F.outside files.new) }
+{
+    put(alloc, files, task, before)?;
+    judge(rt, alloc, task, gate, shift, progress, round, made)?;
+    put(alloc, files, task, made)
 }
 
 /// Takes all records in rounds, and answers how they ended. A fault is one of writing.
@@ -192,7 +331,9 @@ pub fn run_records<R: Threads + Wait + Sync, F: Files, C: CaptureReader, G: Gate
     requires duty { IsOnDuty shift.old.areas.plan shift.old }
     requires drawn { length shift.old.seat.known.actor.draws ≡ progress.old.number }
     requires bounded { IsInRange (setup_of task) progress.old }
+    requires up_to_date { IsUpToDate shift.old.areas.plan (length shift.old.seat.known.actor.draws) shift.old.desk.known.points }
     requires ready { C.ready reader.old progress.old.number }
+    requires nothing { IsNothing room.pending }
 
     // Where all went well.
     ensures went { IfOk result (λ ending. Moves (F.outside files.old).held (F.outside files.new).held (λ m n.
@@ -217,12 +358,32 @@ pub fn run_records<R: Threads + Wait + Sync, F: Files, C: CaptureReader, G: Gate
     ensures others { Moves (F.outside files.old).held (F.outside files.new).held (OthersKept (setup_of task.entry).run) }
     ensures spoiled { Rises (has_failed result) (F.outside files.old).spoiled (F.outside files.new).spoiled }
 {
-    let mut room = room;
+    // Laws, and no steps: whatever is left has some ending, and what rounds write joins.
+    C::some_left();
+    rounds_join();
+    limits_begin();
+    load_lines_join();
+    let Room {
+        records,
+        spare,
+        mut pending,
+        mut made,
+    } = room;
+    let mut spare = Some(spare);
+    let mut round = read_next(alloc, files, task, reader, progress.number, records)?;
     'rounds: loop {
-        let turn = run_round(rt, alloc, files, task, reader, gate, shift, progress, room)?;
-        if let Some(ending) = turn.ending {
+        if let Some(ending) = round.ending {
+            last_steps(
+                rt, alloc, files, task, gate, shift, progress, &round, &pending, &mut made,
+            )?;
             return Ok(ending);
         }
-        room = turn.room;
+        let next = step(
+            rt, alloc, files, task, reader, gate, shift, progress, &round, &pending, &mut made,
+            &mut spare,
+        )?;
+        mem::swap(&mut pending, &mut made);
+        let Round { records, .. } = mem::replace(&mut round, next);
+        spare = Some(records);
     }
 }

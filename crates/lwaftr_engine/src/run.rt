@@ -8,11 +8,12 @@ ghost use Rattle.lwaftr_engine.specs.Ended.{Ends};
 ghost use Rattle.lwaftr_engine.specs.Finishing.{HasHistoryBy, IsFirst};
 ghost use Rattle.lwaftr_engine.specs.Progress.{OneRises, ReadsOf, setup_of, spot};
 ghost use Rattle.lwaftr_engine.specs.Runs.{OthersKept};
+ghost use Rattle.lwaftr_engine.specs.Underway.{IsNothing};
 ghost use Rattle.table_words.specs.Layout.{AreCompiled};
 
 use crate::finishing::finish;
 use crate::outputs::open_outputs;
-use crate::rounds::{Progress, Room, run_records};
+use crate::rounds::{Pending, Progress, Room, run_records};
 use crate::shift::{begin_shift, end_shift};
 use crate::tasks::Task;
 use aftr_base::{Fault, Files, OutOfMemory, Sink};
@@ -20,13 +21,18 @@ use aftr_text::Totals;
 use area_swap::History;
 use capture_io::{CaptureReader, Ending, Form, Records};
 use item_stage::Stage;
-use run_output::{Rendered, counts_are_totals, limits_are_some, new_limit};
+use run_output::{
+    Rendered, counts_are_totals, limits_are_some, limits_begin, new_limit, rounds_join,
+};
 use std::alloc::Global;
 use std::sync::Wait;
 use std::thread::Threads;
 use swap_core::{Plan, settled_points_are_all};
 use verdict_core::access;
 use worker_gate::Gate;
+
+/// What a round writes is made in so many parts, each by a thread of its own where there are records for it.
+const MOST_PARTS: u32 = 2;
 
 /// The totals before the first record.
 const NONE_YET: Totals = Totals {
@@ -56,10 +62,24 @@ fn at_first(alloc: Global, form: Form, errors: Option<u32>) -> Result<Progress, 
 fn first_room(alloc: Global, workers: u32) -> Result<Room, OutOfMemory>
     requires some_one { 1 ≤ workers }
     requires few { workers ≤ 16 }
+    ensures { IfOk result (λ room. IsNothing room.pending) }
 {
     Ok(Room {
         records: Records::new(alloc),
-        rendered: Rendered::new(alloc, workers)?,
+        spare: Records::new(alloc),
+        pending: no_pending(alloc, workers)?,
+        made: no_pending(alloc, workers)?,
+    })
+}
+
+// Room for what a round writes, with nothing in it.
+fn no_pending(alloc: Global, workers: u32) -> Result<Pending, OutOfMemory>
+    requires some_one { 1 ≤ workers }
+    requires few { workers ≤ 16 }
+    ensures { IfOk result IsNothing }
+{
+    Ok(Pending {
+        rendered: Rendered::new(alloc, workers.min(MOST_PARTS))?,
         versions: String::new(alloc),
     })
 }
@@ -92,12 +112,15 @@ pub fn run_capture<R: Threads + Wait + Sync, F: Files, O: Sink, C: CaptureReader
     ensures reads { IfOk result (λ ending. ReadsOf (is_cut (Some ending)) (setup_of task.entry).run.input (F.outside files.old) (F.outside files.new)) }
     ensures writing { OneRises (has_failed result) (F.outside files.old).spoiled (F.outside files.new).spoiled (O.faults out.old) (O.faults out.new) }
 {
-    // Laws, and no steps: whatever is left has some ending, and what holds of every verdict and of every run.
+    // Laws, and no steps: whatever is left has some ending, and what holds of every verdict, run and plan.
     C::some_left();
     access();
     limits_are_some();
     counts_are_totals();
+    rounds_join();
+    limits_begin();
     settled_points_are_all();
+    plan.len();
     let mut progress = at_first(alloc, task.form, task.job.errors)?;
     let room = first_room(alloc, task.job.workers)?;
     let mut shift = begin_shift(alloc, plan, task.job.workers)?;

@@ -22,6 +22,9 @@ use worker_gate::{Crew, Gate, outcomes_are_in_force, round};
 /// The most records of a round.
 const MOST_RECORDS: usize = 16_384;
 
+/// So many of the workers are at work in a round: they judge as fast as one thread reads and writes.
+const MOST_AT_WORK: u32 = 2;
+
 /// The areas in which tables are swapped, the seat of all workers, the desk, and the memory of rounds.
 #[derive(Drop)]
 pub struct Shift {
@@ -40,7 +43,7 @@ pub fn begin_shift(alloc: Global, plan: Plan, workers: u32) -> Result<Shift, Out
     ensures points { IfOk result (λ shift. shift.desk.known.points ≡ []) }
     ensures reads { IfOk result (λ shift. shift.seat.known.reads ≡ 0) }
 {
-    let crew = Crew::with(alloc, workers, MOST_RECORDS)?;
+    let crew = Crew::with(alloc, workers.min(MOST_AT_WORK), MOST_RECORDS)?;
     let (areas, seat, desk) = prepare(alloc, plan)?;
     Ok(Shift {
         areas,

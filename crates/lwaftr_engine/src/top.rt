@@ -32,11 +32,11 @@ use worker_gate::Gate;
 /// noted), then the file header of the capture, which may be a classic one or pcapng (`ReadFault`, `BadCapture`). Up to here
 /// nothing is written. Then OUT, VERDICTS and VERSIONS are made, in this order, and the records are taken in rounds: read, put
 /// together, judged by the workers beside the one that brings the next tables into force, and written: the new lines of tables,
-/// the packets, the lines of records, in this order. Records end with the capture, with bytes that are no record (`BadCapture`), or
-/// with a read that failed (`ReadFault`); all records before that are written, and one line is put to `out`: the summary. Then the
-/// closed areas are handed out as `history`. A file or `out` that cannot be written (`WriteFault`), or memory that is not there
-/// (`OutOfMemory`), ends the call at once, whatever was written by then. A run that ends well is `DoneRefused` where a load was
-/// refused, else `Done`.
+/// the packets, the lines of records, in this order. A round is read before the one in front of it is written. Records end with
+/// the capture, with bytes that are no record (`BadCapture`), or with a read that failed (`ReadFault`); all records before that
+/// are written, and one line is put to `out`: the summary. Then the closed areas are handed out as `history`. A file or `out`
+/// that cannot be written (`WriteFault`), or memory that is not there (`OutOfMemory`), ends the call at once, whatever was
+/// written by then. A run that ends well is `DoneRefused` where a load was refused, else `Done`.
 ///
 /// `check` and `who` read a table file (`ReadFault`, `BadTable`), write no file, and put one line to `out` (`WriteFault`): how many
 /// bindings a valid file has, or the end of the tunnel of the subscriber who owns the port of the address, as RFC 5952 writes it,

@@ -5,8 +5,8 @@ use Rattle.lwaftr_engine.proofs.jobs.run_job.Goals as goal
 pub returns-in-Err-Failed : goal.returns-in-Err-Failed
 returns-in-Err-Failed g c =
     let f = g.F.Files in
-    keeps_unread c.args.job.now c.loads_in.result (cc (c.in-Err-Failed.is, c.in-Err-Failed.field-0-is)) c.as_str.result.now c.as_slice.result.now c.as_slice.ensures (f.outside c.args.files.now) (f.outside c.table_in.new.files) (f.outside c.loads_in.new.files)
-    (g.O.Sink.out c.args.out.now) (g.O.Sink.faults c.args.out.now) c.args.history.now c.requires.none c.in-Ok.ensures.reads c.loads_in.ensures.reads
+    keeps_unread c.args.job.now c.in-Ok.table c.loads_in.result (cc (c.in-Err-Failed.is, c.in-Err-Failed.field-0-is)) c.as_str.result.now c.as_str.ensures c.as_slice.result.now c.as_slice.ensures (f.outside c.args.files.now) (f.outside c.table_in.new.files) (f.outside c.loads_in.new.files)
+    (g.O.Sink.out c.args.out.now) (g.O.Sink.faults c.args.out.now) c.args.history.now c.requires.none c.in-Ok.ensures.reads c.loads_in.ensures.reads c.in-Ok.ensures.table
 
 pub returns : goal.returns
 returns g c =

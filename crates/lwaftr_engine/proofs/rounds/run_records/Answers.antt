@@ -1,10 +1,34 @@
-use Rattle.std.proofs.Common.{None, Some, refl, ◌∙◌}
-use Rattle.lwaftr_engine.specs.Progress.{seats_of, setup_of, spot}
-use Rattle.lwaftr_engine.proofs.Adding.{adds_more, adds_none, as_planned, broken_planned, others_more, others_none, reads_on, same_plan}
-use Rattle.lwaftr_engine.proofs.BrokenLemmas.{broken_join}
+use Rattle.std.proofs.Common.{ℕ, Option, Some, refl, sym, ◌∙◌, [], append-nil, arith, subst}
+use Rattle.aftr_base.specs.Contents.{Contents, Moves}
+use Rattle.capture_io.specs.Rounds.{is_cut}
+use Rattle.capture_io.specs.declared.rounds.Ending.{Ending}
+use Rattle.lwaftr_engine.specs.Progress.{ReadsOf, mark, seats_of, setup_of, spot}
+use Rattle.lwaftr_engine.specs.Runs.{OthersKept}
+use Rattle.lwaftr_engine.specs.Underway.{IsInHand, StandsBetween, unwritten}
+use Rattle.capture_io.specs.declared.rounds.Round.{Round}
+use Rattle.lwaftr_engine.specs.declared.rounds.Pending.{Pending}
+use Rattle.lwaftr_engine.proofs.Adding.{adds_more, adds_none, others_more, others_none, reads_on, same_plan}
+use Rattle.lwaftr_engine.proofs.Apart.{apart}
+use Rattle.lwaftr_engine.proofs.BrokenLemmas.{not_begun}
 use Rattle.lwaftr_engine.proofs.Exits.{if_err}
-use Rattle.lwaftr_engine.proofs.Steps.{rounds_begin, rounds_join}
+use Rattle.lwaftr_engine.proofs.Going.{Joins}
+use Rattle.lwaftr_engine.proofs.RoundLemmas.{reads_after, reads_before}
+use Rattle.lwaftr_engine.proofs.Steps.{told_by}
+use Rattle.lwaftr_engine.proofs.UnderwayLemmas.{begin_rounds, breaks_off, ends_well, judged_planned, last_broken, steps_on}
 use Rattle.lwaftr_engine.proofs.rounds.run_records.Goals as goal
+
+pub returns-in_err-round-clause-broken : goal.returns-in_err-round-clause-broken
+returns-in_err-round-clause-broken g c =
+    let f = g.F.Files in
+    let r = g.C.CaptureReader in
+    let x = setup_of c.args.task in
+    let s = c.args.shift.now in
+    if_err _ c.from_residual.result (not_begun x s.areas.plan s.seat.known.actor.draws c.args.progress.now (seats_of s) (seats_of s) []
+    (spot (r.stands c.args.reader.now) (r.left c.args.reader.now) (r.at c.args.reader.now)) (λ bytes number. c.some_left.ensures c.args.reader.now bytes number) c.requires.bounded.rate (sym (append-nil s.desk.known.points)) (omega (arith, c.requires.drawn)) c.requires.up_to_date
+    (f.outside c.args.files.now).held (f.outside c.read_next.new.files).held c.in_err-round.ensures.held)
+
+pub returns-in_err-round-clause-adds : goal.returns-in_err-round-clause-adds
+returns-in_err-round-clause-adds g c = adds_none c.args.shift.now
 
 pub rounds-init : goal.rounds-init
 rounds-init g c =
@@ -12,38 +36,57 @@ rounds-init g c =
     let r = g.C.CaptureReader in
     let x = setup_of c.args.task in
     let s = c.args.shift.now in
-    let h = (f.outside c.args.files.now).held in
+    let h0 = (f.outside c.args.files.now).held in
+    let h1 = (f.outside c.read_next.new.files).held in
+    let O : Option Contents → Type 0 = λ h. Moves h0 h (OthersKept x.run) in
     record {
-      went = rounds_begin x s.areas.plan s.seat.known.actor.draws c.args.progress.now (seats_of s) (spot (r.stands c.args.reader.now) (r.left c.args.reader.now) (r.at c.args.reader.now)) (f.outside c.args.files.now).last h;
+      went = begin_rounds x (apart x.run c.requires.apart) s.areas.plan s.seat.known.actor.draws c.args.progress.now (seats_of s) (spot (r.stands c.args.reader.now) (r.left c.args.reader.now) (r.at c.args.reader.now))
+          (spot (r.stands c.read_next.new.reader) (r.left c.read_next.new.reader) (r.at c.read_next.new.reader)) c.args.room.pending c.in_ok-round.round (f.outside c.read_next.new.files).last c.requires.bounded.rate c.requires.nothing h0 h1
+          c.in_ok-round.ensures.held c.in_ok-round.ensures.read;
       bounded = c.requires.bounded;
-      ready = c.requires.ready;
+      ready = c.in_ok-round.ensures.ready;
       drawn = c.requires.drawn;
+      in_hand = c.in_ok-round.ensures.read.in_hand;
       same_areas = refl;
       duty = c.requires.duty;
+      up_to_date = c.requires.up_to_date;
       adds = adds_none s;
-      others = others_none x.run h;
-      faults = refl;
-      lost = refl;
-      last = refl;
-      spoiled = refl;
+      others = subst O (sym c.in_ok-round.ensures.held) (others_none x.run h0);
+      reads = c.in_ok-round.ensures.reads;
+      spoiled = c.in_ok-round.ensures.spoiled;
     }
 
-pub returns-in_err-turn-clause-broken : goal.returns-in_err-turn-clause-broken
-returns-in_err-turn-clause-broken g c =
+pub returns-in_err-next-clause-broken : goal.returns-in_err-next-clause-broken
+returns-in_err-next-clause-broken g c =
     let f = g.F.Files in
     let r = g.C.CaptureReader in
     let x = setup_of c.args.task in
     let s = c.args.shift.now in
     let t = c.rounds.shift in
-    let u = c.run_round.new.shift in
-    let h0 = (f.outside c.args.files.now).held in
-    let h1 = (f.outside c.rounds.files).held in
-    let h2 = (f.outside c.run_round.new.files).held in
-    let first = spot (r.stands c.args.reader.now) (r.left c.args.reader.now) (r.at c.args.reader.now) in
-    let mid = spot (r.stands c.rounds.reader) (r.left c.rounds.reader) (r.at c.rounds.reader) in
-    if_err _ c.from_residual.result (broken_join x s.areas.plan t.seat.known.actor.draws c.in_err-turn.ensures.adds.drawn u.seat.known.actor.draws u.desk.known.points c.args.progress.now c.rounds.progress (seats_of s) (seats_of t) first mid (f.outside c.rounds.files).last
-    c.in_err-turn.ensures.adds.draws h0 h1 h2 c.rounds.invariant.went
-    (broken_planned x s.areas.plan t.areas.plan (same_plan s.areas t.areas c.rounds.invariant.same_areas) u.seat.known.actor.draws u.desk.known.points c.rounds.progress (seats_of t) mid h1 h2 c.in_err-turn.ensures.broken))
+    let u = c.step.new.shift in
+    let joins : Joins = record { rounds = c.rounds_join.ensures; limits = c.limits_begin.ensures; lines = c.load_lines_join.ensures } in
+    if_err _ c.from_residual-in_err-next.result (breaks_off joins x (apart x.run c.requires.apart) s.areas.plan t.seat.known.actor.draws c.in_err-next.ensures.duty.adds.drawn u.seat.known.actor.draws c.in_err-next.ensures.duty.adds.draws
+    c.args.progress.now c.rounds.progress (seats_of s) (seats_of t) (seats_of u) (unwritten c.rounds.pending)
+    (spot (r.stands c.args.reader.now) (r.left c.args.reader.now) (r.at c.args.reader.now)) (spot (r.stands c.rounds.reader) (r.left c.rounds.reader) (r.at c.rounds.reader)) c.rounds.round (f.outside c.rounds.files).last
+    c.in_err-next.ensures.duty.adds.news c.in_err-next.ensures.duty.adds.points c.in_err-next.ensures.drawn.few (told_by s.areas.plan u (same_plan s.areas u.areas (c.in_err-next.ensures.duty.areas ∙ c.rounds.invariant.same_areas)) c.in_err-next.ensures.drawn.up_to_date) (λ bytes number. c.some_left.ensures c.rounds.reader bytes number)
+    (f.outside c.args.files.now).held (f.outside c.rounds.files).held (f.outside c.step.new.files).held c.rounds.invariant.went c.in_err-next.ensures.begun)
+
+pub returns-in_err-last_steps-clause-broken : goal.returns-in_err-last_steps-clause-broken
+returns-in_err-last_steps-clause-broken g c =
+    let f = g.F.Files in
+    let r = g.C.CaptureReader in
+    let x = setup_of c.args.task in
+    let s = c.args.shift.now in
+    let t = c.rounds.shift in
+    let u = c.last_steps.new.shift in
+    let joins : Joins = record { rounds = c.rounds_join.ensures; limits = c.limits_begin.ensures; lines = c.load_lines_join.ensures } in
+    if_err _ c.from_residual-in_err-last_steps.result (last_broken joins x (apart x.run c.requires.apart) s.areas.plan t.seat.known.actor.draws c.in_err-last_steps.ensures.duty.adds.drawn u.seat.known.actor.draws c.in_err-last_steps.ensures.duty.adds.draws
+    c.args.progress.now c.rounds.progress c.last_steps.new.progress (seats_of s) t u c.in_err-last_steps.ensures.duty.adds.news (unwritten c.rounds.pending) c.last_steps.new.made
+    (spot (r.stands c.args.reader.now) (r.left c.args.reader.now) (r.at c.args.reader.now)) (spot (r.stands c.rounds.reader) (r.left c.rounds.reader) (r.at c.rounds.reader)) c.rounds.round (f.outside c.rounds.files).last
+    c.in_err-last_steps.ensures.duty.adds.points c.in_err-last_steps.ensures.drawn.few (told_by s.areas.plan u (same_plan s.areas u.areas (c.in_err-last_steps.ensures.duty.areas ∙ c.rounds.invariant.same_areas)) c.in_err-last_steps.ensures.drawn.up_to_date) (λ bytes number. c.some_left.ensures c.rounds.reader bytes number)
+    (λ well. judged_planned x s.areas.plan t.areas.plan u.seat.known.actor.draws c.rounds.progress c.last_steps.new.progress (seats_of t) (seats_of u) c.rounds.round.records c.last_steps.new.made (same_plan s.areas t.areas c.rounds.invariant.same_areas) well.judged)
+    (λ well. well.bounded.rate)
+    (f.outside c.args.files.now).held (f.outside c.rounds.files).held (f.outside c.last_steps.new.files).held c.rounds.invariant.went c.in_err-last_steps.ensures.begun)
 
 pub returns-in-Some-clause-went : goal.returns-in-Some-clause-went
 returns-in-Some-clause-went g c =
@@ -52,16 +95,23 @@ returns-in-Some-clause-went g c =
     let x = setup_of c.args.task in
     let s = c.args.shift.now in
     let t = c.rounds.shift in
-    let u = c.run_round.new.shift in
-    let h0 = (f.outside c.args.files.now).held in
-    let h1 = (f.outside c.rounds.files).held in
-    let h2 = (f.outside c.run_round.new.files).held in
-    let first = spot (r.stands c.args.reader.now) (r.left c.args.reader.now) (r.at c.args.reader.now) in
-    let mid = spot (r.stands c.rounds.reader) (r.left c.rounds.reader) (r.at c.rounds.reader) in
-    let now = spot (r.stands c.run_round.new.reader) (r.left c.run_round.new.reader) (r.at c.run_round.new.reader) in
-    rounds_join x s.areas.plan t.seat.known.actor.draws c.in_ok-turn.ensures.adds.drawn u.seat.known.actor.draws c.args.progress.now c.rounds.progress c.run_round.new.progress (seats_of s) (seats_of t) (seats_of u) first mid now c.in_ok-turn.turn.ending (Some c.in-Some.ending) (f.outside c.rounds.files).last (f.outside c.run_round.new.files).last
-    c.in_ok-turn.ensures.adds.draws c.in-Some.is h0 h1 h2 c.rounds.invariant.went
-    (as_planned x s.areas.plan t.areas.plan (same_plan s.areas t.areas c.rounds.invariant.same_areas) u.seat.known.actor.draws c.rounds.progress c.run_round.new.progress (seats_of t) (seats_of u) mid now c.in_ok-turn.turn.ending (f.outside c.run_round.new.files).last h1 h2 c.in_ok-turn.ensures.went)
+    let u = c.last_steps.new.shift in
+    let well = c.in_ok-last_steps.ensures.well in
+    let joins : Joins = record { rounds = c.rounds_join.ensures; limits = c.limits_begin.ensures; lines = c.load_lines_join.ensures } in
+    ends_well joins x (apart x.run c.requires.apart) s.areas.plan t.seat.known.actor.draws c.in_ok-last_steps.ensures.duty.adds.drawn u.seat.known.actor.draws c.in_ok-last_steps.ensures.duty.adds.draws
+    c.args.progress.now c.rounds.progress (seats_of s) (seats_of t) (seats_of u) (unwritten c.rounds.pending)
+    (spot (r.stands c.args.reader.now) (r.left c.args.reader.now) (r.at c.args.reader.now)) (spot (r.stands c.rounds.reader) (r.left c.rounds.reader) (r.at c.rounds.reader)) c.rounds.round (f.outside c.rounds.files).last
+    c.last_steps.new.progress c.last_steps.new.made (Some c.in-Some.ending) (f.outside c.last_steps.new.files).last
+    (judged_planned x s.areas.plan t.areas.plan u.seat.known.actor.draws c.rounds.progress c.last_steps.new.progress (seats_of t) (seats_of u) c.rounds.round.records c.last_steps.new.made (same_plan s.areas t.areas c.rounds.invariant.same_areas) well.judged)
+    well.bounded.rate well.number c.in-Some.is c.in_ok-last_steps.ensures.writes.last
+    (f.outside c.args.files.now).held (f.outside c.rounds.files).held (f.outside c.last_steps.new.files).held c.rounds.invariant.went c.in_ok-last_steps.ensures.wrote
+
+pub returns-in-Some-clause-reads : goal.returns-in-Some-clause-reads
+returns-in-Some-clause-reads g c =
+    let f = g.F.Files in
+    let name = (setup_of c.args.task).run.input in
+    let R : Option Ending → Type 0 = λ e. ReadsOf (is_cut e) name (f.outside c.args.files.now) (f.outside c.last_steps.new.files) in
+    subst R c.in-Some.is (reads_before (is_cut c.rounds.round.ending) name (f.outside c.args.files.now) (f.outside c.rounds.files) (f.outside c.last_steps.new.files) c.rounds.invariant.reads c.in_ok-last_steps.ensures.writes)
 
 pub rounds-preserved : goal.rounds-preserved
 rounds-preserved g c =
@@ -70,27 +120,41 @@ rounds-preserved g c =
     let x = setup_of c.args.task in
     let s = c.args.shift.now in
     let t = c.rounds.shift in
-    let u = c.run_round.new.shift in
+    let u = c.step.new.shift in
+    let next = c.in_ok-next.next in
+    let well = c.in_ok-next.ensures.well in
     let h0 = (f.outside c.args.files.now).held in
     let h1 = (f.outside c.rounds.files).held in
-    let h2 = (f.outside c.run_round.new.files).held in
+    let h2 = (f.outside c.step.new.files).held in
+    let last = (f.outside c.step.new.files).last in
     let first = spot (r.stands c.args.reader.now) (r.left c.args.reader.now) (r.at c.args.reader.now) in
-    let mid = spot (r.stands c.rounds.reader) (r.left c.rounds.reader) (r.at c.rounds.reader) in
-    let now = spot (r.stands c.run_round.new.reader) (r.left c.run_round.new.reader) (r.at c.run_round.new.reader) in
-    let read = reads_on c.in_ok-turn.turn.ending c.in_default.is x.run.input (f.outside c.rounds.files) (f.outside c.run_round.new.files) c.in_ok-turn.ensures.reads in
+    let here = spot (r.stands c.rounds.reader) (r.left c.rounds.reader) (r.at c.rounds.reader) in
+    let now = spot (r.stands c.step.new.reader) (r.left c.step.new.reader) (r.at c.step.new.reader) in
+    let joins : Joins = record { rounds = c.rounds_join.ensures; limits = c.limits_begin.ensures; lines = c.load_lines_join.ensures } in
+    let before = reads_on c.rounds.round.ending c.in_default.is x.run.input (f.outside c.args.files.now) (f.outside c.rounds.files) c.rounds.invariant.reads in
+    let P : Pending → Type 0 = λ k. Moves h0 h2 (λ a n. StandsBetween x s.areas.plan u.seat.known.actor.draws (mark a c.args.progress.now (seats_of s) first) n c.step.new.progress (seats_of u) (unwritten k) now next last) in
+    let Q : Round → Type 0 = λ k. Moves h0 h2 (λ a n. StandsBetween x s.areas.plan u.seat.known.actor.draws (mark a c.args.progress.now (seats_of s) first) n c.step.new.progress (seats_of u) (unwritten c.swap.new.x) now k last) in
+    let Y : Round → Type 0 = λ k. r.ready c.step.new.reader k.number in
+    let H : Round → Type 0 = λ k. IsInHand c.step.new.progress.number k in
+    let N : ℕ → Type 0 = λ n. IsInHand n next in
+    let R : Round → Type 0 = λ k. ReadsOf (is_cut k.ending) x.run.input (f.outside c.args.files.now) (f.outside c.step.new.files) in
+    let is = sym c.replace-records.ensures.after in
     record {
-      went = rounds_join x s.areas.plan t.seat.known.actor.draws c.in_ok-turn.ensures.adds.drawn u.seat.known.actor.draws c.args.progress.now c.rounds.progress c.run_round.new.progress (seats_of s) (seats_of t) (seats_of u) first mid now c.in_ok-turn.turn.ending None (f.outside c.rounds.files).last (f.outside c.run_round.new.files).last
-          c.in_ok-turn.ensures.adds.draws c.in_default.is h0 h1 h2 c.rounds.invariant.went
-          (as_planned x s.areas.plan t.areas.plan (same_plan s.areas t.areas c.rounds.invariant.same_areas) u.seat.known.actor.draws c.rounds.progress c.run_round.new.progress (seats_of t) (seats_of u) mid now c.in_ok-turn.turn.ending (f.outside c.run_round.new.files).last h1 h2 c.in_ok-turn.ensures.went);
-      bounded = c.in_ok-turn.ensures.bounded;
-      ready = c.in_ok-turn.ensures.ready;
-      drawn = c.in_ok-turn.ensures.drawn;
-      same_areas = c.in_ok-turn.ensures.areas ∙ c.rounds.invariant.same_areas;
-      duty = c.in_ok-turn.ensures.duty;
-      adds = adds_more s t u c.rounds.invariant.adds c.in_ok-turn.ensures.adds;
-      others = others_more x.run h0 h1 h2 c.rounds.invariant.others c.in_ok-turn.ensures.others;
-      faults = read.0 ∙ c.rounds.invariant.faults;
-      lost = read.1 ∙ c.rounds.invariant.lost;
-      last = read.2 ∙ c.rounds.invariant.last;
-      spoiled = c.in_ok-turn.ensures.spoiled ∙ c.rounds.invariant.spoiled;
+      went = subst Q is (subst P (sym c.swap.ensures.x_after) (steps_on joins x (apart x.run c.requires.apart) s.areas.plan t.seat.known.actor.draws c.in_ok-next.ensures.duty.adds.drawn u.seat.known.actor.draws c.in_ok-next.ensures.duty.adds.draws
+          c.args.progress.now c.rounds.progress (seats_of s) (seats_of t) (seats_of u) (unwritten c.rounds.pending) first here c.rounds.round (f.outside c.rounds.files).last
+          c.step.new.progress c.step.new.made now next last
+          (judged_planned x s.areas.plan t.areas.plan u.seat.known.actor.draws c.rounds.progress c.step.new.progress (seats_of t) (seats_of u) c.rounds.round.records c.step.new.made (same_plan s.areas t.areas c.rounds.invariant.same_areas) well.judged)
+          well.bounded.rate h0 h1 h2 c.in_ok-next.ensures.read c.rounds.invariant.went c.in_ok-next.ensures.wrote));
+      bounded = well.bounded;
+      ready = subst Y is c.in_ok-next.ensures.ready;
+      drawn = well.drawn;
+      in_hand = subst H is (subst N (sym well.number) c.in_ok-next.ensures.read.in_hand);
+      same_areas = c.in_ok-next.ensures.duty.areas ∙ c.rounds.invariant.same_areas;
+      duty = c.in_ok-next.ensures.duty.duty;
+      up_to_date = c.in_ok-next.ensures.drawn.up_to_date;
+      adds = adds_more s t u c.rounds.invariant.adds c.in_ok-next.ensures.duty.adds;
+      others = others_more x.run h0 h1 h2 c.rounds.invariant.others c.in_ok-next.ensures.others;
+      reads = subst R is (reads_after (is_cut next.ending) x.run.input (f.outside c.args.files.now) (f.outside c.rounds.files) (f.outside c.step.new.files)
+          (record { faults = before.0; lost = before.1; spoiled = c.rounds.invariant.spoiled; last = before.2 }) c.in_ok-next.ensures.reads);
+      spoiled = c.in_ok-next.ensures.spoiled ∙ c.rounds.invariant.spoiled;
     }

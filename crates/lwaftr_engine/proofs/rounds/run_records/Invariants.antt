@@ -1,26 +1,27 @@
-use Rattle.std.proofs.Common.{◌≡◌, ◌-◌, ◌^◌, None, length}
+use Rattle.std.proofs.Common.{◌≡◌, ◌-◌, ◌^◌, length}
 use Rattle.aftr_base.specs.Contents.{Moves}
-use Rattle.lwaftr_engine.specs.Progress.{AddsTo, Goes, IsInRange, IsOnDuty, mark, seats_of, setup_of, spot}
+use Rattle.capture_io.specs.Rounds.{is_cut}
+use Rattle.lwaftr_engine.specs.Progress.{AddsTo, IsInRange, IsOnDuty, IsUpToDate, ReadsOf, mark, seats_of, setup_of, spot}
 use Rattle.lwaftr_engine.specs.Runs.{OthersKept}
+use Rattle.lwaftr_engine.specs.Underway.{IsInHand, StandsBetween, unwritten}
 use Rattle.lwaftr_engine.proofs.rounds.run_records.Given as goal
 
 abbrev pub invariant-rounds : goal.invariant-rounds
 invariant-rounds g l = let f = g.F.Files in let r = g.C.CaptureReader in record {
-  went : Moves (f.outside l.initial.files).held (f.outside l.files).held (λ m n. Goes (setup_of l.task) l.initial.shift.areas.plan l.shift.seat.known.actor.draws
-      (mark m l.initial.progress (seats_of l.initial.shift) (spot (r.stands l.initial.reader) (r.left l.initial.reader) (r.at l.initial.reader)))
-      (mark n l.progress (seats_of l.shift) (spot (r.stands l.reader) (r.left l.reader) (r.at l.reader)))
-      None (f.outside l.files).last);
+  went : Moves (f.outside l.fn.files).held (f.outside l.files).held (λ m n. StandsBetween (setup_of l.task) l.fn.shift.areas.plan l.shift.seat.known.actor.draws
+      (mark m l.fn.progress (seats_of l.fn.shift) (spot (r.stands l.fn.reader) (r.left l.fn.reader) (r.at l.fn.reader)))
+      n l.progress (seats_of l.shift) (unwritten l.pending) (spot (r.stands l.reader) (r.left l.reader) (r.at l.reader)) l.round (f.outside l.files).last);
   bounded : IsInRange (setup_of l.task) l.progress;
-  ready : r.ready l.reader l.progress.number;
+  ready : r.ready l.reader l.round.number;
   drawn : length l.shift.seat.known.actor.draws ≡ l.progress.number;
-  same_areas : l.shift.areas ≡ l.initial.shift.areas;
+  in_hand : IsInHand l.progress.number l.round;
+  same_areas : l.shift.areas ≡ l.fn.shift.areas;
   duty : IsOnDuty l.shift.areas.plan l.shift;
-  adds : AddsTo l.initial.shift l.shift;
-  others : Moves (f.outside l.initial.files).held (f.outside l.files).held (OthersKept (setup_of l.task).run);
-  faults : (f.outside l.files).faults ≡ (f.outside l.initial.files).faults;
-  lost : (f.outside l.files).lost ≡ (f.outside l.initial.files).lost;
-  last : (f.outside l.files).last ≡ (f.outside l.initial.files).last;
-  spoiled : (f.outside l.files).spoiled ≡ (f.outside l.initial.files).spoiled;
+  up_to_date : IsUpToDate l.shift.areas.plan (length l.shift.seat.known.actor.draws) l.shift.desk.known.points;
+  adds : AddsTo l.fn.shift l.shift;
+  others : Moves (f.outside l.fn.files).held (f.outside l.files).held (OthersKept (setup_of l.task).run);
+  reads : ReadsOf (is_cut l.round.ending) (setup_of l.task).run.input (f.outside l.fn.files) (f.outside l.files);
+  spoiled : (f.outside l.files).spoiled ≡ (f.outside l.fn.files).spoiled;
 }
 
 abbrev pub decreases-rounds : goal.decreases-rounds

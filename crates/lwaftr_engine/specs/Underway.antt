@@ -1,0 +1,185 @@
+-- Rounds under way: what was judged and is not written yet, and the round that was read and is not judged yet.
+use Rattle.std.specs.Prelude.{◌≡◌, ◌⊎◌, ℕ, ◌+◌, ◌^◌, ◌<◌, ◌≤◌, List, [], ◌++◌, length, drop, All, Option, None, string_bytes}
+use Rattle.aftr_base.specs.Contents.{Contents, Told, content}
+use Rattle.aftr_text.specs.declared.summaries.Totals.{Totals}
+use Rattle.capture_io.specs.Rounds.{GoesOn, IsPlaced, Precedes}
+use Rattle.capture_io.specs.declared.forms.Rec.{Rec}
+use Rattle.capture_io.specs.declared.rounds.Round.{Round}
+use Rattle.error_limit.specs.Limits.{Bucket}
+use Rattle.item_stage.specs.Items.{entries_of, items_in}
+use Rattle.item_stage.specs.Stages.{Staged, Stands}
+use Rattle.item_stage.specs.declared.entries.Entry.{Entry}
+use Rattle.lwaftr_engine.specs.Broken.{HasBegun}
+use Rattle.lwaftr_engine.specs.Progress.{AddsTo, HasWritten, IsInRange, IsOnDuty, IsUpToDate, Mark, Seats, Setup, Spot, Stops, Suits, Wrote, loads_of, mark, seats_of}
+use Rattle.lwaftr_engine.specs.Rounds.{HasBegunToWrite}
+use Rattle.lwaftr_engine.specs.Runs.{all_asking}
+use Rattle.lwaftr_engine.specs.declared.rounds.Pending.{Pending}
+use Rattle.lwaftr_engine.specs.declared.rounds.Progress.{Progress}
+use Rattle.lwaftr_engine.specs.declared.shift.Shift.{Shift}
+use Rattle.run_output.specs.Limiting.{HasAsked, IsLimited, rate_of}
+use Rattle.run_output.specs.Outputs.{Course}
+use Rattle.run_output.specs.Rendering.{HasOutcomes, IsCourseOf, IsRendered, lines_in, packets_in}
+use Rattle.run_output.specs.Versions.{NoneIsDue, between, load_lines}
+use Rattle.run_output.specs.declared.parts.Part.{Part}
+use Rattle.swap_core.specs.Plans.{Tables}
+use Rattle.table_words.specs.Layout.{AreCompiled}
+use Rattle.worker_gate.specs.Reloading.{IsSettled}
+use Rattle.worker_gate.specs.declared.outcomes.Outcome.{Outcome}
+
+-- what is not written yet: lines of tables, packets and lines of records
+pub record Unwritten : Type 0 where
+  pub versions : List ℕ
+  pub packets : List ℕ
+  pub lines : List ℕ
+
+abbrev pub unwritten : Pending → Unwritten
+unwritten p = record { versions = string_bytes p.versions; packets = packets_in p.rendered; lines = lines_in p.rendered }
+
+-- all of it is put behind what the outputs hold
+abbrev pub Puts : Setup → Unwritten → Contents → Contents → Type 0
+Puts x u old new = Wrote x.run u.versions u.packets u.lines old new
+
+-- a part of it is
+abbrev pub PutsPart : Setup → Unwritten → Contents → Contents → Type 0
+PutsPart x u old new = HasBegunToWrite x.run u.versions u.packets u.lines old new
+
+-- what the stage says of the round's records
+pub record IsStaged (before after : Staged) (records : List Rec) (es : List Entry) : Type 0 where
+  pub entries : (taken : List Rec) → Stands before taken → entries_of before.form (taken ++ records) ≡ entries_of before.form taken ++ es
+  pub stands : (taken : List Rec) → Stands before taken → Stands after (taken ++ records)
+  pub count : length es ≡ length records
+  pub form : after.form ≡ before.form
+
+-- what the limit on errors and the rendering say of the round
+pub record AreRendered (x : Setup) (start : ℕ) (records : List Rec) (es : List Entry) (os : List Outcome) (limit now : Option Bucket) (before after : Totals) (parts : List Part) : Type 0 where
+  pub rendered : (c : Course) (taken : List Rec) (front : List Entry) → length taken ≡ start → IsCourseOf c x.form taken records front es os limit →
+      IsLimited (rate_of limit) x.form (taken ++ records) (front ++ es) c → IsRendered c x.written start records es before after parts
+  pub asked : (c : Course) (taken : List Rec) (front : List Entry) → length taken ≡ start → IsCourseOf c x.form taken records front es os limit →
+      HasAsked x.form (taken ++ records) (front ++ es) c now
+
+-- the new lines of tables
+pub record AreNewLines (x : Setup) (points now news : List ℕ) (from to : ℕ) (lines : List ℕ) : Type 0 where
+  pub points_are : now ≡ points ++ news
+  pub forward : from ≤ to
+  pub lines_are : (later : List ℕ) → lines ≡ load_lines (now ++ later) (between from to (loads_of x))
+  pub none_due : NoneIsDue now (drop to x.slots)
+
+-- all that is known of a round, whatever the course is
+pub record IsRoundOf (x : Setup) (p q : Progress) (s t : Seats) (news : List ℕ) (records : List Rec) (es : List Entry) (os : List Outcome) (lines : List ℕ) (parts : List Part) : Type 0 where
+  pub numbered : q.number ≡ p.number + length records
+  pub staged : IsStaged p.stage q.stage records es
+  pub outcomes_count : length os ≡ length es
+  pub versions : All (λ o. o.version ≤ length t.points) os
+  pub reads : s.reads + all_asking (items_in es) ≤ t.reads
+  pub rate : rate_of p.limit ≡ x.run.errors
+  pub made : AreRendered x p.number records es os p.limit q.limit p.totals q.totals parts
+  pub new_lines : AreNewLines x s.points t.points news p.printed q.printed lines
+
+-- the outcomes of a round under every course that suits
+abbrev pub HaveOutcomes : Tables → List (ℕ × ℕ) → ℕ → List Entry → List Outcome → Type 0
+HaveOutcomes plan draws start es os = (c : Course) → Suits plan draws c → HasOutcomes c start es os
+
+-- a round was judged, and this is what it writes
+pub record HasJudged (x : Setup) (plan : Tables) (draws : List (ℕ × ℕ)) (p q : Progress) (s t : Seats) (records : List Rec) (made : Pending) : Type 0 where
+  pub news : List ℕ
+  pub entries : List Entry
+  pub outcomes : List Outcome
+  pub of : IsRoundOf x p q s t news records entries outcomes (string_bytes made.versions) made.rendered
+  pub have : HaveOutcomes plan draws p.number entries outcomes
+
+-- the outputs hold fronts of what the first of these records write, whichever points come later
+pub record IsCutFrom (x : Setup) (plan : Tables) (draws : List (ℕ × ℕ)) (points : List ℕ) (a : Mark) (now : Contents) (records : List Rec) : Type 0 where
+  pub input : content now x.run.input ≡ content a.held x.run.input
+  pub first : List Rec
+  pub others : List Rec
+  pub all : records ≡ first ++ others
+  pub limit : Option Bucket
+  pub rate : rate_of limit ≡ x.run.errors
+  pub begun : (later : List ℕ) (c : Course) → Suits plan draws c → (opened : Contents) (taken : List Rec) → HasWritten x c opened a taken → HasBegun x c (points ++ later) opened now (taken ++ first) limit
+
+-- From one state on these records were judged; what the last of them write is not in the outputs yet.
+pub record IsPending (x : Setup) (plan : Tables) (draws : List (ℕ × ℕ)) (a : Mark) (now : Contents) (p : Progress) (s : Seats) (u : Unwritten) (records : List Rec) : Type 0 where
+  pub input : content now x.run.input ≡ content a.held x.run.input
+  pub whole : (next : Contents) → Puts x u now next → (c : Course) → Suits plan draws c → (opened : Contents) (taken : List Rec) → HasWritten x c opened a taken →
+      HasWritten x c opened (mark next p s a.reader) (taken ++ records)
+  pub part : (next : Contents) → PutsPart x u now next → IsCutFrom x plan draws s.points a next records
+
+-- what was read, and how the records stopped
+pub record IsNext (name : List ℕ) (before now : Spot) (number : ℕ) (bytes : List ℕ) (round : Round) (last : Option (List ℕ × ℕ)) : Type 0 where
+  pub goes : GoesOn now.stood before.left now.left bytes number round
+  pub stopped : Stops name now bytes round.number round.ending last
+
+-- the reader took these records and those of a round
+pub record HasTaken (name : List ℕ) (first now : Spot) (bytes : List ℕ) (number : ℕ) (records : List Rec) (round : Round) (last : Option (List ℕ × ℕ)) : Type 0 where
+  pub stands : now.stood bytes
+  pub count : round.number ≡ number + length (records ++ round.records)
+  pub follows : Precedes first.left now.left bytes number (records ++ round.records) round.number
+  pub forward : first.at ≤ now.at
+  pub within : All (λ r. r.next_at ≤ now.at) (records ++ round.records)
+  pub stopped : Stops name now bytes round.number round.ending last
+
+-- some records were judged, the last of them are not written, and the next round is read
+pub record IsUnderWay (x : Setup) (plan : Tables) (draws : List (ℕ × ℕ)) (a : Mark) (now : Contents) (p : Progress) (s : Seats) (u : Unwritten) (reader : Spot) (round : Round) (last : Option (List ℕ × ℕ)) : Type 0 where
+  pub records : List Rec
+  pub pending : IsPending x plan draws a now p s u records
+  pub taken : HasTaken x.run.input a.reader reader (content a.held x.run.input) a.progress.number records round last
+
+abbrev pub StandsBetween : Setup → Tables → List (ℕ × ℕ) → Mark → Contents → Progress → Seats → Unwritten → Spot → Round → Option (List ℕ × ℕ) → Type 0
+StandsBetween x plan draws a now p s u reader round last = a.reader.stood (content a.held x.run.input) → IsUnderWay x plan draws a now p s u reader round last
+
+-- the round that is judged next
+pub record IsInHand (number : ℕ) (round : Round) : Type 0 where
+  pub numbered : round.number ≡ number + length round.records
+  pub most : round.number ≤ 2 ^ 31
+  pub few : length round.records ≤ 16384
+  pub some : round.ending ≡ None → 0 < length round.records
+
+-- what judging needs
+pub record CanJudge (x : Setup) (shift : Shift) (p : Progress) (round : Round) : Type 0 where
+  pub loads : length x.slots ≡ length x.run.loads
+  pub compiled : All AreCompiled shift.areas.plan.tables
+  pub duty : IsOnDuty shift.areas.plan shift
+  pub drawn : length shift.seat.known.actor.draws ≡ p.number
+  pub bounded : IsInRange x p
+  pub in_hand : IsInHand p.number round
+  pub up_to_date : IsUpToDate shift.areas.plan (length shift.seat.known.actor.draws) shift.desk.known.points
+
+-- no more records were drawn than there are up to a number, and each table whose window is open is in force
+pub record HasDrawn (s : Shift) (number : ℕ) : Type 0 where
+  pub few : length s.seat.known.actor.draws ≤ number
+  pub up_to_date : IsUpToDate s.areas.plan (length s.seat.known.actor.draws) s.desk.known.points
+
+-- the workers and the desk, whatever came of a round
+pub record StaysOnDuty (before now : Shift) : Type 0 where
+  pub areas : now.areas ≡ before.areas
+  pub duty : IsOnDuty now.areas.plan now
+  pub adds : AddsTo before now
+
+-- a round went well
+pub record WentWell (x : Setup) (before now : Shift) (p q : Progress) (round : Round) (made : Pending) : Type 0 where
+  pub judged : HasJudged x before.areas.plan now.seat.known.actor.draws p q (seats_of before) (seats_of now) round.records made
+  pub bounded : IsInRange x q
+  pub drawn : length now.seat.known.actor.draws ≡ q.number
+  pub number : q.number ≡ round.number
+  pub settled : IsSettled now.seat.known now.desk.known
+
+-- what was read behind so many records, once the files held this
+pub record HasRead (x : Setup) (before now : Spot) (number : ℕ) (held : Option Contents) (last : Option (List ℕ × ℕ)) (round : Round) : Type 0 where
+  pub in_hand : IsInHand number round
+  pub placed : IsPlaced before.at now.at round
+  pub told : Told held (λ m. before.stood (content m x.run.input) → IsNext x.run.input before now number (content m x.run.input) round last)
+
+-- both are put behind what the outputs hold
+abbrev pub PutsBoth : Setup → Unwritten → Unwritten → Contents → Contents → Type 0
+PutsBoth x u v old new = (between : Contents) × Puts x u old between × Puts x v between new
+
+-- a part of the first is put, or all of it and a part of what the last round writes
+abbrev pub BreaksLast : Setup → Shift → Shift → Progress → Progress → Round → Unwritten → Pending → Contents → Contents → Type 0
+BreaksLast x before now p q round u made old new =
+    PutsPart x u old new ⊎ (WentWell x before now p q round made × ((between : Contents) × Puts x u old between × PutsPart x (unwritten made) between new))
+
+-- it has nothing that is to be written
+pub record IsNothing (p : Pending) : Type 0 where
+  pub versions : string_bytes p.versions ≡ []
+  pub packets : packets_in p.rendered ≡ []
+  pub lines : lines_in p.rendered ≡ []
