@@ -9,8 +9,7 @@ here="$(cd "$(dirname "$0")" && pwd)"
 top="$(cd "$here/../.." && pwd)"
 program="${1:-}"
 if [ -z "$program" ]; then
-    "$top/lwaftr" > /dev/null 2>&1 || true
-    program="$top/crates/lwaftr_main/out/lwaftr_main"
+    program="$("$top/build" --program)"
 fi
 cmp "$top/crates/lwaftr_main/src/main.rt" "$top/crates/lwaftr_refused/src/main.rt" || echo "the two mains are not the same"
 exec python3 "$here/ends.py" "$program"

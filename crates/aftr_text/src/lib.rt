@@ -15,7 +15,7 @@ mod summaries;
 mod tables;
 mod words;
 
-pub use help::HELP;
+pub use help::{HELP, VERSION};
 pub use jobs::{Job, LoadList, LoadWords, RunJob, UsageError};
 pub use lines::{
     ended_line, limited_line, push_ended_line, push_limited_line, push_verdict_line, verdict_line,
