@@ -1,0 +1,591 @@
+"""Jobs from seeds: words and files, of every rule, refusal and shape that docs/FORMATS.md names."""
+import ipaddress
+import random
+import struct
+
+import router
+
+AFTR, OWN = ipaddress.IPv6Address("2001:db8::1").packed, bytes([192, 0, 2, 1])
+FAR = [bytes([198, 51, 100, 7]), bytes([198, 51, 100, 8]), bytes([8, 8, 8, 8])]
+GROUPS = [bytes([224, 0, 0, 1]), b"\xff" * 4, bytes([0, 1, 2, 3]), bytes([127, 0, 0, 1]), bytes([240, 0, 0, 1])]
+SHAPES = [(0, 0), (6, 8), (6, 8), (0, 16), (6, 0), (4, 12), (0, 8), (15, 1), (10, 6), (1, 15)]
+
+
+class Packets:
+    """Packets that suit a table, and some that do not."""
+
+    def __init__(self, chosen, table):
+        self.r, self.table, self.count = chosen, table, 0
+
+    def pick(self, *them):
+        return self.r.choice(them)
+
+    def binding(self):
+        return self.r.choice(self.table.bindings)
+
+    def port(self, binding):
+        _, _, offset, length, psid = binding
+        low = 16 - offset - length
+        high = self.r.randrange(1, 1 << offset) if offset else 0
+        return high << (16 - offset) | psid << low | self.r.randrange(1 << low)
+
+    def bytes(self, most):
+        return self.r.randbytes(self.r.randrange(most + 1))
+
+    def transport(self, protocol, src, dst, size=40):
+        return struct.pack("!HH", src, dst) + self.bytes(size)
+
+    def ip4(self, src, dst, protocol, payload, ttl=None, df=None, word=None, options=None, number=None):
+        ttl = self.r.choice([64] * 12 + [255, 2, 1, 0]) if ttl is None else ttl
+        if word is None:
+            word = (0x4000 if (self.r.random() < 0.3 if df is None else df) else 0) | (0x8000 if self.r.random() < 0.05 else 0)
+        if options is None:
+            options = self.options() if self.r.random() < 0.1 else b""
+        number = self.r.randrange(65536) if number is None else number
+        size = 20 + len(options)
+        head = struct.pack("!BBHHHBBH", 0x40 | size // 4, self.r.choice([0, 0, 184, 3]), size + len(payload), number, word, ttl, protocol, 0) + src + dst + options
+        return router.with_checksum(head, 10) + payload
+
+    def options(self):
+        made = b""
+        while len(made) < 36 and self.r.random() < 0.7:
+            kind = self.r.choice([1, 0x88, 0x07, 0x44, 0x83, 0x94])
+            made += b"\1" if kind == 1 else bytes([kind, 4]) + self.r.randbytes(2)
+        if self.r.random() < 0.1:
+            made += bytes([self.r.randrange(256)])
+        made = made[:40]
+        return made + bytes(-len(made) % 4)
+
+    def ip6(self, src, dst, kind, payload, chain=None):
+        if chain if chain is not None else self.r.random() < 0.05:
+            kind, payload = self.chain(kind, payload)
+        return struct.pack("!IHBB", 6 << 28 | self.r.choice([0, 0, 0x0B812345]), len(payload), kind, self.r.choice([64, 1, 255])) + src + dst + payload
+
+    def chain(self, kind, payload):
+        """Extension headers in front, sound ones or not."""
+        for _ in range(self.r.randint(1, 3)):
+            of = self.r.choice([0, 43, 60, 60, 44])
+            if of == 44:
+                payload = bytes([kind, 0]) + struct.pack("!HI", self.r.choice([0, 0, 2, 6]), self.r.randrange(2**32)) + payload
+            else:
+                size = self.r.choice([0, 0, 1])
+                payload = bytes([kind, self.r.choice([size, size, size, 9]), 4, self.r.choice([0, 0, 0, 1])]) + bytes(4 + 8 * size) + payload
+            kind = of
+        return kind, payload
+
+    def icmp(self, kind, code, rest):
+        return router.with_checksum(bytes([kind, code, 0, 0]) + rest, 2)
+
+    def size(self):
+        """Bytes of a payload: mostly few, sometimes about what a link takes."""
+        if self.r.random() < 0.85:
+            return self.r.randrange(60)
+        edge = self.r.choice([self.table.mtu6 - 40, self.table.mtu4, self.table.mtu6 - 48, 3000])
+        if edge > 10000 and self.r.random() < 0.9:
+            edge = 3000
+        return min(max(0, edge - 20 - 8 + self.r.randrange(-10, 11)), 65300)
+
+    def inner(self, src, dst, sport, dport):
+        """A packet between two ends, of some protocol."""
+        kind = self.r.random()
+        if kind < 0.6:
+            data = struct.pack("!HH", sport, dport) + self.r.randbytes(self.size())
+            return self.ip4(src, dst, self.r.choice([6, 17, 17, 33, 132, 136]), data)
+        if kind < 0.7:
+            return self.ip4(src, dst, 1, self.icmp(self.pick(0, 8), 0, struct.pack("!HH", sport, 1) + self.bytes(30)))
+        if kind < 0.85:
+            back = self.ip4(dst, src, self.pick(6, 17), struct.pack("!HH", dport, sport) + self.bytes(30), number=7)
+            if self.r.random() < 0.2:
+                back = self.ip4(dst, src, 1, self.icmp(self.pick(8, 3), 0, struct.pack("!HH", sport, 1) + self.bytes(30)))
+            if self.r.random() < 0.1:
+                back = self.ip4(dst, src, self.pick(47, 17), self.bytes(10), word=self.pick(0, 0, 5))
+            message = self.icmp(self.pick(3, 11, 4, 5, 12, 13), self.pick(0, 1, 4), bytes(4) + back[: self.r.choice([28, 48, 1000, 1000, 19])])
+            if self.r.random() < 0.15:
+                message = self.damaged(message)
+            return self.ip4(src, dst, 1, message)
+        if kind < 0.95:
+            return self.ip4(src, dst, self.r.choice([47, 50, 41, 4, 89]), self.bytes(40))
+        return self.ip4(src, dst, self.r.choice([6, 17, 1]), self.bytes(5))
+
+    def damaged(self, data):
+        if not data:
+            return data
+        kind, at = self.r.random(), self.r.randrange(min(len(data), 80))
+        if kind < 0.6:
+            return data[:at] + bytes([data[at] ^ 1 << self.r.randrange(8)]) + data[at + 1 :]
+        return data[:at] if kind < 0.9 else data + self.r.randbytes(4)
+
+    def ends(self):
+        """A subscriber's address and port, mostly owned; and its tunnel's end."""
+        it = self.binding()
+        b4, address, port = it[0], it[1], self.port(it)
+        if self.r.random() < 0.15:
+            port = self.r.randrange(65536)
+        if self.r.random() < 0.03:
+            address = self.r.choice([OWN, self.r.choice(FAR), self.r.choice(GROUPS)])
+        return b4, address, port
+
+    def far(self):
+        return self.r.choice(FAR if self.r.random() < 0.9 else [*GROUPS, self.table.own])
+
+    def up(self):
+        b4, address, port = self.ends()
+        if self.r.random() < 0.08:
+            b4 = self.r.choice([self.binding()[0], bytes(16), b"\xff" + bytes(15), AFTR])
+        if self.r.random() < 0.3:
+            _, other, theirs = self.ends()
+            inner = self.inner(address, other, port, theirs)
+        else:
+            inner = self.inner(address, self.far(), port, self.r.randrange(65536))
+        aftr = self.table.aftr if self.r.random() < 0.97 else self.binding()[0]
+        if self.r.random() < 0.08:
+            inner = self.damaged(inner)
+        return self.ip6(b4, aftr, 4 if self.r.random() < 0.96 else self.r.choice([17, 6, 59, 58, 50]), inner)
+
+    def down(self):
+        _, address, port = self.ends()
+        dst = address if self.r.random() < 0.95 else self.far()
+        return self.inner(self.far(), dst, self.r.randrange(65536), port)
+
+    def message(self):
+        """An ICMPv6 message, mostly an error about a tunnel packet."""
+        b4, address, port = self.ends()
+        src = self.far()
+        sport = self.r.randrange(65536)
+        if self.r.random() < 0.3:
+            _, src, sport = self.ends()
+        inner = self.inner(src, address, sport, port)
+        quote = self.ip6(self.table.aftr if self.r.random() < 0.95 else b4, b4 if self.r.random() < 0.95 else AFTR, 4, inner, chain=self.r.random() < 0.1)
+        if self.r.random() < 0.1:
+            quote = quote[:6] + b"\x2c" + quote[7:40] + bytes([4, 0]) + struct.pack("!HI", self.pick(0, 1, 8), 9) + inner
+        if self.r.random() < 0.1:
+            quote = self.damaged(quote)
+        kind = self.r.choice([1, 2, 3, 4, 1, 2, 3, 4, 128, 129, 100, 0])
+        data = bytes([kind, self.r.choice([0, 5]), 0, 0]) + struct.pack("!I", self.r.choice([0, 1280, 1400, 1500, 70000, 9])) + quote[: self.r.choice([1232, 100, 70, 48])]
+        src6, dst = self.r.choice([b4, bytes(15) + b"\9"]), self.table.aftr if self.r.random() < 0.95 else b4
+        pseudo = src6 + dst + struct.pack("!IxxxB", len(data), 58)
+        data = data[:2] + struct.pack("!H", router.checksum(pseudo + data)) + data[4:]
+        if self.r.random() < 0.08:
+            data = self.damaged(data)
+        return self.ip6(src6, dst, 58, data, chain=False)
+
+    def pieces(self, data, size, make):
+        """A body in pieces, in some order, with repeats, overlaps and gaps at times."""
+        made = []
+        for at in range(0, len(data), size):
+            made.append((at, at + size < len(data), data[at : at + size]))
+        if self.r.random() < 0.3:
+            self.r.shuffle(made)
+        for chance, change in ((0.1, self.twice), (0.1, self.overlapping), (0.05, self.other), (0.1, self.lost), (0.05, self.odd)):
+            if made and self.r.random() < chance:
+                change(made)
+        return [make(*it) for it in made]
+
+    def twice(self, made):
+        made.append(self.r.choice(made))
+
+    def overlapping(self, made):
+        at, more, body = self.r.choice(made)
+        made.append((max(0, at - 8), True, self.r.randbytes(24)))
+
+    def other(self, made):
+        at, more, body = self.r.choice(made)
+        made.append((at, not more, body if self.r.random() < 0.5 else self.r.randbytes(8)))
+
+    def lost(self, made):
+        made.remove(self.r.choice(made))
+
+    def odd(self, made):
+        made.append((self.pick(0, 65528, 65504), True, self.r.randbytes(self.pick(0, 7, 64, 9))))
+
+    def cut_packet(self, data, number):
+        """The fragments of an IPv4 packet."""
+        size = 4 * (data[0] & 15)
+        head, body = data[:size], data[size:]
+
+        def make(at, more, piece):
+            place = (head[6] & 0xC0) << 8 | (0x2000 if more else 0) | at // 8
+            made = head[:2] + struct.pack("!HHH", size + len(piece), number, place) + head[8:10] + b"\0\0" + head[12:]
+            return router.with_checksum(made, 10) + piece
+
+        return self.pieces(body, self.piece_size(body), make)
+
+    def piece_size(self, body):
+        """A multiple of 8 that makes a few pieces."""
+        return max(8 * self.r.randint(1, 40), len(body) // self.r.choice([1, 2, 3, 6]) & ~7, 8)
+
+    def cut_tunnel(self, data, number):
+        """The fragments of a tunnel packet."""
+        head, kind, body = data[:40], data[6], data[40:]
+
+        def make(at, more, piece):
+            fragment = struct.pack("!BBHI", kind, 0, at & ~7 | more, number)
+            return head[:4] + struct.pack("!HB", len(piece) + 8, 44) + head[7:] + fragment + piece
+
+        return self.pieces(body, self.piece_size(body), make)
+
+    def flood(self):
+        """More datagrams than a lane takes, or more pieces than a datagram may have."""
+        src, dst = self.far(), self.binding()[1]
+        if self.r.random() < 0.5:
+            return [self.ip4(src, dst, 17, self.r.randbytes(8), word=0x2000, number=16 * at + 5, options=b"") for at in range(260)]
+        return [self.ip4(src, dst, 17, self.r.randbytes(8), word=0x2000 | 2 * at, number=9, options=b"") for at in range(259)]
+
+    def some(self):
+        """Records: mostly one packet, sometimes the pieces of one."""
+        kind = self.r.random()
+        if kind < 0.38:
+            return [self.up()]
+        if kind < 0.6:
+            return [self.down()]
+        if kind < 0.7:
+            return [self.message()]
+        if kind < 0.95:
+            number = self.r.randrange(65536) if self.r.random() < 0.7 else self.r.choice([16, 32, 48])
+            if self.r.random() < 0.35:
+                return self.cut_packet(self.down(), number)
+            data = self.up()
+            if data[6] != 4 or self.r.random() < 0.5:
+                return self.cut_tunnel(data, number)
+            inside = self.cut_packet(data[40:], number) if len(data) >= 60 and data[40] >> 4 == 4 and 5 <= data[40] & 15 and len(data) >= 40 + 4 * (data[40] & 15) else [data[40:]]
+            return [data[:4] + struct.pack("!H", len(it)) + data[6:40] + it for it in inside]
+        return [self.bytes(60)]
+
+    def records(self, count):
+        made, waiting = [], []
+        while len(made) < count:
+            found = self.some()
+            if len(found) > 1 and self.r.random() < 0.3:
+                waiting += found
+                found = [waiting.pop(self.r.randrange(len(waiting))) for _ in range(min(len(waiting), 2))]
+            made += [self.damaged(it) if self.r.random() < 0.03 else it for it in found]
+        return made[:count]
+
+
+def table_text(r, edition, rows, **keys):
+    """A table file, in one of several spellings."""
+    settings = {"mtu6": 1500, "mtu4": 1500, "hop_limit": 64, "hairpin": True, "icmp_in": True, "errors_up": False, "errors_down": False, **keys}
+    lines = [f"version = {edition}"]
+    front = [f'aftr = "{ipaddress.IPv6Address(settings.pop("aftr", AFTR))}"', f'own = "{ipaddress.IPv4Address(settings.pop("own", OWN))}"']
+    front += [f"{name} = {str(it).lower()}" for name, it in settings.items() if r.random() < 0.9 or it != {"mtu6": 1500, "mtu4": 1500, "hop_limit": 64, "hairpin": True, "icmp_in": True}.get(name, False)]
+    style = r.random()
+    bodies = [[f'b4 = "{ipaddress.IPv6Address(b4)}"', f'ipv4 = "{ipaddress.IPv4Address(v4)}"', f"offset = {offset}", f"length = {length}", f"psid = {psid}"] for b4, v4, offset, length, psid in rows]
+    for it in bodies:
+        if r.random() < 0.3:
+            r.shuffle(it)
+    if style < 0.6:
+        lines += ["[softwire]", *front]
+        for it in bodies:
+            lines += ["[[binding]]", *it]
+    elif style < 0.8:
+        lines += [f"softwire.{it}" for it in front] + ["binding = ["] + [f"  {{ {', '.join(it)} }}," for it in bodies] + ["]"]
+    else:
+        lines += ["softwire = { " + ", ".join(front) + " }"]
+        for it in bodies:
+            lines += ["[[ binding ]]  # a subscriber", *it]
+    end = "\r\n" if r.random() < 0.1 else "\n"
+    return end.join(lines) + (end if r.random() < 0.9 else "")
+
+
+def rows_of(r, shapes_of):
+    """Bindings that no rule refuses."""
+    rows, taken = [], {}
+    for at in range(r.choice([1, 2, 3, 5, 9, 20])):
+        v4 = bytes([203, 0, 113, r.randrange(1, 6)])
+        offset, length = shapes_of(v4)
+        it = (offset, length, r.randrange(1 << length))
+        mine = router.ports_of(*it)
+        if mine & taken.get(v4, 0) == 0:
+            taken[v4] = taken.get(v4, 0) | mine
+            rows.append(((0x20010DB80001 << 80 | r.randrange(6) if r.random() < 0.3 else 0x20010DB80002 << 80 | at).to_bytes(16, "big"), v4, *it))
+    return rows
+
+
+def good_table(r):
+    edition = r.choice([1, 2])
+    chosen = {}
+
+    def shape(v4):
+        if edition == 2:
+            return r.choice(SHAPES)
+        return chosen.setdefault(v4, r.choice(SHAPES))
+
+    keys = {
+        "mtu6": r.choice([1500, 1500, 1280, 1281, 1283, 9000, 65535]), "mtu4": r.choice([1500, 1500, 576, 577, 600, 65535]),
+        "hop_limit": r.choice([64, 1, 255]), "hairpin": r.random() < 0.8, "icmp_in": r.random() < 0.8,
+        "errors_up": r.random() < 0.5, "errors_down": r.random() < 0.5,
+    }
+    return table_text(r, edition, rows_of(r, shape), **keys)
+
+
+def bad_table(r):
+    """A table file with one fault or two."""
+    text = good_table(r)
+    for _ in range(r.choice([1, 1, 2])):
+        lines = text.splitlines()
+        at = r.randrange(len(lines))
+        kind = r.randrange(14)
+        if kind == 0:
+            del lines[at]
+        elif kind == 1:
+            lines.insert(at, lines[at])
+        elif kind == 2:
+            lines.insert(at, r.choice(["hop-limit = 3", "psid = 1", "x = 1", "version = 1", 'b4 = "::1"', "[other]", "a.b = 2"]))
+        elif kind == 3:
+            name, sign, _ = lines[at].partition(" = ")
+            lines[at] = name + sign + r.choice(["1.5", '"x"', "true", "1979-05-27", "[]", "{}", "0x10", "1_0", "-1", "70000", "256", "0", "9223372036854775808", '"::1"', '"1.2.3.4"', '"2001:db8::g"', '"203.0.113.01"', '"2001:db8::1%eth0"', "'''::2'''", '"\\u0031.2.3.4"'])
+        elif kind == 4:
+            text = text.replace("version = 1", r.choice(["version = 3", "version = '1'", "", "version = 2", "version = 1.0"])).replace("version = 2", r.choice(["version = 0", "version = 1", "version = 2"]))
+            continue
+        elif kind == 5:
+            text = text.replace("mtu6 = ", r.choice(["mtu6 = 1", "mtu6 = 12", "mtu = ", "mtu6 = -"]), 1)
+            continue
+        elif kind == 6:
+            text = text.replace("hop_limit = ", r.choice(["hop_limit = 0 #", "hop_limit = 256 #", "hoplimit = "]), 1)
+            continue
+        elif kind == 7:
+            text = text.replace("psid = ", r.choice(["psid = 9", "psid = 6553", "psids = "]), 1)
+            continue
+        elif kind == 8:
+            text = text.replace("length = ", r.choice(["length = 1", "length = 3", "length = 25"]), 1)
+            continue
+        elif kind == 9:
+            text = text.replace("offset = ", r.choice(["offset = 1", "offset = 30", "offset = 2"]), 1)
+            continue
+        elif kind == 10:
+            text = text.replace("203.0.113.", r.choice(["192.0.2.1 #", "203.0.114.", "203.0.113.2"]), 1) if r.random() < 0.3 else text.replace("own = \"192.0.2.1\"", "own = \"203.0.113.1\"")
+            continue
+        elif kind == 11:
+            data = text.encode()
+            place = r.randrange(len(data))
+            return data[:place] + r.choice([b"\xff", b"\0", b"\"", b"[", b"\n", b"=", b"'''", b"\xc3\xa9"]) + data[place + r.randrange(3) :]
+        elif kind == 12:
+            text = text.replace("[[binding]]", r.choice(["[binding]", "[[bindings]]", "[binding.x]"]), 1).replace("binding = [", r.choice(["binding = [ 1, ", "binding = ["]), 1)
+            continue
+        else:
+            # a copy of what is there, so that ports are owned twice
+            if "[[" in text:
+                piece = text[text.index("[[") :]
+                second = piece.find("[[", 2)
+                text += "\n" + (piece if second < 0 else piece[:second])
+            continue
+        text = "\n".join(lines) + "\n"
+    return text.encode()
+
+
+def no_table(r):
+    """What is given in place of a table by mistake."""
+    return r.choice([b"", b"\n", b"{}", b"[1, 2]", b"a,b,c\n1,2,3\n", b"\x7fELF\2\1\1" + r.randbytes(60), b"\xff\xd8\xff\xe0" + r.randbytes(60), b"---\na: 1\n", bytes.fromhex("d4c3b2a102000400") + r.randbytes(40), b"\xef\xbb\xbfversion = 1"])
+
+
+class Times:
+    """Times of records: mostly a little later, sometimes a minute, sometimes back."""
+
+    def __init__(self, r):
+        self.r, self.now = r, r.choice([0, 10**9, 1_700_000_000 * 10**9])
+
+    def next(self):
+        step = self.r.random()
+        self.now += self.r.randrange(10**7) if step < 0.95 else 61 * 10**9 if step < 0.97 else self.r.choice([60 * 10**9, 10**9, -(10**9) if self.now >= 10**9 else 0])
+        return self.now
+
+
+def classic(r, records, link):
+    order, scale = r.choice("<>"), r.choice([1, 1000])
+    times = Times(r)
+    head = struct.pack(order + "IHHIIII", 0xA1B23C4D if scale == 1 else 0xA1B2C3D4, 2, 4, r.choice([0, 5]), 0, r.choice([0, 65535, 262144]), link)
+    parts = [head]
+    for it in records:
+        now = times.next()
+        fraction = now % 10**9 // scale
+        if r.random() < 0.005:
+            fraction = 2**32 - 1
+        parts.append(struct.pack(order + "IIII", now // 10**9 % 2**32, fraction, len(it), r.choice([len(it), 70000])) + it)
+    return parts
+
+
+def block(order, kind, body):
+    size = 12 + len(body) + -len(body) % 4
+    return struct.pack(order + "II", kind, size) + body + bytes(-len(body) % 4) + struct.pack(order + "I", size)
+
+
+def section(order):
+    return block(order, 0x0A0D0D0A, struct.pack(order + "IHHq", 0x1A2B3C4D, 1, 0, -1))
+
+
+def interface(r, order, link):
+    resolution = r.choice([None, None, 6, 9, 3, 0, 0x8A, 19, 0x80])
+    options = b""
+    if r.random() < 0.3:
+        options += struct.pack(order + "HH", 2, 5) + b"eth0!\0\0\0"
+    if resolution is not None:
+        options += struct.pack(order + "HHBxxx", 9, 1, resolution)
+        if r.random() < 0.1:
+            options += struct.pack(order + "HHBxxx", 9, 1, 3)
+    if options and r.random() < 0.7:
+        options += bytes(4)
+    limit = r.choice([0, 0, 262144, 100])
+    ticks = 10**6 if resolution is None else 2 ** (resolution & 127) if resolution & 128 else 10**resolution
+    return block(order, 1, struct.pack(order + "HHI", link, 0, limit) + options), ticks, limit
+
+
+def blocks(r, records, link):
+    order, times = r.choice("<>"), Times(r)
+    made, ticks, limit = interface(r, order, link)
+    parts, known = [section(order), made], [ticks]
+    for it in records:
+        kind = r.random()
+        if kind < 0.03:
+            parts.append(block(order, r.choice([5, 4, 10, 0xBAD, 0x80000001]), r.randbytes(4 * r.randrange(6))))
+        elif kind < 0.05 and len(known) < 4:
+            made, ticks, _ = interface(r, order, link)
+            parts.append(made)
+            known.append(ticks)
+        elif kind < 0.06:
+            order = r.choice("<>")
+            made, ticks, limit = interface(r, order, link)
+            parts += [section(order), made]
+            known = [ticks]
+        if r.random() < 0.1:
+            parts.append(block(order, 3, struct.pack(order + "I", len(it)) + (it[:limit] if limit else it)))
+            continue
+        at, now = r.randrange(len(known)), times.next()
+        count = min(now * known[at] // 10**9, 2**64 - 1)
+        if count // known[at] >= 2**32:
+            count = 0
+        options = struct.pack(order + "HHI", 2, 4, 1) + bytes(4) if r.random() < 0.05 else b""
+        parts.append(block(order, 6, struct.pack(order + "IIIII", at, count >> 32, count & 0xFFFFFFFF, len(it), len(it)) + it + bytes(-len(it) % 4) + options))
+    return parts
+
+
+def framed(r, records, link):
+    if link == 101:
+        return records
+    made = []
+    for it in records:
+        kind = b"\x86\xdd" if it[:1] and it[0] >> 4 == 6 else b"\x08\0"
+        if r.random() < 0.03:
+            kind = r.choice([b"\x08\x06", b"\x81\0\0\1\x81\0\0\1\x08\0", b"\x81\0\0", b"\x88\xa8\0\1\x08\0"])
+        tag = b"\x81\0\0\x05" if r.random() < 0.2 else b""
+        made.append(r.randbytes(12) + tag + kind + it)
+        if r.random() < 0.02:
+            made[-1] = made[-1][: r.randrange(20)]
+    return made
+
+
+def capture(r, table, count):
+    """A capture of packets that suit a table, sound or cut or damaged."""
+    maker = Packets(r, table)
+    records = maker.records(count)
+    if r.random() < 0.02:
+        at = r.randrange(len(records) + 1)
+        records[at:at] = maker.flood()
+    link = r.choice([101, 101, 1])
+    parts = (blocks if r.random() < 0.4 else classic)(r, framed(r, records, link), link)
+    kind = r.random()
+    if kind < 0.85:
+        return b"".join(parts)
+    data = b"".join(parts)
+    if kind < 0.9:
+        return data[: r.randrange(len(data) + 1)]
+    if kind < 0.92:
+        return data[: r.randrange(min(len(data), 120) + 1)]
+    # damage where the capture's own numbers stand: in the first bytes of a part
+    at = r.randrange(len(parts))
+    if parts[at]:
+        place = r.randrange(min(len(parts[at]), 40))
+        parts[at] = parts[at][:place] + bytes([r.choice([0, 255, parts[at][place] ^ 1 << r.randrange(8)])]) + parts[at][place + 1 :]
+    return b"".join(parts)
+
+
+class Job:
+    def __init__(self, words, files):
+        self.words, self.files = words, files
+
+
+def windows(r, count, most):
+    """Windows that never fall, of every kind."""
+    made, low, high = [], 0, 0
+    for _ in range(most):
+        low = min(low + r.choice([0, 0, 1, r.randrange(count + 2)]), 2**31)
+        high = max(high, low) + r.choice([0, 0, 1, r.randrange(count + 2), 2**20])
+        made.append((low, min(high, 2**31)))
+        high = made[-1][1]
+    return made
+
+
+def run_job(r):
+    files = {"t.toml": good_table(r).encode()}
+    table = router.Table(files["t.toml"])
+    count = r.choice([0, 1, 2, 5, 20, 60, 60, 150])
+    files["in"] = capture(r, table, max(count, 1)) if count else b"".join(classic(r, [], 101))
+    words, fault = ["run", "in", "out", "verdicts", "versions", "t.toml"], r.random()
+    if r.random() < 0.4:
+        for at, (low, high) in enumerate(windows(r, count, r.choice([1, 1, 2, 3, 6]))):
+            kind = r.random()
+            files[f"l{at}"] = good_table(r).encode() if kind < 0.75 else bad_table(r) if kind < 0.9 else no_table(r) if kind < 0.96 else files["in"]
+            words.append(f"{low}-{high}:l{at}")
+    if r.random() < 0.5:
+        words += ["--workers", str(r.choice([1, 2, 3, 4, 8, 16]))] if r.random() < 0.7 else [f"--workers={r.randrange(1, 17)}"]
+    if r.random() < 0.3:
+        words += ["--errors", str(r.choice([1, 2, 5, 100, 1000000]))]
+    if fault < 0.03:
+        files["t.toml"] = bad_table(r)
+    elif fault < 0.04:
+        files["t.toml"] = no_table(r)
+    elif fault < 0.05:
+        files["t.toml"] = files["in"]
+    elif fault < 0.06:
+        del files[r.choice(sorted(files))]
+    elif fault < 0.08:
+        files["in"] = r.choice([b"", r.randbytes(r.randrange(60)), files["t.toml"], b"\x1f\x8b" + r.randbytes(40), b"\x0a\x0d\x0d\x0a" + r.randbytes(40)])
+    return Job(words, files)
+
+
+def words_job(r):
+    """Words that mostly ask for nothing."""
+    job = run_job(r)
+    words, kind = job.words, r.randrange(9)
+    if kind == 0:
+        del words[r.randrange(len(words))]
+    elif kind == 1:
+        words.insert(r.randrange(len(words) + 1), r.choice(["-x", "--", "", "--workers", "--errors=0", "--workers=17", "-", "5-4:t.toml", "1-2", "x", "--workers=1", "-h", "1-2:"]))
+    elif kind == 2:
+        words[r.randrange(1, len(words))] = r.choice(words[1:])
+    elif kind == 3:
+        r.shuffle(words)
+    elif kind == 4:
+        words = [r.choice(["", "help", "--help", "-h", "--version", "Run", "check", "who", "demo", "migrate"]), *words[1 : r.randrange(1, 4)]]
+    elif kind == 5:
+        words = ["who", "t.toml", r.choice(["203.0.113.1", "203.0.113.01", "1.2.3", "::1", "203.0.113.1 "]), r.choice(["0", "65535", "65536", "01", "+1", "80", ""])]
+    elif kind == 6:
+        words = ["demo", r.choice(["7", "-7", "18446744073709551615", "18446744073709551616"]), r.choice(["0", "1", "30", "1000001"]), r.choice(["0", "1", "16", "17"])]
+    elif kind == 7:
+        words = ["migrate", "t.toml", r.choice(["t.toml", "new", ""])]
+    else:
+        words = []
+    return Job(words, job.files)
+
+
+def table_job(r):
+    """A question about a table, good or bad."""
+    kind = r.random()
+    data = good_table(r).encode() if kind < 0.3 else bad_table(r) if kind < 0.93 else no_table(r)
+    command = r.random()
+    if command < 0.6:
+        return Job(["check", "t.toml"], {"t.toml": data})
+    if command < 0.8:
+        return Job(["who", "t.toml", f"203.0.113.{r.randrange(7)}", str(r.randrange(65536))], {"t.toml": data})
+    return Job(["migrate", "t.toml", "new.toml"], {"t.toml": data})
+
+
+def job(seed):
+    r = random.Random(f"lwaftr {seed}")
+    kind = r.random()
+    if kind < 0.70:
+        return run_job(r)
+    if kind < 0.76:
+        return words_job(r)
+    if kind < 0.995:
+        return table_job(r)
+    return Job(["demo", str(r.randrange(2**64)), str(r.randrange(1, 400)), str(r.randrange(1, 17))], {})
