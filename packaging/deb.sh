@@ -1,0 +1,79 @@
+#!/bin/sh
+# Makes lwaftr_VERSION_amd64.deb of the released program, in the folder that is given or in out/.
+#     packaging/deb.sh [FOLDER]
+set -eu
+top=$(cd "$(dirname "$0")/.." && pwd)
+to=${1:-$top/out}
+"$top/build" --check > /dev/null || { echo "deb.sh: release/ is not of today's sources: ./build --release" >&2; exit 1; }
+version=$("$top/lwaftr" --version | cut -d ' ' -f 2)
+# The time of the last commit stands in the package, so that the same sources give the same bytes.
+SOURCE_DATE_EPOCH=$(git -C "$top" log -1 --format=%ct 2> /dev/null || date +%s)
+export SOURCE_DATE_EPOCH
+day=$(date -u -d "@$SOURCE_DATE_EPOCH" +%Y-%m-%d)
+tree=$(mktemp -d)
+trap 'rm -rf "$tree"' EXIT
+
+# put MODE FILE TO: a file of the repository, with the version and the day in their places
+put() {
+    mkdir -p "$tree/$(dirname "$3")"
+    sed "s/@VERSION@/$version/; s/@DATE@/$day/" "$top/$2" > "$tree/$3"
+    chmod "$1" "$tree/$3"
+}
+
+mkdir -p "$tree/DEBIAN" "$tree/usr/lib/lwaftr/tools/lwaftr_tools" "$tree/usr/share/lwaftr"
+install -m 755 "$top/release/lwaftr" "$tree/usr/lib/lwaftr/lwaftr"
+put 755 packaging/lwaftr usr/bin/lwaftr
+"$top/lwaftr" --help > "$tree/usr/share/lwaftr/help"
+sed -i 's|docs/FORMATS.md|/usr/share/doc/lwaftr/FORMATS.md|' "$tree/usr/share/lwaftr/help"
+for tool in why compare report from_snabb from_vpp from_csv to_snabb to_vpp; do
+    put 755 tools/$tool.py usr/lib/lwaftr/tools/$tool.py
+    sed -i '1s|.*|#!/usr/bin/python3|' "$tree/usr/lib/lwaftr/tools/$tool.py"
+done
+for part in "$top"/tools/lwaftr_tools/*.py; do
+    put 644 "tools/lwaftr_tools/$(basename "$part")" "usr/lib/lwaftr/tools/lwaftr_tools/$(basename "$part")"
+done
+put 644 packaging/lwaftr.bash usr/share/bash-completion/completions/lwaftr
+put 644 packaging/lwaftr.1 usr/share/man/man1/lwaftr.1
+put 644 docs/FORMATS.md usr/share/doc/lwaftr/FORMATS.md
+put 644 docs/OPERATING.md usr/share/doc/lwaftr/OPERATING.md
+put 644 release/NOTICES usr/share/doc/lwaftr/NOTICES
+{
+    printf 'Format: https://www.debian.org/doc/packaging-manuals/copyright-format/1.0/\nUpstream-Name: lwaftr\n\n'
+    printf 'Files: *\nCopyright: 2026 Ciddavera maintainers\nLicense: Expat or Apache-2.0\nComment: NOTICES has the licences of the libraries that are linked in.\n\n'
+    printf 'License: Expat\n'
+    sed '1,2d; s/^$/./; s/^/ /' "$top/LICENSE-MIT"
+    printf '\nLicense: Apache-2.0\n On Debian systems the text stands in /usr/share/common-licenses/Apache-2.0.\n'
+} > "$tree/usr/share/doc/lwaftr/copyright"
+printf 'lwaftr (%s) unstable; urgency=medium\n\n  * The program of this version.\n\n -- Ciddavera maintainers <maintainers@users.noreply.ciddavera.example>  %s\n' \
+    "$version" "$(date -u -R -d "@$SOURCE_DATE_EPOCH")" > "$tree/usr/share/doc/lwaftr/changelog"
+gzip -9n "$tree/usr/share/doc/lwaftr/changelog" "$tree/usr/share/man/man1/lwaftr.1"
+# The program is that of release/, byte for byte, so it keeps its symbols.
+mkdir -p "$tree/usr/share/lintian/overrides"
+echo 'lwaftr: unstripped-binary-or-object [usr/lib/lwaftr/lwaftr]' > "$tree/usr/share/lintian/overrides/lwaftr"
+chmod 644 "$tree/usr/share/lintian/overrides/lwaftr"
+find "$tree" -type d -exec chmod 755 {} +
+chmod 644 "$tree"/usr/share/lwaftr/help "$tree"/usr/share/doc/lwaftr/copyright
+cat > "$tree/DEBIAN/control" <<C
+Package: lwaftr
+Version: $version
+Architecture: amd64
+Maintainer: Ciddavera maintainers <maintainers@users.noreply.ciddavera.example>
+Installed-Size: $(du -sk "$tree/usr" | cut -f 1)
+Depends: libc6 (>= 2.34)
+Suggests: python3 (>= 3.11), python3-matplotlib, tcpdump
+Section: net
+Priority: optional
+Description: border router of Lightweight 4over6 over captures, proved
+ The provider's border router (lwAFTR) of Lightweight 4over6 (RFC 7596): many
+ subscribers share one public IPv4 address, and a binding table says who owns
+ which ports. It reads a capture and writes a capture of what the router would
+ send, with a line for each record; it forwards nothing live.
+ .
+ With it come tools that take over tables of other routers, compare captures,
+ and explain and report what was dropped.
+C
+(cd "$tree" && find usr -type f -exec md5sum {} + | LC_ALL=C sort -k 2 > DEBIAN/md5sums)
+chmod 644 "$tree/DEBIAN/control" "$tree/DEBIAN/md5sums"
+mkdir -p "$to"
+dpkg-deb --root-owner-group -Zxz --build "$tree" "$to/lwaftr_${version}_amd64.deb" > /dev/null
+echo "$to/lwaftr_${version}_amd64.deb"

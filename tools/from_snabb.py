@@ -1,0 +1,149 @@
+#!/usr/bin/env python3
+"""A table from a configuration of Snabb's lwaftr.
+
+Read are `softwire-config` (the module's statements, also of an instance's queues): of the external interface `ip`, `mtu`,
+`allow-incoming-icmp`, `generate-icmp-errors`; of the internal one `ip`, `mtu`, `hop-limit`, `hairpinning`, `generate-icmp-errors`;
+and the binding table: `softwire` with `ipv4`, `psid`, `b4-ipv6` (or `b4`), `br-address` (or `br`, a place in the list of
+`br-address`), `port-set` with `psid-length` and `reserved-ports-bit-count` or `shift`, and `psid-map` with `addr`, `end-addr`,
+`psid-length`, `reserved-ports-bit-count` or `shift`. All else is named on standard error as left out, with its line.
+
+A router of this kind has one tunnel address: with several, `--aftr` says which one's subscribers are carried."""
+import collections
+import ipaddress
+
+from lwaftr_tools import converting, tables, yang
+
+ROOT = ("softwire-config", "lwaftr", "configuration")
+EXTERNAL = {"ip": "own", "mtu": "mtu4", "allow-incoming-icmp": "icmp_in", "generate-icmp-errors": "errors_down"}
+INTERNAL = {"ip": "aftr", "mtu": "mtu6", "hop-limit": "hop_limit", "hairpinning": "hairpin", "generate-icmp-errors": "errors_up"}
+WHY = {
+    "error-rate-limiting": "say it by `lwaftr run --errors N`",
+    "reassembly": "this router's limits are fixed: 256 datagrams of 256 fragments a lane, 60 seconds",
+    "next-hop": "this router reads and writes captures: it has no neighbours",
+    "mac": "this router reads and writes captures: it has no neighbours",
+    "vlan-tag": "one VLAN tag is read with or without, and none is written",
+    "ingress-filter": "no filters",
+    "egress-filter": "no filters",
+    "flow-label": "the flow label is 0",
+    "device": "this router reads and writes captures",
+}
+
+
+def flag(node):
+    return node.value != "false"
+
+
+def interface(node, names, found, notes):
+    """What an interface says of the settings."""
+    for it in node.inside:
+        name = names.get(it.name)
+        if name in ("aftr", "own"):
+            kind = ipaddress.IPv6Address if name == "aftr" else ipaddress.IPv4Address
+            found.setdefault(name, kind(it.value.split("/")[0]))
+        elif name in ("mtu6", "mtu4", "hop_limit"):
+            found.setdefault(name, int(it.value))
+        elif name:
+            found.setdefault(name, flag(it))
+        else:
+            notes.left_out(it.line, f"{node.name} {it.name}", WHY.get(it.name, ""))
+
+
+def interfaces(node, found, notes):
+    """The interfaces of a configuration, and of the queues of its instances."""
+    for it in node.inside:
+        if it.name == "external-interface":
+            interface(it, EXTERNAL, found, notes)
+        elif it.name == "internal-interface":
+            interface(it, INTERNAL, found, notes)
+        elif it.name in ("instance", "queue"):
+            interfaces(it, found, notes)
+        elif it.name not in ("binding-table", "id"):
+            notes.left_out(it.line, it.name, WHY.get(it.name, ""))
+
+
+def shape(node):
+    """Offset and length of a port set; where a shift stands in place of the reserved bits, the offset is what is left."""
+    length = int(node.one("psid-length").value) if node.one("psid-length") else 0
+    reserved, shift = node.one("reserved-ports-bit-count"), node.one("shift")
+    if reserved:
+        return int(reserved.value), length
+    if shift:
+        return 16 - length - int(shift.value), length
+    return 0, length
+
+
+def maps(table):
+    """The shapes that the older form gives to addresses."""
+    found = {}
+    for node in table.all("psid-map"):
+        first = int(ipaddress.IPv4Address(node.one("addr").value))
+        last = int(ipaddress.IPv4Address(node.one("end-addr").value)) if node.one("end-addr") else first
+        for address in range(first, last + 1):
+            found[ipaddress.IPv4Address(address)] = shape(node)
+    return found
+
+
+def tunnel(node, listed):
+    """The tunnel address of a softwire, if it says one."""
+    if node.one("br-address"):
+        return ipaddress.IPv6Address(node.one("br-address").value)
+    if node.one("br"):
+        return listed[int(node.one("br").value)]
+    return listed[0] if listed else None
+
+
+KNOWN = ("ipv4", "psid", "b4-ipv6", "b4", "br-address", "br", "port-set", "padding")
+
+
+def softwires(table, notes):
+    """Each softwire with its line, its tunnel address and its binding."""
+    listed = [ipaddress.IPv6Address(it.value) for it in table.all("br-address")]
+    of_map = maps(table)
+    for node in table.all("softwire"):
+        b4 = node.one("b4-ipv6") or node.one("b4")
+        if not b4 or not node.one("ipv4"):
+            notes.left_out(node.line, "softwire", "it has no b4-ipv6 or no ipv4")
+            continue
+        ipv4 = ipaddress.IPv4Address(node.one("ipv4").value)
+        offset, length = shape(node.one("port-set")) if node.one("port-set") else of_map.get(ipv4, (0, 0))
+        psid = int(node.one("psid").value) if node.one("psid") else 0
+        for it in node.inside:
+            if it.name not in KNOWN:
+                notes.left_out(it.line, f"softwire {it.name}")
+        yield node.line, tunnel(node, listed), tables.Binding(ipaddress.IPv6Address(b4.value), ipv4, offset, length, psid)
+    for node in table.inside:
+        if node.name not in ("softwire", "psid-map", "br-address"):
+            notes.left_out(node.line, f"binding-table {node.name}", WHY.get(node.name, ""))
+
+
+def main():
+    words = converting.settings(converting.parser(__doc__, "CONFIG")).parse_args()
+    notes, found = converting.Notes(words.file), {}
+    try:
+        with open(words.file, encoding="utf-8") as file:
+            top = yang.read(file.read())
+        root = next((it for name in ROOT for it in top.all(name)), top)
+        interfaces(root, found, notes)
+        table = root.one("binding-table")
+        wires = list(softwires(table, notes)) if table else converting.fail("there is no binding-table")
+    except (yang.YangError, ValueError, OSError, AttributeError, IndexError) as error:
+        converting.fail(f"{words.file}: {error}")
+    counts = collections.Counter(aftr for _, aftr, _ in wires if aftr)
+    aftr = words.aftr or (counts.most_common(1)[0][0] if len(counts) == 1 else None)
+    if counts and not aftr:
+        said = ", ".join(f"{it} with {count}" for it, count in counts.most_common())
+        converting.fail(f"several tunnel addresses ({said}): say by --aftr which one's subscribers are carried")
+    if aftr:
+        found["aftr"] = aftr
+    notes.not_said(words, found)
+    kept = []
+    for line, its, binding in wires:
+        if its and its != aftr:
+            notes.left_out(line, f"softwire of {binding.b4}", f"its tunnel address is {its}")
+        else:
+            kept.append(binding)
+    converting.put(words.output, tables.text(tables.Table(converting.softwire(words, found), kept)))
+
+
+if __name__ == "__main__":
+    main()

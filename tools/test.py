@@ -1,0 +1,358 @@
+#!/usr/bin/env python3
+"""The tests of the tools. `tools/test.sh` runs them."""
+import ipaddress
+import os
+import random
+import re
+import struct
+import subprocess
+import sys
+import tempfile
+import unittest
+
+HERE = os.path.dirname(os.path.abspath(__file__))
+sys.path.insert(0, HERE)
+from lwaftr_tools import captures, packets, tables  # noqa: E402
+
+PROGRAM = os.environ.get("LWAFTR", os.path.join(os.path.dirname(HERE), "lwaftr"))
+os.environ["LWAFTR"] = PROGRAM
+FIRST = os.path.join(os.path.dirname(HERE), "examples", "first")
+
+
+def ran(tool, *words):
+    it = subprocess.run([sys.executable, os.path.join(HERE, tool), *map(str, words)], capture_output=True, text=True)
+    return it.returncode, it.stdout, it.stderr
+
+
+def total(data):
+    if len(data) % 2:
+        data += b"\0"
+    count = sum(struct.unpack(f"!{len(data) // 2}H", data))
+    while count >> 16:
+        count = (count & 0xFFFF) + (count >> 16)
+    return ~count & 0xFFFF
+
+
+def ip4(source, destination, protocol, payload, ttl=64, number=1, word=0):
+    head = struct.pack("!BBHHHBBH4s4s", 69, 0, 20 + len(payload), number, word, ttl, protocol, 0, ipaddress.IPv4Address(source).packed, ipaddress.IPv4Address(destination).packed)
+    return head[:10] + struct.pack("!H", total(head)) + head[12:] + payload
+
+
+def ip6(source, destination, kind, payload, hops=64):
+    return struct.pack("!IHBB16s16s", 6 << 28, len(payload), kind, hops, ipaddress.IPv6Address(source).packed, ipaddress.IPv6Address(destination).packed) + payload
+
+
+def udp(source, destination, payload=b"test"):
+    return struct.pack("!HHHH", source, destination, 8 + len(payload), 0) + payload
+
+
+def icmp(kind, code, rest):
+    data = struct.pack("!BBH", kind, code, 0) + rest
+    return data[:2] + struct.pack("!H", total(data)) + data[4:]
+
+
+AFTR, OWN, SHARED, WHOLE, FAR = "2001:db8::1", "192.0.2.1", "203.0.113.1", "203.0.113.2", "198.51.100.7"
+B4, OTHER, ALONE = "2001:db8:1::1", "2001:db8:1::2", "2001:db8:1::3"
+
+
+def a_table(**keys):
+    softwire = tables.Softwire(ipaddress.IPv6Address(AFTR), ipaddress.IPv4Address(OWN), **keys)
+    rows = [(B4, SHARED, 6, 8, 52), (OTHER, SHARED, 6, 8, 53), (ALONE, WHOLE, 0, 0, 0)]
+    return tables.Table(softwire, [tables.Binding(ipaddress.IPv6Address(b4), ipaddress.IPv4Address(v4), *shape) for b4, v4, *shape in rows])
+
+
+class Folder(unittest.TestCase):
+    def setUp(self):
+        self.folder = tempfile.TemporaryDirectory()
+        self.addCleanup(self.folder.cleanup)
+
+    def file(self, name, text=None):
+        path = os.path.join(self.folder.name, name)
+        if text is not None:
+            with open(path, "w", encoding="utf-8") as file:
+                file.write(text)
+        return path
+
+    def run_program(self, records, table, *words):
+        """The files of a run over these packets."""
+        names = [self.file(it) for it in ("in.pcap", "out.pcap", "verdicts", "versions", "table.toml")]
+        captures.write(names[0], [(1_000_000_000 + at * 1_000_000, data) for at, data in enumerate(records)])
+        self.file("table.toml", tables.text(table))
+        it = subprocess.run([PROGRAM, "run", *names, *words], capture_output=True, text=True)
+        self.assertEqual(it.returncode, 0, it.stderr)
+        return names
+
+
+def same(one, other):
+    return sorted(one.bindings, key=str) == sorted(other.bindings, key=str)
+
+
+class Converting(Folder):
+    def random_table(self, chosen, shapes):
+        rows, taken = [], set()
+        for at in range(chosen.randint(1, 30)):
+            offset, length = chosen.choice(shapes)
+            psid = chosen.randrange(1 << length)
+            v4 = ipaddress.IPv4Address(0xCB007100 + shapes.index((offset, length)) * 8 + chosen.randrange(8))
+            if (v4, psid) not in taken:
+                taken.add((v4, psid))
+                rows.append(tables.Binding(ipaddress.IPv6Address(0x20010DB8 << 96 | at), v4, offset, length, psid))
+        keys = a_table(mtu6=chosen.randint(1280, 9000), mtu4=chosen.randint(576, 9000), hop_limit=chosen.randint(1, 255)).softwire
+        for name in ("hairpin", "icmp_in", "errors_up", "errors_down"):
+            setattr(keys, name, chosen.random() < 0.5)
+        return tables.Table(keys, rows)
+
+    def there_and_back(self, to, back, shapes, keep):
+        for seed in range(100):
+            table = self.random_table(random.Random(seed), shapes)
+            code, out, error = ran(to, self.file("t.toml", tables.text(table)))
+            self.assertEqual(code, 0, error)
+            code, out, error = ran(back, self.file("other", out), "-o", self.file("back.toml"))
+            self.assertEqual(code, 0, error)
+            found = tables.read(self.file("back.toml"))
+            self.assertTrue(same(found, table), seed)
+            for name in keep:
+                self.assertEqual(getattr(found.softwire, name), getattr(table.softwire, name), name)
+
+    def test_snabb_and_back(self):
+        keep = ("aftr", "own", "mtu6", "mtu4", "hop_limit", "hairpin", "icmp_in", "errors_up", "errors_down")
+        self.there_and_back("to_snabb.py", "from_snabb.py", [(0, 0), (6, 8), (0, 16), (6, 0), (4, 12), (0, 8)], keep)
+
+    def test_vpp_and_back(self):
+        self.there_and_back("to_vpp.py", "from_vpp.py", [(0, 0), (6, 8), (0, 16), (4, 12), (0, 8)], ("aftr", "own", "mtu6"))
+
+    def sample(self, tool, name, count, *words):
+        code, out, error = ran(tool, os.path.join(HERE, "samples", name), "-o", self.file("table.toml"), *words)
+        self.assertEqual(code, 0, error)
+        it = subprocess.run([PROGRAM, "check", self.file("table.toml")], capture_output=True, text=True)
+        self.assertEqual(it.stdout, f"valid {count} bindings\n", it.stderr)
+        return error
+
+    def test_samples(self):
+        said = self.sample("from_snabb.py", "snabb.conf", 3)
+        for line, what in ((4, "device"), (16, "vlan-tag"), (22, "error-rate-limiting"), (24, "ingress-filter"), (26, "reassembly"), (29, "flow-label")):
+            self.assertRegex(said, rf":{line}: left out: .*{what}")
+        table = tables.read(self.file("table.toml"))
+        self.assertEqual((table.softwire.mtu4, table.softwire.hop_limit, table.softwire.icmp_in), (1460, 255, False))
+        self.assertTrue(same(table, a_table()))
+        said = self.sample("from_snabb.py", "snabb_psid_map.conf", 3, "--aftr", AFTR)
+        self.assertIn(":14: left out: softwire of 2001:db8:1::5: its tunnel address is 2001:db8::9", said)
+        said = self.sample("from_vpp.py", "vpp.cli", 3)
+        for line in (3, 8, 9):
+            self.assertIn(f":{line}: left out: ", said)
+        self.assertTrue(same(tables.read(self.file("table.toml")), a_table()))
+        self.sample("from_csv.py", "list.csv", 3, "--aftr", AFTR, "--own", OWN)
+        self.assertTrue(same(tables.read(self.file("table.toml")), a_table()))
+
+    def test_refusals_name_their_cause(self):
+        code, _, error = ran("from_snabb.py", os.path.join(HERE, "samples", "snabb_psid_map.conf"))
+        self.assertEqual((code, "say by --aftr" in error), (1, True))
+        code, _, error = ran("from_csv.py", self.file("l.csv", "203.0.113.1,6,8,52\n203.0.113.1,6,8\n"), "--aftr", AFTR, "--own", OWN)
+        self.assertEqual((code, "line 2" in error), (1, True))
+        code, _, error = ran("from_snabb.py", self.file("s.conf", "softwire-config { binding-table { softwire { "))
+        self.assertEqual((code, "ends inside" in error), (1, True))
+
+
+class Owning(unittest.TestCase):
+    def test_ports_are_those_of_the_rule(self):
+        for offset, length, psid in ((6, 8, 52), (0, 8, 4), (0, 16, 80), (6, 0, 0), (0, 0, 0), (15, 1, 1), (4, 12, 7)):
+            low = 16 - offset - length
+            owned = {i << (16 - offset) | psid << low | j for i in (range(1, 1 << offset) if offset else [0]) for j in range(1 << low)}
+            it = tables.Binding(ipaddress.IPv6Address(B4), ipaddress.IPv4Address(SHARED), offset, length, psid)
+            self.assertEqual({port for port in range(65536) if it.owns(port)}, owned)
+
+
+def one_of_each_rule():
+    """A packet of each rule that one record can meet, with its rule and a part of what is said of it."""
+    inner = ip4(SHARED, FAR, 17, udp(1232, 53))
+    bad_sum = inner[:10] + b"\0\0" + inner[12:]
+    tunnel = ip6(AFTR, B4, 4, ip4(FAR, SHARED, 17, udp(53, 1232)))
+
+    def message(kind, code, quote, source=B4):
+        data = struct.pack("!BBHI", kind, code, 0, 0) + quote
+        pseudo = ipaddress.IPv6Address(source).packed + ipaddress.IPv6Address(AFTR).packed + struct.pack("!IxxxB", len(data), 58)
+        return ip6(source, AFTR, 58, data[:2] + struct.pack("!H", total(pseudo + data)) + data[4:])
+
+    def up(data, source=B4):
+        return ip6(source, AFTR, 4, data)
+
+    return [
+        (up(inner), "up", "sent out"),
+        (ip4(FAR, SHARED, 17, udp(53, 1232)), "down", "sent into the tunnel"),
+        (up(ip4(SHARED, SHARED, 17, udp(1232, 1236))), "hairpin", "another"),
+        (up(ip4(SHARED, FAR, 17, udp(1232, 53, b"testtest"), word=0x2000)), "held", "waits"),
+        (b"", "frame-short", "too few bytes"),
+        (b"\x50" * 30, "frame-type", "neither IPv4 nor IPv6"),
+        (ip4(FAR, SHARED, 17, udp(53, 1232))[:24], "ip4-malformed", "fewer bytes"),
+        (bad_sum, "ip4-checksum", "checksum"),
+        (up(inner)[:50], "ip6-malformed", "fewer bytes"),
+        (ip6(B4, AFTR, 0, b"\4"), "ip6-chain", "extension headers"),
+        (ip4(FAR, SHARED, 17, b"12345", word=0x2000), "frag-odd", "multiple of 8"),
+        (ip4(FAR, SHARED, 17, b"x" * 1400, word=0x1FFF), "frag-long", "65,535"),
+        (ip6(B4, "2001:db8::9", 4, inner), "not-ours", "the tunnel address is 2001:db8::1"),
+        (ip6(B4, AFTR, 17, udp(1, 2)), "not-softwire", "it carries UDP"),
+        (up(inner[:25]), "inner-malformed", "fewer bytes"),
+        (up(bad_sum), "inner-checksum", "checksum"),
+        (ip4(FAR, OWN, 17, udp(53, 1232)), "to-self", "router's own"),
+        (ip4(FAR, SHARED, 1, b"\3\0\0\0"), "icmp-bad", "cut off"),
+        (ip4(FAR, WHOLE, 17, b"ab"), "no-port", "names no port"),
+        (ip4(FAR, SHARED, 17, udp(53, 1240)), "no-binding", "port 1240 of 203.0.113.1 is nobody's"),
+        (up(inner, OTHER), "no-binding", "its owner's tunnel ends at 2001:db8:1::1, it came from 2001:db8:1::2"),
+        (ip4(FAR, SHARED, 47, b"\0" * 8), "no-binding", "GRE has no ports"),
+        (up(ip4(SHARED, FAR, 17, udp(1232, 53), ttl=1)), "ttl", "its time to live is 1"),
+        (ip4(FAR, SHARED, 17, udp(53, 1232, b"x" * 1440), word=0x4000), "too-big", "takes 1460"),
+        (up(ip4(SHARED, SHARED, 17, udp(1232, 1240))), "hairpin-no-binding", "port 1240 of 203.0.113.1 is nobody's"),
+        (message(1, 0, tunnel), "relayed", "passed on"),
+        (message(1, 0, b"nothing"), "relay-bad", "quotes no tunnel packet"),
+        (message(1, 0, ip6(AFTR, OTHER, 4, ip4(FAR, SHARED, 17, udp(53, 1232)))), "relay-no-binding", "no binding fits"),
+        (message(1, 0, ip6(AFTR, B4, 4, ip4("224.0.0.1", SHARED, 17, udp(53, 1232)))), "relay-mute", "no ICMP error"),
+    ]
+
+
+class Explaining(Folder):
+    def told(self, names, number):
+        code, out, error = ran("why.py", names[0], names[4], number, "--verdicts", names[2])
+        self.assertEqual(code, 0, error)
+        return out
+
+    def test_one_packet_of_each_rule(self):
+        cases = one_of_each_rule()
+        names = self.run_program([data for data, _, _ in cases], a_table())
+        for number, (_, rule, said) in enumerate(cases):
+            out = self.told(names, number)
+            with self.subTest(rule=rule, number=number):
+                self.assertRegex(out, rf"verdict: {number} 0 (drop )?{rule} ")
+                self.assertIn(said, out.split("why: ")[1])
+
+    def test_rules_of_settings(self):
+        up = ip6(B4, AFTR, 4, ip4(SHARED, SHARED, 17, udp(1232, 1236)))
+        names = self.run_program([up, ip4(FAR, SHARED, 1, icmp(8, 0, b"\4\xd0\0\0"))], a_table(hairpin=False, icmp_in=False))
+        self.assertIn("hairpin = false", self.told(names, 0))
+        self.assertIn("icmp_in = false", self.told(names, 1))
+
+    def test_rules_of_fragments(self):
+        def piece(number, place, more, size=8, fill=b"x"):
+            return ip4(FAR, SHARED, 17, fill * size, number=number, word=place // 8 | (0x2000 if more else 0))
+
+        records = [piece(1, 0, True), piece(1, 0, True, fill=b"y")]
+        records += [piece(2, 16 * at, True) for at in range(257)]
+        records += [piece(16 * at + 3, 0, True) for at in range(257)]
+        names = self.run_program(records, a_table())
+        self.assertIn("overlap", self.told(names, 1))
+        self.assertIn("more than 256 fragments", self.told(names, 258))
+        self.assertIn("256 datagrams wait", self.told(names, len(records) - 1))
+
+    def test_it_runs_the_program_itself(self):
+        names = self.run_program([ip4(FAR, SHARED, 17, udp(53, 1240))], a_table())
+        code, out, error = ran("why.py", names[0], names[4], 0)
+        self.assertEqual(code, 0, error)
+        self.assertIn("why: port 1240 of 203.0.113.1 is nobody's", out)
+
+
+class Comparing(Folder):
+    def a_run(self, count=400):
+        chosen, records = random.Random(7), []
+        for at in range(count):
+            ends = 1232 + chosen.randrange(4), chosen.randrange(1, 65536)
+            data = udp(*ends, bytes(chosen.randrange(256) for _ in range(chosen.randint(4, 60))))
+            if at % 2:
+                records.append(ip6(B4, AFTR, 4, ip4(SHARED, FAR, 17, data, number=at)))
+            else:
+                records.append(ip4(FAR, SHARED, 17, udp(ends[1], ends[0], data[8:]), number=at))
+        return self.run_program(records, a_table())
+
+    def compared(self, names, theirs, *words):
+        captures.write(self.file("theirs.pcap"), theirs)
+        return ran("compare.py", names[1], self.file("theirs.pcap"), "--verdicts", names[2], *words)
+
+    def test_a_shuffled_copy_is_the_same(self):
+        names = self.a_run()
+        packets_sent = [(it.time, it.bytes) for it in captures.records(names[1])]
+        random.Random(1).shuffle(packets_sent)
+        code, out, _ = self.compared(names, packets_sent)
+        self.assertEqual((code, out), (0, "400 packets of ours, 400 of theirs: 400 the same, 0 differs, 0 missing there, 0 not ours\n"))
+
+    def test_twenty_planted_differences(self):
+        names = self.a_run()
+        sent = [(it.time, bytearray(it.bytes)) for it in captures.records(names[1])]
+        # the number of a packet (even: in a tunnel, odd: out), the byte that is changed, and the field that it is of
+        changes = [
+            (0, 1, "label"), (2, 7, "ttl"), (4, 23, "source"), (6, 39, "destination"), (8, 41, "in-tos"), (10, 45, "in-id"),
+            (12, 48, "in-ttl"), (14, 50, "in-checksum"), (16, 55, "in-source"), (18, 63, "in-port-destination"), (20, 70, "in-payload"),
+            (1, 1, "tos"), (3, 5, "id"), (5, 8, "ttl"), (7, 10, "checksum"), (9, 15, "source"), (11, 19, "destination"), (13, 30, "payload"),
+        ]
+        for at, place, _ in changes:
+            sent[at][1][place] ^= 1
+        theirs = [it for at, it in enumerate(sent) if at != 30] + [(0, ip4(FAR, "203.0.113.9", 17, udp(9, 9, b"another")))]
+        code, out, _ = self.compared(names, theirs)
+        self.assertEqual(code, 1)
+        for at, _, field in changes:
+            with self.subTest(packet=at):
+                self.assertRegex(out, rf"(?m)^differs: packet {at} \(record {at}: {at} 0 (up|down) 1\) and their packet {at}: {field} ")
+        self.assertIn("missing there: packet 30 (record 30: 30 0 down 1)", out)
+        self.assertRegex(out, r"not ours: their packet 399: source 198.51.100.7 destination 203.0.113.9")
+        self.assertIn("381 the same, 18 differs, 1 missing there, 1 not ours", out)
+
+    def test_what_is_ignored(self):
+        names = self.a_run(40)
+        sent = [(it.time, bytearray(it.bytes)) for it in captures.records(names[1])]
+        for at, (_, data) in enumerate(sent):
+            data[5 if at % 2 else 2] ^= 7
+            if at % 2 == 0:
+                data[7] = 9
+        code, out, _ = self.compared(names, sent, "--ignore", "ip-id,flow-label,ttl-outer")
+        self.assertEqual((code, out.split(": ")[1][:11]), (0, "40 the same"))
+
+
+class Reporting(Folder):
+    def test_totals(self):
+        cases = one_of_each_rule()
+        names = self.run_program([data for data, _, _ in cases], a_table())
+        code, out, error = ran("report.py", names[2], names[3], "--in", names[0], "--table", names[4])
+        self.assertEqual(code, 0, error)
+        self.assertIn(f"{len(cases)} records", out)
+        self.assertRegex(out, r"no-binding +3 ")
+        self.assertIn("0 " + names[4] + " initial", out)
+        self.assertRegex(out, r"tunnel from 2001:db8:1::2: no-binding 1")
+
+    def test_a_page(self):
+        names = self.run_program([data for data, _, _ in one_of_each_rule()], a_table())
+        try:
+            import matplotlib  # noqa: F401
+        except ImportError:
+            self.skipTest("no matplotlib")
+        code, _, error = ran("report.py", names[2], names[3], "--in", names[0], "--html", self.file("page.html"), "--png", self.file("page.png"))
+        self.assertEqual(code, 0, error)
+        with open(self.file("page.html"), encoding="utf-8") as file:
+            self.assertRegex(file.read(), r'<img alt="[^"]+" src="data:image/png;base64,')
+        with open(self.file("page.png"), "rb") as file:
+            self.assertEqual(file.read(8), b"\x89PNG\r\n\x1a\n")
+
+
+class Reading(Folder):
+    def test_classic_and_blocks_alike(self):
+        path = self.file("one.pcap")
+        captures.write(path, [(5_000_000_001, b"abc"), (6_000_000_000, b"defg")])
+        found = [(it.number, it.time, it.link, it.bytes) for it in captures.records(path)]
+        self.assertEqual(found, [(0, 5_000_000_001, 101, b"abc"), (1, 6_000_000_000, 101, b"defg")])
+        block = lambda kind, body: struct.pack("<II", kind, 12 + len(body)) + body + struct.pack("<I", 12 + len(body))  # noqa: E731
+        ticks = struct.pack("<IIIII", 0, 1, 705032705, 3, 3) + b"abc\0"
+        text = block(0x0A0D0D0A, struct.pack("<IHHq", 0x1A2B3C4D, 1, 0, -1))
+        text += block(1, struct.pack("<HHIHHB3xI", 101, 0, 0, 9, 1, 9, 0)) + block(6, ticks)
+        with open(self.file("one.pcapng"), "wb") as file:
+            file.write(text)
+        found = [(it.number, it.time, it.link, it.bytes) for it in captures.records(self.file("one.pcapng"))]
+        self.assertEqual(found, [(0, 5_000_000_001, 101, b"abc")])
+        with self.assertRaisesRegex(captures.CaptureError, "cut"):
+            with open(self.file("cut.pcap"), "wb") as file, open(path, "rb") as whole:
+                file.write(whole.read()[:-1])
+            list(captures.records(self.file("cut.pcap")))
+
+    def test_frames(self):
+        data = ip4(FAR, SHARED, 17, udp(53, 1232))
+        for link, front in ((101, b""), (1, b"\0" * 12 + b"\x08\0"), (1, b"\0" * 12 + b"\x81\0\0\1\x08\0"), (113, b"\0" * 14 + b"\x08\0")):
+            self.assertEqual(packets.strip(link, front + data), data)
+
+
+if __name__ == "__main__":
+    unittest.main(argv=[re.sub(r"\.py$", "", sys.argv[0]), *sys.argv[1:]])

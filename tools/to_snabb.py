@@ -1,0 +1,34 @@
+#!/usr/bin/env python3
+"""A table as a configuration of Snabb's lwaftr: the binding table and the settings of both interfaces. Devices, neighbours and
+queues are not in a table: they are to be added."""
+from lwaftr_tools import converting, tables
+
+
+def flag(value):
+    return "true" if value else "false"
+
+
+def text(table):
+    keys = table.softwire
+    lines = ["softwire-config {", "  external-interface {", f"    ip {keys.own};", f"    mtu {keys.mtu4};"]
+    lines += [f"    allow-incoming-icmp {flag(keys.icmp_in)};", f"    generate-icmp-errors {flag(keys.errors_down)};", "  }"]
+    lines += ["  internal-interface {", f"    ip {keys.aftr};", f"    mtu {keys.mtu6};", f"    hop-limit {keys.hop_limit};"]
+    lines += [f"    hairpinning {flag(keys.hairpin)};", f"    generate-icmp-errors {flag(keys.errors_up)};", "  }", "  binding-table {"]
+    for it in table.bindings:
+        lines.append(
+            f"    softwire {{ ipv4 {it.ipv4}; psid {it.psid}; b4-ipv6 {it.b4}; br-address {keys.aftr}; "
+            f"port-set {{ psid-length {it.length}; reserved-ports-bit-count {it.offset}; }} }}"
+        )
+    return "\n".join([*lines, "  }", "}", ""])
+
+
+def main():
+    words = converting.parser(__doc__, "TABLE").parse_args()
+    try:
+        converting.put(words.output, text(tables.read(words.file)))
+    except tables.TableError as error:
+        converting.fail(str(error))
+
+
+if __name__ == "__main__":
+    main()
