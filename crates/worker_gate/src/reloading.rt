@@ -37,7 +37,7 @@ fn comes_free(areas: &Areas, desk: &mut Desk) -> bool
         if let Quiet::Free = areas.quiet(desk) {
             return true;
         }
-        if turn % COUNTS_BETWEEN == 0 {
+        if turn % COUNTS_BETWEEN == COUNTS_BETWEEN - 1 {
             yield_now();
         }
     }
