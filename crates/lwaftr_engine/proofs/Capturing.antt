@@ -1,10 +1,11 @@
 -- What a run leaves that was ended by a fault, from the opening of its outputs on.
-use Rattle.std.proofs.Common.{◌≡◌, ◌⊎◌, ℕ, ◌≤◌, List, [], ◌++◌, All, length, Option, Some, None, Result, Ok, Err, inl, inr, sym, ◌∙◌, subst, arith, append-nil}
-use Rattle.std.specs.Prelude.{IfSome, IsErr}
+use Rattle.std.proofs.Common.{◌≡◌, ◌⊎◌, ℕ, ◌≤◌, List, [], ◌++◌, All, length, Option, Some, None, Result, Ok, Err, inl, inr, refl, sym, ◌∙◌, subst, arith, append-nil}
+use Rattle.std.specs.Prelude.{IfSome}
 use Rattle.aftr_text.specs.Jobs.{IsRate}
 use Rattle.capture_io.specs.Rounds.{Precedes}
 use Rattle.capture_io.specs.declared.rounds.Ending.TheVariants as ending
 use Rattle.aftr_base.specs.Contents.{Contents, content, Moves}
+use Rattle.aftr_base.specs.Outside.{Outside, Rises}
 use Rattle.aftr_base.specs.declared.outside.Fault.{Fault}
 use Rattle.aftr_base.specs.declared.outside.Fault.TheVariants as fault
 use Rattle.area_swap.specs.Histories.{HistoryValue}
@@ -16,6 +17,7 @@ use Rattle.item_stage.specs.Stages.{Stands}
 use Rattle.lwaftr_engine.specs.Broken.{Breaks, IsBrokenFrom}
 use Rattle.lwaftr_engine.specs.Ended.{AreSlotsOf, Ends, EndsBroken, TakesAll, TakesBefore}
 use Rattle.lwaftr_engine.specs.Finishing.{Finishes, IsFinished, IsFirst, IsHalfFinished}
+use Rattle.lwaftr_engine.specs.Fronts.{Stop, stop_by}
 use Rattle.lwaftr_engine.specs.Opened.{IsHalfOpened, IsOpened}
 use Rattle.lwaftr_engine.specs.Progress.{Goes, HasWritten, IsInRange, Seats, Setup, Spot, Stops, Suits, TakesOn, mark}
 use Rattle.lwaftr_engine.specs.Runs.{IsPlanOf}
@@ -56,29 +58,31 @@ takes_by x first reader a number bytes rs ending.ReadFault last same some forwar
     })
 
 -- a broken run, under every list of tables of which the plan's words are
-abbrev pub Broken : Setup → Tables → Spot → Option (List ℕ × ℕ) → Option (List ℕ) → Option (List ℕ) → Contents → Contents → Type 0
-Broken x plan reader last said now m n = (tables : ℕ → BindingTable) (windows : List Window) → IsPlanOf tables windows plan → AreSlotsOf x.run windows x.slots → reader.stood (content m x.run.input) → EndsBroken x tables windows reader m n said now last
+abbrev pub Broken : Setup → Tables → Spot → Stop → Option (List ℕ) → Option (List ℕ) → Contents → Contents → Type 0
+Broken x plan reader stop said now m n = (tables : ℕ → BindingTable) (windows : List Window) → IsPlanOf tables windows plan → AreSlotsOf x.run windows x.slots → reader.stood (content m x.run.input) → EndsBroken x tables windows reader m n said now stop
 
-pub ended_err : (x : Setup) (plan : Tables) (reader : Spot) (r : Result Ending Fault) (a b : Option Contents) (said now : Option (List ℕ)) (last : Option (List ℕ × ℕ)) (history : Option HistoryValue) → IsErr r → history ≡ None →
-    Moves a b (λ m n. Broken x plan reader last said now m n) → Moves a b (λ m n. Ends x plan reader r m n said now last history)
-ended_err x plan reader (Ok ending) a b said now last history is none step = absurd (cc is)
-ended_err x plan reader (Err fault.Failed) a b said now last history is none step =
-    moves_by a b (λ m n. Broken x plan reader last said now m n) (λ m n. Ends x plan reader (Err fault.Failed) m n said now last history)
-    (λ m n broken tables windows of stood. ((λ slots_of. broken tables windows of slots_of stood), none)) step
-ended_err x plan reader (Err fault.OutOfMemory) a b said now last history is none step =
-    moves_by a b (λ m n. Broken x plan reader last said now m n) (λ m n. Ends x plan reader (Err fault.OutOfMemory) m n said now last history)
-    (λ m n broken tables windows of stood. (inr (λ slots_of. broken tables windows of slots_of stood), none)) step
+pub ended_err : (x : Setup) (plan : Tables) (reader : Spot) (r : Result Ending Fault) (why : Fault) (a b : Option Contents) (said now : Option (List ℕ)) (before after : Outside) (history : Option HistoryValue) → r ≡ Err why → history ≡ None →
+    Moves a b (λ m n. Broken x plan reader (stop_by why before after) said now m n) → Moves a b (λ m n. Ends x plan reader r m n said now before after history)
+ended_err x plan reader r why a b said now before after history is none step =
+    let E : Result Ending Fault → Type 0 = λ q. Moves a b (λ m n. Ends x plan reader q m n said now before after history) in subst E (sym is) (by_fault why step) where
+      by_fault : (why : Fault) → Moves a b (λ m n. Broken x plan reader (stop_by why before after) said now m n) → Moves a b (λ m n. Ends x plan reader (Err why) m n said now before after history)
+      by_fault fault.Failed step =
+          moves_by a b (λ m n. Broken x plan reader (stop_by fault.Failed before after) said now m n) (λ m n. Ends x plan reader (Err fault.Failed) m n said now before after history)
+          (λ m n broken tables windows of stood. ((λ slots_of. broken tables windows of slots_of stood), none)) step
+      by_fault fault.OutOfMemory step =
+          moves_by a b (λ m n. Broken x plan reader (stop_by fault.OutOfMemory before after) said now m n) (λ m n. Ends x plan reader (Err fault.OutOfMemory) m n said now before after history)
+          (λ m n broken tables windows of stood. (inr (λ slots_of. broken tables windows of slots_of stood), none)) step
 
-pub opening_broken : (laws : EndLaws) (x : Setup) (plan : Tables) → IsPlan plan → IfSome x.run.errors IsRate → (reader : Spot) (last : Option (List ℕ × ℕ)) (said : Option (List ℕ)) → SomeLeft reader.left → (a b : Option Contents) →
-    Moves a b (IsHalfOpened x.run x.written) → Moves a b (λ m n. Broken x plan reader last said said m n)
-opening_broken laws x plan planned rate reader last said some a b step =
-    moves_by a b (IsHalfOpened x.run x.written) (λ m n. Broken x plan reader last said said m n)
+pub opening_broken : (laws : EndLaws) (x : Setup) (plan : Tables) → IsPlan plan → IfSome x.run.errors IsRate → (reader : Spot) (stop : Stop) → Rises stop.failed stop.before.spoiled stop.after.spoiled → (said : Option (List ℕ)) → SomeLeft reader.left → (a b : Option Contents) →
+    Moves a b (IsHalfOpened x.run x.written) → Moves a b (λ m n. Broken x plan reader stop said said m n)
+opening_broken laws x plan planned rate reader stop rises said some a b step =
+    moves_by a b (IsHalfOpened x.run x.written) (λ m n. Broken x plan reader stop said said m n)
     (λ m n half tables windows of slots_of stood.
     let rest = some (content m x.run.input) 0 in
     record {
       records = rest.0;
       taken = inl (rest.1, rest.2);
-      front = at_opening laws x tables windows plan planned of rate rest.0 m n said half;
+      front = at_opening laws x tables windows plan planned of rate rest.0 m n said stop rises half;
     }) step
 
 module _ (laws : EndLaws) (x : Setup) (far : AreFilesApart x.run) (plan : Tables) (draws : List (ℕ × ℕ)) (s0 s : Seats) (h : HistoryValue) (closed : IsClosed plan draws s h) (p : Progress) (first : Spot)
@@ -90,10 +94,10 @@ module _ (laws : EndLaws) (x : Setup) (far : AreFilesApart x.run) (plan : Tables
       let B : List ℕ → Type 0 = λ bytes. first.left bytes 0 rs e in
       subst B (same_input x far a b opened) (subst N start.number left)
 
-  pub rounds_broken : (last : Option (List ℕ × ℕ)) (said : Option (List ℕ)) (h0 h1 h2 : Option Contents) → Moves h0 h1 (IsOpened x.run x.written) →
-      Moves h1 h2 (λ b d. Breaks x plan draws s.points (mark b p s0 first) d) → Moves h0 h2 (λ a d. Broken x plan first last said said a d)
-  rounds_broken last said h0 h1 h2 opening breaking =
-      moves_join h0 h1 h2 (IsOpened x.run x.written) (λ b d. Breaks x plan draws s.points (mark b p s0 first) d) (λ a d. Broken x plan first last said said a d)
+  pub rounds_broken : (stop : Stop) → Rises stop.failed stop.before.spoiled stop.after.spoiled → (said : Option (List ℕ)) (h0 h1 h2 : Option Contents) → Moves h0 h1 (IsOpened x.run x.written) →
+      Moves h1 h2 (λ b d. Breaks x plan draws s.points (mark b p s0 first) d) → Moves h0 h2 (λ a d. Broken x plan first stop said said a d)
+  rounds_broken stop rises said h0 h1 h2 opening breaking =
+      moves_join h0 h1 h2 (IsOpened x.run x.written) (λ b d. Breaks x plan draws s.points (mark b p s0 first) d) (λ a d. Broken x plan first stop said said a d)
       (λ a b d opened breaks tables windows of slots_of stood.
       let S : List ℕ → Type 0 = λ bytes. first.stood bytes in
       let here : first.stood (content b x.run.input) = subst S (sym (same_input x far a b opened)) stood in
@@ -101,12 +105,12 @@ module _ (laws : EndLaws) (x : Setup) (far : AreFilesApart x.run) (plan : Tables
       record {
         records = broken.records ++ broken.rest;
         taken = inl (broken.ended, left_at_first a b (broken.records ++ broken.rest) broken.ended opened (broken.capture here));
-        front = at_rounds laws x far tables windows plan draws s h of closed slots_of rate a b opened p s0 first start no_points d said broken;
+        front = at_rounds laws x far tables windows plan draws s h of closed slots_of rate a b opened p s0 first start no_points d said stop rises broken;
       }) opening breaking
 
-  module _ (q : Progress) (reader : Spot) (some : SomeLeft reader.left) (bounded : IsInRange x q) (end : IsAtEnd plan draws s h q.number) (stop : Ending) (last : Option (List ℕ × ℕ)) (said now : Option (List ℕ)) where
-    at_finish_broken : (a d e : Contents) → IsHalfDone x plan draws p q s0 s first reader (Some stop) last a d → ((taken : List Rec) → Stands q.stage taken → IsHalfFinished x q s.points taken d e said now) → (shown : Option (List ℕ × ℕ)) → shown ≡ last → Broken x plan first shown said now a e
-    at_finish_broken a d e half done shown shown_is tables windows of slots_of stood =
+  module _ (q : Progress) (reader : Spot) (some : SomeLeft reader.left) (bounded : IsInRange x q) (end : IsAtEnd plan draws s h q.number) (stop : Ending) (last : Option (List ℕ × ℕ)) (said now : Option (List ℕ)) (before after : Outside) (last_is : after.last ≡ last) where
+    at_finish_broken : (why : Fault) (a d e : Contents) → IsHalfDone x plan draws p q s0 s first reader (Some stop) last a d → ((taken : List Rec) → Stands q.stage taken → IsHalfFinished x q s.points taken why before.spoiled after.spoiled d e said now) → Broken x plan first (stop_by why before after) said now a e
+    at_finish_broken why a d e half done tables windows of slots_of stood =
         let b : Contents = half.middle in
         let input : content half.middle x.run.input ≡ content a x.run.input = same_input x far a half.middle half.opened in
         let S : List ℕ → Type 0 = λ bytes. first.stood bytes in
@@ -120,24 +124,24 @@ module _ (laws : EndLaws) (x : Setup) (far : AreFilesApart x.run) (plan : Tables
         let T : Option (List ℕ × ℕ) → Type 0 = λ l. TakesAll x first a took.records ⊎ TakesBefore x first a took.records l in
         record {
           records = took.records;
-          taken = subst T (sym shown_is) (takes_by x first reader a q.number (content half.middle x.run.input) took.records stop last input some took.forward took.within (subst N start.number took.follows) took.stopped);
-          front = at_finish laws x far tables windows plan draws s h of closed slots_of rate a half.middle half.opened q reader d e said now took.records written placed (done took.records (written (bare tables s.points) (suits_bare tables windows plan draws s h of closed)).stands);
+          taken = subst T (sym last_is) (takes_by x first reader a q.number (content half.middle x.run.input) took.records stop last input some took.forward took.within (subst N start.number took.follows) took.stopped);
+          front = at_finish laws x far tables windows plan draws s h of closed slots_of rate a half.middle half.opened q reader d e said now why before after took.records written placed (done took.records (written (bare tables s.points) (suits_bare tables windows plan draws s h of closed)).stands);
         }
 
-    pub finish_broken : (shown : Option (List ℕ × ℕ)) → shown ≡ last → (r : Result Unit Fault) (points : List ℕ) → IsErr r → points ≡ s.points → (h0 h1 h2 h3 : Option Contents) → Moves h0 h1 (IsOpened x.run x.written) →
+    pub finish_broken : (why : Fault) (points : List ℕ) → points ≡ s.points → (k : ℕ) → k ≡ before.spoiled → (h0 h1 h2 h3 : Option Contents) → Moves h0 h1 (IsOpened x.run x.written) →
         Moves h1 h2 (λ b d. Goes x plan draws (mark b p s0 first) (mark d q s reader) (Some stop) last) →
-        Moves h2 h3 (λ d e. (taken : List Rec) → Stands q.stage taken → Finishes x q points taken r d e said now) →
-        Moves h0 h3 (λ a e. Broken x plan first shown said now a e)
-    finish_broken shown shown_is (Ok done) points is same h0 h1 h2 h3 opening going finishing = absurd (cc is)
-    finish_broken shown shown_is (Err why) points is same h0 h1 h2 h3 opening going finishing =
+        Moves h2 h3 (λ d e. (taken : List Rec) → Stands q.stage taken → Finishes x q points taken (Err why) k after.spoiled d e said now) →
+        Moves h0 h3 (λ a e. Broken x plan first (stop_by why before after) said now a e)
+    finish_broken why points same k k_is h0 h1 h2 h3 opening going finishing =
         let half : Moves h0 h2 (λ a d. IsHalfDone x plan draws p q s0 s first reader (Some stop) last a d) =
         moves_join h0 h1 h2 (IsOpened x.run x.written) (λ b d. Goes x plan draws (mark b p s0 first) (mark d q s reader) (Some stop) last)
         (λ a d. IsHalfDone x plan draws p q s0 s first reader (Some stop) last a d) (λ a b d u w. record { middle = b; opened = u; goes = w }) opening going in
-        let F : List ℕ → Type 0 = λ l. Moves h2 h3 (λ d e. (taken : List Rec) → Stands q.stage taken → IsHalfFinished x q l taken d e said now) in
+        let F : List ℕ → Type 0 = λ l. Moves h2 h3 (λ d e. (taken : List Rec) → Stands q.stage taken → IsHalfFinished x q l taken why before.spoiled after.spoiled d e said now) in
+        let K : ℕ → Type 0 = λ n. Moves h2 h3 (λ d e. (taken : List Rec) → Stands q.stage taken → IsHalfFinished x q points taken why n after.spoiled d e said now) in
         moves_join h0 h2 h3 (λ a d. IsHalfDone x plan draws p q s0 s first reader (Some stop) last a d)
-        (λ d e. (taken : List Rec) → Stands q.stage taken → IsHalfFinished x q s.points taken d e said now)
-        (λ a e. Broken x plan first shown said now a e)
-        (λ a d e u w. at_finish_broken a d e u w shown shown_is) half (subst F same finishing)
+        (λ d e. (taken : List Rec) → Stands q.stage taken → IsHalfFinished x q s.points taken why before.spoiled after.spoiled d e said now)
+        (λ a e. Broken x plan first (stop_by why before after) said now a e)
+        (λ a d e u w. at_finish_broken why a d e u w) half (subst F same (subst K k_is finishing))
 
 -- the points of the summary are those of the desk
 pub finished_at : (x : Setup) (q : Progress) (points now_points : List ℕ) → points ≡ now_points → (said now : Option (List ℕ)) (a b : Option Contents) →

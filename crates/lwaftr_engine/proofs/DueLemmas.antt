@@ -1,6 +1,7 @@
 -- The status that is due, and the one that comes.
 use Rattle.std.proofs.Common.{◌≡◌, ℕ, Bool, true, false, List, [], ◌∷◌, drop, Option, Some, None, Result, Ok, Err, ◌⊎◌, inl, inr, refl, sym, ◌∙◌, ap, subst}
 use Rattle.aftr_base.specs.Contents.{Contents, content, Moves, Told}
+use Rattle.aftr_base.specs.Outside.{Outside}
 use Rattle.aftr_text.specs.declared.jobs.LoadWords.{LoadWords}
 use Rattle.aftr_text.specs.declared.jobs.RunJob.{RunJob}
 use Rattle.area_swap.specs.Histories.{HistoryValue}
@@ -125,20 +126,20 @@ due_refused one run m refusal bad status.ReadFault due = absurd due
 due_refused one run m refusal bad status.WriteFault due = absurd due
 due_refused one run m refusal bad status.OutOfMemory due = absurd due
 
-pub is_due : AreSingle → (run : RunJob) (result : Status) (old new : Contents) (said now : Option (List ℕ)) (last : Option (List ℕ × ℕ)) (history : Option HistoryValue) →
-    Leaves run result old new said now last history → (s : Status) → IsAskedFor run old s → (result ≡ s) ⊎ IsFault result
-is_due one run status.Done old new said now last history f s due = inl (due_whole one run old new said now history None false f s due)
-is_due one run status.DoneRefused old new said now last history f s due = inl (due_whole one run old new said now history None true f s due)
-is_due one run (status.BadCapture refusal) old new said now last history (inl w) s due = inl (due_whole one run old new said now history (Some refusal) w.0 w.1 s due)
-is_due one run (status.BadCapture refusal) old new said now last history (inr b) s due = inl (due_header one run old b.first refusal b.table b.header s due)
-is_due one run (status.BadTable refusal) old new said now last history f s due = inl (due_refused one.table run old refusal f.0 s due)
-is_due one run status.ReadFault old new said now last history f s due = inr tt
-is_due one run status.WriteFault old new said now last history f s due = inr tt
-is_due one run status.OutOfMemory old new said now last history f s due = inr tt
-is_due one run status.Usage old new said now last history f s due = absurd f
+pub is_due : AreSingle → (run : RunJob) (result : Status) (old new : Contents) (said now : Option (List ℕ)) (before after : Outside) (history : Option HistoryValue) →
+    Leaves run result old new said now before after history → (s : Status) → IsAskedFor run old s → (result ≡ s) ⊎ IsFault result
+is_due one run status.Done old new said now before after history f s due = inl (due_whole one run old new said now history None false f s due)
+is_due one run status.DoneRefused old new said now before after history f s due = inl (due_whole one run old new said now history None true f s due)
+is_due one run (status.BadCapture refusal) old new said now before after history (inl w) s due = inl (due_whole one run old new said now history (Some refusal) w.0 w.1 s due)
+is_due one run (status.BadCapture refusal) old new said now before after history (inr b) s due = inl (due_header one run old b.first refusal b.table b.header s due)
+is_due one run (status.BadTable refusal) old new said now before after history f s due = inl (due_refused one.table run old refusal f.0 s due)
+is_due one run status.ReadFault old new said now before after history f s due = inr tt
+is_due one run status.WriteFault old new said now before after history f s due = inr tt
+is_due one run status.OutOfMemory old new said now before after history f s due = inr tt
+is_due one run status.Usage old new said now before after history f s due = absurd f
 
-pub due_told : AreSingle → (run : RunJob) (result : Status) (a b : Option Contents) (said now : Option (List ℕ)) (last : Option (List ℕ × ℕ)) (history : Option HistoryValue) →
-    Moves a b (λ old new. Leaves run result old new said now last history) → Told a (λ m. (s : Status) → IsAskedFor run m s → (result ≡ s) ⊎ IsFault result)
-due_told one run result None b said now last history moves = tt
-due_told one run result (Some m) None said now last history moves = absurd moves
-due_told one run result (Some m) (Some o) said now last history moves = is_due one run result m o said now last history moves
+pub due_told : AreSingle → (run : RunJob) (result : Status) (a b : Option Contents) (said now : Option (List ℕ)) (before after : Outside) (history : Option HistoryValue) →
+    Moves a b (λ old new. Leaves run result old new said now before after history) → Told a (λ m. (s : Status) → IsAskedFor run m s → (result ≡ s) ⊎ IsFault result)
+due_told one run result None b said now before after history moves = tt
+due_told one run result (Some m) None said now before after history moves = absurd moves
+due_told one run result (Some m) (Some o) said now before after history moves = is_due one run result m o said now before after history moves

@@ -1,6 +1,7 @@
 -- What a run leaves whose records have ended, and that is finished.
 use Rattle.std.proofs.Common.{◌≡◌, ℕ, ◌+◌, ◌<◌, ◌≤◌, List, [], ◌∷◌, ◌++◌, length, All, Option, Some, None, Ok, ◌⊎◌, inl, inr, sym, ◌∙◌, subst, arith, append-nil}
 use Rattle.aftr_base.specs.Contents.{Contents, content, Moves}
+use Rattle.aftr_base.specs.Outside.{Outside}
 use Rattle.area_swap.specs.Histories.{HistoryValue}
 use Rattle.area_swap.specs.Values.{HasWholeShare}
 use Rattle.area_swap.specs.declared.board.View.{View}
@@ -72,19 +73,19 @@ is_behind place left bytes number [] ended it before = tt
 is_behind place left bytes number (r ∷ rs) ended it before = before r rs ended it
 
 -- how a run ended, by how its records stopped
-ends_by : (x : Setup) (tables : ℕ → BindingTable) (windows : List Window) (a e : Contents) (said now : Option (List ℕ)) (history : Option HistoryValue) (first reader : Spot) (number : ℕ) (bytes : List ℕ) (rs : List Rec) (stop : Ending) (last : Option (List ℕ × ℕ)) →
+ends_by : (x : Setup) (tables : ℕ → BindingTable) (windows : List Window) (a e : Contents) (said now : Option (List ℕ)) (before after : Outside) (history : Option HistoryValue) (first reader : Spot) (number : ℕ) (bytes : List ℕ) (rs : List Rec) (stop : Ending) (last : Option (List ℕ × ℕ)) → after.last ≡ last →
     bytes ≡ content a x.run.input → SomeLeft reader.left → first.at ≤ reader.at → All (λ r. r.next_at ≤ reader.at) rs → Precedes first.left reader.left bytes 0 rs number → Stops x.run.input reader bytes number (Some stop) last →
     IsRun x.run tables windows x.slots x.form x.written rs a e said now history →
-    EndsBy x tables windows first (Ok stop) a e said now last history
-ends_by x tables windows a e said now history first reader number bytes rs ending.End last same some forward within follows stopped run =
+    EndsBy x tables windows first (Ok stop) a e said now before after history
+ends_by x tables windows a e said now before after history first reader number bytes rs ending.End last shown same some forward within follows stopped run =
     let P : List Rec → Type 0 = λ l. first.left bytes 0 l None in
     let B : List ℕ → Type 0 = λ b. first.left b 0 rs None in
     record { records = rs; capture = subst B same (subst P (append-nil rs) (follows [] None stopped)); is_run = run }
-ends_by x tables windows a e said now history first reader number bytes rs (ending.Bad refusal) last same some forward within follows stopped run =
+ends_by x tables windows a e said now before after history first reader number bytes rs (ending.Bad refusal) last shown same some forward within follows stopped run =
     let P : List Rec → Type 0 = λ l. first.left bytes 0 l (Some refusal) in
     let B : List ℕ → Type 0 = λ b. first.left b 0 rs (Some refusal) in
     record { records = rs; capture = subst B same (subst P (append-nil rs) (follows [] (Some refusal) stopped)); is_run = run }
-ends_by x tables windows a e said now history first reader number bytes rs ending.ReadFault last same some forward within follows stopped run =
+ends_by x tables windows a e said now before after history first reader number bytes rs ending.ReadFault last shown same some forward within follows stopped run =
     let rest = some bytes number in
     let B : List ℕ → Type 0 = λ b. first.left b 0 (rs ++ rest.0) rest.1 in
     record {
@@ -93,7 +94,7 @@ ends_by x tables windows a e said now history first reader number bytes rs endin
       ended = rest.1;
       capture = subst B same (follows rest.0 rest.1 rest.2);
       place = stopped.place;
-      last_is = stopped.last_is;
+      last_is = shown ∙ stopped.last_is;
       behind = omega (arith, forward, stopped.begun);
       reached = λ k d inside. omega (arith, within k d inside, stopped.begun);
       next = is_behind stopped.place reader.left bytes number rest.0 rest.1 rest.2 stopped.before;
@@ -109,10 +110,10 @@ pub record IsHalfDone (x : Setup) (plan : Tables) (draws : List (ℕ × ℕ)) (p
 pub same_input : (x : Setup) → AreFilesApart x.run → (a b : Contents) → IsOpened x.run x.written a b → content b x.run.input ≡ content a x.run.input
 same_input x far a b opened = opened.others x.run.input (λ e. far.output_input (sym e)) (λ e. far.verdicts_input (sym e)) (λ e. far.versions_input (sym e))
 
-module _ (laws : EndLaws) (x : Setup) (far : AreFilesApart x.run) (plan : Tables) (draws : List (ℕ × ℕ)) (s0 s : Seats) (h : HistoryValue) (p q : Progress) (first reader : Spot) (stop : Ending) (last : Option (List ℕ × ℕ)) (said now : Option (List ℕ))
+module _ (laws : EndLaws) (x : Setup) (far : AreFilesApart x.run) (plan : Tables) (draws : List (ℕ × ℕ)) (s0 s : Seats) (h : HistoryValue) (p q : Progress) (first reader : Spot) (stop : Ending) (last : Option (List ℕ × ℕ)) (said now : Option (List ℕ)) (before after : Outside) (shown : after.last ≡ last)
     (some : SomeLeft reader.left) (start : IsFirst x.form x.run.errors p) (no_points : s0.points ≡ []) (bounded : IsInRange x q) (end : IsAtEnd plan draws s h q.number) where
   ended : (a d e : Contents) → IsHalfDone x plan draws p q s0 s first reader (Some stop) last a d → ((taken : List Rec) → Stands q.stage taken → IsFinished x q s.points taken d e said now) →
-      Ends x plan first (Ok stop) a e said now last (Some h)
+      Ends x plan first (Ok stop) a e said now before after (Some h)
   ended a d e half done tables windows of stood =
       let b : Contents = half.middle in
       let input : content half.middle x.run.input ≡ content a x.run.input = same_input x far a half.middle half.opened in
@@ -131,22 +132,21 @@ module _ (laws : EndLaws) (x : Setup) (far : AreFilesApart x.run) (plan : Tables
         is_history = is_history x tables windows plan draws s h took.records of end.closed (end.count ∙ c0) has.written.reads;
       } in
       let F : ℕ → Type 0 = λ n. Precedes first.left reader.left (content half.middle x.run.input) n took.records q.number in
-      ends_by x tables windows a e said now (Some h) first reader q.number (content half.middle x.run.input) took.records stop last input some took.forward took.within (subst F start.number took.follows) took.stopped run where
+      ends_by x tables windows a e said now before after (Some h) first reader q.number (content half.middle x.run.input) took.records stop last shown input some took.forward took.within (subst F start.number took.follows) took.stopped run where
         written_count : (rs : List Rec) → ((c : Course) → Suits plan draws c → HasWritten x c half.middle (mark d q s reader) rs) → (windows : List Window) (tables : ℕ → BindingTable) → IsPlanOf tables windows plan → q.number ≡ length rs
         written_count rs written windows tables of = (written (bare tables s.points) (suits_bare tables windows plan draws s h of end.closed)).number
 
-  pub ends : (shown : Option (List ℕ × ℕ)) → shown ≡ last → (h0 h1 h2 h3 : Option Contents) →
+  pub ends : (h0 h1 h2 h3 : Option Contents) →
       Moves h0 h1 (IsOpened x.run x.written) →
       Moves h1 h2 (λ b d. Goes x plan draws (mark b p s0 first) (mark d q s reader) (Some stop) last) →
       Moves h2 h3 (λ d e. (taken : List Rec) → Stands q.stage taken → IsFinished x q s.points taken d e said now) →
-      Moves h0 h3 (λ a e. Ends x plan first (Ok stop) a e said now shown (Some h))
-  ends shown shown_is h0 h1 h2 h3 opening going third =
+      Moves h0 h3 (λ a e. Ends x plan first (Ok stop) a e said now before after (Some h))
+  ends h0 h1 h2 h3 opening going third =
       let half : Moves h0 h2 (λ a d. IsHalfDone x plan draws p q s0 s first reader (Some stop) last a d) =
       moves_join h0 h1 h2 (IsOpened x.run x.written) (λ b d. Goes x plan draws (mark b p s0 first) (mark d q s reader) (Some stop) last)
       (λ a d. IsHalfDone x plan draws p q s0 s first reader (Some stop) last a d) (λ a b d u w. record { middle = b; opened = u; goes = w }) opening going in
-      let L : Option (List ℕ × ℕ) → Type 0 = λ l. Moves h0 h3 (λ a e. Ends x plan first (Ok stop) a e said now l (Some h)) in
-      subst L (sym shown_is) (moves_join h0 h2 h3
+      moves_join h0 h2 h3
       (λ a d. IsHalfDone x plan draws p q s0 s first reader (Some stop) last a d)
       (λ d e. (taken : List Rec) → Stands q.stage taken → IsFinished x q s.points taken d e said now)
-      (λ a e. Ends x plan first (Ok stop) a e said now last (Some h))
-      (λ a d e u w. ended a d e u w) half third)
+      (λ a e. Ends x plan first (Ok stop) a e said now before after (Some h))
+      (λ a d e u w. ended a d e u w) half third

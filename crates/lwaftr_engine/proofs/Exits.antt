@@ -1,12 +1,15 @@
 -- Calls that were ended by a fault, and files by another writing of their name.
-use Rattle.std.proofs.Common.{◌≡◌, ℕ, ◌≤◌, List, ◌++◌, length, take, Option, Result, Ok, Err, subst}
+use Rattle.std.proofs.Common.{◌≡◌, ℕ, ◌≤◌, List, ◌++◌, length, take, Option, Result, Ok, Err, refl, subst}
 use Rattle.std.specs.Prelude.{IfErr, IsErr}
 use Rattle.aftr_base.specs.Contents.{Contents, content, Moves, Writes}
+use Rattle.aftr_base.specs.Outside.{Rises, has_failed}
 use Rattle.aftr_base.specs.Pieces.{AppendedAll}
 use Rattle.aftr_base.specs.declared.outside.Fault.{Fault}
+use Rattle.aftr_base.specs.declared.outside.Fault.TheVariants as fault
 use Rattle.capture_io.specs.declared.forms.Rec.{Rec}
 use Rattle.item_stage.specs.Stages.{Stands}
 use Rattle.lwaftr_engine.specs.Finishing.{Finishes}
+use Rattle.lwaftr_engine.specs.Fronts.{is_failure}
 use Rattle.lwaftr_engine.specs.Progress.{Setup}
 use Rattle.lwaftr_engine.specs.declared.rounds.Progress.{Progress}
 
@@ -19,11 +22,18 @@ pub appended_err : (r : Result Unit Fault) (a b : Option Contents) (name bytes :
 appended_err (Ok done) a b name bytes is step = absurd (cc is)
 appended_err (Err why) a b name bytes is step = step
 
-pub finishes_err : (x : Setup) (p : Progress) (points : List ℕ) (r : Result Unit Fault) (a b : Option Contents) (said now : Option (List ℕ)) → IsErr r →
-    ((e : Fault) → Moves a b (λ m n. (taken : List Rec) → Stands p.stage taken → Finishes x p points taken (Err e) m n said now)) →
-    Moves a b (λ m n. (taken : List Rec) → Stands p.stage taken → Finishes x p points taken r m n said now)
-finishes_err x p points (Ok done) a b said now is step = absurd (cc is)
-finishes_err x p points (Err why) a b said now is step = step why
+-- a count that rises where the answer is a failure does so by the fault
+pub rises_by : {T : Type 0} (r : Result T Fault) (e : Fault) (k k1 : ℕ) → r ≡ Err e → Rises (has_failed r) k k1 → Rises (is_failure e) k k1
+rises_by {T} r e k k1 is rises = let R : Result T Fault → Type 0 = λ q. Rises (has_failed q) k k1 in by_fault e (subst R is rises) where
+  by_fault : (e : Fault) → (let q : Result T Fault = Err e in Rises (has_failed q) k k1) → Rises (is_failure e) k k1
+  by_fault fault.Failed rises = rises
+  by_fault fault.OutOfMemory rises = rises
+
+pub finishes_err : (x : Setup) (p : Progress) (points : List ℕ) (r : Result Unit Fault) (k k1 : ℕ) (a b : Option Contents) (said now : Option (List ℕ)) → IsErr r → Rises (has_failed r) k k1 →
+    ((e : Fault) → Rises (is_failure e) k k1 → Moves a b (λ m n. (taken : List Rec) → Stands p.stage taken → Finishes x p points taken (Err e) k k1 m n said now)) →
+    Moves a b (λ m n. (taken : List Rec) → Stands p.stage taken → Finishes x p points taken r k k1 m n said now)
+finishes_err x p points (Ok done) k k1 a b said now is rises step = absurd (cc is)
+finishes_err x p points (Err why) k k1 a b said now is rises step = step why (let r : Result Unit Fault = Err why in rises_by r why k k1 refl rises)
 
 pub named : (a b : Option Contents) (k name bytes : List ℕ) → k ≡ name → Moves a b (λ m n. Writes m n k (content m k ++ bytes)) → Moves a b (λ m n. Writes m n name (content m name ++ bytes))
 named a b k name bytes is step = let S : List ℕ → Type 0 = λ q. Moves a b (λ m n. Writes m n q (content m q ++ bytes)) in subst S is step

@@ -3,12 +3,14 @@ use Rattle.std.proofs.Common.{◌≡◌, ℕ, ◌≤◌, List, [], ◌++◌, len
 use Rattle.std.specs.Option.{option_map}
 use Rattle.std.proofs.lemmas.List.{take_all}
 use Rattle.aftr_base.specs.Contents.{Contents, content, Moves, Writes}
+use Rattle.aftr_base.specs.Outside.{Rises}
 use Rattle.aftr_base.specs.Pieces.{TookAll}
 use Rattle.aftr_base.specs.declared.outside.Fault.{Fault}
 use Rattle.aftr_text.specs.declared.jobs.RunJob.{RunJob}
 use Rattle.capture_io.specs.declared.forms.Rec.{Rec}
 use Rattle.item_stage.specs.Stages.{Stands}
 use Rattle.lwaftr_engine.specs.Finishing.{Finishes, IsFinished, IsHalfFinished, last_line, last_lines, last_versions}
+use Rattle.lwaftr_engine.specs.Fronts.{is_failure}
 use Rattle.lwaftr_engine.specs.Progress.{Setup, Wrote}
 use Rattle.lwaftr_engine.specs.declared.rounds.Progress.{Progress}
 use Rattle.lwaftr_engine.proofs.Apart.{AreFilesApart}
@@ -54,78 +56,59 @@ wrote_both run a b d v l first second =
     subst W (append-nil v) (wrote_more run a b d v [] [] [] [] l first second)
 
 -- a part of what is left, by how much of it
-pub half : (x : Setup) (p : Progress) (points : List ℕ) (taken : List Rec) (m n : Contents) (said : Option (List ℕ)) (v l : ℕ) →
-    Wrote x.run (take v (last_versions x p points)) [] (take l (last_lines p taken)) m n → IsHalfFinished x p points taken m n said said
-half x p points taken m n said v l wrote = inl (record { versions = v; lines = l; wrote = wrote; took = refl })
+half : (x : Setup) (p : Progress) (points : List ℕ) (taken : List Rec) (e : Fault) (k k1 : ℕ) → Rises (is_failure e) k k1 → (m n : Contents) (said : Option (List ℕ)) (v l : ℕ) →
+    Wrote x.run (take v (last_versions x p points)) [] (take l (last_lines p taken)) m n → IsHalfFinished x p points taken e k k1 m n said said
+half x p points taken e k k1 rises m n said v l wrote = inl (rises, record { versions = v; lines = l; wrote = wrote; took = refl })
 
-module _ (x : Setup) (far : AreFilesApart x.run) (p : Progress) (points : List ℕ) (e : Fault) where
+-- nothing more was put, for this cause
+module _ (x : Setup) (far : AreFilesApart x.run) (p : Progress) (points : List ℕ) (e : Fault) (k k1 : ℕ) (rises : Rises (is_failure e) k k1) where
   -- nothing was written
-  pub at_none : (h : Option Contents) (said : Option (List ℕ)) → Moves h h (λ m n. (taken : List Rec) → Stands p.stage taken → Finishes x p points taken (Err e) m n said said)
+  pub at_none : (h : Option Contents) (said : Option (List ℕ)) → Moves h h (λ m n. (taken : List Rec) → Stands p.stage taken → Finishes x p points taken (Err e) k k1 m n said said)
   at_none None said = tt
-  at_none (Some m) said = λ taken stands. half x p points taken m m said 0 0 (wrote_none x.run m)
+  at_none (Some m) said = λ taken stands. half x p points taken e k k1 rises m m said 0 0 (wrote_none x.run m)
 
   -- a part of the lines of tables
   pub at_versions : (a b : Option Contents) (said : Option (List ℕ)) (bytes : List ℕ) → bytes ≡ last_versions x p points →
       Moves a b (λ m n. (count : ℕ) × (count ≤ length bytes) × Writes m n x.run.versions (content m x.run.versions ++ take count bytes)) →
-      Moves a b (λ m n. (taken : List Rec) → Stands p.stage taken → Finishes x p points taken (Err e) m n said said)
+      Moves a b (λ m n. (taken : List Rec) → Stands p.stage taken → Finishes x p points taken (Err e) k k1 m n said said)
   at_versions a b said bytes is step =
       moves_by a b (λ m n. (count : ℕ) × (count ≤ length bytes) × Writes m n x.run.versions (content m x.run.versions ++ take count bytes))
-      (λ m n. (taken : List Rec) → Stands p.stage taken → Finishes x p points taken (Err e) m n said said)
+      (λ m n. (taken : List Rec) → Stands p.stage taken → Finishes x p points taken (Err e) k k1 m n said said)
       (λ m n w taken stands.
       let P : List ℕ → Type 0 = λ l. Writes m n x.run.versions (content m x.run.versions ++ take w.0 l) in
-      half x p points taken m n said w.0 0 (wrote_versions x.run far m n (take w.0 (last_versions x p points)) (subst P is w.2)))
+      half x p points taken e k k1 rises m n said w.0 0 (wrote_versions x.run far m n (take w.0 (last_versions x p points)) (subst P is w.2)))
       step
 
   -- all lines of tables, and nothing more
   pub behind_versions : (a b : Option Contents) (said : Option (List ℕ)) (bytes : List ℕ) → bytes ≡ last_versions x p points →
       Moves a b (λ m n. Writes m n x.run.versions (content m x.run.versions ++ bytes)) →
-      Moves a b (λ m n. (taken : List Rec) → Stands p.stage taken → Finishes x p points taken (Err e) m n said said)
+      Moves a b (λ m n. (taken : List Rec) → Stands p.stage taken → Finishes x p points taken (Err e) k k1 m n said said)
   behind_versions a b said bytes is step =
       moves_by a b (λ m n. Writes m n x.run.versions (content m x.run.versions ++ bytes))
-      (λ m n. (taken : List Rec) → Stands p.stage taken → Finishes x p points taken (Err e) m n said said)
+      (λ m n. (taken : List Rec) → Stands p.stage taken → Finishes x p points taken (Err e) k k1 m n said said)
       (λ m n w taken stands.
       let V = last_versions x p points in
       let P : List ℕ → Type 0 = λ l. Writes m n x.run.versions (content m x.run.versions ++ l) in
       let whole : take (length V) V ≡ V = take_all (length V) V (omega arith) in
-      half x p points taken m n said (length V) 0 (wrote_versions x.run far m n (take (length V) V) (subst P (is ∙ sym whole) w)))
+      half x p points taken e k k1 rises m n said (length V) 0 (wrote_versions x.run far m n (take (length V) V) (subst P (is ∙ sym whole) w)))
       step
 
   -- all lines of tables, and a part of the lines of datagrams
   pub at_lines : (a b d : Option Contents) (said : Option (List ℕ)) (bytes lines : List ℕ) → bytes ≡ last_versions x p points → ((taken : List Rec) → Stands p.stage taken → lines ≡ last_lines p taken) →
       Moves a b (λ m n. Writes m n x.run.versions (content m x.run.versions ++ bytes)) →
       Moves b d (λ m n. (count : ℕ) × (count ≤ length lines) × Writes m n x.run.verdicts (content m x.run.verdicts ++ take count lines)) →
-      Moves a d (λ m n. (taken : List Rec) → Stands p.stage taken → Finishes x p points taken (Err e) m n said said)
+      Moves a d (λ m n. (taken : List Rec) → Stands p.stage taken → Finishes x p points taken (Err e) k k1 m n said said)
   at_lines a b d said bytes lines is are first second =
       moves_join a b d (λ m n. Writes m n x.run.versions (content m x.run.versions ++ bytes))
       (λ m n. (count : ℕ) × (count ≤ length lines) × Writes m n x.run.verdicts (content m x.run.verdicts ++ take count lines))
-      (λ m n. (taken : List Rec) → Stands p.stage taken → Finishes x p points taken (Err e) m n said said)
+      (λ m n. (taken : List Rec) → Stands p.stage taken → Finishes x p points taken (Err e) k k1 m n said said)
       (λ m n o u w taken stands.
       let V = last_versions x p points in
       let P : List ℕ → Type 0 = λ l. Writes m n x.run.versions (content m x.run.versions ++ l) in
       let Q : List ℕ → Type 0 = λ l. Writes n o x.run.verdicts (content n x.run.verdicts ++ take w.0 l) in
       let whole : take (length V) V ≡ V = take_all (length V) V (omega arith) in
-      half x p points taken m o said (length V) w.0
+      half x p points taken e k k1 rises m o said (length V) w.0
       (wrote_both x.run m n o (take (length V) V) (take w.0 (last_lines p taken)) (wrote_versions x.run far m n (take (length V) V) (subst P (is ∙ sym whole) u)) (wrote_lines x.run far n o (take w.0 (last_lines p taken)) (subst Q (are taken stands) w.2))))
-      first second
-
-  -- all lines, and a part of the summary
-  pub at_line : (a b d : Option Contents) (said now : Option (List ℕ)) (bytes lines line : List ℕ) → bytes ≡ last_versions x p points → ((taken : List Rec) → Stands p.stage taken → lines ≡ last_lines p taken) → line ≡ last_line p points →
-      Moves a b (λ m n. Writes m n x.run.versions (content m x.run.versions ++ bytes)) →
-      Moves b d (λ m n. Writes m n x.run.verdicts (content m x.run.verdicts ++ lines)) →
-      ((count : ℕ) × (count ≤ length line) × (now ≡ option_map (λ out. out ++ take count line) said)) →
-      Moves a d (λ m n. (taken : List Rec) → Stands p.stage taken → Finishes x p points taken (Err e) m n said now)
-  at_line a b d said now bytes lines line is are line_is first second took =
-      moves_join a b d (λ m n. Writes m n x.run.versions (content m x.run.versions ++ bytes))
-      (λ m n. Writes m n x.run.verdicts (content m x.run.verdicts ++ lines))
-      (λ m n. (taken : List Rec) → Stands p.stage taken → Finishes x p points taken (Err e) m n said now)
-      (λ m n o u w taken stands.
-      let P : List ℕ → Type 0 = λ l. Writes m n x.run.versions (content m x.run.versions ++ l) in
-      let Q : List ℕ → Type 0 = λ l. Writes n o x.run.verdicts (content n x.run.verdicts ++ l) in
-      inr (record {
-        wrote = wrote_both x.run m n o (last_versions x p points) (last_lines p taken) (wrote_versions x.run far m n (last_versions x p points) (subst P is u)) (wrote_lines x.run far n o (last_lines p taken) (subst Q (are taken stands) w));
-        count = took.0;
-        took = took.2 ∙ ap (λ (l : List ℕ). option_map (λ (out : List ℕ). out ++ take took.0 l) said) line_is;
-      }))
       first second
 
 -- all of it
@@ -147,15 +130,38 @@ finished x far p points a b d said now bytes lines line is are line_is first sec
     })
     first second
 
--- all lines, and nothing of the summary
-pub behind_lines : (x : Setup) → AreFilesApart x.run → (p : Progress) (points : List ℕ) (e : Fault) (a b d : Option Contents) (said : Option (List ℕ)) (bytes lines : List ℕ) → bytes ≡ last_versions x p points → ((taken : List Rec) → Stands p.stage taken → lines ≡ last_lines p taken) →
+-- all lines, and a part of the summary
+at_line : (x : Setup) → AreFilesApart x.run → (p : Progress) (points : List ℕ) (e : Fault) (k k1 : ℕ) → k1 ≡ k → (a b d : Option Contents) (said now : Option (List ℕ)) (bytes lines line : List ℕ) → bytes ≡ last_versions x p points → ((taken : List Rec) → Stands p.stage taken → lines ≡ last_lines p taken) → line ≡ last_line p points →
     Moves a b (λ m n. Writes m n x.run.versions (content m x.run.versions ++ bytes)) →
     Moves b d (λ m n. Writes m n x.run.verdicts (content m x.run.verdicts ++ lines)) →
-    Moves a d (λ m n. (taken : List Rec) → Stands p.stage taken → Finishes x p points taken (Err e) m n said said)
-behind_lines x far p points e a b d said bytes lines is are first second =
+    ((count : ℕ) × (count ≤ length line) × (now ≡ option_map (λ out. out ++ take count line) said)) →
+    Moves a d (λ m n. (taken : List Rec) → Stands p.stage taken → Finishes x p points taken (Err e) k k1 m n said now)
+at_line x far p points e k k1 same a b d said now bytes lines line is are line_is first second took =
     moves_join a b d (λ m n. Writes m n x.run.versions (content m x.run.versions ++ bytes))
     (λ m n. Writes m n x.run.verdicts (content m x.run.verdicts ++ lines))
-    (λ m n. (taken : List Rec) → Stands p.stage taken → Finishes x p points taken (Err e) m n said said)
+    (λ m n. (taken : List Rec) → Stands p.stage taken → Finishes x p points taken (Err e) k k1 m n said now)
+    (λ m n o u w taken stands.
+    let P : List ℕ → Type 0 = λ l. Writes m n x.run.versions (content m x.run.versions ++ l) in
+    let Q : List ℕ → Type 0 = λ l. Writes n o x.run.verdicts (content n x.run.verdicts ++ l) in
+    inr (
+      same,
+      record {
+        wrote = wrote_both x.run m n o (last_versions x p points) (last_lines p taken) (wrote_versions x.run far m n (last_versions x p points) (subst P is u)) (wrote_lines x.run far n o (last_lines p taken) (subst Q (are taken stands) w));
+        count = took.0;
+        took = took.2 ∙ ap (λ (l : List ℕ). option_map (λ (out : List ℕ). out ++ take took.0 l) said) line_is;
+      },
+    ))
+    first second
+
+-- all lines, and nothing of the summary
+pub behind_lines : (x : Setup) → AreFilesApart x.run → (p : Progress) (points : List ℕ) (e : Fault) (k k1 : ℕ) → Rises (is_failure e) k k1 → (a b d : Option Contents) (said : Option (List ℕ)) (bytes lines : List ℕ) → bytes ≡ last_versions x p points → ((taken : List Rec) → Stands p.stage taken → lines ≡ last_lines p taken) →
+    Moves a b (λ m n. Writes m n x.run.versions (content m x.run.versions ++ bytes)) →
+    Moves b d (λ m n. Writes m n x.run.verdicts (content m x.run.verdicts ++ lines)) →
+    Moves a d (λ m n. (taken : List Rec) → Stands p.stage taken → Finishes x p points taken (Err e) k k1 m n said said)
+behind_lines x far p points e k k1 rises a b d said bytes lines is are first second =
+    moves_join a b d (λ m n. Writes m n x.run.versions (content m x.run.versions ++ bytes))
+    (λ m n. Writes m n x.run.verdicts (content m x.run.verdicts ++ lines))
+    (λ m n. (taken : List Rec) → Stands p.stage taken → Finishes x p points taken (Err e) k k1 m n said said)
     (λ m n o u w taken stands.
     let V = last_versions x p points in
     let L = last_lines p taken in
@@ -163,17 +169,17 @@ behind_lines x far p points e a b d said bytes lines is are first second =
     let Q : List ℕ → Type 0 = λ l. Writes n o x.run.verdicts (content n x.run.verdicts ++ l) in
     let whole : take (length V) V ≡ V = take_all (length V) V (omega arith) in
     let all : take (length L) L ≡ L = take_all (length L) L (omega arith) in
-    half x p points taken m o said (length V) (length L)
+    half x p points taken e k k1 rises m o said (length V) (length L)
     (wrote_both x.run m n o (take (length V) V) (take (length L) L) (wrote_versions x.run far m n (take (length V) V) (subst P (is ∙ sym whole) u)) (wrote_lines x.run far n o (take (length L) L) (subst Q (are taken stands ∙ sym all) w))))
     first second
 
 -- whether the summary was put or not
-pub put_or_cut : (x : Setup) → AreFilesApart x.run → (p : Progress) (points : List ℕ) (r : Result Unit Fault) (a b d : Option Contents) (said now : Option (List ℕ)) (bytes lines line : List ℕ) → bytes ≡ last_versions x p points → ((taken : List Rec) → Stands p.stage taken → lines ≡ last_lines p taken) → line ≡ last_line p points →
+pub put_or_cut : (x : Setup) → AreFilesApart x.run → (p : Progress) (points : List ℕ) (r : Result Unit Fault) (k k1 : ℕ) → k1 ≡ k → (a b d : Option Contents) (said now : Option (List ℕ)) (bytes lines line : List ℕ) → bytes ≡ last_versions x p points → ((taken : List Rec) → Stands p.stage taken → lines ≡ last_lines p taken) → line ≡ last_line p points →
     Moves a b (λ m n. Writes m n x.run.versions (content m x.run.versions ++ bytes)) →
     Moves b d (λ m n. Writes m n x.run.verdicts (content m x.run.verdicts ++ lines)) →
     TookAll r said now line →
-    Moves a d (λ m n. (taken : List Rec) → Stands p.stage taken → Finishes x p points taken r m n said now)
-put_or_cut x far p points (Ok done) a b d said now bytes lines line is are line_is first second took =
+    Moves a d (λ m n. (taken : List Rec) → Stands p.stage taken → Finishes x p points taken r k k1 m n said now)
+put_or_cut x far p points (Ok done) k k1 same a b d said now bytes lines line is are line_is first second took =
     finished x far p points a b d said now bytes lines line is are line_is first second took
-put_or_cut x far p points (Err why) a b d said now bytes lines line is are line_is first second took =
-    at_line x far p points why a b d said now bytes lines line is are line_is first second took
+put_or_cut x far p points (Err why) k k1 same a b d said now bytes lines line is are line_is first second took =
+    at_line x far p points why k k1 same a b d said now bytes lines line is are line_is first second took

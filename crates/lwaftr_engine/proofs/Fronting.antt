@@ -14,6 +14,8 @@ use Rattle.std.specs.Option.{option_map}
 use Rattle.std.proofs.Math.Seq.{take-append-add, take-length}
 use Rattle.std.proofs.lemmas.List.{take-append-drop}
 use Rattle.aftr_base.specs.Contents.{Contents, content}
+use Rattle.aftr_base.specs.Outside.{Outside, Rises}
+use Rattle.aftr_base.specs.declared.outside.Fault.{Fault}
 use Rattle.aftr_text.specs.Lines.{ended_text, initial_text, summary_text}
 use Rattle.aftr_text.specs.declared.summaries.Totals.{Totals}
 use Rattle.area_swap.specs.Histories.{HistoryValue}
@@ -24,7 +26,7 @@ use Rattle.capture_io.specs.declared.forms.Rec.{Rec}
 use Rattle.item_stage.specs.Items.{entries_of, unfinished_of}
 use Rattle.lwaftr_engine.specs.Broken.{HasBegun, IsBrokenFrom}
 use Rattle.lwaftr_engine.specs.Finishing.{IsFirst, IsHalfFinished, IsHalfPut, IsHalfWritten, last_line, last_lines, last_versions}
-use Rattle.lwaftr_engine.specs.Fronts.{HoldsFront, IsFront, IsFrontOf, IsUnder, is_table, shown_points, whole_lines}
+use Rattle.lwaftr_engine.specs.Fronts.{HoldsFront, IsFront, IsFrontOf, IsUnder, Stop, is_failure, is_table, shown_points, stop_by, whole_lines}
 use Rattle.lwaftr_engine.specs.Opened.{IsHalfOpened, IsOpened}
 use Rattle.lwaftr_engine.specs.Progress.{HasWritten, Seats, Setup, Spot, Suits, Wrote, loads_of, mark}
 use Rattle.lwaftr_engine.specs.Runs.{IsPlanOf}
@@ -57,9 +59,9 @@ no_points windows = record {
 }
 
 -- the outputs are being made
-pub at_opening : EndLaws → (x : Setup) (tables : ℕ → BindingTable) (windows : List Window) (plan : Tables) → IsPlan plan → IsPlanOf tables windows plan → IfSome x.run.errors IsRate → (rs : List Rec) (a d : Contents) (said : Option (List ℕ)) →
-    IsHalfOpened x.run x.written a d → IsFront x.run tables windows x.slots x.form x.written rs a d said said
-at_opening laws x tables windows plan planned of rate rs a d said half =
+pub at_opening : EndLaws → (x : Setup) (tables : ℕ → BindingTable) (windows : List Window) (plan : Tables) → IsPlan plan → IsPlanOf tables windows plan → IfSome x.run.errors IsRate → (rs : List Rec) (a d : Contents) (said : Option (List ℕ)) (stop : Stop) → Rises stop.failed stop.before.spoiled stop.after.spoiled →
+    IsHalfOpened x.run x.written a d → IsFront x.run tables windows x.slots x.form x.written rs a d said said stop
+at_opening laws x tables windows plan planned of rate rs a d said stop rises half =
     let W : List Window → Type 0 = λ w. AreInWindows w [] 0 in
     let none : AreInWindows plan.windows [] 0 = no_points plan.windows in
     let few : 0 < length plan.tables = omega (arith, planned.paired) in
@@ -80,7 +82,7 @@ at_opening laws x tables windows plan planned of rate rs a d said half =
       verdicts = widen [] (verdicts_of shown.course x.form rs) (content a x.run.verdicts) (content d x.run.verdicts) (nat_lt 1 half.made) half.verdicts;
       versions = widen (initial_text x.run.table) (load_lines more.later (loads_of x)) (content a x.run.versions) (content d x.run.versions) (nat_lt 2 half.made) half.versions;
       others = half.others;
-      sink = inl refl;
+      sink = inl (rises, refl);
     }
 
 counted : (draws : List (ℕ × ℕ)) (k : ℕ) (d : ℕ × ℕ) → k < length draws → 1 ≤ count_by (λ (e : ℕ × ℕ). e.0 == (get_or draws k d).0) draws
@@ -144,9 +146,9 @@ module _ (laws : EndLaws) (x : Setup) (far : AreFilesApart x.run) (tables : ℕ 
       }
 
   -- rounds were ended by a fault
-  pub at_rounds : (p : Progress) (s0 : Seats) (first : Spot) → IsFirst x.form x.run.errors p → s0.points ≡ [] → (d : Contents) (said : Option (List ℕ)) → (broken : IsBrokenFrom x plan draws s.points (mark b p s0 first) d) →
-      IsFront x.run tables windows x.slots x.form x.written (broken.records ++ broken.rest) a d said said
-  at_rounds p s0 first start none d said broken =
+  pub at_rounds : (p : Progress) (s0 : Seats) (first : Spot) → IsFirst x.form x.run.errors p → s0.points ≡ [] → (d : Contents) (said : Option (List ℕ)) (stop : Stop) → Rises stop.failed stop.before.spoiled stop.after.spoiled → (broken : IsBrokenFrom x plan draws s.points (mark b p s0 first) d) →
+      IsFront x.run tables windows x.slots x.form x.written (broken.records ++ broken.rest) a d said said stop
+  at_rounds p s0 first start none d said stop rises broken =
       let taken : List Rec = broken.records in
       let more : AreExtended plan.windows s.points (length draws) (length (broken.records ++ broken.rest)) =
       points_extend plan planned (length draws) (length (broken.records ++ broken.rest)) (omega (arith, broken.drawn, start.number)) s.points few placed broken.up_to_date in
@@ -190,10 +192,10 @@ module _ (laws : EndLaws) (x : Setup) (far : AreFilesApart x.run) (tables : ℕ 
             let front = front_behind (initial_text x.run.table) V w.versions_count in
             (front.0, w.versions_is ∙ (ap (λ (l : List ℕ). l ++ take w.versions_count V) opened.versions ∙ front.1));
         others = λ name u v z. w.others name u v z ∙ opened.others name u v z;
-        sink = inl refl;
+        sink = inl (rises, refl);
       }
 
-  module _ (q : Progress) (reader : Spot) (d e : Contents) (said now : Option (List ℕ)) (rs : List Rec) (has : HasCourse x tables windows s b (mark d q s reader) rs) where
+  module _ (q : Progress) (reader : Spot) (d e : Contents) (said now : Option (List ℕ)) (why : Fault) (before after : Outside) (rs : List Rec) (has : HasCourse x tables windows s b (mark d q s reader) rs) where
     files : Wrote x.run (load_lines (s.points ++ []) (take q.printed (loads_of x))) (packets_from has.course x.written 0 rs (entries_of x.form rs)) (lines_from has.course 0 (entries_of x.form rs)) b d
     files = has.written.files [] has.limited
 
@@ -216,15 +218,15 @@ module _ (laws : EndLaws) (x : Setup) (far : AreFilesApart x.run) (tables : ℕ 
     under = record { tables_are = has.is_course.tables_are; in_force_are = has.is_course.in_force_are; loaded = has.is_course.loaded; limited = has.limited }
 
     -- the lines of the tables in force stand whole
-    held : IsHalfFinished x q s.points rs d e said now → length (load_lines s.points (take q.printed (loads_of x))) + length (initial_text x.run.table) ≤ length (content e x.run.versions)
-    held (inl half) = omega (arith, ap (λ (l : List ℕ). length l) half.wrote.versions_is, length-append (content d x.run.versions) (take half.versions (last_versions x q s.points)), ap (λ (l : List ℕ). length l) versions_before, length-append (initial_text x.run.table) (load_lines s.points (take q.printed (loads_of x))))
-    held (inr put) = omega (arith, ap (λ (l : List ℕ). length l) put.wrote.versions_is, length-append (content d x.run.versions) (last_versions x q s.points), ap (λ (l : List ℕ). length l) versions_before, length-append (initial_text x.run.table) (load_lines s.points (take q.printed (loads_of x))))
+    held : IsHalfFinished x q s.points rs why before.spoiled after.spoiled d e said now → length (load_lines s.points (take q.printed (loads_of x))) + length (initial_text x.run.table) ≤ length (content e x.run.versions)
+    held (inl (rises, half)) = omega (arith, ap (λ (l : List ℕ). length l) half.wrote.versions_is, length-append (content d x.run.versions) (take half.versions (last_versions x q s.points)), ap (λ (l : List ℕ). length l) versions_before, length-append (initial_text x.run.table) (load_lines s.points (take q.printed (loads_of x))))
+    held (inr (same, put)) = omega (arith, ap (λ (l : List ℕ). length l) put.wrote.versions_is, length-append (content d x.run.versions) (last_versions x q s.points), ap (λ (l : List ℕ). length l) versions_before, length-append (initial_text x.run.table) (load_lines s.points (take q.printed (loads_of x))))
 
     module _ (shown : HasUnder tables (shown_points true x.run x.slots s.points (content e x.run.versions)) x.run.errors x.form rs)
         (output_is : output_of has.course x.written x.form rs ≡ output_of shown.course x.written x.form rs) (verdicts_is : verdicts_of has.course x.form rs ≡ verdicts_of shown.course x.form rs) where
       -- a part of the last lines is written
-      at_last_lines : IsHalfWritten x q s.points rs d e said now → IsFront x.run tables windows x.slots x.form x.written rs a e said now
-      at_last_lines half =
+      at_last_lines : Rises (is_failure why) before.spoiled after.spoiled → IsHalfWritten x q s.points rs d e said now → IsFront x.run tables windows x.slots x.form x.written rs a e said now (stop_by why before after)
+      at_last_lines rises half =
           let U = flat_map (ended_text false) (unfinished_of x.form rs) in
           let L = lines_from has.course 0 (entries_of x.form rs) in
           let V = load_lines s.points (take q.printed (loads_of x)) in
@@ -247,12 +249,12 @@ module _ (laws : EndLaws) (x : Setup) (far : AreFilesApart x.run) (tables : ℕ 
                 let whole : (I ++ V) ++ W ≡ versions_of x.run.table (loads_of x) s.points = append_assoc I V W ∙ ap (λ (l : List ℕ). I ++ l) (all_lines s.points q.printed (loads_of x)) in
                 (front.0, half.wrote.versions_is ∙ (ap (λ (l : List ℕ). l ++ take half.versions W) versions_before ∙ (front.1 ∙ ap (λ (l : List ℕ). take front.0 l) whole)));
             others = λ name u v z. half.wrote.others name u v z ∙ (files.others name u v z ∙ opened.others name u v z);
-            sink = inl half.took;
+            sink = inl (rises, half.took);
           }
 
       -- all is written, and a part of the summary is put
-      at_summary : IsHalfPut x q s.points rs d e said now → IsFront x.run tables windows x.slots x.form x.written rs a e said now
-      at_summary put =
+      at_summary : after.spoiled ≡ before.spoiled → IsHalfPut x q s.points rs d e said now → IsFront x.run tables windows x.slots x.form x.written rs a e said now (stop_by why before after)
+      at_summary same put =
           let whole = is_written x far laws.totals tables windows s q reader a b d e said (option_map (λ (out : List ℕ). out ++ last_line q s.points) said) rs opened has (record { wrote = put.wrote; took = refl }) in
           record {
             made = 3;
@@ -266,18 +268,21 @@ module _ (laws : EndLaws) (x : Setup) (far : AreFilesApart x.run) (tables : ℕ 
             verdicts = (length (verdicts_of shown.course x.form rs), whole.verdicts ∙ (verdicts_is ∙ sym (take-length (verdicts_of shown.course x.form rs))));
             versions = (length (versions_of x.run.table (loads_of x) s.points), whole.versions ∙ sym (take-length (versions_of x.run.table (loads_of x) s.points)));
             others = whole.others;
-            sink = inr (record {
-              output = whole.output;
-              verdicts = whole.verdicts;
-              versions = whole.versions;
-              count = put.count;
-              took = put.took ∙ ap (λ (t : Totals). option_map (λ (out : List ℕ). out ++ take put.count (summary_text t)) said) (totals_are x laws.totals tables windows s q reader b d rs has);
-            });
+            sink = inr (
+              same,
+              record {
+                output = whole.output;
+                verdicts = whole.verdicts;
+                versions = whole.versions;
+                count = put.count;
+                took = put.took ∙ ap (λ (t : Totals). option_map (λ (out : List ℕ). out ++ take put.count (summary_text t)) said) (totals_are x laws.totals tables windows s q reader b d rs has);
+              },
+            );
           }
 
-      pub at_half : IsHalfFinished x q s.points rs d e said now → IsFront x.run tables windows x.slots x.form x.written rs a e said now
-      at_half (inl half) = at_last_lines half
-      at_half (inr put) = at_summary put
+      pub at_half : IsHalfFinished x q s.points rs why before.spoiled after.spoiled d e said now → IsFront x.run tables windows x.slots x.form x.written rs a e said now (stop_by why before after)
+      at_half (inl (rises, half)) = at_last_lines rises half
+      at_half (inr (same, put)) = at_summary same put
 
   -- a course of all records under the points of the desk
   abbrev course_with : (q : Progress) (reader : Spot) (d : Contents) (rs : List Rec) → ((c : Course) → Suits plan draws c → HasWritten x c b (mark d q s reader) rs) → AreAllPoints windows s.points (length rs) →
@@ -297,13 +302,13 @@ module _ (laws : EndLaws) (x : Setup) (far : AreFilesApart x.run) (tables : ℕ 
   }
 
   -- the records have ended, and what is left is written in part
-  pub at_finish : (q : Progress) (reader : Spot) (d e : Contents) (said now : Option (List ℕ)) (rs : List Rec) → ((c : Course) → Suits plan draws c → HasWritten x c b (mark d q s reader) rs) → AreAllPoints windows s.points (length rs) →
-      IsHalfFinished x q s.points rs d e said now → IsFront x.run tables windows x.slots x.form x.written rs a e said now
-  at_finish q reader d e said now rs written all half =
+  pub at_finish : (q : Progress) (reader : Spot) (d e : Contents) (said now : Option (List ℕ)) (why : Fault) (before after : Outside) (rs : List Rec) → ((c : Course) → Suits plan draws c → HasWritten x c b (mark d q s reader) rs) → AreAllPoints windows s.points (length rs) →
+      IsHalfFinished x q s.points rs why before.spoiled after.spoiled d e said now → IsFront x.run tables windows x.slots x.form x.written rs a e said now (stop_by why before after)
+  at_finish q reader d e said now why before after rs written all half =
       let some : HasUnder tables s.points x.run.errors x.form rs = some_course laws.limits tables s.points x.run.errors x.form rs rate in
       let has0 : HasCourse x tables windows s b (mark d q s reader) rs = course_with q reader d rs written all some.course some.under in
       let same : (number : ℕ) → number < length rs → in_force (shown_points true x.run x.slots s.points (content e x.run.versions)) number ≡ in_force s.points number = λ number inside.
-      told_same x windows s.points s.points [] q.printed (length rs) (content e x.run.versions) slots_of all (sym (append-nil s.points)) has0.written.none_due (held q reader d e said now rs has0 half) number
+      told_same x windows s.points s.points [] q.printed (length rs) (content e x.run.versions) slots_of all (sym (append-nil s.points)) has0.written.none_due (held q reader d e said now why before after rs has0 half) number
       (omega (arith, has0.written.spoken number inside, ap (λ (f : ℕ → ℕ). f number) has0.is_course.in_force_are)) in
       let shown : HasUnder tables (shown_points true x.run x.slots s.points (content e x.run.versions)) x.run.errors x.form rs =
       some_course laws.limits tables (shown_points true x.run x.slots s.points (content e x.run.versions)) x.run.errors x.form rs rate in
@@ -313,6 +318,6 @@ module _ (laws : EndLaws) (x : Setup) (far : AreFilesApart x.run) (tables : ℕ 
       limited_first laws.begins laws.joins tables x.run.errors x.form rs [] s.points (shown_points true x.run x.slots s.points (content e x.run.versions)) same shown.course nothing_more in
       let has : HasCourse x tables windows s b (mark d q s reader) rs =
       course_with q reader d rs written all (with_points shown.course s.points) (record { tables_are = shown.under.tables_are; in_force_are = refl; loaded = refl; limited = limited }) in
-      at_half q reader d e said now rs has shown
+      at_half q reader d e said now why before after rs has shown
       (output_same laws.begins laws.joins tables x.run.errors x.form rs [] s.points (shown_points true x.run x.slots s.points (content e x.run.versions)) same shown.course nothing_more x.written)
       (verdicts_same laws.begins laws.joins tables x.run.errors x.form rs [] s.points (shown_points true x.run x.slots s.points (content e x.run.versions)) same shown.course nothing_more x.written) half

@@ -25,7 +25,7 @@ use Rattle.capture_io.specs.declared.written.Written.{Written}
 use Rattle.capture_io.specs.declared.written.Written.TheVariants as written
 use Rattle.lwaftr_engine.specs.Ended.{Ends, EndsBroken, EndsBy, EndsWhole, TakesAll, TakesBefore}
 use Rattle.lwaftr_engine.specs.Endings.{IsWhole}
-use Rattle.lwaftr_engine.specs.Fronts.{AreTaken, IsBroken, IsFront}
+use Rattle.lwaftr_engine.specs.Fronts.{AreTaken, IsBroken, IsFront, Stop, stop_by}
 use Rattle.lwaftr_engine.specs.Inputs.{Header, IsInputBy, blocks_of, classic_of, header_by, in_blocks, in_classic}
 use Rattle.lwaftr_engine.specs.Planned.{IsAtFirst, IsEarly, LeavesBy, LeavesMade, ended_status, some_slot_refused}
 use Rattle.lwaftr_engine.specs.Progress.{OneRises, ReadsOf, Setup, Spot, spot}
@@ -85,14 +85,14 @@ same_run run tables windows slots form w header rs old new said now history form
     let W : Written → Type 0 = λ v. IsRun run tables windows slots form v rs old new said now history in
     subst F form_is (subst W written_is ran)
 
-same_front : (run : RunJob) (tables : ℕ → BindingTable) (windows : List Window) (slots : List Slot) (form : Form) (w : Written) (header : Header) (rs : List Rec) (old new : Contents) (said now : Option (List ℕ)) →
-    form ≡ header.form → w ≡ header.written → IsFront run tables windows slots form w rs old new said now → IsFront run tables windows slots header.form header.written rs old new said now
-same_front run tables windows slots form w header rs old new said now form_is written_is front =
-    let F : Form → Type 0 = λ f. IsFront run tables windows slots f header.written rs old new said now in
-    let W : Written → Type 0 = λ v. IsFront run tables windows slots form v rs old new said now in
+same_front : (run : RunJob) (tables : ℕ → BindingTable) (windows : List Window) (slots : List Slot) (form : Form) (w : Written) (header : Header) (rs : List Rec) (old new : Contents) (said now : Option (List ℕ)) (stop : Stop) →
+    form ≡ header.form → w ≡ header.written → IsFront run tables windows slots form w rs old new said now stop → IsFront run tables windows slots header.form header.written rs old new said now stop
+same_front run tables windows slots form w header rs old new said now stop form_is written_is front =
+    let F : Form → Type 0 = λ f. IsFront run tables windows slots f header.written rs old new said now stop in
+    let W : Written → Type 0 = λ v. IsFront run tables windows slots form v rs old new said now stop in
     subst F form_is (subst W written_is front)
 
-module _ (x : Setup) (tables : ℕ → BindingTable) (windows : List Window) (reader : Spot) (old new : Contents) (said now : Option (List ℕ)) (last : Option (List ℕ × ℕ)) (history : Option HistoryValue)
+module _ (x : Setup) (tables : ℕ → BindingTable) (windows : List Window) (reader : Spot) (old new : Contents) (said now : Option (List ℕ)) (before after : Outside) (history : Option HistoryValue)
     (first : IsAtFirst reader x.form x.written (content old x.run.input)) where
   whole : (ended : Option CaptureBad) → EndsWhole x tables windows reader old new said now history ended → IsWhole x.run tables windows x.slots old new said now history ended
   whole ended ran = record {
@@ -102,35 +102,35 @@ module _ (x : Setup) (tables : ℕ → BindingTable) (windows : List Window) (re
     is_run = same_run x.run tables windows x.slots x.form x.written first.header ran.records old new said now history first.form_is first.written_is ran.is_run;
   }
 
-  taken : (rs : List Rec) → TakesAll x reader old rs ⊎ TakesBefore x reader old rs last → AreTaken x.run old first.header rs last
+  taken : (rs : List Rec) → TakesAll x reader old rs ⊎ TakesBefore x reader old rs after.last → AreTaken x.run old first.header rs after.last
   taken rs (inl all) = inl (all.0, first.all rs all.0 all.1)
-  taken rs (inr before) = inr (record {
-    rest = before.rest;
-    ending = before.ended;
-    capture = first.all (rs ++ before.rest) before.ended before.capture;
-    place = before.place;
-    last_is = before.last_is;
-    in_records = omega (arith, first.at_is, before.behind);
-    reached = before.reached;
-    next = before.next;
+  taken rs (inr part) = inr (record {
+    rest = part.rest;
+    ending = part.ended;
+    capture = first.all (rs ++ part.rest) part.ended part.capture;
+    place = part.place;
+    last_is = part.last_is;
+    in_records = omega (arith, first.at_is, part.behind);
+    reached = part.reached;
+    next = part.next;
   })
 
-  broken : EndsBroken x tables windows reader old new said now last → IsBroken x.run tables windows x.slots old new said now last
-  broken ran = record {
+  broken : (why : Fault) → EndsBroken x tables windows reader old new said now (stop_by why before after) → IsBroken x.run tables windows x.slots old new said now (stop_by why before after)
+  broken why ran = record {
     header = first.header;
     sound = first.sound;
     records = ran.records;
     taken = taken ran.records ran.taken;
-    front = same_front x.run tables windows x.slots x.form x.written first.header ran.records old new said now first.form_is first.written_is ran.front;
+    front = same_front x.run tables windows x.slots x.form x.written first.header ran.records old new said now (stop_by why before after) first.form_is first.written_is ran.front;
   }
 
   done : (refused : Bool) → some_slot_refused x.slots ≡ refused → EndsWhole x tables windows reader old new said now history None →
-      LeavesBy x.run tables windows x.slots (ended_status (Ok ending.End) refused) old new said now last history
+      LeavesBy x.run tables windows x.slots (ended_status (Ok ending.End) refused) old new said now before after history
   done true is ran = (whole None ran, is)
   done false is ran = (whole None ran, is)
 
-  pub leaves_by : (ended : Result Ending Fault) (refused : Bool) → some_slot_refused x.slots ≡ refused → EndsBy x tables windows reader ended old new said now last history →
-      LeavesBy x.run tables windows x.slots (ended_status ended refused) old new said now last history
+  pub leaves_by : (ended : Result Ending Fault) (refused : Bool) → some_slot_refused x.slots ≡ refused → EndsBy x tables windows reader ended old new said now before after history →
+      LeavesBy x.run tables windows x.slots (ended_status ended refused) old new said now before after history
   leaves_by (Ok ending.End) refused is ran = done refused is ran
   leaves_by (Ok (ending.Bad refusal)) refused is ran = inl (whole (Some refusal) ran)
   leaves_by (Ok ending.ReadFault) refused is ran = inl (record {
@@ -146,9 +146,9 @@ module _ (x : Setup) (tables : ℕ → BindingTable) (windows : List Window) (re
     next = ran.next;
     is_run = same_run x.run tables windows x.slots x.form x.written first.header ran.taken old new said now history first.form_is first.written_is ran.is_run;
   })
-  leaves_by (Err fault.Failed) refused is ran = ((λ slots_of. broken (ran.0 slots_of)), ran.1)
+  leaves_by (Err fault.Failed) refused is ran = ((λ slots_of. broken fault.Failed (ran.0 slots_of)), ran.1)
   leaves_by (Err fault.OutOfMemory) refused is (inl same, none) = inl (record { files = same.0; sink = same.1; none = none })
-  leaves_by (Err fault.OutOfMemory) refused is (inr ran, none) = inr ((λ slots_of. broken (ran slots_of)), none)
+  leaves_by (Err fault.OutOfMemory) refused is (inr ran, none) = inr ((λ slots_of. broken fault.OutOfMemory (ran slots_of)), none)
 
 has_history_done : (refused : Bool) (history : Option HistoryValue) → IsSome history → HasHistory (ended_status (Ok ending.End) refused) history
 has_history_done true history some = some
@@ -192,15 +192,15 @@ pub ended_place : (name : List ℕ) (ended : Result Ending Fault) (refused : Boo
 ended_place name ended refused result before now is reads =
     let H : Status → Type 0 = λ s. FailsIn (name ∷ []) s before.last now.last in subst H (sym is) (ended_place_by name ended refused before now reads)
 
-pub opened_leaves : (x : Setup) (plan : Tables) (reader : Spot) (ended : Result Ending Fault) (refused : Bool) (result : Status) (h0 h1 : Option Contents) (said now : Option (List ℕ)) (last : Option (List ℕ × ℕ)) (history : Option HistoryValue) →
+pub opened_leaves : (x : Setup) (plan : Tables) (reader : Spot) (ended : Result Ending Fault) (refused : Bool) (result : Status) (h0 h1 : Option Contents) (said now : Option (List ℕ)) (before after : Outside) (history : Option HistoryValue) →
     refused ≡ some_slot_refused x.slots → result ≡ ended_status ended refused → Told h0 (λ m. IsAtFirst reader x.form x.written (content m x.run.input)) →
-    Moves h0 h1 (λ m n. Ends x plan reader ended m n said now last history) → Moves h0 h1 (λ m n. LeavesMade x.run plan x.slots result m n said now last history)
-opened_leaves x plan reader ended refused result h0 h1 said now last history refused_is result_is first ran =
-    told_then h0 h0 h1 (λ m. IsAtFirst reader x.form x.written (content m x.run.input)) (λ m n. Ends x plan reader ended m n said now last history)
-    (λ m n. LeavesMade x.run plan x.slots result m n said now last history)
+    Moves h0 h1 (λ m n. Ends x plan reader ended m n said now before after history) → Moves h0 h1 (λ m n. LeavesMade x.run plan x.slots result m n said now before after history)
+opened_leaves x plan reader ended refused result h0 h1 said now before after history refused_is result_is first ran =
+    told_then h0 h0 h1 (λ m. IsAtFirst reader x.form x.written (content m x.run.input)) (λ m n. Ends x plan reader ended m n said now before after history)
+    (λ m n. LeavesMade x.run plan x.slots result m n said now before after history)
     (λ m n at ends tables windows of.
-    let S : Status → Type 0 = λ k. LeavesBy x.run tables windows x.slots k m n said now last history in
-    subst S (sym result_is) (leaves_by x tables windows reader m n said now last history at ended refused (sym refused_is) (ends tables windows of at.stands)))
+    let S : Status → Type 0 = λ k. LeavesBy x.run tables windows x.slots k m n said now before after history in
+    subst S (sym result_is) (leaves_by x tables windows reader m n said now before after history at ended refused (sym refused_is) (ends tables windows of at.stands)))
     refl first ran
 
 -- a read that failed before the first record

@@ -4,6 +4,7 @@ use Rattle.std.specs.List.{Contains}
 use Rattle.std.specs.Prelude.{map}
 use Rattle.std.proofs.lemmas.List.Elements.{Contains-append_left, Contains-append_right}
 use Rattle.aftr_base.specs.Contents.{Contents, content, Moves, Told}
+use Rattle.aftr_base.specs.Outside.{Outside}
 use Rattle.aftr_text.specs.declared.jobs.LoadWords.{LoadWords}
 use Rattle.aftr_text.specs.declared.jobs.RunJob.{RunJob}
 use Rattle.area_swap.specs.Histories.{HistoryValue}
@@ -55,7 +56,7 @@ are_read run t ls None h1 same table loads = tt
 are_read run t ls (Some m) h1 same table loads =
     let T : Option Contents → Type 0 = λ h. Told h (λ m. AreLoadsOf m run.loads ls) in record { table = table; loads = subst T same loads }
 
-module _ (run : RunJob) (t : BindingTable) (ls : List Load) (made : Made) (of : IsMade t ls made) (fit : AreFitFor run.loads ls) (old new : Contents) (said now : Option (List ℕ)) (last : Option (List ℕ × ℕ)) (history : Option HistoryValue) (read : AreRead run t ls old) where
+module _ (run : RunJob) (t : BindingTable) (ls : List Load) (made : Made) (of : IsMade t ls made) (fit : AreFitFor run.loads ls) (old new : Contents) (said now : Option (List ℕ)) (before after : Outside) (history : Option HistoryValue) (read : AreRead run t ls old) where
   answers : List Answer
   answers = answers_of old run.loads ls read.loads
 
@@ -74,8 +75,8 @@ module _ (run : RunJob) (t : BindingTable) (ls : List Load) (made : Made) (of : 
   slots_of : AreSlotsOf run (windows_in run.loads (answers_of old run.loads ls read.loads)) (slots_in 0 (answers_of old run.loads ls read.loads))
   slots_of = slots_of_run run old (answers_of old run.loads ls read.loads) (are_answers old run.loads ls read.loads)
 
-  by_status : (result : Status) → LeavesBy run (table_by t (answers_of old run.loads ls read.loads)) (windows_in run.loads (answers_of old run.loads ls read.loads)) (slots_in 0 (answers_of old run.loads ls read.loads)) result old new said now last history →
-      (some_slot_refused (slots_in 0 (answers_of old run.loads ls read.loads)) ≡ some_refused (answers_of old run.loads ls read.loads)) → Leaves run result old new said now last history
+  by_status : (result : Status) → LeavesBy run (table_by t (answers_of old run.loads ls read.loads)) (windows_in run.loads (answers_of old run.loads ls read.loads)) (slots_in 0 (answers_of old run.loads ls read.loads)) result old new said now before after history →
+      (some_slot_refused (slots_in 0 (answers_of old run.loads ls read.loads)) ≡ some_refused (answers_of old run.loads ls read.loads)) → Leaves run result old new said now before after history
   by_status status.Done left same = record { first = t; answers = answers_of old run.loads ls read.loads; tables = tables; some_load_refused = sym same ∙ left.1; whole = left.0 }
   by_status status.DoneRefused left same = record { first = t; answers = answers_of old run.loads ls read.loads; tables = tables; some_load_refused = sym same ∙ left.1; whole = left.0 }
   by_status (status.BadCapture refusal) (inl whole) same =
@@ -93,17 +94,17 @@ module _ (run : RunJob) (t : BindingTable) (ls : List Load) (made : Made) (of : 
   by_status status.Usage left same = absurd left
   by_status (status.BadTable refusal) left same = absurd left
 
-  pub leaves : (result : Status) → LeavesMade run made.plan made.slots result old new said now last history → Leaves run result old new said now last history
+  pub leaves : (result : Status) → LeavesMade run made.plan made.slots result old new said now before after history → Leaves run result old new said now before after history
   leaves result left =
-      let S : List Slot → Type 0 = λ l. LeavesBy run (table_by t (answers_of old run.loads ls read.loads)) (windows_in run.loads (answers_of old run.loads ls read.loads)) l result old new said now last history in
+      let S : List Slot → Type 0 = λ l. LeavesBy run (table_by t (answers_of old run.loads ls read.loads)) (windows_in run.loads (answers_of old run.loads ls read.loads)) l result old new said now before after history in
       by_status result (subst S slots (left (table_by t (answers_of old run.loads ls read.loads)) (windows_in run.loads (answers_of old run.loads ls read.loads)) plan)) (refused_are (answers_of old run.loads ls read.loads) 0)
 
-pub leaves_told : (run : RunJob) (t : BindingTable) (ls : List Load) (made : Made) → IsMade t ls made → AreFitFor run.loads ls → (result : Status) (said now : Option (List ℕ)) (last : Option (List ℕ × ℕ)) (history : Option HistoryValue) (h0 h1 h2 h3 : Option Contents) →
+pub leaves_told : (run : RunJob) (t : BindingTable) (ls : List Load) (made : Made) → IsMade t ls made → AreFitFor run.loads ls → (result : Status) (said now : Option (List ℕ)) (before after : Outside) (history : Option HistoryValue) (h0 h1 h2 h3 : Option Contents) →
     h1 ≡ h0 → h2 ≡ h1 → Told h0 (λ m. TableOf (content m run.table) (Ok t)) → Told h1 (λ m. AreLoadsOf m run.loads ls) →
-    Moves h2 h3 (λ m n. LeavesMade run made.plan made.slots result m n said now last history) → Moves h0 h3 (λ m n. Leaves run result m n said now last history)
-leaves_told run t ls made of fit result said now last history h0 h1 h2 h3 same1 same2 table loads left =
-    told_then h0 h2 h3 (λ m. AreRead run t ls m) (λ m n. LeavesMade run made.plan made.slots result m n said now last history) (λ m n. Leaves run result m n said now last history)
-    (λ m n read made_left. leaves run t ls made of fit m n said now last history read result made_left)
+    Moves h2 h3 (λ m n. LeavesMade run made.plan made.slots result m n said now before after history) → Moves h0 h3 (λ m n. Leaves run result m n said now before after history)
+leaves_told run t ls made of fit result said now before after history h0 h1 h2 h3 same1 same2 table loads left =
+    told_then h0 h2 h3 (λ m. AreRead run t ls m) (λ m n. LeavesMade run made.plan made.slots result m n said now before after history) (λ m n. Leaves run result m n said now before after history)
+    (λ m n read made_left. leaves run t ls made of fit m n said now before after history read result made_left)
     (same2 ∙ same1) (are_read run t ls h0 h1 same1 table loads) left
 
 -- reads of the capture are among those of all files

@@ -1,6 +1,7 @@
 -- A capture that is opened, by the names and values that the calls had.
-use Rattle.std.proofs.Common.{◌≡◌, ℕ, List, Option, Some, None, Ok, refl, sym, subst}
+use Rattle.std.proofs.Common.{◌≡◌, ℕ, false, List, Option, Some, None, Ok, refl, sym, subst}
 use Rattle.aftr_base.specs.Contents.{Contents, content, Moves, Told}
+use Rattle.aftr_base.specs.Outside.{OnlyReads, Outside}
 use Rattle.aftr_text.specs.declared.jobs.RunJob.{RunJob}
 use Rattle.area_swap.specs.Histories.{HistoryValue}
 use Rattle.capture_io.specs.declared.forms.Form.{Form}
@@ -15,6 +16,7 @@ use Rattle.pcapng_io.specs.declared.either.Reader.TheVariants as reader
 use Rattle.reload_plan.specs.declared.loads.Slot.{Slot}
 use Rattle.swap_core.specs.Plans.{Tables}
 use Rattle.lwaftr_engine.proofs.JobLemmas.{blocks_first, classic_first}
+use Rattle.lwaftr_engine.proofs.LoadLemmas.{read_well}
 
 abbrev spot_of : Reader → Spot
 spot_of r = spot (stands_either r) (left_either r) (place_either r)
@@ -37,10 +39,17 @@ opened_first r w w_is fresh k name named h0 h1 same opened =
     subst W (sym w_is) (opened_told r name h1 fresh (subst H (sym same) (subst N named opened)))
 
 -- what is left under slots that were shown
-pub slots_shown : (run : RunJob) (plan : Tables) (shown slots : List Slot) → shown ≡ slots → (result : Status) (a b : Option Contents) (said now : Option (List ℕ)) (last : Option (List ℕ × ℕ)) (history : Option HistoryValue) →
-    Moves a b (λ m n. LeavesMade run plan shown result m n said now last history) → Moves a b (λ m n. LeavesMade run plan slots result m n said now last history)
-slots_shown run plan shown slots is result a b said now last history left =
-    let S : List Slot → Type 0 = λ l. Moves a b (λ m n. LeavesMade run plan l result m n said now last history) in subst S is left
+pub slots_shown : (run : RunJob) (plan : Tables) (shown slots : List Slot) → shown ≡ slots → (result : Status) (a b : Option Contents) (said now : Option (List ℕ)) (before after : Outside) (history : Option HistoryValue) →
+    Moves a b (λ m n. LeavesMade run plan shown result m n said now before after history) → Moves a b (λ m n. LeavesMade run plan slots result m n said now before after history)
+slots_shown run plan shown slots is result a b said now before after history left =
+    let S : List Slot → Type 0 = λ l. Moves a b (λ m n. LeavesMade run plan l result m n said now before after history) in subst S is left
+
+-- what is left behind a read that went well
+pub left_behind : (run : RunJob) (plan : Tables) (slots : List Slot) (result : Status) (name : List ℕ) (Inside : ℕ → Type 0) (a b d : Outside) (said now : Option (List ℕ)) (history : Option HistoryValue) → OnlyReads false name Inside a b →
+    Moves b.held d.held (λ m n. LeavesMade run plan slots result m n said now b d history) → Moves a.held d.held (λ m n. LeavesMade run plan slots result m n said now a d history)
+left_behind run plan slots result name Inside a b d said now history only left =
+    let M : Outside → Type 0 = λ o. Moves o.held d.held (λ m n. LeavesMade run plan slots result m n said now o d history) in
+    subst M (read_well a a b name refl (record { held = only.held; faults = only.faults; lost = only.lost; spoiled = only.spoiled; last = only.last })) left
 
 pub first_shown : (reader : Spot) (form shown : Form) (w : Written) (name : List ℕ) (h : Option Contents) → shown ≡ form → Told h (λ m. IsAtFirst reader form w (content m name)) → Told h (λ m. IsAtFirst reader shown w (content m name))
 first_shown reader form shown w name h is first = let F : Form → Type 0 = λ f. Told h (λ m. IsAtFirst reader f w (content m name)) in subst F (sym is) first

@@ -39,7 +39,7 @@ module _ (one : AreSingle) (run : RunJob) (t : BindingTable) (ls : List Load) (m
   pub keeps_run : (k : List ℕ) (ws : List LoadWords) → k ≡ run.table → ws ≡ run.loads → (a b d e : Outside) (said now : Option (List ℕ)) (puts puts_now : ℕ) (result : Status) (history : Option HistoryValue) →
       OnlyReads false k (λ _. Unit {0}) a b → OnlyReadsAmong false (map (λ (load : LoadWords). load.name) ws) b d →
       Told a.held (λ m. TableOf (content m k) (Ok t)) → Told b.held (λ m. AreLoadsOf m ws ls) → AreFitFor ws ls →
-      Moves d.held e.held (λ m n. LeavesMade run made.plan made.slots result m n said now e.last history) → Moves d.held e.held (OthersKept run) →
+      Moves d.held e.held (λ m n. LeavesMade run made.plan made.slots result m n said now d e history) → Moves d.held e.held (OthersKept run) →
       HasCause result (world d said puts) (world e now puts_now) → FailsIn (run.input ∷ []) result d.last e.last → HasHistory result history →
       KeepsRun run result (world a said puts) (world e now puts_now) history
   keeps_run k ws k_is ws_is a b d e said now puts puts_now result history read reads table loads fit left others cause failed has =
@@ -50,21 +50,22 @@ module _ (one : AreSingle) (run : RunJob) (t : BindingTable) (ls : List Load) (m
       let O : Outside → Type 0 = λ o. Moves o.held e.held (OthersKept run) in
       let C : Outside → Type 0 = λ o. HasCause result (world o said puts) (world e now puts_now) in
       let R : Outside → Type 0 = λ o. FailsIn (run.input ∷ []) result o.last e.last in
-      let files : Moves a.held e.held (λ m n. Leaves run result m n said now e.last history) =
-      leaves_told run t ls made of (subst F ws_is fit) result said now e.last history a.held b.held d.held e.held
-      (ap (λ (o : Outside). o.held) first) reads.held (named_table a.held k run.table t k_is table) (subst L ws_is loads) left in
+      let M : Outside → Type 0 = λ o. Moves o.held e.held (λ m n. LeavesMade run made.plan made.slots result m n said now o e history) in
+      let files : Moves a.held e.held (λ m n. Leaves run result m n said now a e history) =
+      leaves_told run t ls made of (subst F ws_is fit) result said now a e history a.held b.held a.held e.held
+      (ap (λ (o : Outside). o.held) first) (sym (ap (λ (o : Outside). o.held) first)) (named_table a.held k run.table t k_is table) (subst L ws_is loads) (subst M all left) in
       record {
         files = files;
         others = subst O all others;
-        due = due_told one run result a.held e.held said now e.last history files;
+        due = due_told one run result a.held e.held said now a e history files;
         cause = subst C all cause;
         failed_read = among_all run result a.last e.last (subst R all failed);
         has_history = has;
       }
 
-unread_by : (run : RunJob) (h : Option Contents) (said : Option (List ℕ)) (last : Option (List ℕ × ℕ)) → IsReadOf (table_names run) last → Told h (λ m. IsBehindTable run m last) → Moves h h (λ m n. Leaves run status.ReadFault m n said said last None)
-unread_by run None said last failed accepted = tt
-unread_by run (Some m) said last failed accepted = inr (unread_tables run m said last failed accepted)
+unread_by : (run : RunJob) (h : Option Contents) (said : Option (List ℕ)) (before after : Outside) → IsReadOf (table_names run) after.last → Told h (λ m. IsBehindTable run m after.last) → Moves h h (λ m n. Leaves run status.ReadFault m n said said before after None)
+unread_by run None said before after failed accepted = tt
+unread_by run (Some m) said before after failed accepted = inr (unread_tables run m said after.last failed accepted)
 
 accepted_by : (run : RunJob) (h : Option Contents) (t : BindingTable) (last : Option (List ℕ × ℕ)) → Told h (λ m. TableOf (content m run.table) (Ok t)) → Told h (λ m. IsBehindTable run m last)
 accepted_by run None t last told = tt
@@ -84,10 +85,10 @@ keeps_unread {T} run t r r_is k k_is ws ws_is a b d said puts history none read 
     let A : Outside → Type 0 = λ o. OnlyReadsAmong true (map (λ (load : LoadWords). load.name) run.loads) o d in
     let only : OnlyReadsAmong true (map (λ (load : LoadWords). load.name) run.loads) a d = subst A (read_well a a b k refl read) (subst N ws_is (subst B r_is reads)) in
     let failed : IsReadOf (table_names run) d.last = load_read run d.last only.last in
-    let H : Option HistoryValue → Type 0 = λ x. Moves a.held d.held (λ m n. Leaves run status.ReadFault m n said said d.last x) in
-    let M : Option Contents → Type 0 = λ h. Moves a.held h (λ m n. Leaves run status.ReadFault m n said said d.last None) in
+    let H : Option HistoryValue → Type 0 = λ x. Moves a.held d.held (λ m n. Leaves run status.ReadFault m n said said a d x) in
+    let M : Option Contents → Type 0 = λ h. Moves a.held h (λ m n. Leaves run status.ReadFault m n said said a d None) in
     record {
-      files = subst H (sym none) (subst M (sym only.held) (unread_by run a.held said d.last failed (accepted_by run a.held t d.last (named_table a.held k run.table t k_is table))));
+      files = subst H (sym none) (subst M (sym only.held) (unread_by run a.held said a d failed (accepted_by run a.held t d.last (named_table a.held k run.table t k_is table))));
       others = others_same run a.held d.held only.held;
       due = no_due _ a.held (λ m s asked. inr tt);
       cause = record { lost = only.lost; spoiled = only.spoiled; puts = refl };

@@ -6,6 +6,7 @@ use Rattle.std.proofs.lemmas.List.Elements.{All-cons, All-nil}
 use Rattle.std.proofs.lemmas.List.FromFn.{length-map-range_with_len}
 use Rattle.std.proofs.lemmas.List.Sums.{sum_by-cons}
 use Rattle.aftr_base.specs.Contents.{Contents, content}
+use Rattle.aftr_base.specs.Outside.{nothing_known}
 use Rattle.aftr_text.specs.declared.jobs.RunJob.{RunJob}
 use Rattle.area_swap.specs.Histories.{HistoryValue}
 use Rattle.capture_io.specs.Capture.{IsCapture}
@@ -140,10 +141,10 @@ shows one written seed count few run slots old new line history no_limit holds w
       is_history = inr (subst H points_are r.is_history);
     }
 
--- the same of a sink in memory that had nothing
-pub is_demo : OneReading → WrittenIsRead → (seed count : ℕ) → count ≤ 1000000 → (show : Show) → IsShow seed count show → (new : Contents) (before line : List ℕ) → before ≡ [] → (last : Option (List ℕ × ℕ)) (history : Option HistoryValue) →
-    LeavesMade show.job show.made.plan show.made.slots status.Done show.files new (Some before) (Some line) last history → IsDemo seed count line history
-is_demo one written seed count few show is new before line none last history leaves =
+-- the same of a sink in memory that had nothing (what is known of the files says nothing at `Done`)
+pub is_demo : OneReading → WrittenIsRead → (seed count : ℕ) → count ≤ 1000000 → (show : Show) → IsShow seed count show → (new : Contents) (before line : List ℕ) → before ≡ [] → (history : Option HistoryValue) →
+    LeavesMade show.job show.made.plan show.made.slots status.Done show.files new (Some before) (Some line) nothing_known nothing_known history → IsDemo seed count line history
+is_demo one written seed count few show is new before line none history leaves =
     let W : List ℕ → Type 0 = λ said. IsWhole show.job demo_tables (middle_window count) show.made.slots show.files new (Some said) (Some line) history None in
     shows one written seed count few show.job show.made.slots show.files new line history is.job.no_limit is.holds (subst W none (leaves demo_tables (middle_window count) is.plan).0)
 

@@ -1,7 +1,7 @@
 -- A capture that cannot be opened.
 use Rattle.std.proofs.Common.{◌≡◌, ℕ, ◌<◌, Bool, true, false, List, Option, Some, None, Result, Err, inl, inr, refl, sym, ap, subst}
 use Rattle.aftr_base.specs.Contents.{Contents, content, Moves, Told}
-use Rattle.aftr_base.specs.Outside.{FailsAt}
+use Rattle.aftr_base.specs.Outside.{FailsAt, Outside}
 use Rattle.aftr_text.specs.declared.jobs.RunJob.{RunJob}
 use Rattle.area_swap.specs.Histories.{HistoryValue}
 use Rattle.capture_io.specs.Answers.{Agrees, is_read_fault}
@@ -61,24 +61,24 @@ either_unopened run h k named error old last =
     let P : List ℕ → Type 0 = λ q. Told h (λ m. OpensEither (Err error) (content m q)) → FailsAt (failed_as Reader error) q (IsInHead h q) old last → Told h (λ m. IsUnopened run m last error) in
     subst P (sym named) (by_name run h error old last)
 
-leaves_by_error : (run : RunJob) (plan : Tables) (slots : List Slot) (error : CaptureError) (m : Contents) (said : Option (List ℕ)) (last : Option (List ℕ × ℕ)) → IsUnopened run m last error →
-    LeavesMade run plan slots (unopened_status error) m m said said last None
-leaves_by_error run plan slots (failure.Bad refusal) m said last why = λ tables windows of. inr (why, record { files = refl; sink = refl; none = refl })
-leaves_by_error run plan slots failure.ReadFault m said last why = λ tables windows of. inr (why, record { files = refl; sink = refl; none = refl })
-leaves_by_error run plan slots failure.OutOfMemory m said last why = λ tables windows of. inl (record { files = refl; sink = refl; none = refl })
+leaves_by_error : (run : RunJob) (plan : Tables) (slots : List Slot) (error : CaptureError) (m : Contents) (said : Option (List ℕ)) (before after : Outside) → IsUnopened run m after.last error →
+    LeavesMade run plan slots (unopened_status error) m m said said before after None
+leaves_by_error run plan slots (failure.Bad refusal) m said before after why = λ tables windows of. inr (why, record { files = refl; sink = refl; none = refl })
+leaves_by_error run plan slots failure.ReadFault m said before after why = λ tables windows of. inr (why, record { files = refl; sink = refl; none = refl })
+leaves_by_error run plan slots failure.OutOfMemory m said before after why = λ tables windows of. inl (record { files = refl; sink = refl; none = refl })
 
-by_held : (run : RunJob) (plan : Tables) (slots : List Slot) (error : CaptureError) (h : Option Contents) (said : Option (List ℕ)) (last : Option (List ℕ × ℕ)) → Told h (λ m. IsUnopened run m last error) →
-    Moves h h (λ m n. LeavesMade run plan slots (unopened_status error) m n said said last None)
-by_held run plan slots error None said last why = tt
-by_held run plan slots error (Some m) said last why = leaves_by_error run plan slots error m said last why
+by_held : (run : RunJob) (plan : Tables) (slots : List Slot) (error : CaptureError) (h : Option Contents) (said : Option (List ℕ)) (before after : Outside) → Told h (λ m. IsUnopened run m after.last error) →
+    Moves h h (λ m n. LeavesMade run plan slots (unopened_status error) m n said said before after None)
+by_held run plan slots error None said before after why = tt
+by_held run plan slots error (Some m) said before after why = leaves_by_error run plan slots error m said before after why
 
-pub unopened_leaves : (run : RunJob) (plan : Tables) (slots : List Slot) (error : CaptureError) (result : Status) (h0 h1 : Option Contents) (said : Option (List ℕ)) (last : Option (List ℕ × ℕ)) (history : Option HistoryValue) →
-    result ≡ unopened_status error → history ≡ None → h1 ≡ h0 → Told h0 (λ m. IsUnopened run m last error) → Moves h0 h1 (λ m n. LeavesMade run plan slots result m n said said last history)
-unopened_leaves run plan slots error result h0 h1 said last history is none same why =
-    let S : Status → Type 0 = λ s. Moves h0 h1 (λ m n. LeavesMade run plan slots s m n said said last history) in
-    let N : Option HistoryValue → Type 0 = λ k. Moves h0 h1 (λ m n. LeavesMade run plan slots (unopened_status error) m n said said last k) in
-    let H : Option Contents → Type 0 = λ h. Moves h0 h (λ m n. LeavesMade run plan slots (unopened_status error) m n said said last None) in
-    subst S (sym is) (subst N (sym none) (subst H (sym same) (by_held run plan slots error h0 said last why)))
+pub unopened_leaves : (run : RunJob) (plan : Tables) (slots : List Slot) (error : CaptureError) (result : Status) (h0 h1 : Option Contents) (said : Option (List ℕ)) (before after : Outside) (history : Option HistoryValue) →
+    result ≡ unopened_status error → history ≡ None → h1 ≡ h0 → Told h0 (λ m. IsUnopened run m after.last error) → Moves h0 h1 (λ m n. LeavesMade run plan slots result m n said said before after history)
+unopened_leaves run plan slots error result h0 h1 said before after history is none same why =
+    let S : Status → Type 0 = λ s. Moves h0 h1 (λ m n. LeavesMade run plan slots s m n said said before after history) in
+    let N : Option HistoryValue → Type 0 = λ k. Moves h0 h1 (λ m n. LeavesMade run plan slots (unopened_status error) m n said said before after k) in
+    let H : Option Contents → Type 0 = λ h. Moves h0 h (λ m n. LeavesMade run plan slots (unopened_status error) m n said said before after None) in
+    subst S (sym is) (subst N (sym none) (subst H (sym same) (by_held run plan slots error h0 said before after why)))
 
 pub others_same : (run : RunJob) (h0 h1 : Option Contents) → h1 ≡ h0 → Moves h0 h1 (OthersKept run)
 others_same run h0 h1 same =

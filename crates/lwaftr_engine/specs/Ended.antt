@@ -1,6 +1,7 @@
 -- What a run leaves from the opening of its outputs on, by how the records ended.
 use Rattle.std.specs.Prelude.{◌≡◌, ◌⊎◌, ℕ, ◌+◌, ◌≤◌, List, [], ◌∷◌, ◌++◌, All, count_by, length, Option, Some, None, Result, Ok, Err}
 use Rattle.aftr_base.specs.Contents.{Contents, content}
+use Rattle.aftr_base.specs.Outside.{Outside}
 use Rattle.aftr_base.specs.declared.outside.Fault.{Fault}
 use Rattle.aftr_base.specs.declared.outside.Fault.TheVariants as fault
 use Rattle.area_swap.specs.Histories.{HistoryValue}
@@ -10,7 +11,7 @@ use Rattle.capture_io.specs.declared.forms.Rec.{Rec}
 use Rattle.capture_io.specs.declared.rounds.Ending.{Ending}
 use Rattle.capture_io.specs.declared.rounds.Ending.TheVariants as ending
 use Rattle.lwaftr_engine.specs.Endings.{IsBehind}
-use Rattle.lwaftr_engine.specs.Fronts.{IsFront, is_table}
+use Rattle.lwaftr_engine.specs.Fronts.{IsFront, Stop, is_table, stop_by}
 use Rattle.lwaftr_engine.specs.Progress.{Setup, Spot}
 use Rattle.lwaftr_engine.specs.Runs.{IsPlanOf, IsRun}
 use Rattle.reload_plan.specs.declared.loads.Slot.{Slot}
@@ -53,10 +54,10 @@ pub record TakesBefore (x : Setup) (reader : Spot) (old : Contents) (rs : List R
   pub next : IsBehind place rest
 
 -- the run was ended by a fault
-pub record EndsBroken (x : Setup) (tables : ℕ → BindingTable) (windows : List Window) (reader : Spot) (old new : Contents) (said now : Option (List ℕ)) (last : Option (List ℕ × ℕ)) : Type 0 where
+pub record EndsBroken (x : Setup) (tables : ℕ → BindingTable) (windows : List Window) (reader : Spot) (old new : Contents) (said now : Option (List ℕ)) (stop : Stop) : Type 0 where
   pub records : List Rec
-  pub taken : TakesAll x reader old records ⊎ TakesBefore x reader old records last
-  pub front : IsFront x.run tables windows x.slots x.form x.written records old new said now
+  pub taken : TakesAll x reader old records ⊎ TakesBefore x reader old records stop.after.last
+  pub front : IsFront x.run tables windows x.slots x.form x.written records old new said now stop
 
 -- the versions of the loads are counted from one, behind so many that are tables
 abbrev pub AreNumbered : ℕ → List Slot → Type 0
@@ -70,16 +71,16 @@ pub record AreSlotsOf (run : RunJob) (windows : List Window) (slots : List Slot)
   pub windows_are : length windows ≡ count_by is_table slots
   pub loads_are : length slots ≡ length run.loads
 
-abbrev pub EndsBy : Setup → (ℕ → BindingTable) → List Window → Spot → Result Ending Fault → Contents → Contents → Option (List ℕ) → Option (List ℕ) → Option (List ℕ × ℕ) → Option HistoryValue → Type 0
-EndsBy x tables windows reader (Ok ending.End) old new said now last history = EndsWhole x tables windows reader old new said now history None
-EndsBy x tables windows reader (Ok (ending.Bad refusal)) old new said now last history = EndsWhole x tables windows reader old new said now history (Some refusal)
-EndsBy x tables windows reader (Ok ending.ReadFault) old new said now last history = EndsCut x tables windows reader old new said now history last
-EndsBy x tables windows reader (Err fault.Failed) old new said now last history = (AreSlotsOf x.run windows x.slots → EndsBroken x tables windows reader old new said now last) × (history ≡ None)
-EndsBy x tables windows reader (Err fault.OutOfMemory) old new said now last history =
-    (((new ≡ old) × (now ≡ said)) ⊎ (AreSlotsOf x.run windows x.slots → EndsBroken x tables windows reader old new said now last)) × (history ≡ None)
+abbrev pub EndsBy : Setup → (ℕ → BindingTable) → List Window → Spot → Result Ending Fault → Contents → Contents → Option (List ℕ) → Option (List ℕ) → Outside → Outside → Option HistoryValue → Type 0
+EndsBy x tables windows reader (Ok ending.End) old new said now before after history = EndsWhole x tables windows reader old new said now history None
+EndsBy x tables windows reader (Ok (ending.Bad refusal)) old new said now before after history = EndsWhole x tables windows reader old new said now history (Some refusal)
+EndsBy x tables windows reader (Ok ending.ReadFault) old new said now before after history = EndsCut x tables windows reader old new said now history after.last
+EndsBy x tables windows reader (Err fault.Failed) old new said now before after history = (AreSlotsOf x.run windows x.slots → EndsBroken x tables windows reader old new said now (stop_by fault.Failed before after)) × (history ≡ None)
+EndsBy x tables windows reader (Err fault.OutOfMemory) old new said now before after history =
+    (((new ≡ old) × (now ≡ said)) ⊎ (AreSlotsOf x.run windows x.slots → EndsBroken x tables windows reader old new said now (stop_by fault.OutOfMemory before after))) × (history ≡ None)
 
 -- under every list of tables of which the plan's words are
-abbrev pub Ends : Setup → Tables → Spot → Result Ending Fault → Contents → Contents → Option (List ℕ) → Option (List ℕ) → Option (List ℕ × ℕ) → Option HistoryValue → Type 0
-Ends x plan reader result old new said now last history =
+abbrev pub Ends : Setup → Tables → Spot → Result Ending Fault → Contents → Contents → Option (List ℕ) → Option (List ℕ) → Outside → Outside → Option HistoryValue → Type 0
+Ends x plan reader result old new said now before after history =
     (tables : ℕ → BindingTable) (windows : List Window) → IsPlanOf tables windows plan → reader.stood (content old x.run.input) →
-    EndsBy x tables windows reader result old new said now last history
+    EndsBy x tables windows reader result old new said now before after history

@@ -2,6 +2,7 @@
 use Rattle.std.specs.Prelude.{◌≡◌, ◌⊎◌, ℕ, false, List, [], ◌++◌, drop, flat_map, length, take, Option, None, IsSome, Result, Ok, Err}
 use Rattle.std.specs.Option.{option_map}
 use Rattle.aftr_base.specs.Contents.{Contents}
+use Rattle.aftr_base.specs.Outside.{Rises}
 use Rattle.aftr_base.specs.declared.outside.Fault.{Fault}
 use Rattle.aftr_text.specs.Lines.{ended_text, summary_text}
 use Rattle.area_swap.specs.Histories.{HistoryValue}
@@ -10,6 +11,7 @@ use Rattle.capture_io.specs.declared.forms.Rec.{Rec}
 use Rattle.capture_io.specs.declared.rounds.Ending.{Ending}
 use Rattle.item_stage.specs.Items.{unfinished_of}
 use Rattle.item_stage.specs.Stages.{Stands}
+use Rattle.lwaftr_engine.specs.Fronts.{is_failure}
 use Rattle.lwaftr_engine.specs.declared.rounds.Progress.{Progress}
 use Rattle.lwaftr_engine.specs.Progress.{Setup, Wrote, loads_of}
 use Rattle.run_output.specs.Counting.{no_totals, with_version}
@@ -56,12 +58,14 @@ pub record IsHalfPut (x : Setup) (p : Progress) (points : List ℕ) (taken : Lis
   pub count : ℕ
   pub took : now ≡ option_map (λ out. out ++ take count (last_line p points)) said
 
-abbrev pub IsHalfFinished : Setup → Progress → List ℕ → List Rec → Contents → Contents → Option (List ℕ) → Option (List ℕ) → Type 0
-IsHalfFinished x p points taken old new said now = IsHalfWritten x p points taken old new said now ⊎ IsHalfPut x p points taken old new said now
+-- where a call failed, it is an append while the lines are not whole, and a put behind them
+abbrev pub IsHalfFinished : Setup → Progress → List ℕ → List Rec → Fault → ℕ → ℕ → Contents → Contents → Option (List ℕ) → Option (List ℕ) → Type 0
+IsHalfFinished x p points taken why spoiled spoiled_now old new said now =
+    (Rises (is_failure why) spoiled spoiled_now × IsHalfWritten x p points taken old new said now) ⊎ ((spoiled_now ≡ spoiled) × IsHalfPut x p points taken old new said now)
 
-abbrev pub Finishes : Setup → Progress → List ℕ → List Rec → Result Unit Fault → Contents → Contents → Option (List ℕ) → Option (List ℕ) → Type 0
-Finishes x p points taken (Ok done) old new said now = IsFinished x p points taken old new said now
-Finishes x p points taken (Err why) old new said now = IsHalfFinished x p points taken old new said now
+abbrev pub Finishes : Setup → Progress → List ℕ → List Rec → Result Unit Fault → ℕ → ℕ → Contents → Contents → Option (List ℕ) → Option (List ℕ) → Type 0
+Finishes x p points taken (Ok done) spoiled spoiled_now old new said now = IsFinished x p points taken old new said now
+Finishes x p points taken (Err why) spoiled spoiled_now old new said now = IsHalfFinished x p points taken why spoiled spoiled_now old new said now
 
 -- there is a history where all is written, and none after a fault
 abbrev pub HasHistoryBy : Result Ending Fault → Option HistoryValue → Type 0

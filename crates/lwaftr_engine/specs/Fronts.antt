@@ -2,6 +2,9 @@
 use Rattle.std.specs.Prelude.{◌≡◌, ◌⊎◌, ℕ, suc, ◌-◌, ◌≤◌, nat_le, nat_lt, Bool, true, false, if◌then◌else◌, List, [], ◌∷◌, ◌++◌, All, count_by, length, take, Option, Some, None, Ok}
 use Rattle.std.specs.Option.{option_map}
 use Rattle.aftr_base.specs.Contents.{Contents, content}
+use Rattle.aftr_base.specs.Outside.{Outside, Rises}
+use Rattle.aftr_base.specs.declared.outside.Fault.{Fault}
+use Rattle.aftr_base.specs.declared.outside.Fault.TheVariants as fault
 use Rattle.aftr_text.specs.Lines.{initial_text, summary_text}
 use Rattle.aftr_text.specs.declared.jobs.RunJob.{RunJob}
 use Rattle.area_swap.specs.Histories.{HistoryValue}
@@ -59,6 +62,19 @@ pub record IsUnder (tables : ℕ → BindingTable) (points : List ℕ) (errors :
   pub loaded : c.loaded ≡ length points
   pub limited : IsLimited errors form rs (entries_of form rs) c
 
+-- By what a run was ended, a call of the outside that failed or want of memory, and what is known of the files before it and then.
+pub record Stop : Type 0 where
+  pub failed : Bool
+  pub before : Outside
+  pub after : Outside
+
+abbrev pub is_failure : Fault → Bool
+is_failure fault.Failed = true
+is_failure fault.OutOfMemory = false
+
+abbrev pub stop_by : Fault → Outside → Outside → Stop
+stop_by why before after = record { failed = is_failure why; before = before; after = after }
+
 -- The outputs are whole, and the sink took a front of the summary.
 pub record IsAtSummary (run : RunJob) (slots : List Slot) (c : Course) (points : List ℕ) (form : Form) (written : Written) (rs : List Rec) (new : Contents) (said now : Option (List ℕ)) : Type 0 where
   pub output : content new run.output ≡ output_of c written form rs
@@ -69,9 +85,9 @@ pub record IsAtSummary (run : RunJob) (slots : List Slot) (c : Course) (points :
 
 -- So many outputs were made, in the order of OUT, VERDICTS and VERSIONS. There are points for all tables whose windows open by the
 -- last of the records. VERSIONS holds a front of what is due for these points; OUT and VERDICTS hold fronts of what is due for all
--- records under those tables alone whose lines VERSIONS holds whole. The sink took nothing, or all outputs are whole and it took a
--- front of the summary.
-pub record IsFront (run : RunJob) (tables : ℕ → BindingTable) (windows : List Window) (slots : List Slot) (form : Form) (written : Written) (rs : List Rec) (old new : Contents) (said now : Option (List ℕ)) : Type 0 where
+-- records under those tables alone whose lines VERSIONS holds whole. The sink took nothing, and where a call failed it is a create or
+-- an append; or no such call failed, all outputs are whole, and the sink took a front of the summary.
+pub record IsFront (run : RunJob) (tables : ℕ → BindingTable) (windows : List Window) (slots : List Slot) (form : Form) (written : Written) (rs : List Rec) (old new : Contents) (said now : Option (List ℕ)) (stop : Stop) : Type 0 where
   pub made : ℕ
   pub points : List ℕ
   pub placed : AreAllPoints windows points (length rs)
@@ -83,7 +99,8 @@ pub record IsFront (run : RunJob) (tables : ℕ → BindingTable) (windows : Lis
   pub verdicts : HoldsFront (nat_lt 1 made) (verdicts_of shown form rs) (content old run.verdicts) (content new run.verdicts)
   pub versions : HoldsFront (nat_lt 2 made) (versions_of run.table (named run.loads slots) points) (content old run.versions) (content new run.versions)
   pub others : OthersKept run old new
-  pub sink : (now ≡ said) ⊎ IsAtSummary run slots course points form written rs new said now
+  pub sink : (Rises stop.failed stop.before.spoiled stop.after.spoiled × (now ≡ said))
+      ⊎ ((stop.after.spoiled ≡ stop.before.spoiled) × IsAtSummary run slots course points form written rs new said now)
 
 -- These are the records that end at or before the place of the read that failed: the next one, if there is one, ends behind it.
 pub record AreBefore (run : RunJob) (old : Contents) (header : Header) (rs : List Rec) (last : Option (List ℕ × ℕ)) : Type 0 where
@@ -101,17 +118,17 @@ abbrev pub AreTaken : RunJob → Contents → Header → List Rec → Option (Li
 AreTaken run old header rs last = ((ending : Option CaptureBad) × IsInput (content old run.input) header rs ending) ⊎ AreBefore run old header rs last
 
 -- the run began under a header that is accepted, and was ended by a fault
-pub record IsBroken (run : RunJob) (tables : ℕ → BindingTable) (windows : List Window) (slots : List Slot) (old new : Contents) (said now : Option (List ℕ)) (last : Option (List ℕ × ℕ)) : Type 0 where
+pub record IsBroken (run : RunJob) (tables : ℕ → BindingTable) (windows : List Window) (slots : List Slot) (old new : Contents) (said now : Option (List ℕ)) (stop : Stop) : Type 0 where
   pub header : Header
   pub sound : header_of (content old run.input) ≡ Ok header
   pub records : List Rec
-  pub taken : AreTaken run old header records last
-  pub front : IsFront run tables windows slots header.form header.written records old new said now
+  pub taken : AreTaken run old header records stop.after.last
+  pub front : IsFront run tables windows slots header.form header.written records old new said now stop
 
 -- it began under tables that are accepted
-pub record IsBrokenRun (run : RunJob) (old new : Contents) (said now : Option (List ℕ)) (last : Option (List ℕ × ℕ)) (history : Option HistoryValue) : Type 0 where
+pub record IsBrokenRun (run : RunJob) (old new : Contents) (said now : Option (List ℕ)) (stop : Stop) (history : Option HistoryValue) : Type 0 where
   pub first : BindingTable
   pub answers : List Answer
   pub tables : AreTables run old first answers
-  pub broken : IsBroken run (table_by first answers) (windows_in run.loads answers) (slots_in 0 answers) old new said now last
+  pub broken : IsBroken run (table_by first answers) (windows_in run.loads answers) (slots_in 0 answers) old new said now stop
   pub none : history ≡ None

@@ -1,6 +1,7 @@
 -- What the parts of a run's job are told, and what they leave.
 use Rattle.std.specs.Prelude.{◌≡◌, ◌⊎◌, ℕ, ◌≤◌, Bool, true, false, if◌then◌else◌, List, [], ◌∷◌, All, length, Option, Some, None, IfSome, Result, Ok, Err}
 use Rattle.aftr_base.specs.Contents.{Contents, content}
+use Rattle.aftr_base.specs.Outside.{Outside}
 use Rattle.aftr_base.specs.declared.outside.Fault.{Fault}
 use Rattle.aftr_base.specs.declared.outside.Fault.TheVariants as fault
 use Rattle.aftr_text.specs.Jobs.{AreApart, AreRising, IsLoad, IsRate, IsWorkers, windows_of}
@@ -17,7 +18,7 @@ use Rattle.capture_io.specs.declared.rounds.Ending.TheVariants as ending
 use Rattle.capture_io.specs.declared.written.Written.{Written}
 use Rattle.lwaftr_engine.specs.Ended.{AreSlotsOf}
 use Rattle.lwaftr_engine.specs.Endings.{IsCut, IsUntouched, IsWhole}
-use Rattle.lwaftr_engine.specs.Fronts.{IsBroken}
+use Rattle.lwaftr_engine.specs.Fronts.{IsBroken, stop_by}
 use Rattle.lwaftr_engine.specs.Inputs.{Header, IsInput, header_of}
 use Rattle.lwaftr_engine.specs.Progress.{Spot}
 use Rattle.lwaftr_engine.specs.Runs.{IsPlanOf}
@@ -83,18 +84,18 @@ abbrev pub IsEarly : List ℕ → List ℕ → Option (List ℕ × ℕ) → Type
 IsEarly name bytes last = (header : Header) (place : ℕ) → header_of bytes ≡ Ok header → last ≡ Some (name, place) → 4 ≤ place → header.has_end ≡ true → header.ends_at ≤ place → ⊥
 
 -- what a run leaves under tables that were read, by its status
-abbrev pub LeavesBy : RunJob → (ℕ → BindingTable) → List Window → List Slot → Status → Contents → Contents → Option (List ℕ) → Option (List ℕ) → Option (List ℕ × ℕ) → Option HistoryValue → Type 0
-LeavesBy run tables windows slots status.Done old new said now last history = IsWhole run tables windows slots old new said now history None × (some_slot_refused slots ≡ false)
-LeavesBy run tables windows slots status.DoneRefused old new said now last history = IsWhole run tables windows slots old new said now history None × (some_slot_refused slots ≡ true)
-LeavesBy run tables windows slots (status.BadCapture refusal) old new said now last history =
+abbrev pub LeavesBy : RunJob → (ℕ → BindingTable) → List Window → List Slot → Status → Contents → Contents → Option (List ℕ) → Option (List ℕ) → Outside → Outside → Option HistoryValue → Type 0
+LeavesBy run tables windows slots status.Done old new said now before after history = IsWhole run tables windows slots old new said now history None × (some_slot_refused slots ≡ false)
+LeavesBy run tables windows slots status.DoneRefused old new said now before after history = IsWhole run tables windows slots old new said now history None × (some_slot_refused slots ≡ true)
+LeavesBy run tables windows slots (status.BadCapture refusal) old new said now before after history =
     IsWhole run tables windows slots old new said now history (Some refusal) ⊎ ((header_of (content old run.input) ≡ Err refusal) × IsUntouched old new said now history)
-LeavesBy run tables windows slots status.ReadFault old new said now last history =
-    IsCut run tables windows slots old new said now history last ⊎ (IsEarly run.input (content old run.input) last × IsUntouched old new said now history)
-LeavesBy run tables windows slots status.WriteFault old new said now last history = (AreSlotsOf run windows slots → IsBroken run tables windows slots old new said now last) × (history ≡ None)
-LeavesBy run tables windows slots status.OutOfMemory old new said now last history =
-    IsUntouched old new said now history ⊎ ((AreSlotsOf run windows slots → IsBroken run tables windows slots old new said now last) × (history ≡ None))
-LeavesBy run tables windows slots _ old new said now last history = ⊥
+LeavesBy run tables windows slots status.ReadFault old new said now before after history =
+    IsCut run tables windows slots old new said now history after.last ⊎ (IsEarly run.input (content old run.input) after.last × IsUntouched old new said now history)
+LeavesBy run tables windows slots status.WriteFault old new said now before after history = (AreSlotsOf run windows slots → IsBroken run tables windows slots old new said now (stop_by fault.Failed before after)) × (history ≡ None)
+LeavesBy run tables windows slots status.OutOfMemory old new said now before after history =
+    IsUntouched old new said now history ⊎ ((AreSlotsOf run windows slots → IsBroken run tables windows slots old new said now (stop_by fault.OutOfMemory before after)) × (history ≡ None))
+LeavesBy run tables windows slots _ old new said now before after history = ⊥
 
-abbrev pub LeavesMade : RunJob → Tables → List Slot → Status → Contents → Contents → Option (List ℕ) → Option (List ℕ) → Option (List ℕ × ℕ) → Option HistoryValue → Type 0
-LeavesMade run plan slots result old new said now last history =
-    (tables : ℕ → BindingTable) (windows : List Window) → IsPlanOf tables windows plan → LeavesBy run tables windows slots result old new said now last history
+abbrev pub LeavesMade : RunJob → Tables → List Slot → Status → Contents → Contents → Option (List ℕ) → Option (List ℕ) → Outside → Outside → Option HistoryValue → Type 0
+LeavesMade run plan slots result old new said now before after history =
+    (tables : ℕ → BindingTable) (windows : List Window) → IsPlanOf tables windows plan → LeavesBy run tables windows slots result old new said now before after history

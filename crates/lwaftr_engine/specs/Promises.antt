@@ -1,6 +1,8 @@
 -- The promises of the program's call on a run.
 use Rattle.std.specs.Prelude.{◌≡◌, ◌⊎◌, ℕ, Bool, true, false, List, [], ◌∷◌, ◌++◌, Option, Some, None, IsSome, Ok, Err}
 use Rattle.aftr_base.specs.Contents.{Contents, content, Moves, Told}
+use Rattle.aftr_base.specs.Outside.{Outside}
+use Rattle.aftr_base.specs.declared.outside.Fault.TheVariants as fault
 use Rattle.aftr_text.specs.declared.jobs.RunJob.{RunJob}
 use Rattle.area_swap.specs.Histories.{HistoryValue}
 use Rattle.binding_file.specs.Files.{TableOf}
@@ -9,7 +11,7 @@ use Rattle.capture_io.specs.declared.forms.CaptureBad.{CaptureBad}
 use Rattle.capture_io.specs.declared.forms.Rec.{Rec}
 use Rattle.lwaftr_engine.specs.Causes.{FailsIn, HasCause, IsFault}
 use Rattle.lwaftr_engine.specs.Endings.{AreTables, IsBadHeader, IsCutRun, IsUnread, IsUntouched, IsWholeRun, table_names}
-use Rattle.lwaftr_engine.specs.Fronts.{IsBrokenRun}
+use Rattle.lwaftr_engine.specs.Fronts.{IsBrokenRun, stop_by}
 use Rattle.lwaftr_engine.specs.Inputs.{Header, IsInput, header_of}
 use Rattle.lwaftr_engine.specs.Runs.{OthersKept}
 use Rattle.lwaftr_engine.specs.Tables.{Answer, some_refused}
@@ -18,19 +20,19 @@ use Rattle.lwaftr_engine.specs.declared.status.Status.{Status}
 use Rattle.lwaftr_engine.specs.declared.status.Status.TheVariants as status
 
 -- what the files hold at a status, what the sink took, and the history
-abbrev pub Leaves : RunJob → Status → Contents → Contents → Option (List ℕ) → Option (List ℕ) → Option (List ℕ × ℕ) → Option HistoryValue → Type 0
-Leaves run status.Done old new said now last history = IsWholeRun run old new said now history None false
-Leaves run status.DoneRefused old new said now last history = IsWholeRun run old new said now history None true
-Leaves run (status.BadCapture refusal) old new said now last history =
+abbrev pub Leaves : RunJob → Status → Contents → Contents → Option (List ℕ) → Option (List ℕ) → Outside → Outside → Option HistoryValue → Type 0
+Leaves run status.Done old new said now before after history = IsWholeRun run old new said now history None false
+Leaves run status.DoneRefused old new said now before after history = IsWholeRun run old new said now history None true
+Leaves run (status.BadCapture refusal) old new said now before after history =
     ((refused : Bool) × IsWholeRun run old new said now history (Some refusal) refused) ⊎ IsBadHeader run old new said now history refusal
-Leaves run status.ReadFault old new said now last history =
-    IsCutRun run old new said now history last ⊎ IsUnread run old new said now history last
-Leaves run (status.BadTable refusal) old new said now last history =
+Leaves run status.ReadFault old new said now before after history =
+    IsCutRun run old new said now history after.last ⊎ IsUnread run old new said now history after.last
+Leaves run (status.BadTable refusal) old new said now before after history =
     TableOf (content old run.table) (Err refusal) × IsUntouched old new said now history
-Leaves run status.WriteFault old new said now last history = IsBrokenRun run old new said now last history
-Leaves run status.OutOfMemory old new said now last history =
-    IsUntouched old new said now history ⊎ IsBrokenRun run old new said now last history
-Leaves run status.Usage old new said now last history = ⊥
+Leaves run status.WriteFault old new said now before after history = IsBrokenRun run old new said now (stop_by fault.Failed before after) history
+Leaves run status.OutOfMemory old new said now before after history =
+    IsUntouched old new said now history ⊎ IsBrokenRun run old new said now (stop_by fault.OutOfMemory before after) history
+Leaves run status.Usage old new said now before after history = ⊥
 
 -- The status that the table files and the capture ask for, whatever the outside does: the first table's refusal, else the
 -- capture's, else `DoneRefused` where a load is refused, else `Done`.
@@ -68,7 +70,7 @@ HasHistory _ history = history ≡ None
 -- a run, and what it leaves
 pub record KeepsRun (run : RunJob) (result : Status) (before now : World) (history : Option HistoryValue) : Type 0 where
   -- what the files hold, what the sink took, and the history
-  pub files : Moves before.files.held now.files.held (λ old new. Leaves run result old new before.said now.said now.files.last history)
+  pub files : Moves before.files.held now.files.held (λ old new. Leaves run result old new before.said now.said before.files now.files history)
   -- other names hold what they held
   pub others : Moves before.files.held now.files.held (OthersKept run)
   -- which status it is

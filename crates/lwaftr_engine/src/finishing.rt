@@ -81,7 +81,8 @@ pub fn finish<F: Files, O: Sink>(
     requires inside { progress.now.printed ≤ length (setup_of task).slots }
     requires few { length points.now < 2 ^ 32 }
     ensures finished { Moves (F.outside files.old).held (F.outside files.new).held (λ m n. (taken : List Record) → Stands progress.now.stage taken →
-        Finishes (setup_of task.entry) progress.now points.now taken result m n (O.out out.old) (O.out out.new)) }
+        Finishes (setup_of task.entry) progress.now points.now taken result (F.outside files.old).spoiled (F.outside files.new).spoiled
+        m n (O.out out.old) (O.out out.new)) }
     ensures others { Moves (F.outside files.old).held (F.outside files.new).held (OthersKept (setup_of task.entry).run) }
     ensures faults { OnOk result ((F.outside files.new).faults ≡ (F.outside files.old).faults) }
     ensures lost { (F.outside files.new).lost ≡ (F.outside files.old).lost }

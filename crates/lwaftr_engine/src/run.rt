@@ -106,7 +106,7 @@ pub fn run_capture<R: Threads + Wait + Sync, F: Files, O: Sink, C: CaptureReader
     requires none { history.old ≡ None }
     ensures ended { Moves (F.outside files.old).held (F.outside files.new).held (λ m n.
         Ends (setup_of task.entry) plan (spot (C.stands reader.old) (C.left reader.old) (C.at reader.old)) result
-        m n (O.out out.old) (O.out out.new) (F.outside files.new).last history.new) }
+        m n (O.out out.old) (O.out out.new) (F.outside files.old) (F.outside files.new) history.new) }
     ensures history { HasHistoryBy result history.new }
     ensures others { Moves (F.outside files.old).held (F.outside files.new).held (OthersKept (setup_of task.entry).run) }
     ensures reads { IfOk result (λ ending. ReadsOf (is_cut (Some ending)) (setup_of task.entry).run.input (F.outside files.old) (F.outside files.new)) }

@@ -1,4 +1,4 @@
-use Rattle.std.proofs.Common.{List, ℕ, None, ap, subst, sym}
+use Rattle.std.proofs.Common.{List, ℕ, ap, subst, sym}
 use Rattle.aftr_base.specs.Memory.{SinkInMemory}
 use Rattle.lwaftr_engine.specs.Demos.{IsDemoLine}
 use Rattle.lwaftr_engine.proofs.QueryLemmas.{answered}
@@ -9,7 +9,7 @@ pub returns-clause-line : goal.returns-clause-line
 returns-clause-line g c =
     let o = g.O.Sink in
     let demo = is_demo c.one_reading.ensures c.written_is_read.ensures c.args.seed c.args.count c.requires.most c.in-Ok.show c.in-Ok.ensures c.run_made.new.files c.new-line.result.out c.run_made.new.out.out
-    (ap (λ (s : SinkInMemory). s.out) c.new-line.ensures) None c.run_made.new.history c.in-Done.ensures.left in
+    (ap (λ (s : SinkInMemory). s.out) c.new-line.ensures) c.run_made.new.history c.in-Done.ensures.left in
     let line = line_alone c.args.seed c.args.count c.run_made.new.out.out c.run_made.new.history demo in
     answered (IsDemoLine c.args.seed c.args.count) c.bytes.result.now c.put_line.result (o.out c.args.out.now) (o.out c.put_line.new.out)
     (subst (λ (l : List ℕ). IsDemoLine c.args.seed c.args.count l) (sym c.bytes.ensures) line) c.put_line.ensures.puts
@@ -27,12 +27,12 @@ returns-clause-history g c =
 pub returns-in-Done-put_line-clause-line : goal.returns-in-Done-put_line-clause-line
 returns-in-Done-put_line-clause-line g c =
     let demo = is_demo c.one_reading.ensures c.written_is_read.ensures c.args.seed c.args.count c.requires.most c.in-Ok.show c.in-Ok.ensures c.run_made.new.files c.new-line.result.out c.run_made.new.out.out
-    (ap (λ (s : SinkInMemory). s.out) c.new-line.ensures) None c.run_made.new.history c.in-Done.ensures.left in
+    (ap (λ (s : SinkInMemory). s.out) c.new-line.ensures) c.run_made.new.history c.in-Done.ensures.left in
     let line = line_alone c.args.seed c.args.count c.run_made.new.out.out c.run_made.new.history demo in
     (c.bytes.result.now, subst (λ (l : List ℕ). IsDemoLine c.args.seed c.args.count l) (sym c.bytes.ensures) line, c.in-Done-put_line.ensures.puts)
 
 pub returns-in-Done-put_line-clause-history : goal.returns-in-Done-put_line-clause-history
 returns-in-Done-put_line-clause-history g c =
     let demo = is_demo c.one_reading.ensures c.written_is_read.ensures c.args.seed c.args.count c.requires.most c.in-Ok.show c.in-Ok.ensures c.run_made.new.files c.new-line.result.out c.run_made.new.out.out
-    (ap (λ (s : SinkInMemory). s.out) c.new-line.ensures) None c.run_made.new.history c.in-Done.ensures.left in
+    (ap (λ (s : SinkInMemory). s.out) c.new-line.ensures) c.run_made.new.history c.in-Done.ensures.left in
     shown_history c.args.seed c.args.count c.run_made.new.out.out c.run_made.new.history demo c.in-Done.ensures.has_history

@@ -1,4 +1,4 @@
-use Rattle.lwaftr_engine.proofs.OpenLemmas.{opened_first}
+use Rattle.lwaftr_engine.proofs.OpenLemmas.{left_behind, opened_first}
 use Rattle.lwaftr_engine.proofs.UnopenedLemmas.{either_unopened, unopened_leaves}
 use Rattle.lwaftr_engine.proofs.jobs.run_made.Goals as goal
 
@@ -13,7 +13,15 @@ returns-in-Err-clause-left g c =
     let f = g.F.Files in
     let said = g.O.Sink.out c.args.out.now in
     let h0 = (f.outside c.args.files.now).held in
-    let last = (f.outside c.open.new.files).last in
-    unopened_leaves c.args.job.now c.args.made.plan c.args.made.slots c.in-Err.error c.unopened.result h0 (f.outside c.open.new.files).held said last c.args.history.now c.unopened.ensures c.requires.none
+    let before = f.outside c.args.files.now in
+    let after = f.outside c.open.new.files in
+    unopened_leaves c.args.job.now c.args.made.plan c.args.made.slots c.in-Err.error c.unopened.result h0 (f.outside c.open.new.files).held said before after c.args.history.now c.unopened.ensures c.requires.none
     c.in-Err.ensures.reads.held
-    (either_unopened c.args.job.now h0 c.as_str.result.now c.as_str.ensures c.in-Err.error (f.outside c.args.files.now).last last c.in-Err.ensures.told c.in-Err.ensures.reads.last)
+    (either_unopened c.args.job.now h0 c.as_str.result.now c.as_str.ensures c.in-Err.error (f.outside c.args.files.now).last after.last c.in-Err.ensures.told c.in-Err.ensures.reads.last)
+
+pub returns-in-Ok-clause-left : goal.returns-in-Ok-clause-left
+returns-in-Ok-clause-left g c =
+    let f = g.F.Files in
+    let o = g.O.Sink in
+    left_behind c.args.job.now c.args.made.plan c.args.made.slots c.run_opened.result c.as_str.result.now _ (f.outside c.args.files.now) (f.outside c.open.new.files) (f.outside c.run_opened.new.files)
+    (o.out c.args.out.now) (o.out c.run_opened.new.out) c.run_opened.new.history c.in-Ok.ensures.reads c.run_opened.ensures.left

@@ -15,9 +15,10 @@ returns-clause-left g c =
     let reader = spot (r.stands c.args.reader.now) (r.left c.args.reader.now) (r.at c.args.reader.now) in
     let h0 = (f.outside c.args.files.now).held in
     let h1 = (f.outside c.run_capture-ended.new.files).held in
-    let last = (f.outside c.run_capture-ended.new.files).last in
-    slots_shown c.args.job.now c.args.made.plan c.as_slice-2.result.now c.args.made.slots c.as_slice-2.ensures c.ended_status.result h0 h1 (o.out c.args.out.now) (o.out c.run_capture-ended.new.out) last c.run_capture-ended.new.history
-    (opened_leaves x c.args.made.plan reader c.run_capture-ended.result c.has_refused-refused.result c.ended_status.result h0 h1 (o.out c.args.out.now) (o.out c.run_capture-ended.new.out) last c.run_capture-ended.new.history
+    let before = f.outside c.args.files.now in
+    let after = f.outside c.run_capture-ended.new.files in
+    slots_shown c.args.job.now c.args.made.plan c.as_slice-2.result.now c.args.made.slots c.as_slice-2.ensures c.ended_status.result h0 h1 (o.out c.args.out.now) (o.out c.run_capture-ended.new.out) before after c.run_capture-ended.new.history
+    (opened_leaves x c.args.made.plan reader c.run_capture-ended.result c.has_refused-refused.result c.ended_status.result h0 h1 (o.out c.args.out.now) (o.out c.run_capture-ended.new.out) before after c.run_capture-ended.new.history
     (c.has_refused-refused.ensures ∙ ap (λ (l : List Slot). some_slot_refused l) (c.as_slice.ensures ∙ sym c.as_slice-2.ensures))
     c.ended_status.ensures
     (first_shown reader (r.form c.args.reader.now) c.form.result c.args.written c.args.job.now.input h0 c.form.ensures c.requires.opened)
