@@ -45,10 +45,10 @@ pub as_planned : (x : Setup) (plan other : Tables) → other ≡ plan → (draws
 as_planned x plan other is draws p q s t first now stop last a b step =
     let G : Tables → Type 0 = λ k. Moves a b (λ m n. Goes x k draws (mark m p s first) (mark n q t now) stop last) in subst G is step
 
-pub broken_planned : (x : Setup) (plan other : Tables) → other ≡ plan → (draws : List (ℕ × ℕ)) (points : List ℕ) (p : Progress) (s : Seats) (first : Spot) (a b : Option Contents) →
-    Moves a b (λ m n. Breaks x other draws points (mark m p s first) n) → Moves a b (λ m n. Breaks x plan draws points (mark m p s first) n)
-broken_planned x plan other is draws points p s first a b step =
-    let G : Tables → Type 0 = λ k. Moves a b (λ m n. Breaks x k draws points (mark m p s first) n) in subst G is step
+pub broken_planned : (x : Setup) (plan other : Tables) → other ≡ plan → (draws : List (ℕ × ℕ)) (points : List ℕ) (p : Progress) (s : Seats) (first : Spot) (lost lost_now : ℕ) (last : Option (List ℕ × ℕ)) (a b : Option Contents) →
+    Moves a b (λ m n. Breaks x other draws points (mark m p s first) n lost lost_now last) → Moves a b (λ m n. Breaks x plan draws points (mark m p s first) n lost lost_now last)
+broken_planned x plan other is draws points p s first lost lost_now last a b step =
+    let G : Tables → Type 0 = λ k. Moves a b (λ m n. Breaks x k draws points (mark m p s first) n lost lost_now last) in subst G is step
 
 pub same_plan : (a b : Areas) → b ≡ a → b.plan ≡ a.plan
 same_plan a b is = ap (λ (k : Areas). k.plan) is

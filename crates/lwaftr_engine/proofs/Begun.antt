@@ -16,7 +16,7 @@ use Rattle.run_output.specs.Versions.{NamedSlot, load_lines, slot_text}
 use Rattle.run_output.specs.declared.parts.Part.{Part}
 use Rattle.worker_gate.specs.declared.outcomes.Outcome.{Outcome}
 use Rattle.lwaftr_engine.specs.Underway.{IsRoundOf}
-use Rattle.lwaftr_engine.proofs.Going.{Joins, asked_more, entries_count, limited_before, lines_are, packets_are, spoken_more, versions_are}
+use Rattle.lwaftr_engine.proofs.Going.{Joins, limited_before, lines_are, packets_are, spoken_more, versions_are}
 
 -- what stands before something more is a front of both
 pub front_of : (whole part rest : List ℕ) → whole ≡ part ++ rest → part ≡ take (length part) whole
@@ -34,7 +34,7 @@ lines_split points k loads =
 
 -- nothing more was written
 pub still_begun : (x : Setup) (c : Course) (opened a : Contents) (p : Progress) (s t : Seats) (news : List ℕ) (reader : Spot) (taken : List Rec) → t.points ≡ s.points ++ news →
-    HasWritten x c opened (mark a p s reader) taken → HasBegun x c t.points opened a taken p.limit
+    HasWritten x c opened (mark a p s reader) taken → HasBegun x c t.points opened a taken
 still_begun x c opened a p s t news reader taken points_are h =
     let V : List ℕ → List ℕ = λ points. load_lines points (take p.printed (loads_of x)) in
     let P = packets_from c x.written 0 taken (entries_of x.form taken) in
@@ -42,8 +42,6 @@ still_begun x c opened a p s t news reader taken points_are h =
     let here : V (s.points ++ news) ≡ V t.points = ap V (sym points_are) in
     let front : V t.points ≡ take (length (V t.points)) (load_lines t.points (loads_of x)) = front_of (load_lines t.points (loads_of x)) (V t.points) (load_lines t.points (drop p.printed (loads_of x))) (lines_split t.points p.printed (loads_of x)) in
     record {
-      entries = h.entries;
-      asked = h.asked;
       printed = s.points;
       later = news;
       all = points_are;
@@ -93,13 +91,11 @@ module _ (joins : Joins) (x : Setup) (c : Course) (p q : Progress) (s t : Seats)
   L = lines_from c 0 (entries_of x.form taken)
 
   -- a part of the lines of tables
-  pub at_versions : (count : ℕ) → Wrote x.run (take count vs) [] [] a d → HasBegun x c (t.points ++ later) opened d taken p.limit
+  pub at_versions : (count : ℕ) → Wrote x.run (take count vs) [] [] a d → HasBegun x c (t.points ++ later) opened d taken
   at_versions count wrote =
       let still = still_begun x c opened a p s end (news ++ later) here taken points_end h in
       let front : before ++ take count vs ≡ take (length (before ++ take count vs)) all = front_more all before vs (load_lines (t.points ++ later) (drop q.printed (loads_of x))) count whole in
       record {
-        entries = still.entries;
-        asked = still.asked;
         printed = still.printed;
         later = still.later;
         all = still.all;
@@ -122,14 +118,12 @@ module _ (joins : Joins) (x : Setup) (c : Course) (p q : Progress) (s t : Seats)
 
   -- all lines of tables, and fronts of the packets and of the lines of records
   behind_versions : (packets lines more_packets more_lines : List ℕ) → packets_in parts ≡ packets ++ more_packets → lines_in parts ≡ lines ++ more_lines → Wrote x.run vs packets lines a d →
-      HasBegun x c (t.points ++ later) opened d (taken ++ records) q.limit
+      HasBegun x c (t.points ++ later) opened d (taken ++ records)
   behind_versions packets lines more_packets more_lines packets_is lines_is wrote =
       let V = load_lines (t.points ++ later) (take q.printed (loads_of x)) in
       let every_packet = packets_from c x.written 0 (taken ++ records) (entries_of x.form (taken ++ records)) in
       let every_line = lines_from c 0 (entries_of x.form (taken ++ records)) in
       record {
-        entries = entries_count joins x c p q s t news records es os vs parts round outcomes opened a here taken h;
-        asked = asked_more joins x c p q s t news records es os vs parts round outcomes opened a here taken h;
         printed = t.points;
         later = later;
         all = refl;
@@ -165,8 +159,8 @@ module _ (joins : Joins) (x : Setup) (c : Course) (p q : Progress) (s t : Seats)
             );
       }
 
-  pub at_packets : (count : ℕ) → Wrote x.run vs (take count (packets_in parts)) [] a d → HasBegun x c (t.points ++ later) opened d (taken ++ records) q.limit
+  pub at_packets : (count : ℕ) → Wrote x.run vs (take count (packets_in parts)) [] a d → HasBegun x c (t.points ++ later) opened d (taken ++ records)
   at_packets count wrote = behind_versions (take count (packets_in parts)) [] (drop count (packets_in parts)) (lines_in parts) (sym (take-append-drop count (packets_in parts))) refl wrote
 
-  pub at_lines : (count : ℕ) → Wrote x.run vs (packets_in parts) (take count (lines_in parts)) a d → HasBegun x c (t.points ++ later) opened d (taken ++ records) q.limit
+  pub at_lines : (count : ℕ) → Wrote x.run vs (packets_in parts) (take count (lines_in parts)) a d → HasBegun x c (t.points ++ later) opened d (taken ++ records)
   at_lines count wrote = behind_versions (packets_in parts) (take count (lines_in parts)) [] (drop count (lines_in parts)) (sym (append-nil (packets_in parts))) (sym (take-append-drop count (lines_in parts))) wrote

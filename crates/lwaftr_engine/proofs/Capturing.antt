@@ -1,25 +1,23 @@
 -- What a run leaves that was ended by a fault, from the opening of its outputs on.
-use Rattle.std.proofs.Common.{◌≡◌, ◌⊎◌, ℕ, ◌≤◌, List, [], ◌++◌, All, length, Option, Some, None, Result, Ok, Err, inl, inr, refl, sym, ◌∙◌, subst, arith, append-nil}
+use Rattle.std.proofs.Common.{◌≡◌, ℕ, List, [], ◌++◌, length, Option, Some, None, Result, Err, inl, inr, sym, ◌∙◌, subst}
 use Rattle.std.specs.Prelude.{IfSome}
 use Rattle.aftr_text.specs.Jobs.{IsRate}
-use Rattle.capture_io.specs.Rounds.{Precedes}
-use Rattle.capture_io.specs.declared.rounds.Ending.TheVariants as ending
+use Rattle.capture_io.specs.Rounds.{Precedes, is_cut}
 use Rattle.aftr_base.specs.Contents.{Contents, content, Moves}
 use Rattle.aftr_base.specs.Outside.{Outside, Rises}
 use Rattle.aftr_base.specs.declared.outside.Fault.{Fault}
 use Rattle.aftr_base.specs.declared.outside.Fault.TheVariants as fault
 use Rattle.area_swap.specs.Histories.{HistoryValue}
 use Rattle.binding_rules.specs.Tables.{BindingTable}
-use Rattle.capture_io.specs.declared.forms.CaptureBad.{CaptureBad}
 use Rattle.capture_io.specs.declared.forms.Rec.{Rec}
 use Rattle.capture_io.specs.declared.rounds.Ending.{Ending}
 use Rattle.item_stage.specs.Stages.{Stands}
-use Rattle.lwaftr_engine.specs.Broken.{Breaks, IsBrokenFrom}
-use Rattle.lwaftr_engine.specs.Ended.{AreSlotsOf, Ends, EndsBroken, TakesAll, TakesBefore}
+use Rattle.lwaftr_engine.specs.Broken.{Breaks, IsBrokenFrom, Takes}
+use Rattle.lwaftr_engine.specs.Ended.{AreSlotsOf, Ends, EndsBroken}
 use Rattle.lwaftr_engine.specs.Finishing.{Finishes, IsFinished, IsFirst, IsHalfFinished}
 use Rattle.lwaftr_engine.specs.Fronts.{Stop, stop_by}
 use Rattle.lwaftr_engine.specs.Opened.{IsHalfOpened, IsOpened}
-use Rattle.lwaftr_engine.specs.Progress.{Goes, HasWritten, IsInRange, Seats, Setup, Spot, Stops, Suits, TakesOn, mark}
+use Rattle.lwaftr_engine.specs.Progress.{Goes, HasWritten, IsInRange, Seats, Setup, Spot, Suits, TakesOn, mark}
 use Rattle.lwaftr_engine.specs.Runs.{IsPlanOf}
 use Rattle.lwaftr_engine.specs.declared.rounds.Progress.{Progress}
 use Rattle.run_output.specs.Outputs.{Course}
@@ -28,34 +26,10 @@ use Rattle.swap_core.specs.Points.{AreAllPoints}
 use Rattle.swap_core.specs.declared.plan.Window.{Window}
 use Rattle.lwaftr_engine.proofs.Apart.{AreFilesApart}
 use Rattle.lwaftr_engine.proofs.Closing.{EndLaws, IsClosed, bare, none_written, suits_bare}
-use Rattle.lwaftr_engine.proofs.EndLemmas.{IsAtEnd, IsHalfDone, SomeLeft, is_behind, same_input}
+use Rattle.lwaftr_engine.proofs.EndLemmas.{IsAtEnd, IsHalfDone, SomeLeft, same_input}
 use Rattle.lwaftr_engine.proofs.Fronting.{at_finish, at_opening, at_rounds}
 use Rattle.lwaftr_engine.proofs.Moving.{moves_by, moves_join}
-
--- which records were taken, by how they stopped
-takes_by : (x : Setup) (first reader : Spot) (a : Contents) (number : ℕ) (bytes : List ℕ) (rs : List Rec) (stop : Ending) (last : Option (List ℕ × ℕ)) → bytes ≡ content a x.run.input → SomeLeft reader.left → first.at ≤ reader.at → All (λ r. r.next_at ≤ reader.at) rs →
-    Precedes first.left reader.left bytes 0 rs number → Stops x.run.input reader bytes number (Some stop) last → TakesAll x first a rs ⊎ TakesBefore x first a rs last
-takes_by x first reader a number bytes rs ending.End last same some forward within follows stopped =
-    let P : List Rec → Type 0 = λ l. first.left bytes 0 l None in
-    let B : List ℕ → Type 0 = λ b. first.left b 0 rs None in
-    inl (None, subst B same (subst P (append-nil rs) (follows [] None stopped)))
-takes_by x first reader a number bytes rs (ending.Bad refusal) last same some forward within follows stopped =
-    let P : List Rec → Type 0 = λ l. first.left bytes 0 l (Some refusal) in
-    let B : List ℕ → Type 0 = λ b. first.left b 0 rs (Some refusal) in
-    inl (Some refusal, subst B same (subst P (append-nil rs) (follows [] (Some refusal) stopped)))
-takes_by x first reader a number bytes rs ending.ReadFault last same some forward within follows stopped =
-    let rest = some bytes number in
-    let B : List ℕ → Type 0 = λ b. first.left b 0 (rs ++ rest.0) rest.1 in
-    inr (record {
-      rest = rest.0;
-      ended = rest.1;
-      capture = subst B same (follows rest.0 rest.1 rest.2);
-      place = stopped.place;
-      last_is = stopped.last_is;
-      behind = omega (arith, forward, stopped.begun);
-      reached = λ k d inside. omega (arith, within k d inside, stopped.begun);
-      next = is_behind stopped.place reader.left bytes number rest.0 rest.1 rest.2 stopped.before;
-    })
+use Rattle.lwaftr_engine.proofs.UnderwayLemmas.{takes_by}
 
 -- a broken run, under every list of tables of which the plan's words are
 abbrev pub Broken : Setup → Tables → Spot → Stop → Option (List ℕ) → Option (List ℕ) → Contents → Contents → Type 0
@@ -73,42 +47,43 @@ ended_err x plan reader r why a b said now before after history is none step =
           moves_by a b (λ m n. Broken x plan reader (stop_by fault.OutOfMemory before after) said now m n) (λ m n. Ends x plan reader (Err fault.OutOfMemory) m n said now before after history)
           (λ m n broken tables windows of stood. (inr (λ slots_of. broken tables windows of slots_of stood), none)) step
 
-pub opening_broken : (laws : EndLaws) (x : Setup) (plan : Tables) → IsPlan plan → IfSome x.run.errors IsRate → (reader : Spot) (stop : Stop) → Rises stop.failed stop.before.spoiled stop.after.spoiled → (said : Option (List ℕ)) → SomeLeft reader.left → (a b : Option Contents) →
+pub opening_broken : (laws : EndLaws) (x : Setup) (plan : Tables) → IsPlan plan → IfSome x.run.errors IsRate → (reader : Spot) (stop : Stop) → Rises stop.failed stop.before.spoiled stop.after.spoiled → stop.after.lost ≡ stop.before.lost → (said : Option (List ℕ)) → SomeLeft reader.left → (a b : Option Contents) →
     Moves a b (IsHalfOpened x.run x.written) → Moves a b (λ m n. Broken x plan reader stop said said m n)
-opening_broken laws x plan planned rate reader stop rises said some a b step =
+opening_broken laws x plan planned rate reader stop rises same said some a b step =
     moves_by a b (IsHalfOpened x.run x.written) (λ m n. Broken x plan reader stop said said m n)
     (λ m n half tables windows of slots_of stood.
     let rest = some (content m x.run.input) 0 in
     record {
       records = rest.0;
-      taken = inl (rest.1, rest.2);
+      taken = inl (same, (rest.1, rest.2));
       front = at_opening laws x tables windows plan planned of rate rest.0 m n said stop rises half;
     }) step
 
 module _ (laws : EndLaws) (x : Setup) (far : AreFilesApart x.run) (plan : Tables) (draws : List (ℕ × ℕ)) (s0 s : Seats) (h : HistoryValue) (closed : IsClosed plan draws s h) (p : Progress) (first : Spot)
     (start : IsFirst x.form x.run.errors p) (no_points : s0.points ≡ []) (rate : IfSome x.run.errors IsRate) where
-  -- what was left at first, by the bytes of the capture before the outputs were opened
-  left_at_first : (a b : Contents) (rs : List Rec) (e : Option CaptureBad) → IsOpened x.run x.written a b → first.left (content b x.run.input) p.number rs e → first.left (content a x.run.input) 0 rs e
-  left_at_first a b rs e opened left =
-      let N : ℕ → Type 0 = λ n. first.left (content b x.run.input) n rs e in
-      let B : List ℕ → Type 0 = λ bytes. first.left bytes 0 rs e in
-      subst B (same_input x far a b opened) (subst N start.number left)
+  -- the same records, by the bytes of the capture before the outputs were opened
+  taken_at_first : (a b : Contents) (rs : List Rec) (lost lost_now : ℕ) (last : Option (List ℕ × ℕ)) → IsOpened x.run x.written a b → Takes x.run.input first (content b x.run.input) p.number rs lost lost_now last → Takes x.run.input first (content a x.run.input) 0 rs lost lost_now last
+  taken_at_first a b rs lost lost_now last opened takes =
+      let N : ℕ → Type 0 = λ n. Takes x.run.input first (content b x.run.input) n rs lost lost_now last in
+      let B : List ℕ → Type 0 = λ bytes. Takes x.run.input first bytes 0 rs lost lost_now last in
+      subst B (same_input x far a b opened) (subst N start.number takes)
 
-  pub rounds_broken : (stop : Stop) → Rises stop.failed stop.before.spoiled stop.after.spoiled → (said : Option (List ℕ)) (h0 h1 h2 : Option Contents) → Moves h0 h1 (IsOpened x.run x.written) →
-      Moves h1 h2 (λ b d. Breaks x plan draws s.points (mark b p s0 first) d) → Moves h0 h2 (λ a d. Broken x plan first stop said said a d)
-  rounds_broken stop rises said h0 h1 h2 opening breaking =
-      moves_join h0 h1 h2 (IsOpened x.run x.written) (λ b d. Breaks x plan draws s.points (mark b p s0 first) d) (λ a d. Broken x plan first stop said said a d)
+  pub rounds_broken : (stop : Stop) → Rises stop.failed stop.before.spoiled stop.after.spoiled → (lost : ℕ) → lost ≡ stop.before.lost → (said : Option (List ℕ)) (h0 h1 h2 : Option Contents) → Moves h0 h1 (IsOpened x.run x.written) →
+      Moves h1 h2 (λ b d. Breaks x plan draws s.points (mark b p s0 first) d lost stop.after.lost stop.after.last) → Moves h0 h2 (λ a d. Broken x plan first stop said said a d)
+  rounds_broken stop rises lost lost_is said h0 h1 h2 opening breaking =
+      moves_join h0 h1 h2 (IsOpened x.run x.written) (λ b d. Breaks x plan draws s.points (mark b p s0 first) d lost stop.after.lost stop.after.last) (λ a d. Broken x plan first stop said said a d)
       (λ a b d opened breaks tables windows of slots_of stood.
       let S : List ℕ → Type 0 = λ bytes. first.stood bytes in
       let here : first.stood (content b x.run.input) = subst S (sym (same_input x far a b opened)) stood in
-      let broken : IsBrokenFrom x plan draws s.points (mark b p s0 first) d = breaks here in
+      let broken : IsBrokenFrom x plan draws s.points (mark b p s0 first) d lost stop.after.lost stop.after.last = breaks here in
+      let L : ℕ → Type 0 = λ n. Takes x.run.input first (content a x.run.input) 0 (broken.records ++ broken.rest) n stop.after.lost stop.after.last in
       record {
         records = broken.records ++ broken.rest;
-        taken = inl (broken.ended, left_at_first a b (broken.records ++ broken.rest) broken.ended opened (broken.capture here));
-        front = at_rounds laws x far tables windows plan draws s h of closed slots_of rate a b opened p s0 first start no_points d said stop rises broken;
+        taken = subst L lost_is (taken_at_first a b (broken.records ++ broken.rest) lost stop.after.lost stop.after.last opened (broken.taken here));
+        front = at_rounds laws x far tables windows plan draws s h of closed slots_of rate a b opened p s0 first start no_points d said stop rises lost stop.after.lost stop.after.last broken;
       }) opening breaking
 
-  module _ (q : Progress) (reader : Spot) (some : SomeLeft reader.left) (bounded : IsInRange x q) (end : IsAtEnd plan draws s h q.number) (stop : Ending) (last : Option (List ℕ × ℕ)) (said now : Option (List ℕ)) (before after : Outside) (last_is : after.last ≡ last) where
+  module _ (q : Progress) (reader : Spot) (some : SomeLeft reader.left) (bounded : IsInRange x q) (end : IsAtEnd plan draws s h q.number) (stop : Ending) (last : Option (List ℕ × ℕ)) (said now : Option (List ℕ)) (before after : Outside) (last_is : after.last ≡ last) (lost : Rises (is_cut (Some stop)) before.lost after.lost) where
     at_finish_broken : (why : Fault) (a d e : Contents) → IsHalfDone x plan draws p q s0 s first reader (Some stop) last a d → ((taken : List Rec) → Stands q.stage taken → IsHalfFinished x q s.points taken why before.spoiled after.spoiled d e said now) → Broken x plan first (stop_by why before after) said now a e
     at_finish_broken why a d e half done tables windows of slots_of stood =
         let b : Contents = half.middle in
@@ -121,10 +96,11 @@ module _ (laws : EndLaws) (x : Setup) (far : AreFilesApart x.run) (plan : Tables
         let A : ℕ → Type 0 = λ n. AreAllPoints windows s.points n in
         let placed : AreAllPoints windows s.points (length took.records) = subst A c0 (subst W of.same_windows end.points) in
         let N : ℕ → Type 0 = λ n. Precedes first.left reader.left (content half.middle x.run.input) n took.records q.number in
-        let T : Option (List ℕ × ℕ) → Type 0 = λ l. TakesAll x first a took.records ⊎ TakesBefore x first a took.records l in
+        let B : List ℕ → Type 0 = λ bytes. Takes x.run.input first bytes 0 took.records before.lost after.lost last in
+        let T : Option (List ℕ × ℕ) → Type 0 = λ l. Takes x.run.input first (content a x.run.input) 0 took.records before.lost after.lost l in
         record {
           records = took.records;
-          taken = subst T (sym last_is) (takes_by x first reader a q.number (content half.middle x.run.input) took.records stop last input some took.forward took.within (subst N start.number took.follows) took.stopped);
+          taken = subst T (sym last_is) (subst B input (takes_by x.run.input first reader (content half.middle x.run.input) 0 q.number took.records stop before.lost after.lost last some took.forward took.within (subst N start.number took.follows) took.stopped lost));
           front = at_finish laws x far tables windows plan draws s h of closed slots_of rate a half.middle half.opened q reader d e said now why before after took.records written placed (done took.records (written (bare tables s.points) (suits_bare tables windows plan draws s h of closed)).stands);
         }
 

@@ -146,18 +146,18 @@ module _ (laws : EndLaws) (x : Setup) (far : AreFilesApart x.run) (tables : ℕ 
       }
 
   -- rounds were ended by a fault
-  pub at_rounds : (p : Progress) (s0 : Seats) (first : Spot) → IsFirst x.form x.run.errors p → s0.points ≡ [] → (d : Contents) (said : Option (List ℕ)) (stop : Stop) → Rises stop.failed stop.before.spoiled stop.after.spoiled → (broken : IsBrokenFrom x plan draws s.points (mark b p s0 first) d) →
+  pub at_rounds : (p : Progress) (s0 : Seats) (first : Spot) → IsFirst x.form x.run.errors p → s0.points ≡ [] → (d : Contents) (said : Option (List ℕ)) (stop : Stop) → Rises stop.failed stop.before.spoiled stop.after.spoiled → (lost lost_now : ℕ) (last : Option (List ℕ × ℕ)) (broken : IsBrokenFrom x plan draws s.points (mark b p s0 first) d lost lost_now last) →
       IsFront x.run tables windows x.slots x.form x.written (broken.records ++ broken.rest) a d said said stop
-  at_rounds p s0 first start none d said stop rises broken =
+  at_rounds p s0 first start none d said stop rises lost lost_now last broken =
       let taken : List Rec = broken.records in
       let more : AreExtended plan.windows s.points (length draws) (length (broken.records ++ broken.rest)) =
       points_extend plan planned (length draws) (length (broken.records ++ broken.rest)) (omega (arith, broken.drawn, start.number)) s.points few placed broken.up_to_date in
       let A : List Window → Type 0 = λ w. AreAllPoints w (s.points ++ more.later) (length (broken.records ++ broken.rest)) in
       let all : AreAllPoints windows (s.points ++ more.later) (length (broken.records ++ broken.rest)) = subst A of.same_windows more.all in
-      let begun : (c : Course) → Suits plan draws c → HasBegun x c (s.points ++ more.later) b d broken.records broken.limit = λ c suits. broken.begun more.later c suits b [] (none_written x c b p s0 first start none) in
+      let begun : (c : Course) → Suits plan draws c → HasBegun x c (s.points ++ more.later) b d broken.records = λ c suits. broken.begun more.later c suits b [] (none_written x c b p s0 first start none) in
       -- some course of the records that were taken, which tells how much of VERSIONS there is
       let some : HasUnder tables (s.points ++ more.later) x.run.errors x.form broken.records = some_course laws.limits tables (s.points ++ more.later) x.run.errors x.form broken.records rate in
-      let it0 : HasBegun x some.course (s.points ++ more.later) b d broken.records broken.limit = begun some.course (suits_later more.later more.behind some.course some.under.tables_are some.under.in_force_are) in
+      let it0 : HasBegun x some.course (s.points ++ more.later) b d broken.records = begun some.course (suits_later more.later more.behind some.course some.under.tables_are some.under.in_force_are) in
       let held : length (load_lines (s.points ++ more.later) (take it0.loads (loads_of x))) + length (initial_text x.run.table) ≤ length (content d x.run.versions) =
       omega (arith, it0.told some.under.limited, ap (λ (l : List ℕ). length l) opened.versions) in
       let same : (number : ℕ) → number < length broken.records → in_force (shown_points true x.run x.slots (s.points ++ more.later) (content d x.run.versions)) number ≡ in_force (s.points ++ more.later) number = λ number inside.
@@ -168,7 +168,7 @@ module _ (laws : EndLaws) (x : Setup) (far : AreFilesApart x.run) (tables : ℕ 
       let whole : HasUnder tables (s.points ++ more.later) x.run.errors x.form (broken.records ++ broken.rest) = some_course laws.limits tables (s.points ++ more.later) x.run.errors x.form (broken.records ++ broken.rest) rate in
       let limited : IsLimited x.run.errors x.form broken.records (entries_of x.form broken.records) (with_points shown.course (s.points ++ more.later)) =
       limited_first laws.begins laws.joins tables x.run.errors x.form broken.records broken.rest (s.points ++ more.later) (shown_points true x.run x.slots (s.points ++ more.later) (content d x.run.versions)) same shown.course shown.under in
-      let it : HasBegun x (with_points shown.course (s.points ++ more.later)) (s.points ++ more.later) b d broken.records broken.limit =
+      let it : HasBegun x (with_points shown.course (s.points ++ more.later)) (s.points ++ more.later) b d broken.records =
       begun (with_points shown.course (s.points ++ more.later)) (suits_later more.later more.behind (with_points shown.course (s.points ++ more.later)) shown.under.tables_are refl) in
       let w = it.wrote limited in
       let P = packets_from (with_points shown.course (s.points ++ more.later)) x.written 0 broken.records (entries_of x.form broken.records) in

@@ -1,5 +1,5 @@
 -- What a run leaves, in the words of the whole files.
-use Rattle.std.proofs.Common.{◌≡◌, ◌⊎◌, ℕ, ◌<◌, nat_lt, Bool, true, false, not, List, [], ◌∷◌, ◌++◌, length, Option, Some, None, Result, Ok, Err, inl, inr, refl, sym, ◌∙◌, ap, subst, arith}
+use Rattle.std.proofs.Common.{◌≡◌, ℕ, ◌<◌, nat_lt, Bool, true, false, not, List, [], ◌∷◌, ◌++◌, length, Option, Some, None, Result, Ok, Err, inl, inr, refl, sym, ◌∙◌, ap, subst, arith}
 use Rattle.aftr_base.specs.Contents.{Contents, content, Moves, Told}
 use Rattle.aftr_base.specs.Outside.{FailsAt, Outside, Rises, has_failed}
 use Rattle.std.specs.Prelude.{IfOk, IsSome}
@@ -23,7 +23,8 @@ use Rattle.capture_io.specs.declared.rounds.Ending.{Ending}
 use Rattle.capture_io.specs.declared.rounds.Ending.TheVariants as ending
 use Rattle.capture_io.specs.declared.written.Written.{Written}
 use Rattle.capture_io.specs.declared.written.Written.TheVariants as written
-use Rattle.lwaftr_engine.specs.Ended.{Ends, EndsBroken, EndsBy, EndsWhole, TakesAll, TakesBefore}
+use Rattle.lwaftr_engine.specs.Broken.{Takes}
+use Rattle.lwaftr_engine.specs.Ended.{Ends, EndsBroken, EndsBy, EndsWhole}
 use Rattle.lwaftr_engine.specs.Endings.{IsWhole}
 use Rattle.lwaftr_engine.specs.Fronts.{AreTaken, IsBroken, IsFront, Stop, stop_by}
 use Rattle.lwaftr_engine.specs.Inputs.{Header, IsInputBy, blocks_of, classic_of, header_by, in_blocks, in_classic}
@@ -102,25 +103,28 @@ module _ (x : Setup) (tables : ℕ → BindingTable) (windows : List Window) (re
     is_run = same_run x.run tables windows x.slots x.form x.written first.header ran.records old new said now history first.form_is first.written_is ran.is_run;
   }
 
-  taken : (rs : List Rec) → TakesAll x reader old rs ⊎ TakesBefore x reader old rs after.last → AreTaken x.run old first.header rs after.last
-  taken rs (inl all) = inl (all.0, first.all rs all.0 all.1)
-  taken rs (inr part) = inr (record {
-    rest = part.rest;
-    ending = part.ended;
-    capture = first.all (rs ++ part.rest) part.ended part.capture;
-    place = part.place;
-    last_is = part.last_is;
-    in_records = omega (arith, first.at_is, part.behind);
-    reached = part.reached;
-    next = part.next;
-  })
+  taken : (rs : List Rec) (why : Fault) → Takes x.run.input reader (content old x.run.input) 0 rs before.lost after.lost after.last → AreTaken x.run old first.header rs (stop_by why before after)
+  taken rs why (inl (same, all)) = inl (same, (all.0, first.all rs all.0 all.1))
+  taken rs why (inr (rose, part)) = inr (
+    rose,
+    record {
+      rest = part.rest;
+      ending = part.ended;
+      capture = first.all (rs ++ part.rest) part.ended part.capture;
+      place = part.place;
+      last_is = part.last_is;
+      in_records = omega (arith, first.at_is, part.behind);
+      reached = part.reached;
+      next = part.next;
+    },
+  )
 
   broken : (why : Fault) → EndsBroken x tables windows reader old new said now (stop_by why before after) → IsBroken x.run tables windows x.slots old new said now (stop_by why before after)
   broken why ran = record {
     header = first.header;
     sound = first.sound;
     records = ran.records;
-    taken = taken ran.records ran.taken;
+    taken = taken ran.records why ran.taken;
     front = same_front x.run tables windows x.slots x.form x.written first.header ran.records old new said now (stop_by why before after) first.form_is first.written_is ran.front;
   }
 

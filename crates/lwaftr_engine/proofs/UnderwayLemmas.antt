@@ -1,22 +1,23 @@
 -- Rounds of which the last one is written while the next one is judged and the one behind it is read.
-use Rattle.std.proofs.Common.{◌≡◌, ℕ, zero, suc, ◌+◌, ◌≤◌, List, [], ◌++◌, length, take, Option, Some, None, Result, Ok, Err, inl, inr, refl, sym, ◌∙◌, ap, subst, arith, append-nil, append_assoc, length-append}
+use Rattle.std.proofs.Common.{◌≡◌, ℕ, zero, suc, ◌+◌, ◌≤◌, List, [], ◌++◌, All, length, take, Option, Some, None, Result, Ok, Err, inl, inr, refl, sym, ◌∙◌, ap, subst, arith, append-nil, append_assoc, length-append}
 use Rattle.std.proofs.Math.Seq.{take-length}
 use Rattle.std.proofs.lemmas.List.Elements.{All-append}
 use Rattle.std.specs.Prelude.{IfErr, IfOk, OnOk, string_bytes}
 use Rattle.aftr_base.specs.Contents.{Contents, content, Moves, Told}
+use Rattle.aftr_base.specs.Outside.{Rises}
 use Rattle.aftr_base.specs.declared.outside.Fault.{Fault}
 use Rattle.capture_io.specs.declared.forms.Rec.{Rec}
 use Rattle.capture_io.specs.declared.rounds.Round.{Round}
-use Rattle.capture_io.specs.Rounds.{IsPlaced, Precedes}
-use Rattle.lwaftr_engine.specs.Broken.{Breaks, HasBegun, IsBrokenFrom}
+use Rattle.capture_io.specs.Rounds.{IsPlaced, Precedes, is_cut}
+use Rattle.lwaftr_engine.specs.Broken.{Breaks, HasBegun, IsBrokenFrom, Takes}
 use Rattle.lwaftr_engine.specs.Progress.{Goes, HasWritten, IsUpToDate, Mark, Seats, Setup, Spot, Stops, Suits, TakesOn, Wrote, loads_of, mark, seats_of}
-use Rattle.lwaftr_engine.specs.Underway.{BreaksLast, HasJudged, HasRead, HasTaken, IsNothing, IsCutFrom, IsNext, IsPending, IsUnderWay, Puts, PutsBoth, PutsPart, StandsBetween, Unwritten, WentWell, unwritten}
+use Rattle.lwaftr_engine.specs.Underway.{BreaksLast, HasJudged, HasRead, HasTaken, IsNothing, IsCutFrom, IsNext, IsPending, IsUnderWay, Puts, PutsBoth, PutsPart, ReadsPast, StandsBetween, Unwritten, WentWell, unwritten}
 use Rattle.lwaftr_engine.specs.declared.rounds.Pending.{Pending}
 use Rattle.lwaftr_engine.specs.declared.rounds.Progress.{Progress}
 use Rattle.lwaftr_engine.specs.declared.shift.Shift.{Shift}
 use Rattle.capture_io.specs.declared.rounds.Ending.{Ending}
+use Rattle.capture_io.specs.declared.rounds.Ending.TheVariants as ending
 use Rattle.item_stage.specs.Items.{entries_of}
-use Rattle.run_output.specs.Limiting.{rate_of}
 use Rattle.run_output.specs.Outputs.{Course, lines_from, packets_from}
 use Rattle.run_output.specs.Rendering.{lines_in, packets_in}
 use Rattle.run_output.specs.Versions.{load_lines}
@@ -24,7 +25,7 @@ use Rattle.swap_core.specs.Plans.{Tables}
 use Rattle.lwaftr_engine.proofs.Apart.{AreFilesApart}
 use Rattle.lwaftr_engine.proofs.Begun.{at_lines, at_packets, at_versions, still_begun}
 use Rattle.lwaftr_engine.proofs.BrokenLemmas.{others_input}
-use Rattle.lwaftr_engine.proofs.EndLemmas.{SomeLeft}
+use Rattle.lwaftr_engine.proofs.EndLemmas.{SomeLeft, is_behind}
 use Rattle.lwaftr_engine.proofs.Going.{Joins, written_more, wrote_more}
 use Rattle.lwaftr_engine.proofs.Moving.{moves_by, moves_join}
 use Rattle.lwaftr_engine.proofs.Steps.{follows_more, no_further, suits_before}
@@ -70,17 +71,15 @@ take_nil zero = refl
 take_nil (suc count) = refl
 
 -- before the first round is judged
-module _ (x : Setup) (far : AreFilesApart x.run) (plan : Tables) (draws : List (ℕ × ℕ)) (m : Contents) (p : Progress) (s : Seats) (first : Spot) (rate : rate_of p.limit ≡ x.run.errors) where
+module _ (x : Setup) (far : AreFilesApart x.run) (plan : Tables) (draws : List (ℕ × ℕ)) (m : Contents) (p : Progress) (s : Seats) (first : Spot) where
   still : (n : Contents) → Wrote x.run [] [] [] m n → IsCutFrom x plan draws s.points (mark m p s first) n []
   still n none = record {
     input = others_input x far m n [] [] [] none;
     first = [];
     others = [];
     all = refl;
-    limit = p.limit;
-    rate = rate;
     begun = λ later c suits opened taken h.
-        let B : List Rec → Type 0 = λ l. HasBegun x c (s.points ++ later) opened n l p.limit in
+        let B : List Rec → Type 0 = λ l. HasBegun x c (s.points ++ later) opened n l in
         let end : Seats = record { points = s.points ++ later; reads = s.reads } in
         subst B (sym (append-nil taken)) (still_begun x c opened n p s end later first taken refl (wrote_none x c opened m n p s first taken none h));
   }
@@ -109,7 +108,7 @@ module _ (x : Setup) (far : AreFilesApart x.run) (plan : Tables) (draws : List (
 
 -- A round was judged while what the one before it writes was put there.
 module _ (joins : Joins) (x : Setup) (far : AreFilesApart x.run) (plan : Tables) (draws more later : List (ℕ × ℕ)) (is : later ≡ draws ++ more) (a : Mark) (m n : Contents) (p q : Progress) (s t : Seats) (u : Unwritten) (made : Pending) (records round : List Rec)
-    (before : IsPending x plan draws a m p s u records) (wrote : Puts x u m n) (judged : HasJudged x plan later p q s t round made) (rate : rate_of q.limit ≡ x.run.errors) where
+    (before : IsPending x plan draws a m p s u records) (wrote : Puts x u m n) (judged : HasJudged x plan later p q s t round made) where
   written : (c : Course) → Suits plan later c → (opened : Contents) (taken : List Rec) → HasWritten x c opened a taken → HasWritten x c opened (mark n p s a.reader) (taken ++ records)
   written c suits opened taken h = before.whole n wrote c (suits_before plan draws more later c is suits) opened taken h
 
@@ -123,17 +122,15 @@ module _ (joins : Joins) (x : Setup) (far : AreFilesApart x.run) (plan : Tables)
       (written_more joins x c p q s t judged.news round judged.entries judged.outcomes (string_bytes made.versions) made.rendered judged.of (judged.have c suits) opened n a.reader (taken ++ records) (written c suits opened taken h) next a.reader puts)
 
   all_of : (next : Contents) → content next x.run.input ≡ content n x.run.input →
-      ((points : List ℕ) (c : Course) → Suits plan later c → (opened : Contents) (taken : List Rec) → HasWritten x c opened a taken → HasBegun x c (t.points ++ points) opened next ((taken ++ records) ++ round) q.limit) →
+      ((points : List ℕ) (c : Course) → Suits plan later c → (opened : Contents) (taken : List Rec) → HasWritten x c opened a taken → HasBegun x c (t.points ++ points) opened next ((taken ++ records) ++ round)) →
       IsCutFrom x plan later t.points a next (records ++ round)
   all_of next same begun = record {
     input = same ∙ input;
     first = records ++ round;
     others = [];
     all = sym (append-nil (records ++ round));
-    limit = q.limit;
-    rate = rate;
     begun = λ points c suits opened taken h.
-        let B : List Rec → Type 0 = λ l. HasBegun x c (t.points ++ points) opened next l q.limit in
+        let B : List Rec → Type 0 = λ l. HasBegun x c (t.points ++ points) opened next l in
         subst B (append_assoc taken records round) (begun points c suits opened taken h);
   }
 
@@ -143,8 +140,6 @@ module _ (joins : Joins) (x : Setup) (far : AreFilesApart x.run) (plan : Tables)
     first = records;
     others = round;
     all = refl;
-    limit = p.limit;
-    rate = judged.of.rate;
     begun = λ points c suits opened taken h.
         at_versions joins x c p q s t judged.news round judged.entries judged.outcomes (string_bytes made.versions) made.rendered judged.of (judged.have c suits) opened n a.reader (taken ++ records) (written c suits opened taken h) next points w.0 w.1;
   }
@@ -189,8 +184,6 @@ cut_more x plan draws points a n records round cut = record {
   first = cut.first;
   others = cut.others ++ round;
   all = ap (λ (l : List Rec). l ++ round) cut.all ∙ append_assoc cut.first cut.others round;
-  limit = cut.limit;
-  rate = cut.rate;
   begun = cut.begun;
 }
 
@@ -201,33 +194,83 @@ cut_later x plan draws points news now a n records is cut = record {
   first = cut.first;
   others = cut.others;
   all = cut.all;
-  limit = cut.limit;
-  rate = cut.rate;
   begun = λ later c suits opened taken h.
-      let B : List ℕ → Type 0 = λ l. HasBegun x c l opened n (taken ++ cut.first) cut.limit in
+      let B : List ℕ → Type 0 = λ l. HasBegun x c l opened n (taken ++ cut.first) in
       let same : points ++ (news ++ later) ≡ now ++ later = sym (append_assoc points news later) ∙ ap (λ (l : List ℕ). l ++ later) (sym is) in
       subst B same (cut.begun (news ++ later) c suits opened taken h);
 }
 
--- a part of what is pending was written, and no more
-cut_off : (x : Setup) (plan : Tables) (draws : List (ℕ × ℕ)) (points : List ℕ) (a : Mark) (n : Contents) (reader : Spot) → SomeLeft reader.left → (records : List Rec) (round : Round) (last : Option (List ℕ × ℕ)) →
-    HasTaken x.run.input a.reader reader (content a.held x.run.input) a.progress.number records round last → length draws ≤ round.number → IsUpToDate plan (length draws) points → IsCutFrom x plan draws points a n (records ++ round.records) → IsBrokenFrom x plan draws points a n
-cut_off x plan draws points a n reader some records round last taken few tells cut =
-    let left = some (content a.held x.run.input) round.number in
-    let A : List Rec → Type 0 = λ l. a.reader.left (content a.held x.run.input) a.progress.number l left.1 in
-    let same : (records ++ round.records) ++ left.0 ≡ cut.first ++ (cut.others ++ left.0) = ap (λ (l : List Rec). l ++ left.0) cut.all ∙ append_assoc cut.first cut.others left.0 in
-    record {
-      input = cut.input;
-      records = cut.first;
-      rest = cut.others ++ left.0;
-      ended = left.1;
-      capture = λ stood. subst A same (taken.follows left.0 left.1 left.2);
-      limit = cut.limit;
-      rate = cut.rate;
-      up_to_date = tells;
-      drawn = omega (arith, few, taken.count, ap (λ (l : List Rec). length l) same, length-append (records ++ round.records) left.0);
-      begun = cut.begun;
-    }
+-- a part of what these records write was written, and no more
+cut_off : (x : Setup) (plan : Tables) (draws : List (ℕ × ℕ)) (points : List ℕ) (a : Mark) (n : Contents) (rs : List Rec) (lost lost_now : ℕ) (last : Option (List ℕ × ℕ)) →
+    Takes x.run.input a.reader (content a.held x.run.input) a.progress.number rs lost lost_now last → length draws ≤ a.progress.number + length rs → IsUpToDate plan (length draws) points → IsCutFrom x plan draws points a n rs →
+    IsBrokenFrom x plan draws points a n lost lost_now last
+cut_off x plan draws points a n rs lost lost_now last takes few tells cut = record {
+  input = cut.input;
+  records = cut.first;
+  rest = cut.others;
+  taken = λ stood. let T : List Rec → Type 0 = λ l. Takes x.run.input a.reader (content a.held x.run.input) a.progress.number l lost lost_now last in subst T cut.all takes;
+  drawn = omega (arith, few, ap (λ (l : List Rec). length l) cut.all);
+  up_to_date = tells;
+  begun = cut.begun;
+}
+
+-- which records count, by how they stopped
+pub takes_by : (name : List ℕ) (first reader : Spot) (bytes : List ℕ) (number there : ℕ) (rs : List Rec) (stop : Ending) (lost lost_now : ℕ) (last : Option (List ℕ × ℕ)) → SomeLeft reader.left → first.at ≤ reader.at → All (λ r. r.next_at ≤ reader.at) rs →
+    Precedes first.left reader.left bytes number rs there → Stops name reader bytes there (Some stop) last → Rises (is_cut (Some stop)) lost lost_now → Takes name first bytes number rs lost lost_now last
+takes_by name first reader bytes number there rs ending.End lost lost_now last some forward within follows stopped rises =
+    let P : List Rec → Type 0 = λ l. first.left bytes number l None in
+    inl (rises, (None, subst P (append-nil rs) (follows [] None stopped)))
+takes_by name first reader bytes number there rs (ending.Bad refusal) lost lost_now last some forward within follows stopped rises =
+    let P : List Rec → Type 0 = λ l. first.left bytes number l (Some refusal) in
+    inl (rises, (Some refusal, subst P (append-nil rs) (follows [] (Some refusal) stopped)))
+takes_by name first reader bytes number there rs ending.ReadFault lost lost_now last some forward within follows stopped rises =
+    let rest = some bytes there in
+    inr (
+      rises,
+      record {
+        rest = rest.0;
+        ended = rest.1;
+        capture = follows rest.0 rest.1 rest.2;
+        place = stopped.place;
+        last_is = stopped.last_is;
+        behind = omega (arith, forward, stopped.begun);
+        reached = λ k d inside. omega (arith, within k d inside, stopped.begun);
+        next = is_behind stopped.place reader.left bytes there rest.0 rest.1 rest.2 stopped.before;
+      },
+    )
+
+-- the records of the rounds that were read
+abbrev TakesMore : List ℕ → Spot → List ℕ → ℕ → List Rec → ℕ → ℕ → Option (List ℕ × ℕ) → Type 0
+TakesMore name first bytes number rs lost lost_now last = (more : List Rec) × Takes name first bytes number (rs ++ more) lost lost_now last
+
+takes_of : (name : List ℕ) (first here : Spot) (bytes : List ℕ) (number : ℕ) (records : List Rec) (round : Round) (lost lost_now : ℕ) (last : Option (List ℕ × ℕ)) → SomeLeft here.left → HasTaken name first here bytes number records round last → Rises (is_cut round.ending) lost lost_now →
+    TakesMore name first bytes number (records ++ round.records) lost lost_now last
+takes_of name first here bytes number records round lost lost_now last some taken rises = by_stop round.ending taken.stopped rises where
+  by_stop : (stop : Option Ending) → Stops name here bytes round.number stop last → Rises (is_cut stop) lost lost_now → TakesMore name first bytes number (records ++ round.records) lost lost_now last
+  by_stop None stopped rises =
+      let rest = some bytes round.number in
+      (rest.0, inl (rises, (rest.1, taken.follows rest.0 rest.1 rest.2)))
+  by_stop (Some stop) stopped rises =
+      let T : List Rec → Type 0 = λ l. Takes name first bytes number l lost lost_now last in
+      ([], subst T (sym (append-nil (records ++ round.records))) (takes_by name first here bytes number round.number (records ++ round.records) stop lost lost_now last some taken.forward taken.within taken.follows stopped rises))
+
+-- no read failed: all that is left counts
+takes_all : (name : List ℕ) (first here : Spot) (bytes : List ℕ) (number : ℕ) (records : List Rec) (round : Round) (lost lost_now : ℕ) (old last : Option (List ℕ × ℕ)) → SomeLeft here.left → HasTaken name first here bytes number records round old → lost_now ≡ lost →
+    TakesMore name first bytes number (records ++ round.records) lost lost_now last
+takes_all name first here bytes number records round lost lost_now old last some taken same =
+    let rest = some bytes round.number in
+    (rest.0, inl (same, (rest.1, taken.follows rest.0 rest.1 rest.2)))
+
+-- or one failed in the round that was read last
+takes_past : (name : List ℕ) (first here now : Spot) (bytes : List ℕ) (number : ℕ) (records : List Rec) (round : Round) (lost lost_now : ℕ) (old last : Option (List ℕ × ℕ)) → SomeLeft here.left → SomeLeft now.left → HasTaken name first here bytes number records round old →
+    ReadsPast name here now round.number bytes lost lost_now last → TakesMore name first bytes number (records ++ round.records) lost lost_now last
+takes_past name first here now bytes number records round lost lost_now old last some some_now taken (inl same) = takes_all name first here bytes number records round lost lost_now old last some taken same
+takes_past name first here now bytes number records round lost lost_now old last some some_now taken (inr (rose, cut)) =
+    let next = taken_more name first here now bytes number records round cut.round old last taken cut.numbered (cut.next taken.stands) cut.placed in
+    let R : Option Ending → Type 0 = λ e. Rises (is_cut e) lost lost_now in
+    let it = takes_of name first now bytes number (records ++ round.records) cut.round lost lost_now last some_now next (subst R (sym cut.cut) rose) in
+    let T : List Rec → Type 0 = λ l. Takes name first bytes number l lost lost_now last in
+    (cut.round.records ++ it.0, subst T (append_assoc (records ++ round.records) cut.round.records it.0) it.1)
 
 -- all was written, and no record is left in hand
 pub taken_all : (x : Setup) (far : AreFilesApart x.run) (plan : Tables) (draws : List (ℕ × ℕ)) (a : Mark) (m n : Contents) (q : Progress) (t : Seats) (u : Unwritten) (reader : Spot) (records : List Rec) (round : Round) (last : Option (List ℕ × ℕ)) →
@@ -284,8 +327,6 @@ fewer x plan draws more later is points a n records cut = record {
   first = cut.first;
   others = cut.others;
   all = cut.all;
-  limit = cut.limit;
-  rate = cut.rate;
   begun = λ points c suits opened taken h. cut.begun points c (suits_before plan draws more later c is suits) opened taken h;
 }
 
@@ -295,16 +336,16 @@ module _ (joins : Joins) (x : Setup) (far : AreFilesApart x.run) (plan : Tables)
   Before a m = StandsBetween x plan draws (mark a p0 s0 first) m p s u here round old
 
   -- a round was judged, the one before it put, and the next one read
-  pub steps_on : (q : Progress) (made : Pending) (now : Spot) (next : Round) (last : Option (List ℕ × ℕ)) → HasJudged x plan later p q s t round.records made → rate_of q.limit ≡ x.run.errors →
+  pub steps_on : (q : Progress) (made : Pending) (now : Spot) (next : Round) (last : Option (List ℕ × ℕ)) → HasJudged x plan later p q s t round.records made →
       (h0 h1 h2 : Option Contents) → HasRead x here now round.number h2 last next →
       Moves h0 h1 (λ a m. StandsBetween x plan draws (mark a p0 s0 first) m p s u here round old) → Moves h1 h2 (Puts x u) →
       Moves h0 h2 (λ a n. StandsBetween x plan later (mark a p0 s0 first) n q t (unwritten made) now next last)
-  steps_on q made now next last judged rate h0 h1 h2 read before wrote =
+  steps_on q made now next last judged h0 h1 h2 read before wrote =
       moves_told h0 h1 h2 Before (Puts x u) (λ m. here.stood (content m x.run.input) → IsNext x.run.input here now round.number (content m x.run.input) next last)
       (λ a n. StandsBetween x plan later (mark a p0 s0 first) n q t (unwritten made) now next last)
       (λ a m n under puts told stood.
       let w = under stood in
-      let pending = pending_more joins x far plan draws more later is (mark a p0 s0 first) m n p q s t u made w.records round.records w.pending puts judged rate in
+      let pending = pending_more joins x far plan draws more later is (mark a p0 s0 first) m n p q s t u made w.records round.records w.pending puts judged in
       let S : List ℕ → Type 0 = λ bytes. here.stood bytes in
       let N : List ℕ → Type 0 = λ bytes. IsNext x.run.input here now round.number bytes next last in
       let same : content n x.run.input ≡ content a x.run.input = pending.input in
@@ -315,48 +356,59 @@ module _ (joins : Joins) (x : Setup) (far : AreFilesApart x.run) (plan : Tables)
       })
       before wrote read.told
 
-  pub part_broken : (news : List ℕ) → t.points ≡ s.points ++ news → length later ≤ round.number → IsUpToDate plan (length later) t.points → SomeLeft here.left → (a m n : Contents) → IsUnderWay x plan draws (mark a p0 s0 first) m p s u here round old → PutsPart x u m n → IsBrokenFrom x plan later t.points (mark a p0 s0 first) n
-  part_broken news points_are few tells some a m n w puts =
+  pub part_broken : (news : List ℕ) → t.points ≡ s.points ++ news → length later ≤ round.number → IsUpToDate plan (length later) t.points → (lost lost_now : ℕ) (last : Option (List ℕ × ℕ)) (a m n : Contents) →
+      (w : IsUnderWay x plan draws (mark a p0 s0 first) m p s u here round old) → TakesMore x.run.input first (content a x.run.input) p0.number (w.records ++ round.records) lost lost_now last → PutsPart x u m n →
+      IsBrokenFrom x plan later t.points (mark a p0 s0 first) n lost lost_now last
+  part_broken news points_are few tells lost lost_now last a m n w takes puts =
       let cut : IsCutFrom x plan draws t.points (mark a p0 s0 first) n w.records = cut_later x plan draws s.points news t.points (mark a p0 s0 first) n w.records points_are (w.pending.part n puts) in
-      cut_off x plan later t.points (mark a p0 s0 first) n here some w.records round old w.taken few tells
-      (cut_more x plan later t.points (mark a p0 s0 first) n w.records round.records (fewer x plan draws more later is t.points (mark a p0 s0 first) n w.records cut))
+      cut_off x plan later t.points (mark a p0 s0 first) n ((w.records ++ round.records) ++ takes.0) lost lost_now last takes.1 (omega (arith, few, w.taken.count, length-append (w.records ++ round.records) takes.0)) tells
+      (cut_more x plan later t.points (mark a p0 s0 first) n (w.records ++ round.records) takes.0
+      (cut_more x plan later t.points (mark a p0 s0 first) n w.records round.records (fewer x plan draws more later is t.points (mark a p0 s0 first) n w.records cut)))
 
-  -- what was pending is put in part
-  pub breaks_off : (news : List ℕ) → t.points ≡ s.points ++ news → length later ≤ round.number → IsUpToDate plan (length later) t.points → SomeLeft here.left → (h0 h1 h2 : Option Contents) →
-      Moves h0 h1 (λ a m. StandsBetween x plan draws (mark a p0 s0 first) m p s u here round old) → Moves h1 h2 (PutsPart x u) →
-      Moves h0 h2 (λ a n. Breaks x plan later t.points (mark a p0 s0 first) n)
-  breaks_off news points_are few tells some h0 h1 h2 before part =
-      moves_join h0 h1 h2 Before (PutsPart x u) (λ a n. Breaks x plan later t.points (mark a p0 s0 first) n)
-      (λ a m n under puts stood. part_broken news points_are few tells some a m n (under stood) puts)
-      before part
+  -- what was pending is put in part, and the next round is read or not
+  pub breaks_off : (news : List ℕ) → t.points ≡ s.points ++ news → length later ≤ round.number → IsUpToDate plan (length later) t.points → (now : Spot) → SomeLeft here.left → SomeLeft now.left → (lost lost_now : ℕ) (last : Option (List ℕ × ℕ)) (h0 h1 h2 : Option Contents) →
+      Told h2 (λ m. ReadsPast x.run.input here now round.number (content m x.run.input) lost lost_now last) → Moves h0 h1 (λ a m. StandsBetween x plan draws (mark a p0 s0 first) m p s u here round old) → Moves h1 h2 (PutsPart x u) →
+      Moves h0 h2 (λ a n. Breaks x plan later t.points (mark a p0 s0 first) n lost lost_now last)
+  breaks_off news points_are few tells now some some_now lost lost_now last h0 h1 h2 past before part =
+      moves_told h0 h1 h2 Before (PutsPart x u) (λ m. ReadsPast x.run.input here now round.number (content m x.run.input) lost lost_now last)
+      (λ a n. Breaks x plan later t.points (mark a p0 s0 first) n lost lost_now last)
+      (λ a m n under puts told stood.
+      let w = under stood in
+      let N : List ℕ → Type 0 = λ bytes. ReadsPast x.run.input here now round.number bytes lost lost_now last in
+      let same : content n x.run.input ≡ content a x.run.input = (w.pending.part n puts).input in
+      part_broken news points_are few tells lost lost_now last a m n w
+      (takes_past x.run.input first here now (content a x.run.input) p0.number w.records round lost lost_now old last some some_now w.taken (subst N same told)) puts)
+      before part past
 
   -- the last round was judged, and all is put
-  pub ends_well : (q : Progress) (made : Pending) (stop : Option Ending) (last : Option (List ℕ × ℕ)) → HasJudged x plan later p q s t round.records made → rate_of q.limit ≡ x.run.errors → q.number ≡ round.number → round.ending ≡ stop → last ≡ old →
+  pub ends_well : (q : Progress) (made : Pending) (stop : Option Ending) (last : Option (List ℕ × ℕ)) → HasJudged x plan later p q s t round.records made → q.number ≡ round.number → round.ending ≡ stop → last ≡ old →
       (h0 h1 h2 : Option Contents) →
       Moves h0 h1 (λ a m. StandsBetween x plan draws (mark a p0 s0 first) m p s u here round old) → Moves h1 h2 (PutsBoth x u (unwritten made)) →
       Moves h0 h2 (λ a n. Goes x plan later (mark a p0 s0 first) (mark n q t here) stop last)
-  ends_well q made stop last judged rate number_is stop_is last_is h0 h1 h2 before wrote =
+  ends_well q made stop last judged number_is stop_is last_is h0 h1 h2 before wrote =
       moves_join h0 h1 h2 Before (PutsBoth x u (unwritten made)) (λ a n. Goes x plan later (mark a p0 s0 first) (mark n q t here) stop last)
       (λ a m n under both stood.
       let w = under stood in
-      let pending = pending_more joins x far plan draws more later is (mark a p0 s0 first) m both.0 p q s t u made w.records round.records w.pending both.1 judged rate in
+      let pending = pending_more joins x far plan draws more later is (mark a p0 s0 first) m both.0 p q s t u made w.records round.records w.pending both.1 judged in
       let G : Option Ending → Type 0 = λ e. TakesOn x plan later (mark a p0 s0 first) (mark n q t here) e last in
       let L : Option (List ℕ × ℕ) → Type 0 = λ l. TakesOn x plan later (mark a p0 s0 first) (mark n q t here) round.ending l in
       subst G stop_is (subst L (sym last_is) (taken_all x far plan later (mark a p0 s0 first) both.0 n q t (unwritten made) here w.records round old number_is pending both.2 w.taken)))
       before wrote
 
   -- the last round was judged, and it is put in part
-  pub ends_cut : (q : Progress) (made : Pending) → HasJudged x plan later p q s t round.records made → rate_of q.limit ≡ x.run.errors → length later ≤ round.number → IsUpToDate plan (length later) t.points → SomeLeft here.left →
-      (a m between n : Contents) → IsUnderWay x plan draws (mark a p0 s0 first) m p s u here round old → Puts x u m between → PutsPart x (unwritten made) between n → IsBrokenFrom x plan later t.points (mark a p0 s0 first) n
-  ends_cut q made judged rate few tells some a m between n w wrote part =
-      let pending = pending_more joins x far plan draws more later is (mark a p0 s0 first) m between p q s t u made w.records round.records w.pending wrote judged rate in
-      cut_off x plan later t.points (mark a p0 s0 first) n here some w.records round old w.taken few tells (pending.part n part)
+  pub ends_cut : (q : Progress) (made : Pending) → HasJudged x plan later p q s t round.records made → length later ≤ round.number → IsUpToDate plan (length later) t.points → (lost lost_now : ℕ) (last : Option (List ℕ × ℕ)) (a m between n : Contents) →
+      (w : IsUnderWay x plan draws (mark a p0 s0 first) m p s u here round old) → TakesMore x.run.input first (content a x.run.input) p0.number (w.records ++ round.records) lost lost_now last → Puts x u m between → PutsPart x (unwritten made) between n →
+      IsBrokenFrom x plan later t.points (mark a p0 s0 first) n lost lost_now last
+  ends_cut q made judged few tells lost lost_now last a m between n w takes wrote part =
+      let pending = pending_more joins x far plan draws more later is (mark a p0 s0 first) m between p q s t u made w.records round.records w.pending wrote judged in
+      cut_off x plan later t.points (mark a p0 s0 first) n ((w.records ++ round.records) ++ takes.0) lost lost_now last takes.1 (omega (arith, few, w.taken.count, length-append (w.records ++ round.records) takes.0)) tells
+      (cut_more x plan later t.points (mark a p0 s0 first) n (w.records ++ round.records) takes.0 (pending.part n part))
 
 -- before the first round is judged: it is read, and nothing is pending
-pub begin_rounds : (x : Setup) → AreFilesApart x.run → (plan : Tables) (draws : List (ℕ × ℕ)) (p : Progress) (s : Seats) (first now : Spot) (pending : Pending) (round : Round) (last : Option (List ℕ × ℕ)) → rate_of p.limit ≡ x.run.errors → IsNothing pending →
+pub begin_rounds : (x : Setup) → AreFilesApart x.run → (plan : Tables) (draws : List (ℕ × ℕ)) (p : Progress) (s : Seats) (first now : Spot) (pending : Pending) (round : Round) (last : Option (List ℕ × ℕ)) → IsNothing pending →
     (h0 h1 : Option Contents) → h1 ≡ h0 → HasRead x first now p.number h0 last round →
     Moves h0 h1 (λ a m. StandsBetween x plan draws (mark a p s first) m p s (unwritten pending) now round last)
-begin_rounds x far plan draws p s first now pending round last rate none h0 h1 same read =
+begin_rounds x far plan draws p s first now pending round last none h0 h1 same read =
     let M : Option Contents → Type 0 = λ h. Moves h0 h (λ a m. StandsBetween x plan draws (mark a p s first) m p s (unwritten pending) now round last) in
     subst M (sym same) (by_held h0 read.told) where
       by_held : (h : Option Contents) → Told h (λ m. first.stood (content m x.run.input) → IsNext x.run.input first now p.number (content m x.run.input) round last) →
@@ -364,22 +416,46 @@ begin_rounds x far plan draws p s first now pending round last rate none h0 h1 s
       by_held None told = tt
       by_held (Some m) told = λ stood. record {
         records = [];
-        pending = pending_none x far plan draws m p s first rate (unwritten pending) none.versions none.packets none.lines;
+        pending = pending_none x far plan draws m p s first (unwritten pending) none.versions none.packets none.lines;
         taken = taken_first x.run.input first now (content m x.run.input) p.number round last read.in_hand.numbered (told stood) read.placed;
       }
 
 -- the last round is judged or not, and what it writes is put in part
 pub last_broken : (joins : Joins) (x : Setup) → AreFilesApart x.run → (plan : Tables) (draws more later : List (ℕ × ℕ)) → later ≡ draws ++ more → (p0 p q : Progress) (s0 : Seats) (before now : Shift) (news : List ℕ) → (u : Unwritten) (made : Pending) (first here : Spot) (round : Round) (old : Option (List ℕ × ℕ)) →
-    (seats_of now).points ≡ (seats_of before).points ++ news → length later ≤ round.number → IsUpToDate plan (length later) (seats_of now).points → SomeLeft here.left → (WentWell x before now p q round made → HasJudged x plan later p q (seats_of before) (seats_of now) round.records made) → (WentWell x before now p q round made → rate_of q.limit ≡ x.run.errors) →
-    (h0 h1 h2 : Option Contents) →
+    (seats_of now).points ≡ (seats_of before).points ++ news → length later ≤ round.number → IsUpToDate plan (length later) (seats_of now).points → SomeLeft here.left → (lost lost_now : ℕ) (last : Option (List ℕ × ℕ)) → last ≡ old → Rises (is_cut round.ending) lost lost_now →
+    (WentWell x before now p q round made → HasJudged x plan later p q (seats_of before) (seats_of now) round.records made) → (h0 h1 h2 : Option Contents) →
     Moves h0 h1 (λ a m. StandsBetween x plan draws (mark a p0 s0 first) m p (seats_of before) u here round old) → Moves h1 h2 (BreaksLast x before now p q round u made) →
-    Moves h0 h2 (λ a n. Breaks x plan later (seats_of now).points (mark a p0 s0 first) n)
-last_broken joins x far plan draws more later is p0 p q s0 before now news u made first here round old points_are few tells some judged rate h0 h1 h2 under broke =
+    Moves h0 h2 (λ a n. Breaks x plan later (seats_of now).points (mark a p0 s0 first) n lost lost_now last)
+last_broken joins x far plan draws more later is p0 p q s0 before now news u made first here round old points_are few tells some lost lost_now last last_is rises judged h0 h1 h2 under broke =
     moves_join h0 h1 h2 (λ a m. StandsBetween x plan draws (mark a p0 s0 first) m p (seats_of before) u here round old) (BreaksLast x before now p q round u made)
-    (λ a n. Breaks x plan later (seats_of now).points (mark a p0 s0 first) n) (λ a m n between part stood. by_part a m n (between stood) part) under broke where
-      by_part : (a m n : Contents) → IsUnderWay x plan draws (mark a p0 s0 first) m p (seats_of before) u here round old → BreaksLast x before now p q round u made m n → IsBrokenFrom x plan later (seats_of now).points (mark a p0 s0 first) n
-      by_part a m n w (inl part) = part_broken joins x far plan draws more later is p0 p s0 (seats_of before) (seats_of now) u first here round old news points_are few tells some a m n w part
-      by_part a m n w (inr both) = ends_cut joins x far plan draws more later is p0 p s0 (seats_of before) (seats_of now) u first here round old q made (judged both.0) (rate both.0) few tells some a m both.1.0 n w both.1.1 both.1.2
+    (λ a n. Breaks x plan later (seats_of now).points (mark a p0 s0 first) n lost lost_now last) (λ a m n between part stood. by_part a m n (between stood) part) under broke where
+      takes : (a m : Contents) (w : IsUnderWay x plan draws (mark a p0 s0 first) m p (seats_of before) u here round old) → TakesMore x.run.input first (content a x.run.input) p0.number (w.records ++ round.records) lost lost_now last
+      takes a m w =
+          let T : Option (List ℕ × ℕ) → Type 0 = λ l. TakesMore x.run.input first (content a x.run.input) p0.number (w.records ++ round.records) lost lost_now l in
+          subst T (sym last_is) (takes_of x.run.input first here (content a x.run.input) p0.number w.records round lost lost_now old some w.taken rises)
+
+      by_part : (a m n : Contents) → IsUnderWay x plan draws (mark a p0 s0 first) m p (seats_of before) u here round old → BreaksLast x before now p q round u made m n → IsBrokenFrom x plan later (seats_of now).points (mark a p0 s0 first) n lost lost_now last
+      by_part a m n w (inl part) = part_broken joins x far plan draws more later is p0 p s0 (seats_of before) (seats_of now) u first here round old news points_are few tells lost lost_now last a m n w (takes a m w) part
+      by_part a m n w (inr both) = ends_cut joins x far plan draws more later is p0 p s0 (seats_of before) (seats_of now) u first here round old q made (judged both.0) few tells lost lost_now last a m both.1.0 n w (takes a m w) both.1.1 both.1.2
+
+-- what was read behind a round, or not
+pub read_past : (x : Setup) (before now : Spot) (number : ℕ) (h : Option Contents) (lost lost_now : ℕ) (last : Option (List ℕ × ℕ)) (round : Round) → HasRead x before now number h last round → Rises (is_cut round.ending) lost lost_now →
+    Told h (λ m. ReadsPast x.run.input before now number (content m x.run.input) lost lost_now last)
+read_past x before now number h lost lost_now last round read rises = by_held h read.told where
+  by_ending : (m : Contents) → (before.stood (content m x.run.input) → IsNext x.run.input before now number (content m x.run.input) round last) → (e : Option Ending) → round.ending ≡ e → Rises (is_cut e) lost lost_now →
+      ReadsPast x.run.input before now number (content m x.run.input) lost lost_now last
+  by_ending m told None is rises = inl rises
+  by_ending m told (Some ending.End) is rises = inl rises
+  by_ending m told (Some (ending.Bad refusal)) is rises = inl rises
+  by_ending m told (Some ending.ReadFault) is rises = inr (rises, record { round = round; cut = is; numbered = read.in_hand.numbered; placed = read.placed; next = told })
+
+  by_held : (h : Option Contents) → Told h (λ m. before.stood (content m x.run.input) → IsNext x.run.input before now number (content m x.run.input) round last) → Told h (λ m. ReadsPast x.run.input before now number (content m x.run.input) lost lost_now last)
+  by_held None told = tt
+  by_held (Some m) told = by_ending m told round.ending refl rises
+
+pub read_none : (name : List ℕ) (before now : Spot) (number : ℕ) (h : Option Contents) (lost lost_now : ℕ) (last : Option (List ℕ × ℕ)) → lost_now ≡ lost → Told h (λ m. ReadsPast name before now number (content m name) lost lost_now last)
+read_none name before now number None lost lost_now last same = tt
+read_none name before now number (Some m) lost lost_now last same = inl same
 
 -- a round was judged under the plan of the run
 pub judged_planned : (x : Setup) (plan other : Tables) (draws : List (ℕ × ℕ)) (p q : Progress) (s t : Seats) (records : List Rec) (made : Pending) → other ≡ plan → HasJudged x other draws p q s t records made → HasJudged x plan draws p q s t records made

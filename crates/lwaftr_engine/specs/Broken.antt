@@ -1,15 +1,35 @@
 -- What the outputs hold where rounds were ended by a fault.
-use Rattle.std.specs.Prelude.{◌≡◌, ◌≢◌, ℕ, ◌+◌, ◌<◌, ◌≤◌, List, ◌++◌, drop, length, take, Option}
+use Rattle.std.specs.Prelude.{◌≡◌, ◌≢◌, ◌⊎◌, ℕ, ◌+◌, ◌<◌, ◌≤◌, List, ◌++◌, All, drop, length, take, Option, Some}
 use Rattle.aftr_base.specs.Contents.{Contents, content}
+use Rattle.aftr_base.specs.Outside.{Rose}
 use Rattle.capture_io.specs.declared.forms.CaptureBad.{CaptureBad}
 use Rattle.capture_io.specs.declared.forms.Rec.{Rec}
-use Rattle.error_limit.specs.Limits.{Bucket}
 use Rattle.item_stage.specs.Items.{entries_of}
-use Rattle.lwaftr_engine.specs.Progress.{HasWritten, IsUpToDate, IsLimitedRun, Mark, Setup, Suits, loads_of}
-use Rattle.run_output.specs.Limiting.{HasAsked, rate_of}
+use Rattle.lwaftr_engine.specs.Endings.{IsBehind}
+use Rattle.lwaftr_engine.specs.Progress.{HasWritten, IsUpToDate, IsLimitedRun, Mark, Setup, Spot, Suits, loads_of}
 use Rattle.run_output.specs.Outputs.{Course, lines_from, packets_from}
 use Rattle.run_output.specs.Versions.{NoneIsDue, load_lines}
 use Rattle.swap_core.specs.Plans.{Tables}
+
+-- these are all records that are left
+abbrev pub TakesAll : Spot → List ℕ → ℕ → List Rec → Type 0
+TakesAll reader bytes number rs = (ended : Option CaptureBad) × reader.left bytes number rs ended
+
+-- or those that end at or before the place of a read of this file that failed: the next one, if there is one, ends behind it
+pub record TakesBefore (name : List ℕ) (reader : Spot) (bytes : List ℕ) (number : ℕ) (rs : List Rec) (last : Option (List ℕ × ℕ)) : Type 0 where
+  pub rest : List Rec
+  pub ended : Option CaptureBad
+  pub capture : reader.left bytes number (rs ++ rest) ended
+  pub place : ℕ
+  pub last_is : last ≡ Some (name, place)
+  pub behind : reader.at ≤ place
+  pub reached : All (λ r. r.next_at ≤ place) rs
+  pub next : IsBehind place rest
+
+-- all of them where no read failed, and those before it where one did
+abbrev pub Takes : List ℕ → Spot → List ℕ → ℕ → List Rec → ℕ → ℕ → Option (List ℕ × ℕ) → Type 0
+Takes name reader bytes number rs lost lost_now last =
+    ((lost_now ≡ lost) × TakesAll reader bytes number rs) ⊎ (Rose lost lost_now × TakesBefore name reader bytes number rs last)
 
 -- fronts of the lines of tables, of packets and of lines of records are put behind what the outputs held
 pub record WroteFronts (x : Setup) (versions packets lines : List ℕ) (old new : Contents) : Type 0 where
@@ -23,9 +43,7 @@ pub record WroteFronts (x : Setup) (versions packets lines : List ℕ) (old new 
 
 -- These records were taken, and fronts of what they write stand behind what the outputs held. The lines of the tables that were in
 -- force for them, which are those of the first few loads, are written whole.
-pub record HasBegun (x : Setup) (c : Course) (points : List ℕ) (opened now : Contents) (taken : List Rec) (limit : Option Bucket) : Type 0 where
-  pub entries : length (entries_of x.form taken) ≡ length taken
-  pub asked : HasAsked x.form taken (entries_of x.form taken) c limit
+pub record HasBegun (x : Setup) (c : Course) (points : List ℕ) (opened now : Contents) (taken : List Rec) : Type 0 where
   pub printed : List ℕ
   pub later : List ℕ
   pub all : points ≡ printed ++ later
@@ -36,19 +54,16 @@ pub record HasBegun (x : Setup) (c : Course) (points : List ℕ) (opened now : C
       WroteFronts x (load_lines points (loads_of x)) (packets_from c x.written 0 taken (entries_of x.form taken)) (lines_from c 0 (entries_of x.form taken)) opened now
   pub told : IsLimitedRun x c taken → length (load_lines points (take loads (loads_of x))) + length (content opened x.run.versions) ≤ length (content now x.run.versions)
 
--- Rounds were ended by a fault: the next records of the capture were taken, and fronts of what they write were written, whichever
--- points come later. No more records were drawn than there are.
-pub record IsBrokenFrom (x : Setup) (plan : Tables) (draws : List (ℕ × ℕ)) (points : List ℕ) (a : Mark) (now : Contents) : Type 0 where
+-- Rounds were ended by a fault: of the next records of the capture the first few were taken, and fronts of what these write were
+-- written, whichever points come later. No more records were drawn than there are.
+pub record IsBrokenFrom (x : Setup) (plan : Tables) (draws : List (ℕ × ℕ)) (points : List ℕ) (a : Mark) (now : Contents) (lost lost_now : ℕ) (last : Option (List ℕ × ℕ)) : Type 0 where
   pub input : content now x.run.input ≡ content a.held x.run.input
   pub records : List Rec
   pub rest : List Rec
-  pub ended : Option CaptureBad
-  pub capture : a.reader.stood (content a.held x.run.input) → a.reader.left (content a.held x.run.input) a.progress.number (records ++ rest) ended
-  pub limit : Option Bucket
-  pub rate : rate_of limit ≡ x.run.errors
+  pub taken : a.reader.stood (content a.held x.run.input) → Takes x.run.input a.reader (content a.held x.run.input) a.progress.number (records ++ rest) lost lost_now last
   pub drawn : length draws ≤ a.progress.number + length (records ++ rest)
   pub up_to_date : IsUpToDate plan (length draws) points
-  pub begun : (later : List ℕ) (c : Course) → Suits plan draws c → (opened : Contents) (taken : List Rec) → HasWritten x c opened a taken → HasBegun x c (points ++ later) opened now (taken ++ records) limit
+  pub begun : (later : List ℕ) (c : Course) → Suits plan draws c → (opened : Contents) (taken : List Rec) → HasWritten x c opened a taken → HasBegun x c (points ++ later) opened now (taken ++ records)
 
-abbrev pub Breaks : Setup → Tables → List (ℕ × ℕ) → List ℕ → Mark → Contents → Type 0
-Breaks x plan draws points a now = a.reader.stood (content a.held x.run.input) → IsBrokenFrom x plan draws points a now
+abbrev pub Breaks : Setup → Tables → List (ℕ × ℕ) → List ℕ → Mark → Contents → ℕ → ℕ → Option (List ℕ × ℕ) → Type 0
+Breaks x plan draws points a now lost lost_now last = a.reader.stood (content a.held x.run.input) → IsBrokenFrom x plan draws points a now lost lost_now last

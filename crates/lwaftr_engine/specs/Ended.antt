@@ -10,6 +10,7 @@ use Rattle.capture_io.specs.declared.forms.CaptureBad.{CaptureBad}
 use Rattle.capture_io.specs.declared.forms.Rec.{Rec}
 use Rattle.capture_io.specs.declared.rounds.Ending.{Ending}
 use Rattle.capture_io.specs.declared.rounds.Ending.TheVariants as ending
+use Rattle.lwaftr_engine.specs.Broken.{Takes}
 use Rattle.lwaftr_engine.specs.Endings.{IsBehind}
 use Rattle.lwaftr_engine.specs.Fronts.{IsFront, Stop, is_table, stop_by}
 use Rattle.lwaftr_engine.specs.Progress.{Setup, Spot}
@@ -39,24 +40,10 @@ pub record EndsCut (x : Setup) (tables : ℕ → BindingTable) (windows : List W
   pub next : IsBehind place rest
   pub is_run : IsRun x.run tables windows x.slots x.form x.written taken old new said now history
 
--- these are all records that are left, or those before a read that failed
-abbrev pub TakesAll : Setup → Spot → Contents → List Rec → Type 0
-TakesAll x reader old rs = (ended : Option CaptureBad) × reader.left (content old x.run.input) 0 rs ended
-
-pub record TakesBefore (x : Setup) (reader : Spot) (old : Contents) (rs : List Rec) (last : Option (List ℕ × ℕ)) : Type 0 where
-  pub rest : List Rec
-  pub ended : Option CaptureBad
-  pub capture : reader.left (content old x.run.input) 0 (rs ++ rest) ended
-  pub place : ℕ
-  pub last_is : last ≡ Some (x.run.input, place)
-  pub behind : reader.at ≤ place
-  pub reached : All (λ r. r.next_at ≤ place) rs
-  pub next : IsBehind place rest
-
 -- the run was ended by a fault
 pub record EndsBroken (x : Setup) (tables : ℕ → BindingTable) (windows : List Window) (reader : Spot) (old new : Contents) (said now : Option (List ℕ)) (stop : Stop) : Type 0 where
   pub records : List Rec
-  pub taken : TakesAll x reader old records ⊎ TakesBefore x reader old records stop.after.last
+  pub taken : Takes x.run.input reader (content old x.run.input) 0 records stop.before.lost stop.after.lost stop.after.last
   pub front : IsFront x.run tables windows x.slots x.form x.written records old new said now stop
 
 -- the versions of the loads are counted from one, behind so many that are tables

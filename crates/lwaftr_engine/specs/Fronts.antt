@@ -2,7 +2,7 @@
 use Rattle.std.specs.Prelude.{◌≡◌, ◌⊎◌, ℕ, suc, ◌-◌, ◌≤◌, nat_le, nat_lt, Bool, true, false, if◌then◌else◌, List, [], ◌∷◌, ◌++◌, All, count_by, length, take, Option, Some, None, Ok}
 use Rattle.std.specs.Option.{option_map}
 use Rattle.aftr_base.specs.Contents.{Contents, content}
-use Rattle.aftr_base.specs.Outside.{Outside, Rises}
+use Rattle.aftr_base.specs.Outside.{Outside, Rises, Rose}
 use Rattle.aftr_base.specs.declared.outside.Fault.{Fault}
 use Rattle.aftr_base.specs.declared.outside.Fault.TheVariants as fault
 use Rattle.aftr_text.specs.Lines.{initial_text, summary_text}
@@ -113,16 +113,18 @@ pub record AreBefore (run : RunJob) (old : Contents) (header : Header) (rs : Lis
   pub reached : All (λ r. r.next_at ≤ place) rs
   pub next : IsBehind place rest
 
--- these are all whole records of the capture, or those before the read that failed
-abbrev pub AreTaken : RunJob → Contents → Header → List Rec → Option (List ℕ × ℕ) → Type 0
-AreTaken run old header rs last = ((ending : Option CaptureBad) × IsInput (content old run.input) header rs ending) ⊎ AreBefore run old header rs last
+-- these are all whole records of the capture where no read failed, and those before it where one did
+abbrev pub AreTaken : RunJob → Contents → Header → List Rec → Stop → Type 0
+AreTaken run old header rs stop =
+    ((stop.after.lost ≡ stop.before.lost) × ((ending : Option CaptureBad) × IsInput (content old run.input) header rs ending))
+    ⊎ (Rose stop.before.lost stop.after.lost × AreBefore run old header rs stop.after.last)
 
 -- the run began under a header that is accepted, and was ended by a fault
 pub record IsBroken (run : RunJob) (tables : ℕ → BindingTable) (windows : List Window) (slots : List Slot) (old new : Contents) (said now : Option (List ℕ)) (stop : Stop) : Type 0 where
   pub header : Header
   pub sound : header_of (content old run.input) ≡ Ok header
   pub records : List Rec
-  pub taken : AreTaken run old header records stop.after.last
+  pub taken : AreTaken run old header records stop
   pub front : IsFront run tables windows slots header.form header.written records old new said now stop
 
 -- it began under tables that are accepted

@@ -1,9 +1,11 @@
 -- Rounds under way: what was judged and is not written yet, and the round that was read and is not judged yet.
-use Rattle.std.specs.Prelude.{◌≡◌, ◌⊎◌, ℕ, ◌+◌, ◌^◌, ◌<◌, ◌≤◌, List, [], ◌++◌, length, drop, All, Option, None, string_bytes}
+use Rattle.std.specs.Prelude.{◌≡◌, ◌⊎◌, ℕ, ◌+◌, ◌^◌, ◌<◌, ◌≤◌, List, [], ◌++◌, length, drop, All, Option, Some, None, string_bytes}
 use Rattle.aftr_base.specs.Contents.{Contents, Told, content}
+use Rattle.aftr_base.specs.Outside.{Rose}
 use Rattle.aftr_text.specs.declared.summaries.Totals.{Totals}
 use Rattle.capture_io.specs.Rounds.{GoesOn, IsPlaced, Precedes}
 use Rattle.capture_io.specs.declared.forms.Rec.{Rec}
+use Rattle.capture_io.specs.declared.rounds.Ending.TheVariants as ending
 use Rattle.capture_io.specs.declared.rounds.Round.{Round}
 use Rattle.error_limit.specs.Limits.{Bucket}
 use Rattle.item_stage.specs.Items.{entries_of, items_in}
@@ -93,9 +95,7 @@ pub record IsCutFrom (x : Setup) (plan : Tables) (draws : List (ℕ × ℕ)) (po
   pub first : List Rec
   pub others : List Rec
   pub all : records ≡ first ++ others
-  pub limit : Option Bucket
-  pub rate : rate_of limit ≡ x.run.errors
-  pub begun : (later : List ℕ) (c : Course) → Suits plan draws c → (opened : Contents) (taken : List Rec) → HasWritten x c opened a taken → HasBegun x c (points ++ later) opened now (taken ++ first) limit
+  pub begun : (later : List ℕ) (c : Course) → Suits plan draws c → (opened : Contents) (taken : List Rec) → HasWritten x c opened a taken → HasBegun x c (points ++ later) opened now (taken ++ first)
 
 -- From one state on these records were judged; what the last of them write is not in the outputs yet.
 pub record IsPending (x : Setup) (plan : Tables) (draws : List (ℕ × ℕ)) (a : Mark) (now : Contents) (p : Progress) (s : Seats) (u : Unwritten) (records : List Rec) : Type 0 where
@@ -108,6 +108,18 @@ pub record IsPending (x : Setup) (plan : Tables) (draws : List (ℕ × ℕ)) (a 
 pub record IsNext (name : List ℕ) (before now : Spot) (number : ℕ) (bytes : List ℕ) (round : Round) (last : Option (List ℕ × ℕ)) : Type 0 where
   pub goes : GoesOn now.stood before.left now.left bytes number round
   pub stopped : Stops name now bytes round.number round.ending last
+
+-- a round was read behind so many records, and a read failed in it
+pub record IsCutNext (name : List ℕ) (before now : Spot) (number : ℕ) (bytes : List ℕ) (last : Option (List ℕ × ℕ)) : Type 0 where
+  pub round : Round
+  pub cut : round.ending ≡ Some ending.ReadFault
+  pub numbered : round.number ≡ number + length round.records
+  pub placed : IsPlaced before.at now.at round
+  pub next : before.stood bytes → IsNext name before now number bytes round last
+
+-- no read failed, or one did in the round that was read
+abbrev pub ReadsPast : List ℕ → Spot → Spot → ℕ → List ℕ → ℕ → ℕ → Option (List ℕ × ℕ) → Type 0
+ReadsPast name before now number bytes lost lost_now last = (lost_now ≡ lost) ⊎ (Rose lost lost_now × IsCutNext name before now number bytes last)
 
 -- the reader took these records and those of a round
 pub record HasTaken (name : List ℕ) (first now : Spot) (bytes : List ℕ) (number : ℕ) (records : List Rec) (round : Round) (last : Option (List ℕ × ℕ)) : Type 0 where

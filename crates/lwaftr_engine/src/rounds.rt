@@ -2,14 +2,14 @@
 // the next one is read.
 ghost use Rattle.std.specs.Prelude.{◌≡◌, ◌<◌, ◌≤◌, ◌^◌, ℕ, List, [], All, IfOk, IfErr, OnOk, None, Some, length, string_bytes};
 ghost use Rattle.std.specs.Thread.{IsSync};
-ghost use Rattle.aftr_base.specs.Contents.{Contents, Moves, content};
+ghost use Rattle.aftr_base.specs.Contents.{Contents, Moves, Told, content};
 ghost use Rattle.aftr_base.specs.Outside.{OnlyWrites, Rises, has_failed};
 ghost use Rattle.aftr_text.specs.Jobs.{AreApart};
 ghost use Rattle.capture_io.specs.Rounds.{is_cut};
 ghost use Rattle.lwaftr_engine.specs.Broken.{Breaks};
 ghost use Rattle.lwaftr_engine.specs.Progress.{AddsTo, Goes, IsInRange, IsOnDuty, IsUpToDate, ReadsOf, mark, seats_of, setup_of, spot};
 ghost use Rattle.lwaftr_engine.specs.Runs.{OthersKept};
-ghost use Rattle.lwaftr_engine.specs.Underway.{BreaksLast, CanJudge, HasDrawn, HasRead, IsInHand, IsNothing, Puts, PutsBoth, PutsPart, StaysOnDuty, WentWell, unwritten};
+ghost use Rattle.lwaftr_engine.specs.Underway.{BreaksLast, CanJudge, HasDrawn, HasRead, IsInHand, IsNothing, Puts, PutsBoth, PutsPart, ReadsPast, StaysOnDuty, WentWell, unwritten};
 ghost use Rattle.run_output.specs.Rendering.{lines_in, packets_in};
 ghost use Rattle.table_words.specs.Layout.{AreCompiled};
 ghost use Rattle.worker_gate.specs.Reloading.{IsSettled};
@@ -173,6 +173,7 @@ fn read_next<F: Files, C: CaptureReader>(
     ensures ready { IfOk result (λ round. C.ready reader.new round.number) }
     ensures held { (F.outside files.new).held ≡ (F.outside files.old).held }
     ensures spoiled { (F.outside files.new).spoiled ≡ (F.outside files.old).spoiled }
+    ensures lost { IfErr result (λ _. (F.outside files.new).lost ≡ (F.outside files.old).lost) }
     ensures reads { IfOk result (λ round. ReadsOf (is_cut round.ending) (setup_of task.entry).run.input (F.outside files.old) (F.outside files.new)) }
 {
     let name = task.job.input.as_str();
@@ -199,6 +200,9 @@ fn put_and_read<F: Files, C: CaptureReader>(
     ensures read { IfOk result (HasRead (setup_of task.entry)
         (spot (C.stands reader.old) (C.left reader.old) (C.at reader.old)) (spot (C.stands reader.new) (C.left reader.new) (C.at reader.new))
         number (F.outside files.new).held (F.outside files.new).last) }
+    ensures past { Told (F.outside files.new).held (λ m. ReadsPast (setup_of task.entry).run.input
+        (spot (C.stands reader.old) (C.left reader.old) (C.at reader.old)) (spot (C.stands reader.new) (C.left reader.new) (C.at reader.new))
+        number (content m (setup_of task.entry).run.input) (F.outside files.old).lost (F.outside files.new).lost (F.outside files.new).last) }
     ensures ready { IfOk result (λ round. C.ready reader.new round.number) }
     ensures reads { IfOk result (λ round. ReadsOf (is_cut round.ending) (setup_of task.entry).run.input (F.outside files.old) (F.outside files.new)) }
     ensures others { Moves (F.outside files.old).held (F.outside files.new).held (OthersKept (setup_of task.entry).run) }
@@ -255,6 +259,9 @@ fn step<R: Threads + Wait + Sync, F: Files, C: CaptureReader, G: Gate + Sync>(
     ensures read { IfOk result (HasRead (setup_of task.entry)
         (spot (C.stands reader.old) (C.left reader.old) (C.at reader.old)) (spot (C.stands reader.new) (C.left reader.new) (C.at reader.new))
         round.now.number (F.outside files.new).held (F.outside files.new).last) }
+    ensures past { IfErr result (λ _. Told (F.outside files.new).held (λ m. ReadsPast (setup_of task.entry).run.input
+        (spot (C.stands reader.old) (C.left reader.old) (C.at reader.old)) (spot (C.stands reader.new) (C.left reader.new) (C.at reader.new))
+        round.now.number (content m (setup_of task.entry).run.input) (F.outside files.old).lost (F.outside files.new).lost (F.outside files.new).last)) }
     ensures ready { IfOk result (λ next. C.ready reader.new next.number) }
     ensures reads { IfOk result (λ next. ReadsOf (is_cut next.ending) (setup_of task.entry).run.input (F.outside files.old) (F.outside files.new)) }
     ensures others { Moves (F.outside files.old).held (F.outside files.new).held (OthersKept (setup_of task.entry).run) }
@@ -272,10 +279,13 @@ fn step<R: Threads + Wait + Sync, F: Files, C: CaptureReader, G: Gate + Sync>(
             × (IfOk result (HasRead (setup_of task.entry)
             (spot (C.stands reader.entry.now) (C.left reader.entry.now) (C.at reader.entry.now)) (spot (C.stands reader.exit.now) (C.left reader.exit.now) (C.at reader.exit.now))
             number (F.outside files.exit.now).held (F.outside files.exit.now).last)
+            × (Told (F.outside files.exit.now).held (λ m. ReadsPast (setup_of task.entry).run.input
+            (spot (C.stands reader.entry.now) (C.left reader.entry.now) (C.at reader.entry.now)) (spot (C.stands reader.exit.now) (C.left reader.exit.now) (C.at reader.exit.now))
+            number (content m (setup_of task.entry).run.input) (F.outside files.entry.now).lost (F.outside files.exit.now).lost (F.outside files.exit.now).last)
             × (IfOk result (λ next. C.ready reader.exit.now next.number)
             × (IfOk result (λ next. ReadsOf (is_cut next.ending) (setup_of task.entry).run.input (F.outside files.entry.now) (F.outside files.exit.now))
             × (Moves (F.outside files.entry.now).held (F.outside files.exit.now).held (OthersKept (setup_of task.entry).run)
-            × Rises (has_failed result) (F.outside files.entry.now).spoiled (F.outside files.exit.now).spoiled))))) }
+            × Rises (has_failed result) (F.outside files.entry.now).spoiled (F.outside files.exit.now).spoiled)))))) }
     { put_and_read(alloc, files, task, reader, pending, number, spare) };
     let beside = task.job.workers > 1;
     let (judged, next) = call_both(rt, beside, &mut judging, &mut outside);
@@ -349,7 +359,8 @@ pub fn run_records<R: Threads + Wait + Sync, F: Files, C: CaptureReader, G: Gate
     // Where they could not be written to their end.
     ensures broken { IfErr result (λ _. Moves (F.outside files.old).held (F.outside files.new).held (λ m n.
         Breaks (setup_of task.entry) shift.old.areas.plan shift.new.seat.known.actor.draws shift.new.desk.known.points
-        (mark m progress.old (seats_of shift.old) (spot (C.stands reader.old) (C.left reader.old) (C.at reader.old))) n)) }
+        (mark m progress.old (seats_of shift.old) (spot (C.stands reader.old) (C.left reader.old) (C.at reader.old))) n
+        (F.outside files.old).lost (F.outside files.new).lost (F.outside files.new).last)) }
 
     // Whatever came.
     ensures areas { shift.new.areas ≡ shift.old.areas }

@@ -1,10 +1,11 @@
 use Rattle.std.proofs.Common.{ℕ, Option, Some, refl, sym, ◌∙◌, [], append-nil, arith, subst}
-use Rattle.aftr_base.specs.Contents.{Contents, Moves}
+use Rattle.aftr_base.specs.Contents.{Contents, Moves, Told, content}
+use Rattle.aftr_base.specs.Outside.{Rises}
 use Rattle.capture_io.specs.Rounds.{is_cut}
 use Rattle.capture_io.specs.declared.rounds.Ending.{Ending}
 use Rattle.lwaftr_engine.specs.Progress.{ReadsOf, mark, seats_of, setup_of, spot}
 use Rattle.lwaftr_engine.specs.Runs.{OthersKept}
-use Rattle.lwaftr_engine.specs.Underway.{IsInHand, StandsBetween, unwritten}
+use Rattle.lwaftr_engine.specs.Underway.{IsInHand, ReadsPast, StandsBetween, unwritten}
 use Rattle.capture_io.specs.declared.rounds.Round.{Round}
 use Rattle.lwaftr_engine.specs.declared.rounds.Pending.{Pending}
 use Rattle.lwaftr_engine.proofs.Adding.{adds_more, adds_none, others_more, others_none, reads_on, same_plan}
@@ -24,7 +25,8 @@ returns-in_err-round-clause-broken g c =
     let x = setup_of c.args.task in
     let s = c.args.shift.now in
     if_err _ c.from_residual.result (not_begun x s.areas.plan s.seat.known.actor.draws c.args.progress.now (seats_of s) (seats_of s) []
-    (spot (r.stands c.args.reader.now) (r.left c.args.reader.now) (r.at c.args.reader.now)) (λ bytes number. c.some_left.ensures c.args.reader.now bytes number) c.requires.bounded.rate (sym (append-nil s.desk.known.points)) (omega (arith, c.requires.drawn)) c.requires.up_to_date
+    (spot (r.stands c.args.reader.now) (r.left c.args.reader.now) (r.at c.args.reader.now)) (λ bytes number. c.some_left.ensures c.args.reader.now bytes number) (sym (append-nil s.desk.known.points)) (omega (arith, c.requires.drawn)) c.requires.up_to_date
+    (f.outside c.args.files.now).lost (f.outside c.read_next.new.files).lost (f.outside c.read_next.new.files).last c.in_err-round.ensures.lost
     (f.outside c.args.files.now).held (f.outside c.read_next.new.files).held c.in_err-round.ensures.held)
 
 pub returns-in_err-round-clause-adds : goal.returns-in_err-round-clause-adds
@@ -41,7 +43,7 @@ rounds-init g c =
     let O : Option Contents → Type 0 = λ h. Moves h0 h (OthersKept x.run) in
     record {
       went = begin_rounds x (apart x.run c.requires.apart) s.areas.plan s.seat.known.actor.draws c.args.progress.now (seats_of s) (spot (r.stands c.args.reader.now) (r.left c.args.reader.now) (r.at c.args.reader.now))
-          (spot (r.stands c.read_next.new.reader) (r.left c.read_next.new.reader) (r.at c.read_next.new.reader)) c.args.room.pending c.in_ok-round.round (f.outside c.read_next.new.files).last c.requires.bounded.rate c.requires.nothing h0 h1
+          (spot (r.stands c.read_next.new.reader) (r.left c.read_next.new.reader) (r.at c.read_next.new.reader)) c.args.room.pending c.in_ok-round.round (f.outside c.read_next.new.files).last c.requires.nothing h0 h1
           c.in_ok-round.ensures.held c.in_ok-round.ensures.read;
       bounded = c.requires.bounded;
       ready = c.in_ok-round.ensures.ready;
@@ -65,11 +67,17 @@ returns-in_err-next-clause-broken g c =
     let t = c.rounds.shift in
     let u = c.step.new.shift in
     let joins : Joins = record { rounds = c.rounds_join.ensures; limits = c.limits_begin.ensures; lines = c.load_lines_join.ensures } in
+    let here = spot (r.stands c.rounds.reader) (r.left c.rounds.reader) (r.at c.rounds.reader) in
+    let now = spot (r.stands c.step.new.reader) (r.left c.step.new.reader) (r.at c.step.new.reader) in
+    let before = reads_on c.rounds.round.ending c.in_default.is x.run.input (f.outside c.args.files.now) (f.outside c.rounds.files) c.rounds.invariant.reads in
+    let L : ℕ → Type 0 = λ n. Told (f.outside c.step.new.files).held (λ m. ReadsPast x.run.input here now c.rounds.round.number (content m x.run.input) n (f.outside c.step.new.files).lost (f.outside c.step.new.files).last) in
     if_err _ c.from_residual-in_err-next.result (breaks_off joins x (apart x.run c.requires.apart) s.areas.plan t.seat.known.actor.draws c.in_err-next.ensures.duty.adds.drawn u.seat.known.actor.draws c.in_err-next.ensures.duty.adds.draws
     c.args.progress.now c.rounds.progress (seats_of s) (seats_of t) (seats_of u) (unwritten c.rounds.pending)
     (spot (r.stands c.args.reader.now) (r.left c.args.reader.now) (r.at c.args.reader.now)) (spot (r.stands c.rounds.reader) (r.left c.rounds.reader) (r.at c.rounds.reader)) c.rounds.round (f.outside c.rounds.files).last
-    c.in_err-next.ensures.duty.adds.news c.in_err-next.ensures.duty.adds.points c.in_err-next.ensures.drawn.few (told_by s.areas.plan u (same_plan s.areas u.areas (c.in_err-next.ensures.duty.areas ∙ c.rounds.invariant.same_areas)) c.in_err-next.ensures.drawn.up_to_date) (λ bytes number. c.some_left.ensures c.rounds.reader bytes number)
-    (f.outside c.args.files.now).held (f.outside c.rounds.files).held (f.outside c.step.new.files).held c.rounds.invariant.went c.in_err-next.ensures.begun)
+    c.in_err-next.ensures.duty.adds.news c.in_err-next.ensures.duty.adds.points c.in_err-next.ensures.drawn.few (told_by s.areas.plan u (same_plan s.areas u.areas (c.in_err-next.ensures.duty.areas ∙ c.rounds.invariant.same_areas)) c.in_err-next.ensures.drawn.up_to_date)
+    now (λ bytes number. c.some_left.ensures c.rounds.reader bytes number) (λ bytes number. c.some_left.ensures c.step.new.reader bytes number)
+    (f.outside c.args.files.now).lost (f.outside c.step.new.files).lost (f.outside c.step.new.files).last
+    (f.outside c.args.files.now).held (f.outside c.rounds.files).held (f.outside c.step.new.files).held (subst L before.1 c.in_err-next.ensures.past) c.rounds.invariant.went c.in_err-next.ensures.begun)
 
 pub returns-in_err-last_steps-clause-broken : goal.returns-in_err-last_steps-clause-broken
 returns-in_err-last_steps-clause-broken g c =
@@ -80,12 +88,13 @@ returns-in_err-last_steps-clause-broken g c =
     let t = c.rounds.shift in
     let u = c.last_steps.new.shift in
     let joins : Joins = record { rounds = c.rounds_join.ensures; limits = c.limits_begin.ensures; lines = c.load_lines_join.ensures } in
+    let L : ℕ → Type 0 = λ n. Rises (is_cut c.rounds.round.ending) (f.outside c.args.files.now).lost n in
     if_err _ c.from_residual-in_err-last_steps.result (last_broken joins x (apart x.run c.requires.apart) s.areas.plan t.seat.known.actor.draws c.in_err-last_steps.ensures.duty.adds.drawn u.seat.known.actor.draws c.in_err-last_steps.ensures.duty.adds.draws
     c.args.progress.now c.rounds.progress c.last_steps.new.progress (seats_of s) t u c.in_err-last_steps.ensures.duty.adds.news (unwritten c.rounds.pending) c.last_steps.new.made
     (spot (r.stands c.args.reader.now) (r.left c.args.reader.now) (r.at c.args.reader.now)) (spot (r.stands c.rounds.reader) (r.left c.rounds.reader) (r.at c.rounds.reader)) c.rounds.round (f.outside c.rounds.files).last
     c.in_err-last_steps.ensures.duty.adds.points c.in_err-last_steps.ensures.drawn.few (told_by s.areas.plan u (same_plan s.areas u.areas (c.in_err-last_steps.ensures.duty.areas ∙ c.rounds.invariant.same_areas)) c.in_err-last_steps.ensures.drawn.up_to_date) (λ bytes number. c.some_left.ensures c.rounds.reader bytes number)
+    (f.outside c.args.files.now).lost (f.outside c.last_steps.new.files).lost (f.outside c.last_steps.new.files).last c.in_err-last_steps.ensures.writes.last (subst L (sym c.in_err-last_steps.ensures.writes.lost) c.rounds.invariant.reads.lost)
     (λ well. judged_planned x s.areas.plan t.areas.plan u.seat.known.actor.draws c.rounds.progress c.last_steps.new.progress (seats_of t) (seats_of u) c.rounds.round.records c.last_steps.new.made (same_plan s.areas t.areas c.rounds.invariant.same_areas) well.judged)
-    (λ well. well.bounded.rate)
     (f.outside c.args.files.now).held (f.outside c.rounds.files).held (f.outside c.last_steps.new.files).held c.rounds.invariant.went c.in_err-last_steps.ensures.begun)
 
 pub returns-in-Some-clause-went : goal.returns-in-Some-clause-went
@@ -103,7 +112,7 @@ returns-in-Some-clause-went g c =
     (spot (r.stands c.args.reader.now) (r.left c.args.reader.now) (r.at c.args.reader.now)) (spot (r.stands c.rounds.reader) (r.left c.rounds.reader) (r.at c.rounds.reader)) c.rounds.round (f.outside c.rounds.files).last
     c.last_steps.new.progress c.last_steps.new.made (Some c.in-Some.ending) (f.outside c.last_steps.new.files).last
     (judged_planned x s.areas.plan t.areas.plan u.seat.known.actor.draws c.rounds.progress c.last_steps.new.progress (seats_of t) (seats_of u) c.rounds.round.records c.last_steps.new.made (same_plan s.areas t.areas c.rounds.invariant.same_areas) well.judged)
-    well.bounded.rate well.number c.in-Some.is c.in_ok-last_steps.ensures.writes.last
+    well.number c.in-Some.is c.in_ok-last_steps.ensures.writes.last
     (f.outside c.args.files.now).held (f.outside c.rounds.files).held (f.outside c.last_steps.new.files).held c.rounds.invariant.went c.in_ok-last_steps.ensures.wrote
 
 pub returns-in-Some-clause-reads : goal.returns-in-Some-clause-reads
@@ -144,7 +153,7 @@ rounds-preserved g c =
           c.args.progress.now c.rounds.progress (seats_of s) (seats_of t) (seats_of u) (unwritten c.rounds.pending) first here c.rounds.round (f.outside c.rounds.files).last
           c.step.new.progress c.step.new.made now next last
           (judged_planned x s.areas.plan t.areas.plan u.seat.known.actor.draws c.rounds.progress c.step.new.progress (seats_of t) (seats_of u) c.rounds.round.records c.step.new.made (same_plan s.areas t.areas c.rounds.invariant.same_areas) well.judged)
-          well.bounded.rate h0 h1 h2 c.in_ok-next.ensures.read c.rounds.invariant.went c.in_ok-next.ensures.wrote));
+          h0 h1 h2 c.in_ok-next.ensures.read c.rounds.invariant.went c.in_ok-next.ensures.wrote));
       bounded = well.bounded;
       ready = subst Y is c.in_ok-next.ensures.ready;
       drawn = well.drawn;

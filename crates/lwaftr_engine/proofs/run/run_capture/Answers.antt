@@ -1,7 +1,8 @@
-use Rattle.std.proofs.Common.{ℕ, Err, Some, Result, refl, ◌∙◌, ap, subst}
+use Rattle.std.proofs.Common.{ℕ, Err, Some, Result, refl, sym, ◌∙◌, ap, subst}
 use Rattle.std.proofs.lemmas.Result.{err_from_is_err_and}
 use Rattle.aftr_base.specs.Outside.{Rises}
 use Rattle.aftr_base.specs.declared.outside.Fault.{Fault}
+use Rattle.capture_io.specs.Rounds.{is_cut}
 use Rattle.capture_io.specs.declared.rounds.Ending.{Ending}
 use Rattle.lwaftr_engine.specs.Fronts.{is_failure, stop_by}
 use Rattle.lwaftr_engine.specs.Progress.{seats_of, setup_of, spot}
@@ -65,7 +66,7 @@ returns-in_err-open_outputs-clause-ended g c =
     let answer : Result Unit Fault = Err c.in_err-open_outputs.field-0.0 in
     let e = err_from_is_err_and c.from_residual-in_err-open_outputs.result c.from_residual-in_err-open_outputs.ensures.1 in
     ended_err x c.args.plan first c.from_residual-in_err-open_outputs.result why h0 h1 said said before after c.args.history.now (e.1 ∙ ap Err e.2) c.requires.none
-    (opening_broken (record { access = record { forwards = c.access.ensures.forwards; forbidden = c.access.ensures.forbidden; refused = c.access.ensures.refused; sends_on = c.access.ensures.sends_on; brings_in = c.access.ensures.brings_in; delivers = c.access.ensures.delivers; relays_own = c.access.ensures.relays_own; relays_all = c.access.ensures.relays_all; passes_on = c.access.ensures.passes_on }; limits = c.limits_are_some.ensures; totals = c.counts_are_totals.ensures; begins = c.limits_begin.ensures; joins = c.rounds_join.ensures }) x c.args.plan c.len.ensures.rules c.requires.errors first (stop_by why before after) (rises_by answer why before.spoiled after.spoiled refl c.in_err-open_outputs.ensures.writes.spoiled) said (λ bytes number. c.some_left.ensures c.args.reader.now bytes number) h0 h1
+    (opening_broken (record { access = record { forwards = c.access.ensures.forwards; forbidden = c.access.ensures.forbidden; refused = c.access.ensures.refused; sends_on = c.access.ensures.sends_on; brings_in = c.access.ensures.brings_in; delivers = c.access.ensures.delivers; relays_own = c.access.ensures.relays_own; relays_all = c.access.ensures.relays_all; passes_on = c.access.ensures.passes_on }; limits = c.limits_are_some.ensures; totals = c.counts_are_totals.ensures; begins = c.limits_begin.ensures; joins = c.rounds_join.ensures }) x c.args.plan c.len.ensures.rules c.requires.errors first (stop_by why before after) (rises_by answer why before.spoiled after.spoiled refl c.in_err-open_outputs.ensures.writes.spoiled) c.in_err-open_outputs.ensures.writes.lost said (λ bytes number. c.some_left.ensures c.args.reader.now bytes number) h0 h1
     c.in_err-open_outputs.ensures.half)
 
 pub returns-in_err-ending-clause-ended : goal.returns-in_err-ending-clause-ended
@@ -100,9 +101,9 @@ returns-in_err-ending-clause-ended g c =
       drawn = c.end_shift-closed.ensures.drawn;
       history = c.end_shift-closed.ensures.history;
     })
-    c.in_ok-progress.progress first c.in_ok-progress.ensures c.in_ok-shift.ensures.points c.requires.errors (stop_by why before after) rises said h0 h1 h2
+    c.in_ok-progress.progress first c.in_ok-progress.ensures c.in_ok-shift.ensures.points c.requires.errors (stop_by why before after) rises (f.outside c.open_outputs.new.files).lost c.in_ok-open_outputs.ensures.writes.lost said h0 h1 h2
     c.in_ok-open_outputs.ensures.opened
-    (broken_planned x c.args.plan s.areas.plan c.in_ok-shift.ensures.duty.its_plan u.seat.known.actor.draws u.desk.known.points c.in_ok-progress.progress (seats_of s) first h1 h2 c.in_err-ending.ensures.broken))
+    (broken_planned x c.args.plan s.areas.plan c.in_ok-shift.ensures.duty.its_plan u.seat.known.actor.draws u.desk.known.points c.in_ok-progress.progress (seats_of s) first (f.outside c.open_outputs.new.files).lost after.lost after.last h1 h2 c.in_err-ending.ensures.broken))
 
 pub returns-in_err-ending-clause-others : goal.returns-in_err-ending-clause-others
 returns-in_err-ending-clause-others g c =
@@ -131,6 +132,9 @@ returns-in_err-finish-clause-ended g c =
     let before = f.outside c.args.files.now in
     let after = f.outside c.finish.new.files in
     let why = c.in_err-finish.field-0.0 in
+    let cut = is_cut (Some c.in_ok-ending.ending) in
+    let K : ℕ → Type 0 = λ n. Rises cut (f.outside c.open_outputs.new.files).lost n in
+    let L : ℕ → Type 0 = λ n. Rises cut n after.lost in
     let e = err_from_is_err_and c.from_residual-in_err-finish.result c.from_residual-in_err-finish.ensures.1 in
     ended_err x c.args.plan first c.from_residual-in_err-finish.result why h0 h3 said now before after c.args.history.now (e.1 ∙ ap Err e.2) c.requires.none
     (finish_broken (record { access = record { forwards = c.access.ensures.forwards; forbidden = c.access.ensures.forbidden; refused = c.access.ensures.refused; sends_on = c.access.ensures.sends_on; brings_in = c.access.ensures.brings_in; delivers = c.access.ensures.delivers; relays_own = c.access.ensures.relays_own; relays_all = c.access.ensures.relays_all; passes_on = c.access.ensures.passes_on }; limits = c.limits_are_some.ensures; totals = c.counts_are_totals.ensures; begins = c.limits_begin.ensures; joins = c.rounds_join.ensures }) x far c.args.plan u.seat.known.actor.draws (seats_of s) (seats_of u) c.end_shift-closed.result (record {
@@ -152,7 +156,7 @@ returns-in_err-finish-clause-ended g c =
     c.in_ok-ending.ensures.settled c.in_ok-ending.ensures.duty.whole
     (closed_plan s.areas.plan u.areas.plan u.desk.known.plan c.args.plan c.in_ok-ending.ensures.duty.desk_areas.same_plan (same_plan s.areas u.areas c.in_ok-ending.ensures.areas) c.in_ok-shift.ensures.duty.its_plan)
     refl c.in_ok-ending.ensures.drawn)
-    c.in_ok-ending.ending last said now before after c.in_err-finish.ensures.last why c.points.result.now (c.points.ensures.points ∙ c.end_shift-closed.ensures.points)
+    c.in_ok-ending.ending last said now before after c.in_err-finish.ensures.last (subst L c.in_ok-open_outputs.ensures.writes.lost (subst K (sym c.in_err-finish.ensures.lost) c.in_ok-ending.ensures.reads.lost)) why c.points.result.now (c.points.ensures.points ∙ c.end_shift-closed.ensures.points)
     (f.outside c.run_records-taken.new.files).spoiled (c.in_ok-ending.ensures.spoiled ∙ c.in_ok-open_outputs.ensures.writes.spoiled) h0 h1 h2 h3
     c.in_ok-open_outputs.ensures.opened
     (as_planned x c.args.plan s.areas.plan c.in_ok-shift.ensures.duty.its_plan u.seat.known.actor.draws c.in_ok-progress.progress q (seats_of s) (seats_of u) first reader (Some c.in_ok-ending.ending) last h1 h2 c.in_ok-ending.ensures.went)
