@@ -3,9 +3,11 @@
 
 mod carried;
 mod forwarding;
+mod laws;
 mod pieces;
 mod rendering;
 mod replying;
 mod stamps;
 
+pub use laws::forwarded_is_sent;
 pub use rendering::{MOST_PACKETS, push_outgoing, push_packets};
