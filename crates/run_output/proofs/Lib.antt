@@ -2,7 +2,6 @@ mod CellLemmas
 mod CountLemmas
 mod CourseLemmas
 mod JoinLemmas
-mod LateLemmas
 mod LimitLemmas
 mod MarkLemmas
 mod OutLemmas

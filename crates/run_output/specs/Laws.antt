@@ -1,5 +1,5 @@
 -- What follows from the definitions for whoever runs rounds.
-use Rattle.std.specs.Prelude.{◌≡◌, ◌↔◌, ℕ, ◌+◌, ◌<◌, ◌≤◌, List, ◌++◌, length, take, Option, None}
+use Rattle.std.specs.Prelude.{◌≡◌, ℕ, ◌+◌, ◌≤◌, List, ◌++◌, length, take, Option}
 use Rattle.aftr_text.specs.declared.summaries.Totals.{Totals}
 use Rattle.capture_io.specs.declared.forms.Form.{Form}
 use Rattle.capture_io.specs.declared.forms.Rec.{Rec}
@@ -10,9 +10,7 @@ use Rattle.item_stage.specs.declared.entries.Entry.{Entry}
 use Rattle.run_output.specs.Counting.{no_totals, totals_from, with_version}
 use Rattle.run_output.specs.Limiting.{HasAsked, IsLimited, rate_of}
 use Rattle.run_output.specs.Outputs.{Course, lines_from, packets_from, totals_of}
-use Rattle.run_output.specs.Versions.{NamedSlot, between, load_lines, point_of}
-use Rattle.swap_core.specs.Plans.{IsPlan, Tables, window}
-use Rattle.swap_core.specs.Points.{AreAllPoints}
+use Rattle.run_output.specs.Versions.{NamedSlot, between, load_lines}
 
 -- the limit of a run keeps back the same errors of its first records, whatever comes behind them
 abbrev pub LimitsBegin : Type 0
@@ -59,10 +57,3 @@ abbrev pub LoadLinesJoin : Type 0
 LoadLinesJoin =
     (points : List ℕ) (loads : List NamedSlot) (from to : ℕ) → from ≤ to →
     load_lines points (take from loads) ++ load_lines points (between from to loads) ≡ load_lines points (take to loads)
-
--- In a run of so many records whose points are all there, the tables that did not come into force are those whose windows open
--- behind the last record: the lines of just these say that they were not reached.
-abbrev pub LateIsNotReached : Type 0
-LateIsNotReached =
-    (p : Tables) → IsPlan p → (points : List ℕ) (records : ℕ) → AreAllPoints p.windows points records →
-    (version : ℕ) → 1 ≤ version → version ≤ length p.windows → (point_of points version ≡ None) ↔ (records < (window p version).earliest)

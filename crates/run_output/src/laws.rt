@@ -1,5 +1,5 @@
 // What follows from the definitions for whoever runs rounds, as laws: nothing is done here.
-ghost use Rattle.run_output.specs.Laws.{CountsAreTotals, LateIsNotReached, LimitsAreSome, LimitsBegin, LoadLinesJoin, RoundsJoin};
+ghost use Rattle.run_output.specs.Laws.{CountsAreTotals, LimitsAreSome, LimitsBegin, LoadLinesJoin, RoundsJoin};
 
 /// The limit keeps back the same errors of a run's first records, whatever comes behind them.
 pub fn limits_begin()
@@ -24,9 +24,4 @@ pub fn counts_are_totals()
 /// The lines of the first loads, and those of the next ones.
 pub fn load_lines_join()
     ensures { LoadLinesJoin }
-{}
-
-/// The tables that did not come into force are those whose windows open behind the last record.
-pub fn late_is_not_reached()
-    ensures { LateIsNotReached }
 {}

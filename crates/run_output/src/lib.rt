@@ -11,10 +11,7 @@ mod rendering;
 mod rounds;
 mod versions;
 
-pub use laws::{
-    counts_are_totals, late_is_not_reached, limits_are_some, limits_begin, load_lines_join,
-    rounds_join,
-};
+pub use laws::{counts_are_totals, limits_are_some, limits_begin, load_lines_join, rounds_join};
 pub use limits::new_limit;
 pub use lines::push_ended_lines;
 pub use parts::{Part, Rendered};
