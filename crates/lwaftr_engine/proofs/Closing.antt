@@ -19,6 +19,8 @@ use Rattle.lwaftr_engine.specs.Opened.{IsOpened}
 use Rattle.lwaftr_engine.specs.Progress.{HasWritten, IsLimitedRun, Mark, Seats, Setup, Spot, Suits, Wrote, loads_of, mark}
 use Rattle.lwaftr_engine.specs.Runs.{HasAccess, IsCourse, IsHistoryOf, IsPlanOf, IsWritten, all_asking}
 use Rattle.lwaftr_engine.specs.declared.rounds.Progress.{Progress}
+use Rattle.packet_render.specs.Counted.{Sends}
+use Rattle.packet_render.specs.Sent.{sent}
 use Rattle.reload_plan.specs.declared.loads.Slot.{Slot}
 use Rattle.reload_plan.specs.declared.loads.Slot.TheVariants as slot
 use Rattle.run_output.specs.Counting.{no_totals, totals_from, with_version}
@@ -31,7 +33,9 @@ use Rattle.swap_core.specs.Points.{AreAllPoints, in_force}
 use Rattle.swap_core.specs.declared.plan.Window.{Window}
 use Rattle.table_words.specs.Layout.{IsCompiled}
 use Rattle.verdict_core.specs.Access.{BringsIn, Delivers, Forbidden, Forwards, PassesOn, Refused, RelaysAll, RelaysOwn, SendsOn}
+use Rattle.verdict_core.specs.Fitting.{Fits, HasRoom}
 use Rattle.verdict_core.specs.Verdicts.{verdict_of}
+use Rattle.verdict_core.specs.declared.verdicts.Verdict.{Verdict}
 use Rattle.lwaftr_engine.proofs.Apart.{AreFilesApart}
 
 -- what holds of every verdict: who may send, who receives, whom errors reach, and why a packet is dropped
@@ -45,6 +49,13 @@ pub record AllAccess : Type 0 where
   pub relays_own : (t : BindingTable) (i : Item) → IsLawful t → RelaysOwn t i (verdict_of t i)
   pub relays_all : (t : BindingTable) (i : Item) → IsLawful t → RelaysAll t i (verdict_of t i)
   pub passes_on : (t : BindingTable) (i : Item) → IsLawful t → PassesOn t i (verdict_of t i)
+  pub sends : (t : BindingTable) (i : Item) → IsLawful t → (number : ℕ) → Sends (verdict_of t i) (length (sent i (verdict_of t i) number))
+
+-- every verdict of a lawful table fits its item, and so it is sent
+pub all_sent : ((t : BindingTable) (i : Item) → IsLawful t → Fits i (verdict_of t i)) → ((t : BindingTable) (i : Item) → IsLawful t → HasRoom (verdict_of t i)) →
+    ((i : Item) (v : Verdict) (number : ℕ) → Fits i v → HasRoom v → Sends v (length (sent i v number))) →
+    (t : BindingTable) (i : Item) → IsLawful t → (number : ℕ) → Sends (verdict_of t i) (length (sent i (verdict_of t i) number))
+all_sent fits room law t i lawful number = law i (verdict_of t i) number (fits t i lawful) (room t i lawful)
 
 pub record EndLaws : Type 0 where
   pub access : AllAccess
@@ -135,6 +146,7 @@ module _ (laws : EndLaws) (x : Setup) (tables : ℕ → BindingTable) (windows :
         relays_own = laws.access.relays_own (c.tables (c.version number)) i good;
         relays_all = laws.access.relays_all (c.tables (c.version number)) i good;
         passes_on = laws.access.passes_on (c.tables (c.version number)) i good;
+        sends = laws.access.sends (c.tables (c.version number)) i good;
       }
 
   pub with_limit : (opened : Contents) (m : Mark) (rs : List Rec) → rate_of m.progress.limit ≡ x.run.errors → ((c : Course) → Suits plan draws c → HasWritten x c opened m rs) →

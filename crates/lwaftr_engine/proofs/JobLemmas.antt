@@ -2,11 +2,11 @@
 use Rattle.std.proofs.Common.{◌≡◌, ℕ, ◌<◌, nat_lt, Bool, true, false, not, List, [], ◌∷◌, ◌++◌, length, Option, Some, None, Result, Ok, Err, inl, inr, refl, sym, ◌∙◌, ap, subst, arith}
 use Rattle.aftr_base.specs.Contents.{Contents, content, Moves, Told}
 use Rattle.aftr_base.specs.Outside.{FailsAt, Outside, Rises, has_failed}
-use Rattle.std.specs.Prelude.{IfOk, IsSome}
+use Rattle.std.specs.Prelude.{IfOk, IsSome, OnOk}
 use Rattle.capture_io.specs.Rounds.{is_cut}
 use Rattle.lwaftr_engine.specs.Causes.{FailsIn, HasCause}
 use Rattle.lwaftr_engine.specs.Finishing.{HasHistoryBy}
-use Rattle.lwaftr_engine.specs.Promises.{HasHistory}
+use Rattle.lwaftr_engine.specs.Promises.{GoesWithSummary, HasHistory, TookSummary}
 use Rattle.lwaftr_engine.specs.Worlds.{World}
 use Rattle.aftr_base.specs.declared.outside.Fault.{Fault}
 use Rattle.aftr_base.specs.declared.outside.Fault.TheVariants as fault
@@ -154,19 +154,24 @@ module _ (x : Setup) (tables : ℕ → BindingTable) (windows : List Window) (re
   leaves_by (Err fault.OutOfMemory) refused is (inl same, none) = inl (record { files = same.0; sink = same.1; none = none })
   leaves_by (Err fault.OutOfMemory) refused is (inr ran, none) = inr ((λ slots_of. broken fault.OutOfMemory (ran slots_of)), none)
 
-has_history_done : (refused : Bool) (history : Option HistoryValue) → IsSome history → HasHistory (ended_status (Ok ending.End) refused) history
-has_history_done true history some = some
-has_history_done false history some = some
+has_history_done : (refused : Bool) (said now : Option (List ℕ)) (history : Option HistoryValue) → IsSome history → TookSummary said now → HasHistory (ended_status (Ok ending.End) refused) said now history
+has_history_done true said now history some took = (some, took)
+has_history_done false said now history some took = (some, took)
 
-pub has_history : (ended : Result Ending Fault) (refused : Bool) (result : Status) (history : Option HistoryValue) → result ≡ ended_status ended refused → HasHistoryBy ended history → HasHistory result history
-has_history ended refused result history is by =
-    let H : Status → Type 0 = λ s. HasHistory s history in subst H (sym is) (by_end ended by) where
-      by_end : (ended : Result Ending Fault) → HasHistoryBy ended history → HasHistory (ended_status ended refused) history
-      by_end (Ok ending.End) some = has_history_done refused history some
-      by_end (Ok (ending.Bad refusal)) some = tt
-      by_end (Ok ending.ReadFault) some = tt
-      by_end (Err fault.Failed) none = none
-      by_end (Err fault.OutOfMemory) none = none
+with_summary : (said now : Option (List ℕ)) (history : Option HistoryValue) → IsSome history → TookSummary said now → GoesWithSummary said now history
+with_summary said now (Some history) some took = took
+with_summary said now None some took = absurd (cc some)
+
+pub has_history : (ended : Result Ending Fault) (refused : Bool) (result : Status) (said now : Option (List ℕ)) (history : Option HistoryValue) → result ≡ ended_status ended refused → HasHistoryBy ended history →
+    OnOk ended (TookSummary said now) → HasHistory result said now history
+has_history ended refused result said now history is by took =
+    let H : Status → Type 0 = λ s. HasHistory s said now history in subst H (sym is) (by_end ended by took) where
+      by_end : (ended : Result Ending Fault) → HasHistoryBy ended history → OnOk ended (TookSummary said now) → HasHistory (ended_status ended refused) said now history
+      by_end (Ok ending.End) some took = has_history_done refused said now history some took
+      by_end (Ok (ending.Bad refusal)) some took = with_summary said now history some took
+      by_end (Ok ending.ReadFault) some took = with_summary said now history some took
+      by_end (Err fault.Failed) none took = none
+      by_end (Err fault.OutOfMemory) none took = none
 
 -- why it ended so
 ended_cause_by : (ended : Result Ending Fault) (refused : Bool) (before now : World) → ((e : Ending) → ended ≡ Ok e → Rises (is_cut (Some e)) before.files.faults now.files.faults × Rises (is_cut (Some e)) before.files.lost now.files.lost) → OneRises (has_failed ended) before.files.spoiled now.files.spoiled before.puts now.puts → HasCause (ended_status ended refused) before now
@@ -175,7 +180,7 @@ ended_cause_by (Ok ending.End) false before now reads writes = let r = reads end
 ended_cause_by (Ok (ending.Bad refusal)) refused before now reads writes = let r = reads (ending.Bad refusal) refl in record { lost = r.1; spoiled = writes.0; faults = r.0; puts = writes.1 }
 ended_cause_by (Ok ending.ReadFault) refused before now reads writes = let r = reads ending.ReadFault refl in record { lost = r.1; spoiled = writes.0; puts = writes.1 }
 ended_cause_by (Err fault.Failed) refused before now reads writes = writes
-ended_cause_by (Err fault.OutOfMemory) refused before now reads writes = tt
+ended_cause_by (Err fault.OutOfMemory) refused before now reads writes = record { spoiled = writes.0; puts = writes.1 }
 
 pub ended_cause : (name : List ℕ) (ended : Result Ending Fault) (refused : Bool) (result : Status) (before now : World) → result ≡ ended_status ended refused →
     IfOk ended (λ e. ReadsOf (is_cut (Some e)) name before.files now.files) → OneRises (has_failed ended) before.files.spoiled now.files.spoiled before.puts now.puts → HasCause result before now
@@ -220,7 +225,7 @@ classic_end header (Ok form) e = cc e
 classic_end header (Err refusal) e = absurd (cc e)
 
 pub early_classic : (name bytes : List ℕ) (old last : Option (List ℕ × ℕ)) → false ≡ blocks.is_pcapng bytes → FailsAt true name (λ place. place < 24) old last → IsEarly name bytes last
-early_classic name bytes old last kind failed = λ header place sound last_is few has_end behind.
+early_classic name bytes old last kind failed = λ header place sound last_is has_end behind.
     let H : Bool → Type 0 = λ b. header_by b bytes ≡ Ok header in
     let end : header.ends_at ≡ 24 = classic_end header (classic_header.header_in bytes) (subst H (sym kind) sound) in
     absurd (omega (arith, failed.1, behind, end, same_place name failed.0 place last failed.2 last_is))
@@ -234,7 +239,7 @@ ends_behind place end [] has_end behind = absurd (cc has_end)
 ends_behind place end (interface ∷ interfaces) has_end behind = behind
 
 pub early_blocks : (m : Contents) (name : List ℕ) (old last : Option (List ℕ × ℕ)) → true ≡ blocks.is_pcapng (content m name) → FailsAt true name (IsInHeader (Some m) name) old last → IsEarly name (content m name) last
-early_blocks m name old last kind failed = λ header place sound last_is few has_end behind.
+early_blocks m name old last kind failed = λ header place sound last_is has_end behind.
     let H : Bool → Type 0 = λ b. header_by b (content m name) ≡ Ok header in
     let found = blocks_header header (blocks.header_in (content m name)) (subst H (sym kind) sound) in
     let inside : failed.0 < found.0.known.at = ends_behind failed.0 found.0.known.at found.0.interfaces (sym (ap (λ (h : Header). h.has_end) found.2) ∙ has_end) (failed.1 found.0 found.1) in

@@ -85,7 +85,7 @@ module _ (run : RunJob) (t : BindingTable) (ls : List Load) (made : Made) (of : 
   by_status status.ReadFault (inl cut) same = inl (record { first = t; answers = answers_of old run.loads ls read.loads; tables = tables; cut = cut })
   by_status status.ReadFault (inr early) same = inr (record {
     kept = early.1;
-    early = λ r. early.0 r.header r.place r.sound r.last_is r.behind.0 r.behind.1.0 r.behind.1.1;
+    early = λ r. early.0 r.header r.place r.sound r.last_is r.has_end r.behind;
     behind_table = λ name place last_is apart. (t, read.table);
   })
   by_status status.WriteFault left same = record { first = t; answers = answers_of old run.loads ls read.loads; tables = tables; broken = left.0 slots_of; none = left.1 }

@@ -29,12 +29,14 @@ mod Moving
 mod OpenLemmas
 mod PlanLemmas
 mod Prepared
+mod PromptLemmas
 mod QueryLemmas
 mod RoundLemmas
 mod RunLemmas
 mod ShowLemmas
 mod Showing
 mod Steps
+mod SummaryLemmas
 mod Telling
 mod TopLemmas
 mod UnderwayLemmas

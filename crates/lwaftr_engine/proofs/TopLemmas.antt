@@ -1,5 +1,5 @@
 -- The one job that the words ask for.
-use Rattle.std.proofs.Common.{◌≡◌, ℕ, List, [], ◌∷◌, sym, ◌∙◌, subst}
+use Rattle.std.proofs.Common.{◌≡◌, ◌≤◌, ℕ, List, [], ◌∷◌, sym, ◌∙◌, subst}
 use Rattle.aftr_text.specs.Jobs.{AreWorkers, AsksRun, Asks, IsLimit, IsRate, IsWorkers}
 use Rattle.aftr_text.specs.Parts.{Parts}
 use Rattle.aftr_text.specs.declared.jobs.Job.{Job}
@@ -57,3 +57,7 @@ only_migrate words job i o shown_i shown_o is i_is o_is only P kept input output
     let A : List ℕ → Type 0 = λ q. P q shown_o in
     let B : List ℕ → Type 0 = λ q. P input q in
     subst B (o_is ∙ sym same.1) (subst A (i_is ∙ sym same.0) kept)
+
+pub demo_asked : (words : List (List ℕ)) (seed count workers : ℕ) → Asks words (asked.Demo seed count workers) → ((1 ≤ count) × (count ≤ 1000000)) × IsWorkers workers
+demo_asked [] seed count workers asks = absurd asks
+demo_asked (command ∷ rest) seed count workers asks = (asks.2.1.counted, asks.2.1.worked)

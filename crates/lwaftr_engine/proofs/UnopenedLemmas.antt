@@ -10,6 +10,7 @@ use Rattle.capture_io.specs.declared.forms.CaptureError.{CaptureError}
 use Rattle.capture_io.specs.declared.forms.CaptureError.TheVariants as failure
 use Rattle.lwaftr_engine.specs.Inputs.{header_by, header_of, in_blocks, in_classic}
 use Rattle.lwaftr_engine.specs.Planned.{IsEarly, LeavesMade, unopened_status}
+use Rattle.lwaftr_engine.specs.Promises.{HasHistory}
 use Rattle.lwaftr_engine.specs.Runs.{OthersKept}
 use Rattle.lwaftr_engine.specs.declared.status.Status.{Status}
 use Rattle.pcapng_io.specs.Answers.{IsInHeader}
@@ -79,6 +80,18 @@ unopened_leaves run plan slots error result h0 h1 said before after history is n
     let N : Option HistoryValue → Type 0 = λ k. Moves h0 h1 (λ m n. LeavesMade run plan slots (unopened_status error) m n said said before after k) in
     let H : Option Contents → Type 0 = λ h. Moves h0 h (λ m n. LeavesMade run plan slots (unopened_status error) m n said said before after None) in
     subst S (sym is) (subst N (sym none) (subst H (sym same) (by_held run plan slots error h0 said before after why)))
+
+history_by_error : (error : CaptureError) (said : Option (List ℕ)) → HasHistory (unopened_status error) said said None
+history_by_error (failure.Bad refusal) said = refl
+history_by_error failure.ReadFault said = refl
+history_by_error failure.OutOfMemory said = refl
+
+-- where the capture is not opened there is no history
+pub unopened_history : (error : CaptureError) (result : Status) (said : Option (List ℕ)) (history : Option HistoryValue) → result ≡ unopened_status error → history ≡ None → HasHistory result said said history
+unopened_history error result said history is none =
+    let S : Status → Type 0 = λ s. HasHistory s said said history in
+    let N : Option HistoryValue → Type 0 = λ k. HasHistory (unopened_status error) said said k in
+    subst S (sym is) (subst N (sym none) (history_by_error error said))
 
 pub others_same : (run : RunJob) (h0 h1 : Option Contents) → h1 ≡ h0 → Moves h0 h1 (OthersKept run)
 others_same run h0 h1 same =

@@ -19,13 +19,23 @@ pub record ReadsRose (before now : World) : Type 0 where
   pub spoiled : now.files.spoiled ≡ before.files.spoiled
   pub puts : now.puts ≡ before.puts
 
+-- nothing failed but reads
+pub record NoneOfWritingRose (before now : World) : Type 0 where
+  pub spoiled : now.files.spoiled ≡ before.files.spoiled
+  pub puts : now.puts ≡ before.puts
+
 -- `ReadFault` comes only where a read failed in this call and nothing else did, `WriteFault` only where a create, an append or a
--- put failed, and at every other status but want of memory nothing failed.
+-- put failed, and at every other status nothing failed; but memory may be short behind a read of a run's records that failed.
 abbrev pub HasCause : Status → World → World → Type 0
 HasCause status.ReadFault before now = ReadsRose before now
 HasCause status.WriteFault before now = Rose before.files.spoiled now.files.spoiled ⊎ Rose before.puts now.puts
-HasCause status.OutOfMemory before now = Unit {0}
+HasCause status.OutOfMemory before now = NoneOfWritingRose before now
 HasCause _ before now = NothingRose before now
+
+-- the same where nothing is done behind a read that failed: at want of memory nothing failed
+abbrev pub HasOneCause : Status → World → World → Type 0
+HasOneCause status.OutOfMemory before now = NothingRose before now
+HasOneCause s before now = HasCause s before now
 
 -- nothing failed of reads, of creates and appends, and of puts
 pub record NothingFailed (before now : World) : Type 0 where

@@ -4,7 +4,7 @@ use Rattle.aftr_text.specs.Lines.{summary_text}
 use Rattle.area_swap.specs.Histories.{HistoryValue}
 use Rattle.binding_rules.specs.Tables.{BindingTable}
 use Rattle.capture_io.specs.declared.forms.Rec.{Rec}
-use Rattle.lwaftr_engine.specs.Causes.{HasCause}
+use Rattle.lwaftr_engine.specs.Causes.{HasOneCause}
 use Rattle.lwaftr_engine.specs.Inputs.{Header, IsInput}
 use Rattle.lwaftr_engine.specs.Questions.{Answers}
 use Rattle.lwaftr_engine.specs.Runs.{IsCourse, IsHistoryOf}
@@ -51,6 +51,6 @@ HasDemoHistory seed count _ history = history ≡ None
 pub record KeepsDemo (seed count : ℕ) (result : Status) (before now : World) (history : Option HistoryValue) : Type 0 where
   pub kept : now.files ≡ before.files
   pub line : Answers (IsDemoLine seed count) result before.said now.said
-  pub cause : HasCause result before now
+  pub cause : HasOneCause result before now
   pub due : (result ≡ status.Done) ⊎ ((result ≡ status.WriteFault) ⊎ (result ≡ status.OutOfMemory))
   pub history_is : HasDemoHistory seed count result history

@@ -72,13 +72,14 @@ pub record IsUntouched (old new : Contents) (said now : Option (List ℕ)) (hist
   pub none : history ≡ None
 
 -- The read that failed is one of a record, and of nothing else: the last place is one of the capture behind its header, the header
--- is sound, and no table is read from the capture's file. (The first four bytes tell which kind of file it is.)
+-- is sound, and no table is read from the capture's file.
 pub record IsInRecords (run : RunJob) (old : Contents) (last : Option (List ℕ × ℕ)) : Type 0 where
   pub header : Header
   pub sound : header_of (content old run.input) ≡ Ok header
   pub place : ℕ
   pub last_is : last ≡ Some (run.input, place)
-  pub behind : (4 ≤ place) × ((header.has_end ≡ true) × (header.ends_at ≤ place))
+  pub has_end : header.has_end ≡ true
+  pub behind : header.ends_at ≤ place
   pub apart : Contains (table_names run) run.input → ⊥
 
 -- The first table is read before all else: where the read that failed is one of another file, the first table is accepted.

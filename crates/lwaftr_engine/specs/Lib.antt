@@ -1,5 +1,5 @@
--- The promises of the program's call stand in Promises, Questions, Migrations and Demos, over Causes, Endings, Fronts, Inputs, Runs,
--- Statuses, Tables and Worlds. What stands in Answered, Broken, Ended, Finishing, Loads, Opened, Planned, Progress, Rounds, Shows and Underway is
+-- The promises of the program's calls stand in Promises, Questions, Migrations, Demos and Prompt, over Causes, Endings, Fronts, Inputs,
+-- Runs, Statuses, Tables and Worlds. What stands in Answered, Broken, Ended, Finishing, Loads, Opened, Planned, Progress, Rounds, Shows and Underway is
 -- for the parts of the engine alone.
 pub mod Causes
 pub mod Demos
@@ -8,6 +8,7 @@ pub mod Fronts
 pub mod Inputs
 pub mod Migrations
 pub mod Promises
+pub mod Prompt
 pub mod Questions
 pub mod Runs
 pub mod Statuses

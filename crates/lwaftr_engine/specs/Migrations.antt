@@ -8,7 +8,7 @@ use Rattle.area_swap.specs.Histories.{HistoryValue}
 use Rattle.binding_file.specs.Files.{TableOf, TextOf}
 use Rattle.binding_rules.specs.Tables.{BindingTable, binding_table}
 use Rattle.binding_rules.specs.declared.settings.Edition.TheVariants as edition
-use Rattle.lwaftr_engine.specs.Causes.{HasCause}
+use Rattle.lwaftr_engine.specs.Causes.{HasOneCause}
 use Rattle.lwaftr_engine.specs.Questions.{Answers, FailedIn, IsComplete, RefusesAs}
 use Rattle.lwaftr_engine.specs.Worlds.{World}
 use Rattle.lwaftr_engine.specs.declared.status.Status.{Status}
@@ -73,7 +73,7 @@ pub record KeepsMigration (input output : List ℕ) (result : Status) (before no
   pub files : Moves before.files.held now.files.held (LeavesMigrated input output result before now)
   pub line : Answers IsMigratedLine result before.said now.said
   pub refused : Told before.files.held (λ m. RefusesAs (content m input) result)
-  pub cause : HasCause result before now
+  pub cause : HasOneCause result before now
   pub failed_read : FailedIn input result before.files.last now.files.last
   pub complete : Told before.files.held (λ m. IsComplete (content m input) result before now)
   pub none : history ≡ None

@@ -81,7 +81,7 @@ pub record IsAtFirst (reader : Spot) (form : Form) (written : Written) (bytes : 
 
 -- a read of the capture's file failed, but not one of a record
 abbrev pub IsEarly : List ℕ → List ℕ → Option (List ℕ × ℕ) → Type 0
-IsEarly name bytes last = (header : Header) (place : ℕ) → header_of bytes ≡ Ok header → last ≡ Some (name, place) → 4 ≤ place → header.has_end ≡ true → header.ends_at ≤ place → ⊥
+IsEarly name bytes last = (header : Header) (place : ℕ) → header_of bytes ≡ Ok header → last ≡ Some (name, place) → header.has_end ≡ true → header.ends_at ≤ place → ⊥
 
 -- what a run leaves under tables that were read, by its status
 abbrev pub LeavesBy : RunJob → (ℕ → BindingTable) → List Window → List Slot → Status → Contents → Contents → Option (List ℕ) → Option (List ℕ) → Outside → Outside → Option HistoryValue → Type 0

@@ -1,9 +1,12 @@
 -- The promises of the program's call on a run.
 use Rattle.std.specs.Prelude.{◌≡◌, ◌⊎◌, ℕ, Bool, true, false, List, [], ◌∷◌, ◌++◌, Option, Some, None, IsSome, Ok, Err}
+use Rattle.std.specs.Option.{option_map}
 use Rattle.aftr_base.specs.Contents.{Contents, content, Moves, Told}
 use Rattle.aftr_base.specs.Outside.{Outside}
 use Rattle.aftr_base.specs.declared.outside.Fault.TheVariants as fault
+use Rattle.aftr_text.specs.Lines.{summary_text}
 use Rattle.aftr_text.specs.declared.jobs.RunJob.{RunJob}
+use Rattle.aftr_text.specs.declared.summaries.Totals.{Totals}
 use Rattle.area_swap.specs.Histories.{HistoryValue}
 use Rattle.binding_file.specs.Files.{TableOf}
 use Rattle.binding_rules.specs.Tables.{BindingTable}
@@ -57,15 +60,26 @@ IsAskedFor run m status.Done = AsksDone run m false
 IsAskedFor run m status.DoneRefused = AsksDone run m true
 IsAskedFor run m _ = ⊥
 
--- Whatever is told, the history is there where all was done, and is not where nothing came into force or a fault ended the run. A run
--- does not end with `Usage`.
-abbrev pub HasHistory : Status → Option HistoryValue → Type 0
-HasHistory status.Done history = IsSome history
-HasHistory status.DoneRefused history = IsSome history
-HasHistory (status.BadCapture refusal) history = Unit {0}
-HasHistory status.ReadFault history = Unit {0}
-HasHistory status.Usage history = ⊥
-HasHistory _ history = history ≡ None
+-- the sink took a summary
+abbrev pub TookSummary : Option (List ℕ) → Option (List ℕ) → Type 0
+TookSummary said now = (totals : Totals) × (now ≡ option_map (λ taken. taken ++ summary_text totals) said)
+
+-- a history goes with a summary: the sink took one where there is a history, and nothing where there is none
+abbrev pub GoesWithSummary : Option (List ℕ) → Option (List ℕ) → Option HistoryValue → Type 0
+GoesWithSummary said now (Some history) = TookSummary said now
+GoesWithSummary said now None = now ≡ said
+
+-- Whatever the files tell, the history is there where all was done, and is not where nothing came into force or a fault of writing
+-- or want of memory ended the run. Where the capture is refused or a read failed, it is there exactly where the sink took the
+-- summary of the records before that. A run does not end with `Usage`.
+abbrev pub HasHistory : Status → Option (List ℕ) → Option (List ℕ) → Option HistoryValue → Type 0
+HasHistory status.Done said now history = IsSome history × TookSummary said now
+HasHistory status.DoneRefused said now history = IsSome history × TookSummary said now
+HasHistory (status.BadCapture refusal) said now history = GoesWithSummary said now history
+HasHistory status.ReadFault said now history = GoesWithSummary said now history
+HasHistory (status.BadTable refusal) said now history = (history ≡ None) × (now ≡ said)
+HasHistory status.Usage said now history = ⊥
+HasHistory _ said now history = history ≡ None
 
 -- a run, and what it leaves
 pub record KeepsRun (run : RunJob) (result : Status) (before now : World) (history : Option HistoryValue) : Type 0 where
@@ -77,4 +91,4 @@ pub record KeepsRun (run : RunJob) (result : Status) (before now : World) (histo
   pub due : Told before.files.held (λ m. (s : Status) → IsAskedFor run m s → (result ≡ s) ⊎ IsFault result)
   pub cause : HasCause result before now
   pub failed_read : FailsIn (table_names run ++ run.input ∷ []) result before.files.last now.files.last
-  pub has_history : HasHistory result history
+  pub has_history : HasHistory result before.said now.said history

@@ -12,7 +12,7 @@ use Rattle.binding_rules.specs.Bindings.{bound}
 use Rattle.binding_rules.specs.Tables.{BindingTable, IsValid}
 use Rattle.binding_rules.specs.declared.binding.Binding.{Binding}
 use Rattle.binding_rules.specs.declared.binding.Want.TheVariants as want
-use Rattle.lwaftr_engine.specs.Causes.{HasCause, NothingFailed}
+use Rattle.lwaftr_engine.specs.Causes.{HasOneCause, NothingFailed}
 use Rattle.lwaftr_engine.specs.Worlds.{World}
 use Rattle.lwaftr_engine.specs.declared.status.Status.{Status}
 use Rattle.lwaftr_engine.specs.declared.status.Status.TheVariants as status
@@ -85,7 +85,7 @@ pub record KeepsQuestion (Asks : BindingTable → List ℕ → Type 0) (name : L
   pub kept : now.files.held ≡ before.files.held
   pub line : Answers (λ line. IsLineOf Asks before.files.held name line) result before.said now.said
   pub refused : Told before.files.held (λ m. RefusesAs (content m name) result)
-  pub cause : HasCause result before now
+  pub cause : HasOneCause result before now
   pub failed_read : FailedIn name result before.files.last now.files.last
   pub complete : Told before.files.held (λ m. IsComplete (content m name) result before now)
   pub none : history ≡ None

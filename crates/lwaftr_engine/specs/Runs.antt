@@ -11,6 +11,8 @@ use Rattle.ip_codec.specs.declared.items.Item.{Item}
 use Rattle.item_stage.specs.Items.{entries_of, items_in}
 use Rattle.capture_io.specs.declared.forms.Form.{Form}
 use Rattle.capture_io.specs.declared.written.Written.{Written}
+use Rattle.packet_render.specs.Counted.{Sends}
+use Rattle.packet_render.specs.Sent.{sent}
 use Rattle.reload_plan.specs.declared.loads.Slot.{Slot}
 use Rattle.run_output.specs.Limiting.{IsLimited}
 use Rattle.run_output.specs.Outputs.{Course, output_of, totals_of, verdict_at, verdicts_of}
@@ -38,7 +40,8 @@ pub record IsWritten (run : RunJob) (slots : List Slot) (c : Course) (points : L
 -- A subscriber's packet is forwarded exactly where its tunnel address, IPv4 address and port stand in one binding of the table in
 -- force and no named rule keeps it, and each drop of one has its rule. With no rule named: exactly when a subscriber's packet goes
 -- on, when a packet from the IPv4 network is delivered, and when an error about a tunnel packet is passed on, and where to. What
--- goes into a tunnel goes to the owner of its destination, and an error is about a packet that the router sent to its owner.
+-- goes into a tunnel goes to the owner of its destination, and an error is about a packet that the router sent to its owner. What
+-- goes on is sent in at least one packet, an error in one, and nothing else sends any.
 pub record HasAccess (t : BindingTable) (i : Item) (v : Verdict) : Type 0 where
   pub forwards : Forwards t i v
   pub forbidden : Forbidden t i v
@@ -49,6 +52,7 @@ pub record HasAccess (t : BindingTable) (i : Item) (v : Verdict) : Type 0 where
   pub relays_own : RelaysOwn t i v
   pub relays_all : RelaysAll t i v
   pub passes_on : PassesOn t i v
+  pub sends : (number : ℕ) → Sends v (length (sent i v number))
 
 -- Table k of the windows comes into force at point k, which is inside its window: there is one for each window that opens by the
 -- last record, and no other. Of these tables and points, and of the limit on errors, is the course of the run.

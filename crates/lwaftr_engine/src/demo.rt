@@ -1,7 +1,7 @@
 // The demonstration: a run over generated traffic.
 ghost use Rattle.std.specs.Prelude.{◌≡◌, ◌⊎◌, ◌≤◌, IfOk, None};
 ghost use Rattle.aftr_base.specs.Outside.{Outside};
-ghost use Rattle.lwaftr_engine.specs.Causes.{HasCause};
+ghost use Rattle.lwaftr_engine.specs.Causes.{HasOneCause};
 ghost use Rattle.lwaftr_engine.specs.Demos.{HasDemoHistory, IsDemoLine, middle};
 ghost use Rattle.lwaftr_engine.specs.Questions.{Answers};
 ghost use Rattle.lwaftr_engine.specs.Shows.{IsDemoJob, IsDemoMade, IsShow};
@@ -113,7 +113,7 @@ pub fn show_demo<R: Threads + Wait + Sync, O: Sink, G: Gate + Sync>(
     requires few_workers { workers ≤ 16 }
     requires none { history.old ≡ None }
     ensures line { Answers (IsDemoLine seed count) result (O.out out.old) (O.out out.new) }
-    ensures cause { (files : Outside) → HasCause result (world files (O.out out.old) (O.faults out.old)) (world files (O.out out.new) (O.faults out.new)) }
+    ensures cause { (files : Outside) → HasOneCause result (world files (O.out out.old) (O.faults out.old)) (world files (O.out out.new) (O.faults out.new)) }
     ensures due { (result ≡ Status.Done) ⊎ ((result ≡ Status.WriteFault) ⊎ (result ≡ Status.OutOfMemory)) }
     ensures history { HasDemoHistory seed count result history.new }
 {

@@ -9,6 +9,7 @@ ghost use Rattle.item_stage.specs.Items.{unfinished_of};
 ghost use Rattle.item_stage.specs.Stages.{Stands};
 ghost use Rattle.lwaftr_engine.specs.Finishing.{Finishes};
 ghost use Rattle.lwaftr_engine.specs.Progress.{OneRises, loads_of, setup_of};
+ghost use Rattle.lwaftr_engine.specs.Promises.{TookSummary};
 ghost use Rattle.lwaftr_engine.specs.Runs.{OthersKept};
 ghost use Rattle.run_output.specs.Counting.{with_version};
 ghost use Rattle.run_output.specs.Versions.{load_lines};
@@ -84,6 +85,7 @@ pub fn finish<F: Files, O: Sink>(
         Finishes (setup_of task.entry) progress.now points.now taken result (F.outside files.old).spoiled (F.outside files.new).spoiled
         m n (O.out out.old) (O.out out.new)) }
     ensures others { Moves (F.outside files.old).held (F.outside files.new).held (OthersKept (setup_of task.entry).run) }
+    ensures summary { OnOk result (TookSummary (O.out out.old) (O.out out.new)) }
     ensures faults { OnOk result ((F.outside files.new).faults ≡ (F.outside files.old).faults) }
     ensures lost { (F.outside files.new).lost ≡ (F.outside files.old).lost }
     ensures last { (F.outside files.new).last ≡ (F.outside files.old).last }

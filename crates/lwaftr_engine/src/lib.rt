@@ -2,6 +2,7 @@
 //! in.
 #![tactic(auto)]
 
+mod at_once;
 mod demo;
 mod finishing;
 mod jobs;
@@ -17,5 +18,6 @@ mod table_file;
 mod tasks;
 mod top;
 
+pub use at_once::{AtOnce, do_at_once};
 pub use status::{Status, code, status_line};
 pub use top::lwaftr;

@@ -6,7 +6,7 @@ ghost use Rattle.aftr_text.specs.Lines.{migrated_text};
 ghost use Rattle.binding_file.specs.Files.{TextOf};
 ghost use Rattle.binding_rules.specs.Tables.{BindingTable};
 ghost use Rattle.lwaftr_engine.specs.Answered.{Puts, is_unput};
-ghost use Rattle.lwaftr_engine.specs.Causes.{HasCause};
+ghost use Rattle.lwaftr_engine.specs.Causes.{HasOneCause};
 ghost use Rattle.lwaftr_engine.specs.Migrations.{IsMigratedLine, LeavesMigrated, in_edition_two};
 ghost use Rattle.lwaftr_engine.specs.Questions.{Answers, FailedIn, IsComplete, RefusesAs};
 ghost use Rattle.lwaftr_engine.specs.Worlds.{world};
@@ -35,7 +35,7 @@ pub fn migrate<F: Files, O: Sink>(
         (world (F.outside files.new) (O.out out.new) (O.faults out.new))) }
     ensures line { Answers IsMigratedLine result (O.out out.old) (O.out out.new) }
     ensures refused { Told (F.outside files.old).held (λ m. RefusesAs (content m input.now) result) }
-    ensures cause { HasCause result (world (F.outside files.old) (O.out out.old) (O.faults out.old))
+    ensures cause { HasOneCause result (world (F.outside files.old) (O.out out.old) (O.faults out.old))
         (world (F.outside files.new) (O.out out.new) (O.faults out.new)) }
     ensures failed_read { FailedIn input.now result (F.outside files.old).last (F.outside files.new).last }
     ensures complete { Told (F.outside files.old).held (λ m. IsComplete (content m input.now) result

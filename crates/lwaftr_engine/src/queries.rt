@@ -5,7 +5,7 @@ ghost use Rattle.aftr_base.specs.Outside.{Rises};
 ghost use Rattle.binding_rules.specs.Bindings.{bound};
 ghost use Rattle.binding_rules.specs.Tables.{BindingTable};
 ghost use Rattle.binding_rules.specs.declared.binding.Want.TheVariants as want;
-ghost use Rattle.lwaftr_engine.specs.Causes.{HasCause};
+ghost use Rattle.lwaftr_engine.specs.Causes.{HasOneCause};
 ghost use Rattle.lwaftr_engine.specs.Answered.{IsOwnerText, Puts, is_unput};
 ghost use Rattle.lwaftr_engine.specs.Questions.{Answers, FailedIn, IsComplete, IsLineOf, IsOwnerLine, IsValidLine, RefusesAs, valid_text};
 ghost use Rattle.lwaftr_engine.specs.Worlds.{world};
@@ -34,7 +34,7 @@ pub fn check_table<F: Files, O: Sink>(
     ensures held { (F.outside files.new).held ≡ (F.outside files.old).held }
     ensures line { Answers (λ line. IsLineOf IsValidLine (F.outside files.old).held name.now line) result (O.out out.old) (O.out out.new) }
     ensures refused { Told (F.outside files.old).held (λ m. RefusesAs (content m name.now) result) }
-    ensures cause { HasCause result (world (F.outside files.old) (O.out out.old) (O.faults out.old))
+    ensures cause { HasOneCause result (world (F.outside files.old) (O.out out.old) (O.faults out.old))
         (world (F.outside files.new) (O.out out.new) (O.faults out.new)) }
     ensures failed_read { FailedIn name.now result (F.outside files.old).last (F.outside files.new).last }
     ensures complete { Told (F.outside files.old).held (λ m. IsComplete (content m name.now) result
@@ -68,7 +68,7 @@ pub fn who_owns<F: Files, O: Sink>(
     ensures held { (F.outside files.new).held ≡ (F.outside files.old).held }
     ensures line { Answers (λ line. IsLineOf (IsOwnerLine v4 port) (F.outside files.old).held name.now line) result (O.out out.old) (O.out out.new) }
     ensures refused { Told (F.outside files.old).held (λ m. RefusesAs (content m name.now) result) }
-    ensures cause { HasCause result (world (F.outside files.old) (O.out out.old) (O.faults out.old))
+    ensures cause { HasOneCause result (world (F.outside files.old) (O.out out.old) (O.faults out.old))
         (world (F.outside files.new) (O.out out.new) (O.faults out.new)) }
     ensures failed_read { FailedIn name.now result (F.outside files.old).last (F.outside files.new).last }
     ensures complete { Told (F.outside files.old).held (λ m. IsComplete (content m name.now) result

@@ -1,5 +1,5 @@
 // The run, from its table files to the summary.
-ghost use Rattle.std.specs.Prelude.{◌≡◌, ◌≤◌, All, IfOk, IfSome, None, Some, length};
+ghost use Rattle.std.specs.Prelude.{◌≡◌, ◌≤◌, All, IfOk, IfSome, None, OnOk, Some, length};
 ghost use Rattle.aftr_base.specs.Contents.{Moves};
 ghost use Rattle.aftr_base.specs.Outside.{has_failed};
 ghost use Rattle.aftr_text.specs.Jobs.{AreApart, IsRate, IsWorkers};
@@ -7,6 +7,7 @@ ghost use Rattle.capture_io.specs.Rounds.{is_cut};
 ghost use Rattle.lwaftr_engine.specs.Ended.{Ends};
 ghost use Rattle.lwaftr_engine.specs.Finishing.{HasHistoryBy, IsFirst};
 ghost use Rattle.lwaftr_engine.specs.Progress.{OneRises, ReadsOf, setup_of, spot};
+ghost use Rattle.lwaftr_engine.specs.Promises.{TookSummary};
 ghost use Rattle.lwaftr_engine.specs.Runs.{OthersKept};
 ghost use Rattle.lwaftr_engine.specs.Underway.{IsNothing};
 ghost use Rattle.table_words.specs.Layout.{AreCompiled};
@@ -21,6 +22,7 @@ use aftr_text::Totals;
 use area_swap::History;
 use capture_io::{CaptureReader, Ending, Form, Records};
 use item_stage::Stage;
+use packet_render::forwarded_is_sent;
 use run_output::{
     Rendered, counts_are_totals, limits_are_some, limits_begin, new_limit, rounds_join,
 };
@@ -110,11 +112,13 @@ pub fn run_capture<R: Threads + Wait + Sync, F: Files, O: Sink, C: CaptureReader
     ensures history { HasHistoryBy result history.new }
     ensures others { Moves (F.outside files.old).held (F.outside files.new).held (OthersKept (setup_of task.entry).run) }
     ensures reads { IfOk result (λ ending. ReadsOf (is_cut (Some ending)) (setup_of task.entry).run.input (F.outside files.old) (F.outside files.new)) }
+    ensures summary { OnOk result (TookSummary (O.out out.old) (O.out out.new)) }
     ensures writing { OneRises (has_failed result) (F.outside files.old).spoiled (F.outside files.new).spoiled (O.faults out.old) (O.faults out.new) }
 {
     // Laws, and no steps: whatever is left has some ending, and what holds of every verdict, run and plan.
     C::some_left();
     access();
+    forwarded_is_sent();
     limits_are_some();
     counts_are_totals();
     rounds_join();

@@ -12,13 +12,11 @@ ghost use Rattle.lwaftr_engine.specs.Promises.{KeepsRun};
 ghost use Rattle.lwaftr_engine.specs.Questions.{IsOwnerLine, IsValidLine, KeepsQuestion};
 ghost use Rattle.lwaftr_engine.specs.Worlds.{world};
 
+use crate::at_once::{AtOnce, do_at_once};
 use crate::demo::show_demo;
 use crate::jobs::run_job;
-use crate::migrating::migrate;
-use crate::queries::{check_table, who_owns};
 use crate::status::Status;
 use aftr_base::{Files, Sink};
-use aftr_text::{Job, UsageError, read_words};
 use area_swap::History;
 use std::alloc::Global;
 use std::sync::Wait;
@@ -43,7 +41,8 @@ use worker_gate::Gate;
 /// or `none`. `migrate` writes the table anew in the newer edition, and then puts a line. `demo` runs over generated traffic,
 /// touches no file, and puts the summary.
 ///
-/// It may wait, as workers wait for one another and for the tables that are due.
+/// `run` and `demo` may wait, as workers wait for one another and for the tables that are due. All else is done by `do_at_once`, which
+/// waits for nobody.
 pub fn lwaftr<R: Threads + Wait + Sync, F: Files, O: Sink, G: Gate + Sync>(
     rt: &R,
     alloc: Global,
@@ -82,22 +81,13 @@ pub fn lwaftr<R: Threads + Wait + Sync, F: Files, O: Sink, G: Gate + Sync>(
         (world (F.outside files.old) (O.out out.old) (O.faults out.old))
         (world (F.outside files.new) (O.out out.new) (O.faults out.new)) }
 {
-    let job = match read_words(alloc, words) {
-        Ok(job) => job,
-        Err(UsageError::Usage) => return Status::Usage,
-        Err(UsageError::OutOfMemory) => return Status::OutOfMemory,
-    };
-    match &job {
-        Job::Run(job) => run_job(rt, alloc, job, files, out, gate, history),
-        Job::Check { name } => check_table(alloc, name.as_str(), files, out),
-        Job::Who { name, v4, port } => who_owns(alloc, name.as_str(), *v4, *port, files, out),
-        Job::Demo {
+    match do_at_once(alloc, words, files, out) {
+        AtOnce::Ended(status) => status,
+        AtOnce::Run(job) => run_job(rt, alloc, &job, files, out, gate, history),
+        AtOnce::Demo {
             seed,
             count,
             workers,
-        } => show_demo(rt, alloc, *seed, *count, *workers, out, gate, history),
-        Job::Migrate { input, output } => {
-            migrate(alloc, input.as_str(), output.as_str(), files, out)
-        }
+        } => show_demo(rt, alloc, seed, count, workers, out, gate, history),
     }
 }

@@ -1,10 +1,12 @@
-use Rattle.std.proofs.Common.{◌≡◌, ◌∙◌, ap, rules}
+use Rattle.std.proofs.Common.{◌≡◌, ◌∙◌, ap, length, rules}
 use Rattle.aftr_base.specs.Outside.{Rises, has_failed}
+use Rattle.run_output.specs.Counting.{with_version}
 use Rattle.aftr_text.specs.Lines.{summary_text}
 use Rattle.lwaftr_engine.specs.Progress.{setup_of}
 use Rattle.lwaftr_engine.proofs.Apart.{apart}
 use Rattle.lwaftr_engine.proofs.Exits.{cut_named, finishes_err, named}
 use Rattle.lwaftr_engine.proofs.Finishes.{at_lines, at_none, at_versions, behind_lines, behind_versions, put_or_cut}
+use Rattle.lwaftr_engine.proofs.SummaryLemmas.{took_summary}
 use Rattle.lwaftr_engine.proofs.finishing.finish.Goals as goal
 
 pub returns-in_err-versions-clause-finished : goal.returns-in_err-versions-clause-finished
@@ -91,3 +93,8 @@ returns-clause-finished g c =
     (named old new c.as_str.result.now x.run.versions c.as_bytes.result.now c.as_str.ensures c.in_ok-append_all.ensures.held)
     (named new end c.as_str-2.result.now x.run.verdicts c.deref.result.now c.as_str-2.ensures c.in_ok-append_all-2.ensures.held)
     c.put_all.ensures.out
+
+pub returns-clause-summary : goal.returns-clause-summary
+returns-clause-summary g c =
+    took_summary c.put_all.result (g.O.Sink.out c.args.out.now) (g.O.Sink.out c.put_all.new.sink) c.as_bytes-2.result.now (with_version c.args.progress.now.totals (length c.args.points.now))
+    (c.as_bytes-2.ensures.value ∙ (c.as_str-3.ensures ∙ (c.in_ok-line.ensures ∙ ap summary_text c.totals_with.ensures))) c.put_all.ensures.out

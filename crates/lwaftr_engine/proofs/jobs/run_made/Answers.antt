@@ -1,5 +1,5 @@
 use Rattle.lwaftr_engine.proofs.OpenLemmas.{left_behind, opened_first}
-use Rattle.lwaftr_engine.proofs.UnopenedLemmas.{either_unopened, unopened_leaves}
+use Rattle.lwaftr_engine.proofs.UnopenedLemmas.{either_unopened, unopened_history, unopened_leaves}
 use Rattle.lwaftr_engine.proofs.jobs.run_made.Goals as goal
 
 pub run_opened-requires-clause-opened : goal.run_opened-requires-clause-opened
@@ -25,3 +25,6 @@ returns-in-Ok-clause-left g c =
     let o = g.O.Sink in
     left_behind c.args.job.now c.args.made.plan c.args.made.slots c.run_opened.result c.as_str.result.now _ (f.outside c.args.files.now) (f.outside c.open.new.files) (f.outside c.run_opened.new.files)
     (o.out c.args.out.now) (o.out c.run_opened.new.out) c.run_opened.new.history c.in-Ok.ensures.reads c.run_opened.ensures.left
+
+pub returns-in-Err-clause-has_history : goal.returns-in-Err-clause-has_history
+returns-in-Err-clause-has_history g c = unopened_history c.in-Err.error c.unopened.result (g.O.Sink.out c.args.out.now) c.args.history.now c.unopened.ensures c.requires.none

@@ -2,7 +2,7 @@ use Rattle.std.proofs.Common.{◌∙◌, List, ap, sym}
 use Rattle.reload_plan.specs.declared.loads.Slot.{Slot}
 use Rattle.lwaftr_engine.specs.Planned.{some_slot_refused}
 use Rattle.lwaftr_engine.specs.Progress.{Setup, spot}
-use Rattle.lwaftr_engine.proofs.JobLemmas.{ended_place, opened_leaves}
+use Rattle.lwaftr_engine.proofs.JobLemmas.{ended_place, has_history, opened_leaves}
 use Rattle.lwaftr_engine.proofs.OpenLemmas.{first_shown, slots_shown}
 use Rattle.lwaftr_engine.proofs.jobs.run_opened.Goals as goal
 
@@ -28,3 +28,8 @@ pub returns-clause-failed_read : goal.returns-clause-failed_read
 returns-clause-failed_read g c =
     let f = g.F.Files in
     ended_place c.args.job.now.input c.run_capture-ended.result c.has_refused-refused.result c.ended_status.result (f.outside c.args.files.now) (f.outside c.run_capture-ended.new.files) c.ended_status.ensures c.run_capture-ended.ensures.reads
+
+pub returns-clause-has_history : goal.returns-clause-has_history
+returns-clause-has_history g c =
+    let o = g.O.Sink in
+    has_history c.run_capture-ended.result c.has_refused-refused.result c.ended_status.result (o.out c.args.out.now) (o.out c.run_capture-ended.new.out) c.run_capture-ended.new.history c.ended_status.ensures c.run_capture-ended.ensures.history c.run_capture-ended.ensures.summary

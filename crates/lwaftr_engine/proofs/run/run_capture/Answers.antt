@@ -9,6 +9,7 @@ use Rattle.lwaftr_engine.specs.Progress.{seats_of, setup_of, spot}
 use Rattle.lwaftr_engine.proofs.Adding.{as_planned, broken_planned, others_more, same_plan}
 use Rattle.lwaftr_engine.proofs.Apart.{apart}
 use Rattle.lwaftr_engine.proofs.Capturing.{closed_plan, ended_err, finish_broken, finished_at, opening_broken, rounds_broken}
+use Rattle.lwaftr_engine.proofs.Closing.{all_sent}
 use Rattle.lwaftr_engine.proofs.EndLemmas.{at_end, ends}
 use Rattle.lwaftr_engine.proofs.Exits.{rises_by}
 use Rattle.lwaftr_engine.proofs.run.run_capture.Goals as goal
@@ -32,7 +33,7 @@ returns-clause-ended g c =
     let reader = spot (r.stands c.run_records-taken.new.reader) (r.left c.run_records-taken.new.reader) (r.at c.run_records-taken.new.reader) in
     let h3 = (f.outside c.finish.new.files).held in
     let now = o.out c.finish.new.out in
-    ends (record { access = record { forwards = c.access.ensures.forwards; forbidden = c.access.ensures.forbidden; refused = c.access.ensures.refused; sends_on = c.access.ensures.sends_on; brings_in = c.access.ensures.brings_in; delivers = c.access.ensures.delivers; relays_own = c.access.ensures.relays_own; relays_all = c.access.ensures.relays_all; passes_on = c.access.ensures.passes_on }; limits = c.limits_are_some.ensures; totals = c.counts_are_totals.ensures; begins = c.limits_begin.ensures; joins = c.rounds_join.ensures }) x far c.args.plan u.seat.known.actor.draws (seats_of s) (seats_of u) c.end_shift-closed.result c.in_ok-progress.progress q first reader c.in_ok-ending.ending last said now (f.outside c.args.files.now) (f.outside c.finish.new.files) c.in_ok-finish.ensures.last
+    ends (record { access = record { forwards = c.access.ensures.forwards; forbidden = c.access.ensures.forbidden; refused = c.access.ensures.refused; sends_on = c.access.ensures.sends_on; brings_in = c.access.ensures.brings_in; delivers = c.access.ensures.delivers; relays_own = c.access.ensures.relays_own; relays_all = c.access.ensures.relays_all; passes_on = c.access.ensures.passes_on; sends = all_sent c.access.ensures.fits c.access.ensures.room c.forwarded_is_sent.ensures }; limits = c.limits_are_some.ensures; totals = c.counts_are_totals.ensures; begins = c.limits_begin.ensures; joins = c.rounds_join.ensures }) x far c.args.plan u.seat.known.actor.draws (seats_of s) (seats_of u) c.end_shift-closed.result c.in_ok-progress.progress q first reader c.in_ok-ending.ending last said now (f.outside c.args.files.now) (f.outside c.finish.new.files) c.in_ok-finish.ensures.last
     (λ bytes number. c.some_left.ensures c.run_records-taken.new.reader bytes number) c.in_ok-progress.ensures c.in_ok-shift.ensures.points c.in_ok-ending.ensures.bounded
     (at_end c.settled_points_are_all.ensures c.args.plan u.seat.known u.desk.known (seats_of u) c.end_shift-closed.result q.number (record {
       same_plan = closed_plan s.areas.plan u.areas.plan c.end_shift-closed.result.plan c.args.plan c.end_shift-closed.ensures.plan (same_plan s.areas u.areas c.in_ok-ending.ensures.areas) c.in_ok-shift.ensures.duty.its_plan;
@@ -66,7 +67,7 @@ returns-in_err-open_outputs-clause-ended g c =
     let answer : Result Unit Fault = Err c.in_err-open_outputs.field-0.0 in
     let e = err_from_is_err_and c.from_residual-in_err-open_outputs.result c.from_residual-in_err-open_outputs.ensures.1 in
     ended_err x c.args.plan first c.from_residual-in_err-open_outputs.result why h0 h1 said said before after c.args.history.now (e.1 ∙ ap Err e.2) c.requires.none
-    (opening_broken (record { access = record { forwards = c.access.ensures.forwards; forbidden = c.access.ensures.forbidden; refused = c.access.ensures.refused; sends_on = c.access.ensures.sends_on; brings_in = c.access.ensures.brings_in; delivers = c.access.ensures.delivers; relays_own = c.access.ensures.relays_own; relays_all = c.access.ensures.relays_all; passes_on = c.access.ensures.passes_on }; limits = c.limits_are_some.ensures; totals = c.counts_are_totals.ensures; begins = c.limits_begin.ensures; joins = c.rounds_join.ensures }) x c.args.plan c.len.ensures.rules c.requires.errors first (stop_by why before after) (rises_by answer why before.spoiled after.spoiled refl c.in_err-open_outputs.ensures.writes.spoiled) c.in_err-open_outputs.ensures.writes.lost said (λ bytes number. c.some_left.ensures c.args.reader.now bytes number) h0 h1
+    (opening_broken (record { access = record { forwards = c.access.ensures.forwards; forbidden = c.access.ensures.forbidden; refused = c.access.ensures.refused; sends_on = c.access.ensures.sends_on; brings_in = c.access.ensures.brings_in; delivers = c.access.ensures.delivers; relays_own = c.access.ensures.relays_own; relays_all = c.access.ensures.relays_all; passes_on = c.access.ensures.passes_on; sends = all_sent c.access.ensures.fits c.access.ensures.room c.forwarded_is_sent.ensures }; limits = c.limits_are_some.ensures; totals = c.counts_are_totals.ensures; begins = c.limits_begin.ensures; joins = c.rounds_join.ensures }) x c.args.plan c.len.ensures.rules c.requires.errors first (stop_by why before after) (rises_by answer why before.spoiled after.spoiled refl c.in_err-open_outputs.ensures.writes.spoiled) c.in_err-open_outputs.ensures.writes.lost said (λ bytes number. c.some_left.ensures c.args.reader.now bytes number) h0 h1
     c.in_err-open_outputs.ensures.half)
 
 pub returns-in_err-ending-clause-ended : goal.returns-in_err-ending-clause-ended
@@ -94,7 +95,7 @@ returns-in_err-ending-clause-ended g c =
     let rises = subst R c.in_ok-open_outputs.ensures.writes.spoiled (rises_by answer why (f.outside c.open_outputs.new.files).spoiled after.spoiled refl c.in_err-ending.ensures.spoiled) in
     let e = err_from_is_err_and c.from_residual-in_err-ending.result c.from_residual-in_err-ending.ensures.1 in
     ended_err x c.args.plan first c.from_residual-in_err-ending.result why h0 h2 said said before after c.args.history.now (e.1 ∙ ap Err e.2) c.requires.none
-    (rounds_broken (record { access = record { forwards = c.access.ensures.forwards; forbidden = c.access.ensures.forbidden; refused = c.access.ensures.refused; sends_on = c.access.ensures.sends_on; brings_in = c.access.ensures.brings_in; delivers = c.access.ensures.delivers; relays_own = c.access.ensures.relays_own; relays_all = c.access.ensures.relays_all; passes_on = c.access.ensures.passes_on }; limits = c.limits_are_some.ensures; totals = c.counts_are_totals.ensures; begins = c.limits_begin.ensures; joins = c.rounds_join.ensures }) x far c.args.plan u.seat.known.actor.draws (seats_of s) (seats_of u) c.end_shift-closed.result (record {
+    (rounds_broken (record { access = record { forwards = c.access.ensures.forwards; forbidden = c.access.ensures.forbidden; refused = c.access.ensures.refused; sends_on = c.access.ensures.sends_on; brings_in = c.access.ensures.brings_in; delivers = c.access.ensures.delivers; relays_own = c.access.ensures.relays_own; relays_all = c.access.ensures.relays_all; passes_on = c.access.ensures.passes_on; sends = all_sent c.access.ensures.fits c.access.ensures.room c.forwarded_is_sent.ensures }; limits = c.limits_are_some.ensures; totals = c.counts_are_totals.ensures; begins = c.limits_begin.ensures; joins = c.rounds_join.ensures }) x far c.args.plan u.seat.known.actor.draws (seats_of s) (seats_of u) c.end_shift-closed.result (record {
       same_plan = closed_plan s.areas.plan u.areas.plan c.end_shift-closed.result.plan c.args.plan c.end_shift-closed.ensures.plan (same_plan s.areas u.areas c.in_err-ending.ensures.areas) c.in_ok-shift.ensures.duty.its_plan;
       points = c.end_shift-closed.ensures.points;
       reads = c.end_shift-closed.ensures.reads;
@@ -137,7 +138,7 @@ returns-in_err-finish-clause-ended g c =
     let L : ℕ → Type 0 = λ n. Rises cut n after.lost in
     let e = err_from_is_err_and c.from_residual-in_err-finish.result c.from_residual-in_err-finish.ensures.1 in
     ended_err x c.args.plan first c.from_residual-in_err-finish.result why h0 h3 said now before after c.args.history.now (e.1 ∙ ap Err e.2) c.requires.none
-    (finish_broken (record { access = record { forwards = c.access.ensures.forwards; forbidden = c.access.ensures.forbidden; refused = c.access.ensures.refused; sends_on = c.access.ensures.sends_on; brings_in = c.access.ensures.brings_in; delivers = c.access.ensures.delivers; relays_own = c.access.ensures.relays_own; relays_all = c.access.ensures.relays_all; passes_on = c.access.ensures.passes_on }; limits = c.limits_are_some.ensures; totals = c.counts_are_totals.ensures; begins = c.limits_begin.ensures; joins = c.rounds_join.ensures }) x far c.args.plan u.seat.known.actor.draws (seats_of s) (seats_of u) c.end_shift-closed.result (record {
+    (finish_broken (record { access = record { forwards = c.access.ensures.forwards; forbidden = c.access.ensures.forbidden; refused = c.access.ensures.refused; sends_on = c.access.ensures.sends_on; brings_in = c.access.ensures.brings_in; delivers = c.access.ensures.delivers; relays_own = c.access.ensures.relays_own; relays_all = c.access.ensures.relays_all; passes_on = c.access.ensures.passes_on; sends = all_sent c.access.ensures.fits c.access.ensures.room c.forwarded_is_sent.ensures }; limits = c.limits_are_some.ensures; totals = c.counts_are_totals.ensures; begins = c.limits_begin.ensures; joins = c.rounds_join.ensures }) x far c.args.plan u.seat.known.actor.draws (seats_of s) (seats_of u) c.end_shift-closed.result (record {
       same_plan = closed_plan s.areas.plan u.areas.plan c.end_shift-closed.result.plan c.args.plan c.end_shift-closed.ensures.plan (same_plan s.areas u.areas c.in_ok-ending.ensures.areas) c.in_ok-shift.ensures.duty.its_plan;
       points = c.end_shift-closed.ensures.points;
       reads = c.end_shift-closed.ensures.reads;

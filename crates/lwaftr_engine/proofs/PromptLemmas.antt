@@ -1,0 +1,122 @@
+-- What command words come to where nobody is waited for.
+use Rattle.std.proofs.Common.{◌≡◌, ◌⊎◌, ℕ, List, Option, Some, None, inl, inr, refl, sym, ◌∙◌, subst}
+use Rattle.aftr_base.specs.Contents.{Contents, Moves, Told}
+use Rattle.aftr_base.specs.Outside.{Outside}
+use Rattle.aftr_text.specs.declared.jobs.RunJob.{RunJob}
+use Rattle.area_swap.specs.Histories.{HistoryValue}
+use Rattle.lwaftr_engine.specs.Causes.{HasCause, HasOneCause, IsFault}
+use Rattle.lwaftr_engine.specs.Demos.{KeepsDemo}
+use Rattle.lwaftr_engine.specs.Promises.{IsAskedFor, KeepsRun, Leaves}
+use Rattle.lwaftr_engine.specs.Prompt.{EndsSo, IsLeft}
+use Rattle.lwaftr_engine.specs.Worlds.{World, world}
+use Rattle.lwaftr_engine.specs.declared.at_once.AtOnce.{AtOnce}
+use Rattle.lwaftr_engine.specs.declared.at_once.AtOnce.TheVariants as at_once
+use Rattle.lwaftr_engine.specs.declared.status.Status.{Status}
+use Rattle.lwaftr_engine.specs.declared.status.Status.TheVariants as status
+use Rattle.lwaftr_engine.proofs.UnopenedLemmas.{others_same}
+
+pub ended : (P : Status → Type 0) (r : AtOnce) (s : Status) → r ≡ at_once.Ended s → EndsSo P r → P s
+ended P r s is so = let E : AtOnce → Type 0 = λ q. EndsSo P q in subst E is so
+
+pub not_run : (P : Status → Type 0) (r : AtOnce) (run : RunJob) → r ≡ at_once.Run run → EndsSo P r → ⊥
+not_run P r run is so = let E : AtOnce → Type 0 = λ q. EndsSo P q in subst E is so
+
+pub not_demo : (P : Status → Type 0) (r : AtOnce) (seed count workers : ℕ) → r ≡ at_once.Demo seed count workers → EndsSo P r → ⊥
+not_demo P r seed count workers is so = let E : AtOnce → Type 0 = λ q. EndsSo P q in subst E is so
+
+same_ended : (a b : Status) → at_once.Ended a ≡ at_once.Ended b → a ≡ b
+same_ended a b e = cc e
+
+same_run : (a b : RunJob) → at_once.Run a ≡ at_once.Run b → a ≡ b
+same_run a b e = cc e
+
+-- a run is left, or memory was short
+pub short_run : (r : AtOnce) (run : RunJob) (s : Status) → r ≡ at_once.Ended s → IsLeft (at_once.Run run) r → s ≡ status.OutOfMemory
+short_run r run s is (inl left) = absurd (cc (sym left ∙ is))
+short_run r run s is (inr short) = same_ended s status.OutOfMemory (sym is ∙ short)
+
+pub short_demo : (r : AtOnce) (seed count workers : ℕ) (s : Status) → r ≡ at_once.Ended s → IsLeft (at_once.Demo seed count workers) r → s ≡ status.OutOfMemory
+short_demo r seed count workers s is (inl left) = absurd (cc (sym left ∙ is))
+short_demo r seed count workers s is (inr short) = same_ended s status.OutOfMemory (sym is ∙ short)
+
+pub left_run : (P : RunJob → Type 0) (r : AtOnce) (run other : RunJob) → r ≡ at_once.Run run → IsLeft (at_once.Run other) r → P run → P other
+left_run P r run other is (inl left) holds = subst P (same_run run other (sym is ∙ left)) holds
+left_run P r run other is (inr short) holds = absurd (cc (sym is ∙ short))
+
+pub left_demo : (P : ℕ → ℕ → Type 0) (r : AtOnce) (seed count workers s c w : ℕ) → r ≡ at_once.Demo seed count workers → IsLeft (at_once.Demo s c w) r → P seed count → P s c
+left_demo P r seed count workers s c w is (inl left) holds =
+    let same_seed : seed ≡ s = cc (sym is ∙ left) in
+    let same_count : count ≡ c = cc (sym is ∙ left) in
+    let Q : ℕ → Type 0 = λ n. P n count in
+    let R : ℕ → Type 0 = λ n. P s n in
+    subst R same_count (subst Q same_seed holds)
+left_demo P r seed count workers s c w is (inr short) holds = absurd (cc (sym is ∙ short))
+
+pub run_not_demo : (r : AtOnce) (run : RunJob) (s c w : ℕ) → r ≡ at_once.Run run → IsLeft (at_once.Demo s c w) r → ⊥
+run_not_demo r run s c w is (inl left) = absurd (cc (sym is ∙ left))
+run_not_demo r run s c w is (inr short) = absurd (cc (sym is ∙ short))
+
+pub demo_not_run : (r : AtOnce) (run : RunJob) (s c w : ℕ) → r ≡ at_once.Demo s c w → IsLeft (at_once.Run run) r → ⊥
+demo_not_run r run s c w is (inl left) = absurd (cc (sym is ∙ left))
+demo_not_run r run s c w is (inr short) = absurd (cc (sym is ∙ short))
+
+-- what was not touched is as it was
+pub from_world : (P : World → Type 0) (a b : Outside) (said was : Option (List ℕ)) (puts before : ℕ) → a ≡ b → said ≡ was → puts ≡ before → P (world a said puts) → P (world b was before)
+from_world P a b said was puts before files took failed holds =
+    let A : Outside → Type 0 = λ o. P (world o said puts) in
+    let B : Option (List ℕ) → Type 0 = λ t. P (world b t puts) in
+    let C : ℕ → Type 0 = λ n. P (world b was n) in
+    subst C failed (subst B took (subst A files holds))
+
+untouched : (run : RunJob) (h : Option Contents) (said : Option (List ℕ)) (last : Option (List ℕ × ℕ)) → Moves h h (λ m n. Leaves run status.OutOfMemory m n said said last None)
+untouched run None said last = tt
+untouched run (Some m) said last = inl (record { files = refl; sink = refl; none = refl })
+
+-- want of memory answers whatever is asked for
+answered_so : (run : RunJob) (h : Option Contents) → Told h (λ m. (s : Status) → IsAskedFor run m s → (status.OutOfMemory ≡ s) ⊎ IsFault status.OutOfMemory)
+answered_so run None = tt
+answered_so run (Some m) = λ s asked. inr tt
+
+-- memory was short before anything was done
+pub no_run : (run : RunJob) (s : Status) (a : Outside) (said : Option (List ℕ)) (puts : ℕ) (history : Option HistoryValue) → s ≡ status.OutOfMemory → history ≡ None → KeepsRun run s (world a said puts) (world a said puts) history
+no_run run s a said puts history short none =
+    let S : Status → Type 0 = λ t. KeepsRun run t (world a said puts) (world a said puts) history in
+    let H : Option HistoryValue → Type 0 = λ h. KeepsRun run status.OutOfMemory (world a said puts) (world a said puts) h in
+    subst S (sym short) (subst H (sym none) (record {
+      files = untouched run a.held said a.last;
+      others = others_same run a.held a.held refl;
+      due = answered_so run a.held;
+      cause = record { spoiled = refl; puts = refl };
+      failed_read = tt;
+      has_history = refl;
+    }))
+
+pub no_show : (seed count : ℕ) (s : Status) (a : Outside) (said : Option (List ℕ)) (puts : ℕ) (history : Option HistoryValue) → s ≡ status.OutOfMemory → history ≡ None → KeepsDemo seed count s (world a said puts) (world a said puts) history
+no_show seed count s a said puts history short none =
+    let S : Status → Type 0 = λ t. KeepsDemo seed count t (world a said puts) (world a said puts) history in
+    let H : Option HistoryValue → Type 0 = λ h. KeepsDemo seed count status.OutOfMemory (world a said puts) (world a said puts) h in
+    subst S (sym short) (subst H (sym none) (record {
+      kept = refl;
+      line = inl refl;
+      cause = record { lost = refl; spoiled = refl; faults = refl; puts = refl };
+      due = inr (inr refl);
+      history_is = refl;
+    }))
+
+pub one_cause : (s : Status) (before now : World) → HasOneCause s before now → HasCause s before now
+one_cause status.OutOfMemory before now cause = record { spoiled = cause.spoiled; puts = cause.puts }
+one_cause status.Done before now cause = cause
+one_cause status.DoneRefused before now cause = cause
+one_cause status.Usage before now cause = cause
+one_cause status.ReadFault before now cause = cause
+one_cause status.WriteFault before now cause = cause
+one_cause (status.BadTable refusal) before now cause = cause
+one_cause (status.BadCapture refusal) before now cause = cause
+
+pub not_usage : (run : RunJob) (s : Status) (before now : World) (history : Option HistoryValue) → KeepsRun run s before now history → s ≡ status.Usage → ⊥
+not_usage run s before now history kept is = let K : Status → Type 0 = λ t. KeepsRun run t before now history in (subst K is kept).has_history
+
+pub show_not_usage : (s : Status) → (s ≡ status.Done) ⊎ ((s ≡ status.WriteFault) ⊎ (s ≡ status.OutOfMemory)) → s ≡ status.Usage → ⊥
+show_not_usage s (inl done) is = absurd (cc (sym done ∙ is))
+show_not_usage s (inr (inl failed)) is = absurd (cc (sym failed ∙ is))
+show_not_usage s (inr (inr short)) is = absurd (cc (sym short ∙ is))
