@@ -127,19 +127,19 @@ def of_run(job, files, versions):
     _, (input, out, verdicts, versions_name, table), loads, _, errors = job
     if table not in files:
         return Expected(*READ_FAULT[:1], status=READ_FAULT[1])
-    try:
-        first = router.Table(files[table])
-    except router.Refused as why:
-        return refused(why)
+    first = router.table_of(files[table])
+    if isinstance(first, router.Refused):
+        return refused(first)
     tables, noted = [first], []
     for earliest, latest, file in loads:
         if file not in files:
             return Expected(3, status="read fault")
-        try:
-            tables.append(router.Table(files[file]))
+        found = router.table_of(files[file])
+        if isinstance(found, router.Refused):
+            noted.append((earliest, latest, file, str(found).removeprefix("rules ")))
+        else:
+            tables.append(found)
             noted.append((earliest, latest, file, None))
-        except router.Refused as why:
-            noted.append((earliest, latest, file, str(why).removeprefix("rules ")))
     if input not in files:
         return Expected(3, status="read fault")
     try:
@@ -210,10 +210,9 @@ def expected(words, files, written):
         return Expected(0, summary + "\n")
     if job[1] not in files:
         return Expected(3, status="read fault")
-    try:
-        table = router.Table(files[job[1]])
-    except router.Refused as why:
-        return refused(why)
+    table = router.table_of(files[job[1]])
+    if isinstance(table, router.Refused):
+        return refused(table)
     if job[0] == "check":
         return Expected(0, f"valid {len(table.bindings)} bindings\n")
     if job[0] == "who":

@@ -373,6 +373,16 @@ def bad_table(r):
     return text.encode()
 
 
+def large_table(r):
+    """A table with one binding too many, or a file with one byte too many."""
+    front = f'version = 1\nsoftwire = {{ aftr = "{ipaddress.IPv6Address(AFTR)}", own = "{ipaddress.IPv4Address(OWN)}" }}\n'
+    if r.random() < 0.5:
+        size = r.choice([2**24, 2**24 + 1, 2**24 + 1, 2**25])
+        return (front + "#").encode().ljust(size - 1, b"x") + b"\n"
+    rows = "".join(f'{{b4="::{at + 1:x}",ipv4="10.{at >> 16}.{at >> 8 & 255}.{at & 255}"}},' for at in range(65537 + r.choice([0, 0, 5])))
+    return (front + f"binding = [{rows}]\n").encode()
+
+
 def no_table(r):
     """What is given in place of a table by mistake."""
     return r.choice([b"", b"\n", b"{}", b"[1, 2]", b"a,b,c\n1,2,3\n", b"\x7fELF\2\1\1" + r.randbytes(60), b"\xff\xd8\xff\xe0" + r.randbytes(60), b"---\na: 1\n", bytes.fromhex("d4c3b2a102000400") + r.randbytes(40), b"\xef\xbb\xbfversion = 1"])
@@ -458,6 +468,57 @@ def blocks(r, records, link):
     return parts
 
 
+def classic_fault(r, parts, link):
+    """One of the faults that 'Captures' of docs/FORMATS.md names, of classic captures."""
+    order = "<" if parts[0][0] in (0x4D, 0xD4) else ">"
+    kind, at = r.randrange(4), r.randrange(1, len(parts)) if len(parts) > 1 else 0
+    if kind == 0:
+        parts[0] = r.randbytes(4) + parts[0][4:]
+    elif kind == 1:
+        parts[0] = parts[0][:4] + struct.pack(order + "HH", *r.choice([(2, 3), (4, 2), (1, 4), (3, 4), (2, 5)])) + parts[0][8:]
+    elif kind == 2:
+        parts[0] = parts[0][:20] + struct.pack(order + "I", r.choice([0, 12, 113, 228, 229, 276, 0x10001, 2**32 - 1]))
+    elif at:
+        parts[at] = parts[at][:8] + struct.pack(order + "I", r.choice([262145, 2**20, 2**32 - 1])) + parts[at][12:]
+
+
+def block_fault(r, parts, link):
+    """One of the faults of pcapng captures: some blocks more behind a part."""
+    at = r.randrange(1, len(parts) + 1)
+    order = "<" if [it for it in parts[:at] if it[:4] == b"\x0a\x0d\x0d\x0a"][-1][8:12] == b"\x4d\x3c\x2b\x1a" else ">"
+    plain = block(order, 1, struct.pack(order + "HHI", link, 0, 0))
+
+    def interface_with(options):
+        return [block(order, 1, struct.pack(order + "HHI", link, 0, 0) + options)]
+
+    def packet(number, high, captured, size):
+        return block(order, 6, struct.pack(order + "IIIII", number, high, 5, captured, captured) + bytes(size))
+
+    def many():
+        return [section(order), plain * r.choice([65536, 65537, 65537, 65537])]
+
+    made = r.choice([
+        lambda: [section(order)[:8] + r.randbytes(4) + section(order)[12:]],
+        lambda: [block(order, 0x0A0D0D0A, struct.pack(order + "IHHq", 0x1A2B3C4D, r.choice([0, 2, 256]), r.choice([0, 2]), -1))],
+        lambda: [block(order, 2, bytes(20))],
+        lambda: [block(order, 1, struct.pack(order + "HHI", r.choice([0, 12, 113, 228, 229, 276, 147]), 0, 0))],
+        lambda: [block(order, 1, struct.pack(order + "HHI", 102 - link, 0, 0))],
+        lambda: interface_with(r.choice([struct.pack(order + "HH", 2, 9) + bytes(8), struct.pack(order + "HHHxx", 9, 2, 6), struct.pack(order + "HH", 9, 0)])),
+        lambda: interface_with(struct.pack(order + "HHBxxx", 9, 1, r.choice([20, 127, 0x80 | 64, 255, 63, 19]))),
+        lambda: [packet(r.choice([65536, 9, 2**32 - 1]), 0, 8, 8)],
+        lambda: [section(order), block(order, 3, struct.pack(order + "I", 4) + bytes(4))],
+        lambda: [packet(0, 0, r.choice([262145, 2**32 - 1]), 40)],
+        lambda: [packet(0, 0, r.choice([41, 44, 262144]), 40)],
+        lambda: [section(order), plain, packet(0, r.choice([0xF423F, 0xF4240, 2**32 - 1]), 40, 40)],
+        lambda: [struct.pack(order + "II", 5, r.choice([0, 8, 13, 14, 2**32 - 1, 11])) + bytes(8)],
+        lambda: [block(order, 5, bytes(8))[:-4] + struct.pack(order + "I", r.choice([16, 24, 0]))],
+        lambda: [struct.pack(order + "III", r.choice([1, 6, 3, 0x0A0D0D0A]), 12, 12)],
+        lambda: [struct.pack(order + "II", 5, 400) + bytes(r.choice([0, 3, 8]))],
+        lambda: many() if r.random() < 0.05 else [section(order)],
+    ])
+    parts[at:at] = made()
+
+
 def framed(r, records, link):
     if link == 101:
         return records
@@ -481,7 +542,10 @@ def capture(r, table, count):
         at = r.randrange(len(records) + 1)
         records[at:at] = maker.flood()
     link = r.choice([101, 101, 1])
-    parts = (blocks if r.random() < 0.4 else classic)(r, framed(r, records, link), link)
+    write, fault = r.choice([(blocks, block_fault), (blocks, block_fault), (classic, classic_fault), (classic, classic_fault), (classic, classic_fault)])
+    parts = write(r, framed(r, records, link), link)
+    if r.random() < 0.08:
+        fault(r, parts, link)
     kind = r.random()
     if kind < 0.85:
         return b"".join(parts)
@@ -516,7 +580,7 @@ def windows(r, count, most):
 
 def run_job(r):
     files = {"t.toml": good_table(r).encode()}
-    table = router.Table(files["t.toml"])
+    table = router.table_of(files["t.toml"])
     count = r.choice([0, 1, 2, 5, 20, 60, 60, 150])
     files["in"] = capture(r, table, max(count, 1)) if count else b"".join(classic(r, [], 101))
     words, fault = ["run", "in", "out", "verdicts", "versions", "t.toml"], r.random()
@@ -570,6 +634,8 @@ def words_job(r):
 def table_job(r):
     """A question about a table, good or bad."""
     kind = r.random()
+    if kind < 0.003:
+        return Job(["check", "t.toml"], {"t.toml": large_table(r)})
     data = good_table(r).encode() if kind < 0.3 else bad_table(r) if kind < 0.93 else no_table(r)
     command = r.random()
     if command < 0.6:

@@ -1,5 +1,6 @@
 """A second router for the same job, in plain Python: written from docs/FORMATS.md and the RFCs, by lists and in the plainest way, to be
 held beside the program. It has nothing of the program's code and none of its speed."""
+import functools
 import ipaddress
 import struct
 import tomllib
@@ -9,12 +10,8 @@ import tomllib
 
 def checksum(data):
     """The Internet checksum (RFC 1071)."""
-    if len(data) % 2:
-        data += b"\0"
-    total = sum(struct.unpack(f"!{len(data) // 2}H", data))
-    while total > 0xFFFF:
-        total = (total & 0xFFFF) + (total >> 16)
-    return 0xFFFF - total
+    total = int.from_bytes(data, "big") << 8 * (len(data) % 2)
+    return 0xFFFF - (total % 0xFFFF or (0xFFFF if total else 0))
 
 
 def with_checksum(data, at):
@@ -136,6 +133,15 @@ class Table:
         return None
 
 
+@functools.lru_cache(8)
+def table_of(data):
+    """The table of a file, or its refusal."""
+    try:
+        return Table(data)
+    except Refused as why:
+        return why
+
+
 def numbers(tree):
     """All integers of a tree."""
     if isinstance(tree, dict):
@@ -153,17 +159,14 @@ def owns(offset, length, psid, port):
     return (port >> low) % (1 << length) == psid and (offset == 0 or port >> (16 - offset) > 0)
 
 
-KNOWN_PORTS = {}
-
-
+@functools.lru_cache(4096)
 def ports_of(offset, length, psid):
-    """The ports of an identifier, as the bits of one number."""
-    key = offset, length, psid
-    if key not in KNOWN_PORTS:
-        low = 16 - offset - length
-        run = (1 << (1 << low)) - 1
-        KNOWN_PORTS[key] = sum(run << ((i << 16 - offset) | psid << low) for i in (range(1, 1 << offset) if offset else [0]))
-    return KNOWN_PORTS[key]
+    """The ports of an identifier, as the bits of one number: a run in each piece of 2^(16-offset) ports, but not in the first piece."""
+    low = 16 - offset - length
+    found = ((1 << (1 << low)) - 1) << (psid << low)
+    for step in range(offset):
+        found |= found << (1 << 16 - offset + step)
+    return found >> (1 << 16 - offset) << (1 << 16 - offset) if offset else found
 
 
 # ------------------------------------------------------------------------------------------------------------------ captures
@@ -248,8 +251,8 @@ class Capture:
         if kind == 2:
             raise Refused(f"ng old {at}")
         if kind == 1:
-            interface = self.interface(body, at, order, interfaces, first)
-            return size, order, [*interfaces, interface], first if first is not None else interface[0], last
+            interfaces.append(self.interface(body, at, order, interfaces, first))
+            return size, order, interfaces, first if first is not None else interfaces[-1][0], last
         if kind == 6:
             number, high, low, captured = struct.unpack_from(order + "IIII", body)
             if number >= len(interfaces):
