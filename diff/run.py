@@ -7,7 +7,7 @@
 
 Runs COUNT jobs from SEED on in N processes, and prints what came, by status, refusal, rule, reply and outcome, and each difference with
 the command that shows it again. A job that differs is made smaller and kept in FOLDER (out/diff). Exit code 1 where there is one.
-With --log each 1,000 jobs add a line to FILE, so that what ran counts where a run is broken off; --sum prints the totals of such a file.
+With --log each 250 jobs add a line to FILE, so that what ran counts where a run is broken off; --sum prints the totals of such a file.
 With --stop-at N it ends behind the N-th difference."""
 import argparse
 import collections
@@ -31,7 +31,7 @@ import router  # noqa: E402
 PROGRAM = None
 MEMORY = "/dev/shm" if os.access("/dev/shm", os.W_OK) else None
 STATUS = {0: "done", 1: "done, a load was refused", 2: "usage", 3: "read fault", 4: "write fault", 5: "table refused", 6: "capture refused", 7: "out of memory"}
-SLICE = 1000
+SLICE = 250
 
 
 def run(job, folder):
