@@ -1,7 +1,7 @@
 #!/usr/bin/env bash
 # The files of runs with loads beside those of each table alone, and runs of 1 and of 16 workers beside one another, over
 # captures of 40,000 records of many kinds. Prints a line for each run, and ends with 1 if anything is otherwise.
-#     bench/points_and_files/run.sh [PROGRAM]
+#     diff/points_and_files/run.sh [PROGRAM]
 # PROGRAM takes the words of `lwaftr`; without it the program of this repository is built.
 set -eu
 here="$(cd "$(dirname "$0")" && pwd)"

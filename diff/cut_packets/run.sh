@@ -1,7 +1,7 @@
 #!/usr/bin/env bash
 # Cuts packets of sizes round every border, and has tshark put the pieces together again: it fails where anything but the
 # packet comes out, a piece is too long or a checksum is wrong. Needs python3 and tshark.
-#     bench/cut_packets/run.sh [REPOSITORY]
+#     diff/cut_packets/run.sh [REPOSITORY]
 set -e
 here="$(cd "$(dirname "$0")" && pwd)"
 top="$(cd "${1:-$here/../..}" && pwd)"

@@ -1,7 +1,7 @@
 #!/usr/bin/env bash
 # Has tshark dissect a capture of ICMP packets with every checksum verified. Each line shows a packet: its number, length,
 # addresses (outer and quoted), ICMP type and code, the state of its checksums (1 is good), and the quoted UDP ports.
-#     bench/icmp_packets/dissect.sh CAPTURE
+#     diff/icmp_packets/dissect.sh CAPTURE
 set -e
 options=(-o ip.check_checksum:TRUE -r "$1")
 tshark "${options[@]}" -T fields -e frame.number -e frame.len -e ip.src -e ip.dst -e ipv6.src -e ipv6.dst \

@@ -2,8 +2,8 @@
 # Has other tools write pcapng files, reads each, and compares every packet's time and captured length with what tshark
 # prints of it. Needs tshark, editcap, mergecap, text2pcap, and scapy: PYTHON names the python that has it. The program is
 # built and proved first.
-#     bench/pcapng_captures/run.sh [REPOSITORY]      compares
-#     bench/pcapng_captures/run.sh REPOSITORY time       reads files of 100 MB that are costly to read
+#     diff/pcapng_captures/run.sh [REPOSITORY]      compares
+#     diff/pcapng_captures/run.sh REPOSITORY time       reads files of 100 MB that are costly to read
 set -e
 python="${PYTHON:-python3}"
 here="$(cd "$(dirname "$0")" && pwd)"

@@ -1,6 +1,6 @@
 #!/usr/bin/env bash
 # Has tshark dissect a capture of packets that were sent, with every checksum verified and every packet put together again.
-#     bench/sent_packets/dissect.sh CAPTURE
+#     diff/sent_packets/dissect.sh CAPTURE
 set -e
 here="$(cd "$(dirname "$0")" && pwd)"
 options=(-o ip.check_checksum:TRUE -o ip.defragment:TRUE -o ipv6.defragment:TRUE -r "$1")

@@ -42,8 +42,9 @@ WHOLE = {"out.pcap": WRITTEN, "verdicts.txt": VERDICTS, "versions.txt": VERSIONS
 NONE = {"out.pcap": None, "verdicts.txt": None, "versions.txt": None}
 ANY = object()
 
-# What is wrong with a case, a text each.
+# What is wrong with a case, a text each; and the titles of all cases.
 failures = []
+titles = []
 
 
 def words(**changes):
@@ -190,6 +191,7 @@ def run_piped(program, line, folder):
 
 def case(program, title, line, code, err, out=b"", files=NONE, run=run_plain):
     """One case: what the program ends with, and what the files hold behind it. The capture and the tables stay."""
+    titles.append(title)
     folder = folder_with_files()
     try:
         seen = run(program, line, folder)
@@ -299,7 +301,8 @@ def main():
     all_cases(program)
     for failure in failures:
         print(failure)
-    print(f"program_ends: {len(failures)} go otherwise")
+    # (the pipe and the three second names are cases too)
+    print(f"program_ends: {len(failures)} of {len(titles) + 4} go otherwise")
     return 1 if failures else 0
 
 

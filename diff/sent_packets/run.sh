@@ -2,7 +2,7 @@
 # Writes packets of every kind that are sent into a capture, in both forms, and has tshark dissect them with every checksum
 # verified: it fails where tshark warns of anything, finds a checksum wrong, does not put the pieces of a packet together again, or
 # finds another number of packets. The program is run, and not proved. Needs python3 and tshark.
-#     bench/sent_packets/run.sh [REPOSITORY]
+#     diff/sent_packets/run.sh [REPOSITORY]
 set -e
 here="$(cd "$(dirname "$0")" && pwd)"
 top="$(cd "${1:-$here/../..}" && pwd)"

@@ -1,7 +1,7 @@
 #!/usr/bin/env bash
 # How the program ends for its user: exit codes, the line on standard error, standard output, and what the files hold, where
 # files are missing, cannot be made or are full, and where standard output is full, closed or a pipe that nobody reads.
-#     bench/program_ends/run.sh [PROGRAM]
+#     diff/program_ends/run.sh [PROGRAM]
 # PROGRAM takes the words of `lwaftr`; without it the program of this repository is built. It prints a line for each case that
 # goes otherwise, and the totals; it ends with 1 if there is such a case.
 set -eu

@@ -1,7 +1,7 @@
 #!/usr/bin/env bash
 # Writes a packet of each kind that the ICMP crates write into packets.pcap, and has tshark dissect it: it fails where
 # tshark warns of anything, finds a checksum wrong, or does not find the quoted packet. Needs python3 and tshark.
-#     bench/icmp_packets/run.sh [REPOSITORY]
+#     diff/icmp_packets/run.sh [REPOSITORY]
 set -e
 here="$(cd "$(dirname "$0")" && pwd)"
 top="$(cd "${1:-$here/../..}" && pwd)"
