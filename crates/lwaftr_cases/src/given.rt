@@ -1,4 +1,4 @@
-// Captures of several records, and what a run has to write of them. `bench/worked_cases` prints these tables.
+// Captures of several records, and what a run has to write of them. `diff/worked_cases` prints these tables.
 
 /// Packets by name, as `captures::hex` reads them.
 pub const PACKETS: &str = "\

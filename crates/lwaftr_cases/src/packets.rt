@@ -10,7 +10,7 @@ use std::test::Fail;
 use std::thread::Threads;
 
 /// Each line has a title, the table, the lines of VERDICTS behind their `0 0 `, the record's bytes, and the packets that leave,
-/// apart by commas. The bytes were made by programs in Python that know the headers alone; `bench/worked_cases` has the second.
+/// apart by commas. The bytes were made by programs in Python that know the headers alone; `diff/worked_cases` has the second.
 const CASES: &str = "\
 port 1232|shared|up 1|600000000020044020010db800010000000000000000000120010db8000000000000000000000001450000200001000040111490cb007101c633640704d00035000c000074657374|45000020000100003f111590cb007101c633640704d00035000c000074657374
 port 1235|shared|up 1|600000000020044020010db800010000000000000000000120010db8000000000000000000000001450000200001000040111490cb007101c633640704d30035000c000074657374|45000020000100003f111590cb007101c633640704d30035000c000074657374
