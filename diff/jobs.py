@@ -15,7 +15,7 @@ class Packets:
     """Packets that suit a table, and some that do not."""
 
     def __init__(self, chosen, table):
-        self.r, self.table, self.count = chosen, table, 0
+        self.r, self.table, self.large = chosen, table, False
 
     def pick(self, *them):
         return self.r.choice(them)
@@ -78,6 +78,8 @@ class Packets:
 
     def size(self):
         """Bytes of a payload: mostly few, sometimes about what a link takes."""
+        if self.large:
+            return self.r.randrange(1100, 1400)
         if self.r.random() < 0.85:
             return self.r.randrange(60)
         edge = self.r.choice([self.table.mtu6 - 40, self.table.mtu4, self.table.mtu6 - 48, 3000])
@@ -535,8 +537,10 @@ def framed(r, records, link):
 
 
 def capture(r, table, count):
-    """A capture of packets that suit a table, sound or cut or damaged."""
+    """A capture of packets that suit a table, sound or cut or damaged; one of several hundred records has large ones, so that a run takes
+    several rounds."""
     maker = Packets(r, table)
+    maker.large = count > 200
     records = maker.records(count)
     if r.random() < 0.02:
         at = r.randrange(len(records) + 1)
@@ -581,7 +585,7 @@ def windows(r, count, most):
 def run_job(r):
     files = {"t.toml": good_table(r).encode()}
     table = router.table_of(files["t.toml"])
-    count = r.choice([0, 1, 2, 5, 20, 60, 60, 150])
+    count = r.choice([0, 1, 2, 5, 20, 60, 60, 150]) if r.random() < 0.99 else r.choice([500, 700, 1800])
     files["in"] = capture(r, table, max(count, 1)) if count else b"".join(classic(r, [], 101))
     words, fault = ["run", "in", "out", "verdicts", "versions", "t.toml"], r.random()
     if r.random() < 0.4:
