@@ -4,9 +4,10 @@
     diff/attacks.sh [--program FILE] [--megabytes N] [--workers N] [KIND..]
 
 Makes a capture of N megabytes (100) of each kind, runs the program over it, and prints processor time and memory; then the time a byte
-and a record beside those of ordinary packets, which are UDP of 100 bytes from subscribers under a table of 65,536 bindings. Marks each kind
+and a record beside those of ordinary packets, which are UDP of 100 bytes from subscribers under a table of 4,096 bindings. Marks each kind
 of which both are more than ten times the ordinary ones. Exit code 1 where there is one."""
 import argparse
+import multiprocessing
 import os
 import random
 import struct
@@ -22,11 +23,12 @@ import run as beside  # noqa: E402
 
 AFTR, OWN, FAR = jobs.AFTR, jobs.OWN, bytes([198, 51, 100, 7])
 R = random.Random("attacks")
+COUNT = 4096
 
 
 def city():
-    """65,536 bindings: 256 addresses, each with 256 subscribers of four ports in each of 63 pieces."""
-    rows = "".join(f'{{b4="2001:db8:1::{at:x}",ipv4="203.0.{at >> 8}.7",offset=6,length=8,psid={at & 255}}},' for at in range(65536))
+    """4,096 bindings: 16 addresses, each with 256 subscribers of four ports in each of 63 pieces."""
+    rows = "".join(f'{{b4="2001:db8:1::{at:x}",ipv4="203.0.{at >> 8}.7",offset=6,length=8,psid={at & 255}}},' for at in range(COUNT))
     text = f'version = 1\nsoftwire = {{ aftr = "2001:db8::1", own = "192.0.2.1", errors_up = true, errors_down = true, mtu4 = 576, mtu6 = 1280 }}\nbinding = [{rows}]\n'
     return text.encode()
 
@@ -74,7 +76,7 @@ def relayed(at, size):
 
 def some(make, count=2048):
     """Packets of many subscribers."""
-    return [make(R.randrange(65536)) for _ in range(count)]
+    return [make(R.randrange(COUNT)) for _ in range(count)]
 
 
 def piece(number, at, body=bytes(8), more=True, dst=b"\xcb\0\0\7"):
@@ -165,7 +167,15 @@ def packet_block(data, options=b""):
 
 
 PLAIN = jobs.section("<") + jobs.block("<", 1, struct.pack("<HHI", 101, 0, 0))
-BLOCKS = {
+def late(size):
+    """Datagrams of one lane, a quarter of a second apart: 240 are open, and each piece ends one that waited too long."""
+    made = [piece(16 * at & 0xFFFF, 0, dst=struct.pack("!I", 0xCB000000 + (at >> 12))) for at in range(size // 44)]
+    records = (struct.pack("<IIII", at >> 2, (at & 3) * 250000, len(it), len(it)) + it for at, it in enumerate(made))
+    return struct.pack("<IHHIIII", 0xA1B2C3D4, 2, 4, 0, 0, 262144, 101) + b"".join(records), len(made)
+
+
+OTHERS = {
+    "lanes: each piece ends a datagram that waited": late,
     "pcapng: ordinary": lambda size: blocks(PLAIN, b"".join(map(packet_block, some(up))), 2048, size),
     "pcapng: blocks of 12 bytes": lambda size: blocks(PLAIN, jobs.block("<", 5, b"") * 4096, 4096, size),
     "pcapng: sections": lambda size: blocks(PLAIN, jobs.section("<") * 4096, 4096, size),
@@ -177,18 +187,23 @@ BLOCKS = {
 }
 
 
-def measured(data, table, workers):
-    """Seconds of processor, megabytes, the summary or status, and the bytes of OUT."""
+def timed(program, folder, workers):
+    """Seconds of processor, megabytes and what was said; in a process of its own, since a child counts its parent's memory as its own."""
+    words = [program, "run", "in", "out", "verdicts", "versions", "t.toml", "--workers", str(workers)]
+    process = subprocess.Popen(words, cwd=folder, stdin=subprocess.DEVNULL, stdout=subprocess.PIPE, stderr=subprocess.STDOUT)
+    said = process.stdout.read().decode().strip()
+    _, _, used = os.wait4(process.pid, 0)
+    process.returncode = 0
+    return used.ru_utime + used.ru_stime, used.ru_maxrss / 1024, said
+
+
+def measured(pool, data, table, workers):
+    """What `timed` gives of a run over these bytes, and the bytes of OUT."""
     with tempfile.TemporaryDirectory(dir=beside.MEMORY) as folder:
         for name, it in (("in", data), ("t.toml", table)):
             with open(os.path.join(folder, name), "wb") as file:
                 file.write(it)
-        words = [beside.PROGRAM, "run", "in", "out", "verdicts", "versions", "t.toml", "--workers", str(workers)]
-        process = subprocess.Popen(words, cwd=folder, stdin=subprocess.DEVNULL, stdout=subprocess.PIPE, stderr=subprocess.STDOUT)
-        said = process.stdout.read().decode().strip()
-        _, _, used = os.wait4(process.pid, 0)
-        process.returncode = 0
-        return used.ru_utime + used.ru_stime, used.ru_maxrss / 1024, said, os.path.getsize(os.path.join(folder, "out"))
+        return *pool.apply(timed, (beside.PROGRAM, folder, workers)), os.path.getsize(os.path.join(folder, "out"))
 
 
 def main():
@@ -199,16 +214,17 @@ def main():
     it.add_argument("kinds", nargs="*")
     words = it.parse_args()
     beside.PROGRAM = os.path.abspath(words.program) if words.program else beside.program_here()
+    pool = multiprocessing.Pool(1)
     table, size, ordinary, marked = city(), words.megabytes * 10**6, None, 0
     # What reading the table takes is no cost of the records.
-    alone, memory, *_ = min((measured(classic("empty records", 24)[0], table, words.workers) for _ in range(3)), key=lambda it: it[0])
+    alone, memory, *_ = min((measured(pool, classic("empty records", 24)[0], table, words.workers) for _ in range(3)), key=lambda it: it[0])
     print(f"the table alone: {alone:.2f} s, {memory:.0f} MB", flush=True)
     print("| capture | MB in | records | MB out | s | MB of memory | ns a byte | ns a record | times the ordinary, the less |\n|---|---|---|---|---|---|---|---|---|")
-    for kind in [*KINDS, *BLOCKS]:
+    for kind in [*KINDS, *OTHERS]:
         if ordinary and words.kinds and not any(it in kind for it in words.kinds):
             continue
-        data, records = classic(kind, size) if kind in KINDS else BLOCKS[kind](size)
-        seconds, memory, said, out = measured(data, table, words.workers)
+        data, records = classic(kind, size) if kind in KINDS else OTHERS[kind](size)
+        seconds, memory, said, out = measured(pool, data, table, words.workers)
         spent = max(seconds - alone, 0.001)
         a_byte, a_record = spent / len(data) * 1e9, spent / records * 1e9
         ordinary = ordinary or (a_byte, a_record)

@@ -78,6 +78,7 @@ class Due:
         self.words, self.files = words, files
         _, self.names, self.loads, _, self.errors = expect.job_of(words)
         found = [router.table_of(files[name]) for *_, name in self.loads]
+        self.wide = any(earliest != latest for earliest, latest, _ in self.loads)
         self.why = [str(it).removeprefix("rules ") if isinstance(it, router.Refused) else None for it in found]
         self.tables = [router.table_of(files["t.toml"])] + [it for it in found if isinstance(it, router.Table)]
 
@@ -117,6 +118,14 @@ class Due:
                 return tuple(points), not whole and line.startswith(left)
             left = left[len(line) :]
         return tuple(points), left == ""
+
+    def fixed(self):
+        """VERSIONS, where each window has one number."""
+        count, lines, version = len(self.capture(None).records), [f"0 {self.names[4]} initial\n"], 0
+        for (earliest, _, name), why in zip(self.loads, self.why):
+            version += not why and earliest <= count
+            lines.append(f"- {name} refused {why}\n" if why else f"- {name} not-reached\n" if earliest > count else f"{version} {name} at {earliest}\n")
+        return "".join(lines)
 
     def whole(self, seen, code, status, place=None, silent=False):
         """What is wrong with a run that has to have its outputs and summary whole."""
@@ -331,6 +340,8 @@ def ends_of_streams(table, only):
             table.add("standard output unread", title, seen, due.judge(seen, 4) or (None if seen.code == 4 else "not told"))
         if not only or only in "reader":
             for name, size in itertools.product(OUTPUTS, (0, 1, 100, 70000)):
+                if name == "versions" and due.wide:
+                    continue
                 reader_goes(table, due, title, words, files, name, size)
         if title.startswith("rounds") and (not only or only in "killed"):
             for step in range(40):
@@ -357,11 +368,12 @@ def reader_goes(table, due, title, words, files, name, size):
         reader.start()
         seen = seen_of(start(words, folder, files), folder)
         reader.join(10)
-    seen.files[name] = b"".join(took)
-    why = due.judge(seen, 4) if seen.code == 4 else due.judge(Seen(7, seen.said, STATUS[7], seen.files), 7) if seen.code in (0, 1, 6) and len(seen.files[name]) == size else due.judge(seen, 4)
-    # (a pipe may hold what its reader never took: then all went in before the reader went)
-    if why == "a summary before its outputs" and seen.code in (0, 1, 6) and len(seen.files[name]) == size:
-        why = None
+    took, seen.files[name] = b"".join(took), b""
+    versions = due.fixed() if name == "versions" else seen.files.get("versions", b"").decode()
+    every = dict(zip(OUTPUTS, due.outputs(due.points(versions, None, False)[0], None)), versions=versions.encode())
+    # A pipe takes more than its reader: what else went in is not known, and all of it did where the run ended well.
+    seen.files[name] = every[name] if seen.code in (0, 1, 6) or name == "versions" else took
+    why = due.judge(seen, 4) if every[name].startswith(took) else "its reader took something else"
     table.add(f"the reader of {name.upper()} goes away", f"{title}, {size} bytes", seen, why)
 
 
