@@ -29,8 +29,8 @@ COUNT = 4096
 def city():
     """4,096 bindings: 16 addresses, each with 256 subscribers of four ports in each of 63 pieces."""
     rows = "".join(f'{{b4="2001:db8:1::{at:x}",ipv4="203.0.{at >> 8}.7",offset=6,length=8,psid={at & 255}}},' for at in range(COUNT))
-    text = f'version = 1\nsoftwire = {{ aftr = "2001:db8::1", own = "192.0.2.1", errors_up = true, errors_down = true, mtu4 = 576, mtu6 = 1280 }}\nbinding = [{rows}]\n'
-    return text.encode()
+    settings = 'aftr = "2001:db8::1", own = "192.0.2.1", errors_up = true, errors_down = true, mtu4 = 576, mtu6 = 1280'
+    return f"version = 1\nsoftwire = {{ {settings} }}\nbinding = [{rows}]\n".encode()
 
 
 def subscriber(at):
@@ -219,7 +219,8 @@ def main():
     # What reading the table takes is no cost of the records.
     alone, memory, *_ = min((measured(pool, classic("empty records", 24)[0], table, words.workers) for _ in range(3)), key=lambda it: it[0])
     print(f"the table alone: {alone:.2f} s, {memory:.0f} MB", flush=True)
-    print("| capture | MB in | records | MB out | s | MB of memory | ns a byte | ns a record | times the ordinary, the less |\n|---|---|---|---|---|---|---|---|---|")
+    print("| capture | MB in | records | MB out | s | MB of memory | ns a byte | ns a record | times the ordinary, the less |")
+    print("|---|---|---|---|---|---|---|---|---|")
     for kind in [*KINDS, *OTHERS]:
         if ordinary and words.kinds and not any(it in kind for it in words.kinds):
             continue
@@ -230,7 +231,8 @@ def main():
         ordinary = ordinary or (a_byte, a_record)
         times = min(a_byte / ordinary[0], a_record / ordinary[1])
         marked += times > 10
-        row = f"| {kind} | {len(data) / 1e6:.0f} | {records} | {out / 1e6:.0f} | {spent:.2f} | {memory:.0f} | {a_byte:.1f} | {a_record:.0f} | {times:.1f} |"
+        row = f"| {kind} | {len(data) / 1e6:.0f} | {records} | {out / 1e6:.0f} | {spent:.2f} | {memory:.0f} |"
+        row += f" {a_byte:.1f} | {a_record:.0f} | {times:.1f} |"
         print(row + (" OVER TEN" if times > 10 else "") + ("" if said.startswith("records") else f" {said}"), flush=True)
     sys.exit(1 if marked else 0)
 

@@ -85,7 +85,8 @@ def main():
                 print(f"{change}: not built", flush=True)
                 missed += 1
                 continue
-            beside = [sys.executable, os.path.join(HERE, "run.py"), str(words.seed), str(words.jobs), "-j", "1", "--program", program, "--stop-at", "1", "--keep", folder]
+            beside = [sys.executable, os.path.join(HERE, "run.py"), str(words.seed), str(words.jobs), "-j", "1"]
+            beside += ["--program", program, "--stop-at", "1", "--keep", folder]
             said = subprocess.run(beside, capture_output=True, text=True).stdout
             found = re.search(r"^job (\d+): (.*)$", said, re.M)
             missed += not found

@@ -57,12 +57,15 @@ def five():
     maker = jobs.Packets(r, router.table_of(first))
     second, third = tables(r), tables(r)
     some = maker.records(150)
-    pieces = [it for _ in range(40) for it in maker.cut_packet(maker.ip4(maker.far(), maker.binding()[1], 17, r.randbytes(300), options=b""), r.randrange(65536))]
+    whole = [maker.ip4(maker.far(), maker.binding()[1], 17, r.randbytes(300), options=b"") for _ in range(40)]
+    pieces = [piece for it in whole for piece in maker.cut_packet(it, r.randrange(65536))]
     loads = ["20-20:a", "40-40:b", "60-60:c", "140-140:a"]
     yield "a packet", words, {"t.toml": first, "in": b"".join(jobs.classic(r, [maker.up()], 101))}
     yield "fragments", words, {"t.toml": first, "in": b"".join(jobs.classic(r, pieces, 101))}
-    yield "loads", words + loads + ["--errors", "2"], {"t.toml": first, "a": second, "b": b"no table", "c": third, "in": b"".join(jobs.classic(r, some, 101))}
-    yield "pcapng", words + ["0-50:a", "10-90:c", "900-901:b"], {"t.toml": first, "a": second, "b": first, "c": third, "in": b"".join(jobs.blocks(r, some, 101))}
+    files = {"t.toml": first, "a": second, "b": b"no table", "c": third, "in": b"".join(jobs.classic(r, some, 101))}
+    yield "loads", words + loads + ["--errors", "2"], files
+    files = {**files, "b": first, "in": b"".join(jobs.blocks(r, some, 101))}
+    yield "pcapng", words + ["0-50:a", "10-90:c", "900-901:b"], files
     many = [it for it in maker.records(1200) if len(it) < 1500] * 12
     files = {"t.toml": first, "a": second, "c": third, "in": b"".join(jobs.classic(r, many, 101))}
     yield "rounds", words + ["5000-5000:a", "9000-9000:c"], files
@@ -130,7 +133,8 @@ class Due:
     def whole(self, seen, code, status, place=None, silent=False):
         """What is wrong with a run that has to have its outputs and summary whole."""
         ending = self.capture(place).ending if place is None else None
-        wanted = (code, status) if code is not None else (6, f"capture refused: {ending}") if ending else (1, "done, a load was refused") if any(self.why) else (0, None)
+        wanted = (6, f"capture refused: {ending}") if ending else (1, "done, a load was refused") if any(self.why) else (0, None)
+        wanted = (code, status) if code is not None else wanted
         if (seen.code, seen.status) not in [wanted] + [(wanted[0], None)] * silent:
             return f"ended {seen.code} {seen.status}, not {wanted}"
         points, good = self.points(seen.files.get("versions", b"").decode(), place, True)
@@ -186,7 +190,8 @@ def start(words, folder, files, env=None, before=None, out=subprocess.PIPE):
     for name, data in files.items():
         with open(os.path.join(folder, name), "wb") as file:
             file.write(data)
-    return subprocess.Popen([beside.PROGRAM, *words], cwd=folder, env={**os.environ, **(env or {})}, preexec_fn=before, stdin=subprocess.DEVNULL, stdout=out, stderr=subprocess.PIPE)
+    how = {"env": {**os.environ, **(env or {})}, "preexec_fn": before, "stdin": subprocess.DEVNULL, "stdout": out, "stderr": subprocess.PIPE}
+    return subprocess.Popen([beside.PROGRAM, *words], cwd=folder, **how)
 
 
 def seen_of(process, folder):
@@ -280,11 +285,15 @@ def limits(table, only):
         for step in range(20):
             if not only or only in "memory":
                 room = 2**20 * (5 + step + step * step // 4)
-                judge_limited(table, due, "ulimit -v of 5 to 114 MB", f"{title}, {room}", words, files, lambda: resource.setrlimit(resource.RLIMIT_AS, (room, room)))
+
+                def with_room(room=room):
+                    resource.setrlimit(resource.RLIMIT_AS, (room, room))
+
+                judge_limited(table, due, "ulimit -v of 5 to 114 MB", f"{title}, {room}", words, files, with_room)
             if not only or only in "files":
                 size = largest * step // 19
 
-                def before():
+                def before(size=size):
                     signal.signal(signal.SIGXFSZ, signal.SIG_IGN)
                     resource.setrlimit(resource.RLIMIT_FSIZE, (size, size))
 

@@ -87,8 +87,11 @@ def difference(job):
         if wanted.files.get(name) != written.get(name):
             one, other = wanted.files.get(name, b""), written.get(name, b"")
             at = next((at for at, (x, y) in enumerate(zip(one, other)) if x != y), min(len(one), len(other)))
-            line = one[:at].count(b"\n") if name == "verdicts" else None
-            return f"{name} differs at byte {at}" + (f": wanted {one.splitlines()[line : line + 1]}, got {other.splitlines()[line : line + 1]}" if line is not None else ""), came
+            said = f"{name} differs at byte {at}"
+            if name == "verdicts":
+                line = one[:at].count(b"\n")
+                said += f": wanted {one.splitlines()[line : line + 1]}, got {other.splitlines()[line : line + 1]}"
+            return said, came
     return None, came
 
 
