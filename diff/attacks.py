@@ -83,8 +83,14 @@ def piece(number, at, body=bytes(8), more=True, dst=b"\xcb\0\0\7"):
     return ip4(FAR, dst, 17, body, word=(0x2000 if more else 0) | at, number=number)
 
 
+def datagram(number):
+    """256 pieces of a datagram to a subscriber."""
+    body = udp(53, 1024, 8184)
+    return [piece(number, 4 * at, body[32 * at :][:32], at < 255) for at in range(256)]
+
+
 def full_lanes():
-    """All sixteen lanes full: 256 datagrams of 255 pieces each would be many, so of a few pieces each."""
+    """All sixteen lanes full: 256 datagrams of three pieces each."""
     return [piece(number, at) for number in range(4096) for at in (0, 2, 4)]
 
 
@@ -108,7 +114,7 @@ KINDS = {
     "lanes: a repeat of the last of 256 pieces": lambda: ([piece(5, 2 * at) for at in range(256)], [piece(5, 510)] * 64),
     "lanes: the 257th piece and those behind it": lambda: ([piece(5, 2 * at) for at in range(256)], [piece(5, 1000 + 2 * at) for at in range(64)]),
     "lanes: pieces in falling order, 256 of each datagram": lambda: ([], [piece(number, 2 * at) for number in range(64) for at in range(255, -1, -1)]),
-    "lanes: datagrams of 8,192 bytes in 256 pieces": lambda: ([], [piece(number, 4 * at, bytes(32), at < 255) for number in range(32) for at in range(256)]),
+    "lanes: datagrams of 8,192 bytes in 256 pieces": lambda: ([], [it for number in range(32) for it in datagram(number)]),
     "lanes: one datagram more than a full lane takes": lambda: (full_lanes(), [piece(at, 0, dst=b"\xcb\0\1\7") for at in range(64)]),
     "lanes: repeats among 4,096 datagrams": lambda: (full_lanes(), [piece(R.randrange(4096), 4) for _ in range(2048)]),
     "lanes: overlaps": lambda: ([], [it for number in range(4096) for it in (piece(number, 0, bytes(16)), piece(number, 1, bytes(16)))]),
