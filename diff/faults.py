@@ -1,13 +1,14 @@
 #!/usr/bin/env python3
 """Each call of the program failing in turn, and what stays of the files.
 
-    diff/faults.sh [--program FILE] [--most N] [--only WORD]
+    diff/faults.sh [--program FILE] [--most N] [--only WORD] [--job TITLE]
 
 Five jobs, by 1 and by 16 workers: a packet, fragments, loads, a pcapng capture with loads in wide windows, and a capture of several
 rounds. In each, every opening, creation, read, append, put, growth of memory and start of a thread fails in turn, once and from there on
 (faults.c, which gcc compiles); a run with more than N calls of a kind (100) has N of them failed, spread evenly. Then memory in twenty
 steps, files and a disk that fill, a standard output that is closed, full or unread, a reader of each output that goes away, and a kill
-in the middle. Each ending is held against 'Exit codes' of docs/FORMATS.md by the second router. Exit code 1 where one is otherwise."""
+in the middle. Each ending is held against 'Exit codes' of docs/FORMATS.md by the second router. Exit code 1 where one is otherwise.
+--only takes the rows whose name has WORD (memory, files, disk, stdout, reader and killed are those behind the calls), --job one job."""
 import argparse
 import collections
 import functools
@@ -31,6 +32,7 @@ import jobs  # noqa: E402
 import router  # noqa: E402
 import run as beside  # noqa: E402
 
+JOB = None
 OUTPUTS = ("out", "verdicts", "versions")
 STATUS = {3: "read fault", 4: "write fault", 7: "out of memory"}
 KINDS = {"open": 3, "create": 4, "read": 3, "append": 4, "put": 4, "grow": 7, "thread": None}
@@ -50,7 +52,11 @@ def tables(r):
 
 
 def five():
-    """Title, words and files of the five jobs."""
+    """Title, words and files of the five jobs, or of the one that is asked for."""
+    return [it for it in every_job() if JOB in (None, it[0])]
+
+
+def every_job():
     r = random.Random("faults")
     words = ["run", "in", "out", "verdicts", "versions", "t.toml"]
     first = tables(r)
@@ -401,11 +407,14 @@ def killed(table, due, title, words, files, step):
 
 
 def main():
+    global JOB
     it = argparse.ArgumentParser(description=__doc__, formatter_class=argparse.RawDescriptionHelpFormatter)
     it.add_argument("--program")
     it.add_argument("--most", type=int, default=100)
     it.add_argument("--only")
+    it.add_argument("--job")
     words = it.parse_args()
+    JOB = words.job
     beside.PROGRAM = os.path.abspath(words.program) if words.program else beside.program_here()
     table = Table()
     signal.signal(signal.SIGTERM, signal.default_int_handler)
