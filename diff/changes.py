@@ -7,8 +7,10 @@ Each edit is one that the prover has to refuse (crates/CRATE/must-fail/EDIT.edit
 of that copy is built without a proof, as `rt try` does, and held beside the second router over N jobs (2,000) from SEED (1) on. Prints
 a line for each: the job that found it and how. Exit code 1 where one is not found."""
 import argparse
+import contextlib
 import os
 import re
+import shlex
 import shutil
 import signal
 import subprocess
@@ -43,6 +45,15 @@ def changed(change, folder):
         file.write(text.replace(words["old"], words["new"]))
 
 
+def taken(line, to):
+    """The program that runs by these words, copied, and a script that runs it by the same ones."""
+    shutil.copy(line[-1], f"{to}.made")
+    with open(to, "w", encoding="utf-8") as script:
+        script.write(f'#!/bin/sh\nexec {shlex.join([*line[:-1], f"{to}.made"])} "$@"\n')
+    os.chmod(to, 0o755)
+    return True
+
+
 def build(folder, to):
     """The program of a copy, unproved: `rt try` keeps none, so it is copied as it runs."""
     made = os.path.join(folder, "made")
@@ -54,12 +65,12 @@ def build(folder, to):
         try:
             while it.poll() is None:
                 for number in filter(str.isdigit, os.listdir("/proc")):
-                    try:
-                        if os.readlink(f"/proc/{number}/exe").startswith(made):
-                            shutil.copy(f"/proc/{number}/exe", to)
-                            return True
-                    except OSError:
-                        continue
+                    with contextlib.suppress(OSError):
+                        with open(f"/proc/{number}/cmdline", encoding="utf-8", errors="replace") as file:
+                            line = file.read().split("\0")
+                        at = next((at for at, it in enumerate(line) if it.startswith(made) and it.endswith("/program")), None)
+                        if at is not None and line[at + 1 : at + 2] == ["demo"]:
+                            return taken(line[: at + 1], to)
                 time.sleep(0.2)
         finally:
             if it.poll() is None:
