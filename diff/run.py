@@ -48,12 +48,17 @@ def run(job, folder):
     return it.returncode, it.stdout.decode("utf-8", "replace"), error[0] or None, found
 
 
-def counted(code, status, written):
+def counted(words, code, status, written):
     """What came, by kind and name."""
+    try:
+        it = expect.job_of(words)
+    except expect.NoJob:
+        it = ("none",)
+    verdicts, versions = (written.get(name, b"").decode("utf-8", "replace") for name in (it[1][2:4] if it[0] == "run" else ("", "")))
     came = collections.Counter({("status", STATUS.get(code, str(code))): 1})
     if status and status.startswith(("table refused", "capture refused")):
         came["refusal", without_numbers(status)] += 1
-    for line in written.get("verdicts", b"").decode().splitlines():
+    for line in verdicts.splitlines():
         words = line.split()
         if words[0] in ("expired", "unfinished"):
             came["line", words[0]] += 1
@@ -64,7 +69,7 @@ def counted(code, status, written):
             came["rule", words[3]] += 1
             came["reply", words[3]] += words[-1] != "0"
             came["reply", f"{words[3]} kept back"] += words[4] == "limited"
-    for line in written.get("versions", b"").decode("utf-8", "replace").splitlines():
+    for line in versions.splitlines():
         came["load", without_numbers(" ".join(line.split()[2:]))] += 1
     return +came
 
@@ -80,7 +85,7 @@ def difference(job):
         code, said, status, found = run(job, folder)
     written = {name: data for name, data in found.items() if job.files.get(name) != data}
     wanted = expect.expected(job.words, job.files, written)
-    came = counted(code, status, written)
+    came = counted(job.words, code, status, written)
     if wanted.code != code or wanted.said != said or wanted.status != status:
         return f"wanted {wanted.code} {wanted.said!r} {wanted.status!r}, got {code} {said!r} {status!r}", came
     for name in sorted({*wanted.files, *written}):
