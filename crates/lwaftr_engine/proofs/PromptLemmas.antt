@@ -68,9 +68,9 @@ from_world P a b said was puts before files took failed holds =
     let C : ℕ → Type 0 = λ n. P (world b was n) in
     subst C failed (subst B took (subst A files holds))
 
-untouched : (run : RunJob) (h : Option Contents) (said : Option (List ℕ)) (last : Option (List ℕ × ℕ)) → Moves h h (λ m n. Leaves run status.OutOfMemory m n said said last None)
-untouched run None said last = tt
-untouched run (Some m) said last = inl (record { files = refl; sink = refl; none = refl })
+untouched : (run : RunJob) (h : Option Contents) (said : Option (List ℕ)) (o : Outside) → Moves h h (λ m n. Leaves run status.OutOfMemory m n said said o o None)
+untouched run None said o = tt
+untouched run (Some m) said o = inl (record { files = refl; sink = refl; none = refl })
 
 -- want of memory answers whatever is asked for
 answered_so : (run : RunJob) (h : Option Contents) → Told h (λ m. (s : Status) → IsAskedFor run m s → (status.OutOfMemory ≡ s) ⊎ IsFault status.OutOfMemory)
@@ -83,7 +83,7 @@ no_run run s a said puts history short none =
     let S : Status → Type 0 = λ t. KeepsRun run t (world a said puts) (world a said puts) history in
     let H : Option HistoryValue → Type 0 = λ h. KeepsRun run status.OutOfMemory (world a said puts) (world a said puts) h in
     subst S (sym short) (subst H (sym none) (record {
-      files = untouched run a.held said a.last;
+      files = untouched run a.held said a;
       others = others_same run a.held a.held refl;
       due = answered_so run a.held;
       cause = record { spoiled = refl; puts = refl };
