@@ -7,6 +7,7 @@ use Rattle.addr_text.specs.Ipv4.{IsV4Text}
 use Rattle.aftr_base.specs.declared.numbers.V4.{V4}
 use Rattle.clap.specs.Words.{App, Row, Text, fault_of, matches_of}
 use Rattle.aftr_text.specs.Commands.{check_app, demo_app, line, migrate_app, run_app, who_app, word_of, words_of}
+use Rattle.aftr_text.specs.Faults.{TakesSoMany}
 use Rattle.aftr_text.specs.Jobs.{AsksCheck, AsksDemo, AsksFor, AsksMigrate, AsksRun, AsksWho, AreWorkers, IsLimit, IsLoad, IsName, AreApart, AreNames, AreRising, windows_of, IsWorkers, load_text, load_texts}
 use Rattle.aftr_text.specs.Parts.{Parts}
 use Rattle.aftr_text.specs.declared.jobs.Job.{Job}
@@ -56,6 +57,34 @@ no_migrate p none (job.Who name v4 port) a = apart _ _ refl a.0
 no_migrate p none (job.Demo seed count workers) a = apart _ _ refl a.0
 no_migrate p none (job.Migrate input output) a = none input output a.1
 
+-- arguments by how many there are
+one_argument : (args : List (List ℕ)) → 1 ≤ length args → length args ≤ 1 → (a : List ℕ) × (args ≡ a ∷ [])
+one_argument [] least most = absurd (omega (arith, least))
+one_argument (a ∷ []) least most = (a, refl)
+one_argument (a ∷ b ∷ rest) least most = absurd (omega (arith, most))
+
+two_arguments : (args : List (List ℕ)) → 2 ≤ length args → length args ≤ 2 → (a : List ℕ) × (b : List ℕ) × (args ≡ a ∷ b ∷ [])
+two_arguments [] least most = absurd (omega (arith, least))
+two_arguments (a ∷ []) least most = absurd (omega (arith, least))
+two_arguments (a ∷ b ∷ []) least most = (a, b, refl)
+two_arguments (a ∷ b ∷ c ∷ rest) least most = absurd (omega (arith, most))
+
+three_arguments : (args : List (List ℕ)) → 3 ≤ length args → length args ≤ 3 → (a : List ℕ) × (b : List ℕ) × (c : List ℕ) × (args ≡ a ∷ b ∷ c ∷ [])
+three_arguments [] least most = absurd (omega (arith, least))
+three_arguments (a ∷ []) least most = absurd (omega (arith, least))
+three_arguments (a ∷ b ∷ []) least most = absurd (omega (arith, least))
+three_arguments (a ∷ b ∷ c ∷ []) least most = (a, b, c, refl)
+three_arguments (a ∷ b ∷ c ∷ d ∷ rest) least most = absurd (omega (arith, most))
+
+five_arguments : (args : List (List ℕ)) → 5 ≤ length args
+    → (a : List ℕ) × (b : List ℕ) × (c : List ℕ) × (d : List ℕ) × (e : List ℕ) × (rest : List (List ℕ)) × (args ≡ a ∷ b ∷ c ∷ d ∷ e ∷ rest)
+five_arguments [] least = absurd (omega (arith, least))
+five_arguments (a ∷ []) least = absurd (omega (arith, least))
+five_arguments (a ∷ b ∷ []) least = absurd (omega (arith, least))
+five_arguments (a ∷ b ∷ c ∷ []) least = absurd (omega (arith, least))
+five_arguments (a ∷ b ∷ c ∷ d ∷ []) least = absurd (omega (arith, least))
+five_arguments (a ∷ b ∷ c ∷ d ∷ e ∷ rest) least = (a, b, c, d, e, rest, refl)
+
 -- `check`: its words are read by the command of this app
 module _ (p : Parts) (app : App) (words : List Text) (is_app : app ≡ check_app) (is_line : words ≡ line (codes "check") p.arguments) where
   fault_check : fault_of app words ≡ fault_of check_app (line (codes "check") p.arguments)
@@ -63,6 +92,11 @@ module _ (p : Parts) (app : App) (words : List Text) (is_app : app ≡ check_app
 
   pub refused_check : fault_of app words ≢ [] → (name : List ℕ) → AsksCheck p name → ⊥
   refused_check bad name a = bad (fault_check ∙ ap (λ (args : List Text). fault_of check_app (line (codes "check") args)) a.arguments ∙ check_taken name)
+
+  pub count_check : fault_of app words ≢ [] → TakesSoMany (codes "check") (length p.arguments) → ⊥
+  count_check bad fits =
+      let one = one_argument p.arguments fits.0 fits.1 in
+      bad (fault_check ∙ ap (λ (args : List Text). fault_of check_app (line (codes "check") args)) one.1 ∙ check_taken one.0)
 
   pub found_check : (rows : List Row) → fault_of app words ≡ [] → rows ≡ matches_of app words → p.arguments ≡ word_of rows (codes "file") ∷ []
   found_check rows good is =
@@ -75,6 +109,11 @@ module _ (p : Parts) (app : App) (words : List Text) (is_app : app ≡ migrate_a
   pub refused_migrate : fault_of app words ≢ [] → (input output : List ℕ) → AsksMigrate p input output → ⊥
   refused_migrate bad input output a =
       bad (fault_migrate ∙ ap (λ (args : List Text). fault_of migrate_app (line (codes "migrate") args)) a.arguments ∙ migrate_taken input output)
+
+  pub count_migrate : fault_of app words ≢ [] → TakesSoMany (codes "migrate") (length p.arguments) → ⊥
+  count_migrate bad fits =
+      let two = two_arguments p.arguments fits.0 fits.1 in
+      bad (fault_migrate ∙ ap (λ (args : List Text). fault_of migrate_app (line (codes "migrate") args)) two.2 ∙ migrate_taken two.0 two.1)
 
   pub found_migrate : (rows : List Row) → fault_of app words ≡ [] → rows ≡ matches_of app words
       → p.arguments ≡ word_of rows (codes "input") ∷ word_of rows (codes "output") ∷ []
@@ -90,6 +129,11 @@ module _ (p : Parts) (app : App) (words : List Text) (is_app : app ≡ who_app) 
   refused_who bad name v4 port a =
       bad (fault_who ∙ ap (λ (args : List Text). fault_of who_app (line (codes "who") args)) a.arguments ∙ who_taken name a.address (decimal port))
 
+  pub count_who : fault_of app words ≢ [] → TakesSoMany (codes "who") (length p.arguments) → ⊥
+  count_who bad fits =
+      let three = three_arguments p.arguments fits.0 fits.1 in
+      bad (fault_who ∙ ap (λ (args : List Text). fault_of who_app (line (codes "who") args)) three.3 ∙ who_taken three.0 three.1 three.2)
+
   pub found_who : (rows : List Row) → fault_of app words ≡ [] → rows ≡ matches_of app words
       → p.arguments ≡ word_of rows (codes "file") ∷ word_of rows (codes "address") ∷ word_of rows (codes "port") ∷ []
   found_who rows good is =
@@ -104,6 +148,11 @@ module _ (p : Parts) (app : App) (words : List Text) (is_app : app ≡ demo_app)
   refused_demo bad seed count workers a =
       bad (fault_demo ∙ ap (λ (args : List Text). fault_of demo_app (line (codes "demo") args)) a.arguments
       ∙ demo_taken (decimal seed) (decimal count) (decimal workers))
+
+  pub count_demo : fault_of app words ≢ [] → TakesSoMany (codes "demo") (length p.arguments) → ⊥
+  count_demo bad fits =
+      let three = three_arguments p.arguments fits.0 fits.1 in
+      bad (fault_demo ∙ ap (λ (args : List Text). fault_of demo_app (line (codes "demo") args)) three.3 ∙ demo_taken three.0 three.1 three.2)
 
   pub found_demo : (rows : List Row) → fault_of app words ≡ [] → rows ≡ matches_of app words
       → p.arguments ≡ word_of rows (codes "seed") ∷ word_of rows (codes "count") ∷ word_of rows (codes "workers") ∷ []
@@ -125,6 +174,12 @@ module _ (p : Parts) (app : App) (words : List Text) (is_app : app ≡ run_app) 
   refused_run bad run a =
       bad (fault_run ∙ ap (λ (args : List Text). fault_of run_app (line (codes "run") args)) a.arguments
       ∙ run_taken run.input run.output run.verdicts run.versions run.table (load_texts run.loads) (omega (arith, a.few, length-map run.loads load_text)))
+
+  pub count_run : fault_of app words ≢ [] → TakesSoMany (codes "run") (length p.arguments) → ⊥
+  count_run bad fits =
+      let five = five_arguments p.arguments fits.0 in
+      bad (fault_run ∙ ap (λ (args : List Text). fault_of run_app (line (codes "run") args)) five.6
+      ∙ run_taken five.0 five.1 five.2 five.3 five.4 five.5 (omega (arith, fits.1, ap length five.6)))
 
   pub found_run : (rows : List Row) → fault_of app words ≡ [] → rows ≡ matches_of app words → IsFound p rows
   found_run rows good is =

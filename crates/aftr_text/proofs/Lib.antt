@@ -1,6 +1,7 @@
 mod Appending
 mod AskLemmas
 mod CommandLemmas
+mod FaultLemmas
 mod Cuts
 mod LoadLemmas
 mod Numbers64

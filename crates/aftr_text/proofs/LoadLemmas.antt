@@ -1,6 +1,6 @@
 -- The loads that words write.
-use Rattle.std.proofs.Common.{inl, inr, ◌≡◌, ◌≢◌, ℕ, suc, zero, ◌+◌, ◌-◌, ◌<◌, ◌≤◌, false, List, [], ◌∷◌, ◌++◌, length, take, refl, sym, ◌∙◌, ap, ap₂, subst, arith}
-use Rattle.std.specs.Prelude.{All, IsTrue, slice_index_or}
+use Rattle.std.proofs.Common.{inl, inr, ◌≡◌, ◌≢◌, ℕ, suc, zero, ◌+◌, ◌-◌, ◌<◌, ◌≤◌, false, List, [], ◌∷◌, ◌++◌, Some, length, take, refl, sym, ◌∙◌, ap, ap₂, subst, arith}
+use Rattle.std.specs.Prelude.{All, IsTrue, slice_get, slice_index_or}
 use Rattle.std.specs.Borrow.{Bor}
 use Rattle.std.proofs.lemmas.Bool.{cases_lt}
 use Rattle.std.proofs.lemmas.Fmt.{decimal_injective}
@@ -8,6 +8,7 @@ use Rattle.std.proofs.lemmas.List.{get_or-map, length-map, map-append, take_more
 use Rattle.std.proofs.lemmas.List.Elements.{All-append}
 use Rattle.swap_core.specs.Plans.{IsNotBefore, always}
 use Rattle.swap_core.specs.declared.plan.Window.{Window}
+use Rattle.aftr_text.specs.Faults.{HasFallen, IsBadLoad}
 use Rattle.aftr_text.specs.Jobs.{AreRising, IsLoad, load_text, load_texts, windows_of}
 use Rattle.aftr_text.specs.Parts.{texts}
 use Rattle.aftr_text.specs.declared.jobs.LoadWords.{LoadWords}
@@ -107,3 +108,23 @@ rising_more loads next d e inside before now k l =
           let is : k + 1 ≡ next = omega (arith, l, more) in
           subst (λ (X : Type 0). X) (sym (pair_is loads k next d e is inside)) now
     ]
+
+pub fallen : (loads : List LoadWords) (next : ℕ) (d e : LoadWords) → 1 ≤ next → next < length loads
+    → (IsNotBefore (slice_index_or loads next d).window (slice_index_or loads (next - 1) e).window → IsTrue false) → HasFallen loads next
+fallen loads next d e first inside not = (
+  first,
+  inside,
+  λ before.
+      let bad = not (subst (λ (X : Type 0). X) (ap₂ IsNotBefore (window_at loads next d inside) (window_at loads (next - 1) e (omega (arith, inside)))) before) in
+      absurd cc,
+)
+
+-- the word at a place, as it is read
+word_get : (words : List (Bor (List ℕ))) (i : ℕ) (w : Bor (List ℕ)) → i < length words → slice_get (texts words) i ≡ Some (slice_index_or words i w).now
+word_get [] i w inside = absurd (omega (arith, inside))
+word_get (x ∷ xs) zero w inside = refl
+word_get (x ∷ xs) (suc i) w inside = word_get xs i w (omega (arith, inside))
+
+pub bad_word : (words : List (Bor (List ℕ))) (i : ℕ) (w : Bor (List ℕ)) → i < length words
+    → ((load : LoadWords) → IsLoad load → (slice_index_or words i w).now ≢ load_text load) → IsBadLoad (texts words) i
+bad_word words i w inside none = ((slice_index_or words i w).now, word_get words i w inside, none)

@@ -1,4 +1,5 @@
 pub mod Commands
+pub mod Faults
 pub mod Jobs
 pub mod Lines
 pub mod Parts

@@ -3,21 +3,23 @@ ghost use Rattle.std.specs.Prelude.{◌≡◌, ◌≢◌, true, [], IfOk, IfErr}
 ghost use Rattle.clap.specs.Words.{app_of, fault_of, is_simple, is_simple_and_free, matches_of};
 ghost use Rattle.aftr_text.specs.Commands.{and_needs, check_app, demo_app, found_in, migrate_app, run_app, who_app, word_of};
 ghost use Rattle.aftr_text.specs.Parts.{texts};
-ghost use Rattle.aftr_text.specs.declared.jobs.UsageError.TheVariants as usage;
+ghost use Rattle.aftr_text.specs.declared.faults.Fault.TheVariants as fault;
+ghost use Rattle.aftr_text.specs.declared.faults.JobError.TheVariants as error_is;
 
-use crate::jobs::UsageError;
+use crate::faults::JobError;
 use clap::{Arg, ArgMatches, Command};
 use std::alloc::{AllocError, Global};
 
-/// What the command finds in the words. `Usage` where `clap` refuses them.
+/// What the command finds in the words. Where `clap` refuses them there are too few or too many.
 pub(crate) fn parse<'a>(
     command: Command<'a>,
     words: &'a [&'a str],
-) -> Result<ArgMatches<'a>, UsageError>
+) -> Result<ArgMatches<'a>, JobError>
     requires simple { (is_simple (app_of command) ≡ true) × (is_simple_and_free (app_of command) ≡ true) }
     ensures found { IfOk result (λ m. found_in m ≡ matches_of (app_of command.entry) (texts words.entry.now)) }
     ensures taken { IfOk result (λ _. fault_of (app_of command.entry) (texts words.entry.now) ≡ []) }
-    ensures usage { IfErr result (λ e. e ≡ usage.Usage → fault_of (app_of command.entry) (texts words.entry.now) ≢ []) }
+    ensures usage { IfErr result (λ e. e ≢ error_is.OutOfMemory → fault_of (app_of command.entry) (texts words.entry.now) ≢ []) }
+    ensures count { IfErr result (λ e. e ≢ error_is.OutOfMemory → e ≡ error_is.Refused fault.Count) }
 {
     let matches = command.try_get_matches_from(words)?;
     Ok(matches)

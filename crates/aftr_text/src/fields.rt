@@ -5,9 +5,13 @@ ghost use Rattle.swap_core.specs.declared.plan.Window.{Window as SpecWindow};
 ghost use Rattle.aftr_text.specs.Jobs.{AreRising, IsLoad, IsName, load_text, load_texts, window_text, windows_of};
 ghost use Rattle.aftr_text.specs.Parts.{texts};
 ghost use Rattle.aftr_text.specs.declared.jobs.LoadWords.{LoadWords as SpecLoad};
-ghost use Rattle.aftr_text.specs.declared.jobs.UsageError.TheVariants as usage;
+ghost use Rattle.aftr_text.specs.Faults.{HasFallen, IsBadLoad};
+ghost use Rattle.aftr_text.specs.declared.faults.Fault.{Fault as SpecFault};
+ghost use Rattle.aftr_text.specs.declared.faults.Fault.TheVariants as fault;
+ghost use Rattle.aftr_text.specs.declared.faults.JobError.TheVariants as error_is;
 
-use crate::jobs::{LoadList, LoadWords, UsageError};
+use crate::faults::{Fault, JobError};
+use crate::jobs::{LoadList, LoadWords};
 use aftr_base::Text;
 use itoa::Buffer;
 use std::alloc::Global;
@@ -80,15 +84,16 @@ pub(crate) fn read_load(word: &str) -> Option<(Window, &str)>
     }
 }
 
-/// The loads that the words write, one each. `Usage` where a word writes none.
-pub(crate) fn read_loads(alloc: Global, words: &[&str]) -> Result<LoadList, UsageError>
+/// The loads that the words write, one each. Refused where a word writes none.
+pub(crate) fn read_loads(alloc: Global, words: &[&str]) -> Result<LoadList, JobError>
     ensures loads { IfOk result (λ loads. (load_texts loads ≡ texts words.now) × All IsLoad loads) }
-    ensures usage { IfErr result (λ e. e ≡ usage.Usage → (loads : List SpecLoad) → All IsLoad loads → load_texts loads ≢ texts words.now) }
+    ensures usage { IfErr result (λ e. e ≢ error_is.OutOfMemory → (loads : List SpecLoad) → All IsLoad loads → load_texts loads ≢ texts words.now) }
+    ensures cause { IfErr result (λ e. e ≢ error_is.OutOfMemory → (at : ℕ) × (e ≡ error_is.Refused (fault.Load at)) × IsBadLoad (texts words.now) at) }
 {
     let mut loads = Vec::with_capacity(alloc, words.len())?;
-    'words: for word in words {
-        let Some((window, name)) = read_load(word) else {
-            return Err(UsageError::Usage);
+    'words: for at in 0..words.len() {
+        let Some((window, name)) = read_load(words[at]) else {
+            return Err(JobError::Refused(Fault::Load(at)));
         };
         let name = Text::copy(alloc, name)?;
         loads.push(LoadWords { window, name })?;
@@ -96,16 +101,18 @@ pub(crate) fn read_loads(alloc: Global, words: &[&str]) -> Result<LoadList, Usag
     Ok(LoadList::of(loads))
 }
 
-/// No window of the loads begins or ends earlier than the one before it.
-pub(crate) fn are_rising(loads: &[LoadWords]) -> bool
-    ensures { IsTrue result ↔ AreRising (windows_of loads.now) }
+/// The first load whose window begins or ends earlier than the one before it, if there is one.
+pub(crate) fn first_fall(loads: &[LoadWords]) -> Option<usize>
+    ensures some { IfSome result (λ at. HasFallen loads.now at) }
+    ensures falls { IfSome result (λ _. AreRising (windows_of loads.now) → ⊥) }
+    ensures none { IfNone result (AreRising (windows_of loads.now)) }
 {
     'loads: for next in 1..loads.len() {
         if !is_not_before(loads[next].window, loads[next - 1].window) {
-            return false;
+            return Some(next);
         }
     }
-    true
+    None
 }
 
 fn is_not_before(next: Window, before: Window) -> bool

@@ -1,7 +1,5 @@
 // What command words ask for.
-use aftr_base::{OutOfMemory, Text, V4};
-use clap::error::ErrorKind;
-use std::alloc::{AllocError, AllocFailed};
+use aftr_base::{Text, V4};
 use std::marker::Model;
 use swap_core::Window;
 use thiserror::Error;
@@ -97,55 +95,4 @@ pub enum UsageError {
     Usage,
     #[error("out of memory")]
     OutOfMemory,
-}
-
-impl From<OutOfMemory> for UsageError {
-    ghost use Rattle.std.specs.Prelude.{◌≡◌};
-    ghost use Rattle.aftr_text.specs.declared.jobs.UsageError.TheVariants as usage;
-
-    ghost from_gives = { λ _ error. error ≡ usage.OutOfMemory };
-
-    fn from(_: OutOfMemory) -> Self {
-        UsageError::OutOfMemory
-    }
-}
-
-impl From<AllocError> for UsageError {
-    ghost use Rattle.std.specs.Prelude.{◌≡◌};
-    ghost use Rattle.aftr_text.specs.declared.jobs.UsageError.TheVariants as usage;
-
-    ghost from_gives = { λ _ error. error ≡ usage.OutOfMemory };
-
-    fn from(_: AllocError) -> Self {
-        UsageError::OutOfMemory
-    }
-}
-
-impl<T: Drop> From<AllocFailed<T>> for UsageError {
-    ghost use Rattle.std.specs.Prelude.{◌≡◌};
-    ghost use Rattle.aftr_text.specs.declared.jobs.UsageError.TheVariants as usage;
-
-    ghost from_gives = { λ _ error. error ≡ usage.OutOfMemory };
-
-    fn from(_: AllocFailed<T>) -> Self {
-        UsageError::OutOfMemory
-    }
-}
-
-impl From<clap::Error> for UsageError {
-    ghost use Rattle.std.specs.Prelude.{◌≡◌, ◌≢◌};
-    ghost use Rattle.clap.specs.Words.{kind_of};
-    ghost use Rattle.clap.specs.declared.error.kind.ErrorKind.TheVariants as kind;
-    ghost use Rattle.aftr_text.specs.declared.jobs.UsageError.TheVariants as usage;
-
-    ghost from_gives = { λ cause error. (kind_of cause ≡ kind.OutOfMemory → error ≡ usage.OutOfMemory)
-        × (kind_of cause ≢ kind.OutOfMemory → error ≡ usage.Usage) };
-
-    fn from(cause: clap::Error) -> Self {
-        if cause.kind() == ErrorKind::OutOfMemory {
-            UsageError::OutOfMemory
-        } else {
-            UsageError::Usage
-        }
-    }
 }

@@ -4,10 +4,12 @@
 #![tactic(auto)]
 
 mod commands;
+mod faults;
 mod fields;
 mod help;
 mod jobs;
 mod lines;
+mod messages;
 mod numbers;
 mod parts;
 mod short_lines;
@@ -15,14 +17,17 @@ mod summaries;
 mod tables;
 mod words;
 
+pub use faults::{Fault, JobError};
 pub use help::{HELP, VERSION};
 pub use jobs::{Job, LoadList, LoadWords, RunJob, UsageError};
 pub use lines::{
     ended_line, limited_line, push_ended_line, push_limited_line, push_verdict_line, verdict_line,
 };
+pub use messages::{fault_line, usage_line};
+pub use parts::Slot;
 pub use summaries::{Totals, migrated_line, push_migrated_line, push_summary, summary};
 pub use tables::{
     initial_line, point_line, push_initial_line, push_point_line, push_refused_line,
     push_unreached_line, refused_line, unreached_line,
 };
-pub use words::read_words;
+pub use words::{read_job, read_words};

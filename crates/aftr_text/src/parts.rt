@@ -1,11 +1,15 @@
 // The words behind a command's own: its arguments, and the values of its options.
 ghost use Rattle.std.specs.Prelude.{◌≡◌, ◌≢◌, ◌++◌, ◌∷◌, [], ℕ, List, IfOk, IfErr, IsTrue, ◌↔◌, false, Some, None, option_and_then, option_map};
-ghost use Rattle.aftr_text.specs.Parts.{Kind as SpecKind, Parts as SpecParts, in_front, kind_of, no_parts, parts_of, plain_kind, slot_of, texts, with_value, ends};
+ghost use Rattle.aftr_text.specs.Parts.{Kind as SpecKind, Parts as SpecParts, in_front, kind_of, no_parts, parts_of, plain_kind, slot_of, texts, with_value, ends, unknown, wants};
 ghost use Rattle.aftr_text.specs.Commands.{line as line_of};
+ghost use Rattle.aftr_text.specs.declared.parts.Slot.{Slot as SpecSlot};
 ghost use Rattle.aftr_text.specs.Seen.{joined, kind_seen};
-ghost use Rattle.aftr_text.specs.declared.jobs.UsageError.TheVariants as usage;
+ghost use Rattle.aftr_text.specs.Faults.{EndsInOption, IsFaultBehind, IsStray};
+ghost use Rattle.aftr_text.specs.declared.faults.Fault.{Fault as SpecFault};
+ghost use Rattle.aftr_text.specs.declared.faults.Fault.TheVariants as fault;
+ghost use Rattle.aftr_text.specs.declared.faults.JobError.TheVariants as error_is;
 
-use crate::jobs::UsageError;
+use crate::faults::{Fault, JobError};
 use aftr_base::OutOfMemory;
 use std::alloc::Global;
 use std::marker::Model;
@@ -15,8 +19,10 @@ const MARK: &str = "--";
 
 /// The options of `run`.
 #[derive(Clone, Copy, Debug, PartialEq, Eq)]
-pub(crate) enum Slot {
+pub enum Slot {
+    /// `--workers N`
     Workers,
+    /// `--errors N`
     Errors,
 }
 
@@ -81,11 +87,19 @@ impl<'a> Parts<'a> {
     }
 
     // One word more, behind an option that waits for its value or behind none; the answer is the option that waits then.
-    fn take(&mut self, waiting: Option<Slot>, word: &'a str) -> Result<Option<Slot>, UsageError>
+    fn take(
+        &mut self,
+        waiting: Option<Slot>,
+        word: &'a str,
+        place: usize,
+    ) -> Result<Option<Slot>, JobError>
         requires inside { waiting ≡ None → kind_of word.now ≢ ends }
         ensures taken { IfOk result (λ next. (rest : List (List ℕ)) →
             joined self.new (parts_of next rest) ≡ joined self.old (parts_of waiting (word.entry.now ∷ rest))) }
-        ensures usage { IfErr result (λ e. e ≡ usage.Usage → (rest : List (List ℕ)) → parts_of waiting (word.entry.now ∷ rest) ≡ None) }
+        ensures waits { IfOk result (λ next. (slot : SpecSlot) → next ≡ Some slot → (waiting ≡ None) × (kind_of word.entry.now ≡ wants slot)) }
+        ensures usage { IfErr result (λ e. e ≢ error_is.OutOfMemory → (rest : List (List ℕ)) → parts_of waiting (word.entry.now ∷ rest) ≡ None) }
+        ensures stray { IfErr result (λ e. e ≢ error_is.OutOfMemory →
+            (e ≡ error_is.Refused (fault.Stray place)) × (waiting ≡ None) × (kind_of word.entry.now ≡ unknown)) }
     {
         if let Some(slot) = waiting {
             self.give(slot, word)?;
@@ -101,7 +115,7 @@ impl<'a> Parts<'a> {
                 self.arguments.push(word)?;
                 Ok(None)
             }
-            Kind::Ends | Kind::Unknown => Err(UsageError::Usage),
+            Kind::Ends | Kind::Unknown => Err(JobError::Refused(Fault::Stray(place))),
         }
     }
 
@@ -110,6 +124,12 @@ impl<'a> Parts<'a> {
         ensures { (result ≡ false) ↔ ((self.now.workers ≡ []) × (self.now.errors ≡ [])) }
     {
         !self.workers.is_empty() || !self.errors.is_empty()
+    }
+
+    pub(crate) fn arguments(&self) -> &[&'a str]
+        ensures { texts result.now ≡ self.now.arguments }
+    {
+        &self.arguments
     }
 
     pub(crate) fn workers(&self) -> &[&'a str]
@@ -136,11 +156,12 @@ impl<'a> Parts<'a> {
     }
 }
 
-/// The words taken apart, from left to right. `Usage` where an option lacks its value, or a word in front of `--` begins
+/// The words taken apart, from left to right. Refused where an option lacks its value, or a word in front of `--` begins
 /// with `-` and is no option.
-pub(crate) fn split<'a>(alloc: Global, words: &[&'a str]) -> Result<Parts<'a>, UsageError>
+pub(crate) fn split<'a>(alloc: Global, words: &[&'a str]) -> Result<Parts<'a>, JobError>
     ensures parts { IfOk result (λ parts. parts_of None (texts words.now) ≡ Some parts) }
-    ensures usage { IfErr result (λ e. e ≡ usage.Usage → parts_of None (texts words.now) ≡ None) }
+    ensures usage { IfErr result (λ e. e ≢ error_is.OutOfMemory → parts_of None (texts words.now) ≡ None) }
+    ensures cause { IfErr result (λ e. (f : SpecFault) → e ≡ error_is.Refused f → (command : List ℕ) → IsFaultBehind command (texts words.now) f) }
 {
     let mut parts = Parts::none(alloc);
     let mut waiting = None;
@@ -149,12 +170,11 @@ pub(crate) fn split<'a>(alloc: Global, words: &[&'a str]) -> Result<Parts<'a>, U
             parts.take_rest(&words[at + 1..])?;
             return Ok(parts);
         }
-        waiting = parts.take(waiting, words[at])?;
+        waiting = parts.take(waiting, words[at], at)?;
     }
-    if waiting.is_some() {
-        Err(UsageError::Usage)
-    } else {
-        Ok(parts)
+    match waiting {
+        Some(slot) => Err(JobError::Refused(Fault::NoValue(slot))),
+        None => Ok(parts),
     }
 }
 

@@ -1,5 +1,7 @@
 // Which command words ask for which job.
-use aftr_text::{HELP, Job, RunJob, UsageError, read_words};
+use aftr_text::{
+    HELP, Job, JobError, RunJob, UsageError, fault_line, read_job, read_words, usage_line,
+};
 use std::alloc::Global;
 use std::test::Fail;
 
@@ -226,5 +228,79 @@ fn the_help_names_each_command(rt: HostRuntime) -> Result<(), Fail> {
         );
     }
     assert!(rt; (20..=30).contains(&HELP.lines().count()));
+    Ok(())
+}
+
+/// Words that ask for no job, and behind ` => ` what is wrong with them.
+const FAULTS: &str = "\
+walk t => `walk` is not a command; the commands are run, check, who, demo and migrate
+--help => `--help` is not a command; the commands are run, check, who, demo and migrate
+run => run takes 5 to 260 arguments (5 names, then loads), not 0
+run in out v w => run takes 5 to 260 arguments (5 names, then loads), not 4
+check => check takes 1 argument, not 0
+check a b => check takes 1 argument, not 2
+who t 203.0.113.1 => who takes 3 arguments, not 2
+demo 1 2 => demo takes 3 arguments, not 2
+migrate t => migrate takes 2 arguments, not 1
+run in out v w t --worker 4 => word 7, `--worker`, is not an option (after `--` it would be an argument)
+run -x in out v w -y => word 2, `-x`, is not an option (after `--` it would be an argument)
+run in out v w t --workers -x -- -y => --workers: `-x` is not a number from 1 to 16
+run in out v w t --workers => --workers needs a number after it
+run in out v w t --errors => --errors needs a number after it
+run in out v w t --workers 1 --workers=2 => --workers is given more than once
+run in out v w t --errors 1 --errors 2 => --errors is given more than once
+run in out v w t --workers 17 => --workers: `17` is not a number from 1 to 16
+run in out v w t --workers= => --workers: `` is not a number from 1 to 16
+run in out v w t --errors 1000001 => --errors: `1000001` is not a number from 1 to 1000000
+check t --workers 2 => --workers and --errors are options of run alone
+run in  v w t => OUT: a file's name may not be empty
+who  203.0.113.1 1 => TABLE: a file's name may not be empty
+migrate t  => NEW-TABLE: a file's name may not be empty
+run in in v w t => OUT and another file of the run have the same name, `in`
+run in out out w t => OUT and another file of the run have the same name, `out`
+run in out t w t => VERDICTS and another file of the run have the same name, `t`
+run in out v w t 1-2:u 3-4:w => VERSIONS and another file of the run have the same name, `w`
+migrate t t => TABLE and NEW-TABLE have the same name, `t`
+run in out v w t 1-2:u 9:u => load 2, `9:u`, is not EARLIEST-LATEST:TABLE with EARLIEST <= LATEST <= 2147483648
+run in out v w t 4-2:u => load 1, `4-2:u`, is not EARLIEST-LATEST:TABLE with EARLIEST <= LATEST <= 2147483648
+run in out v w t 1-2: => load 1, `1-2:`, is not EARLIEST-LATEST:TABLE with EARLIEST <= LATEST <= 2147483648
+run in out v w t 4-6:t1 5-5:t2 => load 2, `5-5:t2`: its window begins or ends earlier than that of the load before it
+who t 203.0.113 1 => ADDRESS: `203.0.113` is not an IPv4 address
+who t 203.0.113.1 65536 => PORT: `65536` is not a number from 0 to 65535
+demo x 2 3 => SEED: `x` is not a number from 0 to 18446744073709551615
+demo 1 0 3 => COUNT: `0` is not a number from 1 to 1000000
+demo 1 2 17 => WORKERS: `17` is not a number from 1 to 16";
+
+/// What is wrong with the words of the line is told as behind them.
+fn is_told(alloc: Global, line: &str) -> Result<bool, Fail> {
+    let Some((words, told)) = line.split_once(" => ") else {
+        return Ok(false);
+    };
+    let words: Vec<&str> = words.split(' ').collect(alloc)?;
+    match read_job(alloc, &words) {
+        Err(JobError::Refused(fault)) => {
+            let line = fault_line(alloc, &words, fault)?;
+            Ok(line.as_str().trim_end_matches('\n').strip_prefix("  ") == Some(told))
+        }
+        _ => Ok(false),
+    }
+}
+
+#[test]
+fn what_is_wrong_with_words(rt: HostRuntime) -> Result<(), Fail> {
+    for line in FAULTS.lines() {
+        assert!(rt; is_told(rt.alloc(), line)?, "{line}");
+    }
+    Ok(())
+}
+
+#[test]
+fn usages_are_lines_of_the_help(rt: HostRuntime) -> Result<(), Fail> {
+    for command in ["run", "check", "who", "demo", "migrate"] {
+        let usage = usage_line(command).unwrap_or("");
+        assert!(rt; HELP.lines().any(|line| line == usage), "{command}");
+        assert!(rt; usage.split(' ').nth(1) == Some(command), "{command}");
+    }
+    assert!(rt; usage_line("walk").is_none());
     Ok(())
 }

@@ -6,6 +6,6 @@ use Rattle.aftr_text.proofs.fields.read_loads.Given as goal
 
 abbrev pub invariant-words : goal.invariant-words
 invariant-words l = record {
-  spelled : load_texts l.loads.items ≡ texts (take l.word-index l.words);
+  spelled : load_texts l.loads.items ≡ texts (take l.at l.words);
   sound : All IsLoad l.loads.items;
 }

@@ -1,16 +1,20 @@
-use Rattle.std.proofs.Common.{◌≡◌, ◌∙◌, ◌∷◌, [], List, ℕ, ap, ap₂, refl, sym, codes, rules}
+use Rattle.std.proofs.Common.{◌≡◌, ◌≢◌, ◌∙◌, ◌∷◌, [], List, ℕ, ap, ap₂, refl, sym, codes, rules, arith}
 use Rattle.clap.specs.Words.{app_of}
 use Rattle.aftr_text.specs.Commands.{found_in, word_of}
+use Rattle.aftr_text.specs.Faults.{IsFaultOf}
 use Rattle.aftr_text.specs.Jobs.{AsksFor}
 use Rattle.aftr_text.specs.Parts.{texts}
 use Rattle.aftr_text.specs.declared.jobs.Job.{Job}
-use Rattle.aftr_text.specs.declared.jobs.UsageError.TheVariants as usage
-use Rattle.aftr_text.proofs.AskLemmas.{no_migrate, refused_migrate, found_migrate, unfit_migrate, same_texts, other_texts}
+use Rattle.aftr_text.specs.declared.faults.Fault.{Fault}
+use Rattle.aftr_text.specs.declared.faults.Fault.TheVariants as fault
+use Rattle.aftr_text.specs.declared.faults.JobError.TheVariants as error_is
+use Rattle.aftr_text.proofs.AskLemmas.{apart, count_migrate, no_migrate, refused_migrate, found_migrate, unfit_migrate, same_texts, other_texts}
+use Rattle.aftr_text.proofs.FaultLemmas.{as_cause, empty_argument, from_cause, no_room}
 use Rattle.aftr_text.proofs.words.read_migrate.Goals as goal
 
 pub returns-in_err-matches-clause-usage : goal.returns-in_err-matches-clause-usage
 returns-in_err-matches-clause-usage c =
-    let none : c.in_err-matches.field-0.0 ≡ usage.Usage → (j : Job) → AsksFor (codes "migrate") c.args.parts.now j → ⊥ =
+    let none : c.in_err-matches.field-0.0 ≢ error_is.OutOfMemory → (j : Job) → AsksFor (codes "migrate") c.args.parts.now j → ⊥ =
     λ e. no_migrate c.args.parts.now (refused_migrate c.args.parts.now (app_of c.in_ok-migrate_command.field-0) (texts c.as_slice.result.now)
     c.in_ok-migrate_command.ensures (ap texts c.as_slice.ensures.value ∙ c.in_ok-line.ensures) (c.in_err-matches.ensures.usage e)) in
     search rules
@@ -20,7 +24,7 @@ returns-in_err-input-clause-usage c =
     let rows = found_in c.in_ok-matches.matches in
     let found = found_migrate c.args.parts.now (app_of c.in_ok-migrate_command.field-0) (texts c.as_slice.result.now) c.in_ok-migrate_command.ensures
     (ap texts c.as_slice.ensures.value ∙ c.in_ok-line.ensures) rows c.in_ok-matches.ensures.taken c.in_ok-matches.ensures.found in
-    let none : c.in_err-input.field-0.0 ≡ usage.Usage → (j : Job) → AsksFor (codes "migrate") c.args.parts.now j → ⊥ =
+    let none : c.in_err-input.field-0.0 ≢ error_is.OutOfMemory → (j : Job) → AsksFor (codes "migrate") c.args.parts.now j → ⊥ =
     λ e. no_migrate c.args.parts.now (unfit_migrate c.args.parts.now (word_of rows (codes "input")) (word_of rows (codes "output")) found (λ first second apart. c.in_err-input.ensures.usage e first)) in
     search rules
 
@@ -29,7 +33,7 @@ returns-in_err-output-clause-usage c =
     let rows = found_in c.in_ok-matches.matches in
     let found = found_migrate c.args.parts.now (app_of c.in_ok-migrate_command.field-0) (texts c.as_slice.result.now) c.in_ok-migrate_command.ensures
     (ap texts c.as_slice.ensures.value ∙ c.in_ok-line.ensures) rows c.in_ok-matches.ensures.taken c.in_ok-matches.ensures.found in
-    let none : c.in_err-output.field-0.0 ≡ usage.Usage → (j : Job) → AsksFor (codes "migrate") c.args.parts.now j → ⊥ =
+    let none : c.in_err-output.field-0.0 ≢ error_is.OutOfMemory → (j : Job) → AsksFor (codes "migrate") c.args.parts.now j → ⊥ =
     λ e. no_migrate c.args.parts.now (unfit_migrate c.args.parts.now (word_of rows (codes "input")) (word_of rows (codes "output")) found (λ first second apart. c.in_err-output.ensures.usage e second)) in
     search rules
 
@@ -57,3 +61,46 @@ returns-clause-job c =
             c.as_str.ensures c.as_str-2.ensures;
       },
     )
+
+pub returns-then-has_options-clause-cause : goal.returns-then-has_options-clause-cause
+returns-then-has_options-clause-cause c =
+    as_cause (IsFaultOf (codes "migrate") c.args.parts.now) fault.OptionOfRun (apart _ _ refl, λ none. let bad = c.if-has_options.ensures.1 none in absurd cc)
+
+pub returns-in_err-matches-clause-cause : goal.returns-in_err-matches-clause-cause
+returns-in_err-matches-clause-cause c =
+    let told : (f : Fault) → c.in_err-matches.field-0.0 ≡ error_is.Refused f → IsFaultOf (codes "migrate") c.args.parts.now f =
+    λ f e. from_cause (IsFaultOf (codes "migrate") c.args.parts.now) c.in_err-matches.field-0.0 fault.Count c.in_err-matches.ensures.count
+    (count_migrate c.args.parts.now (app_of c.in_ok-migrate_command.field-0) (texts c.as_slice.result.now)
+    c.in_ok-migrate_command.ensures (ap texts c.as_slice.ensures.value ∙ c.in_ok-line.ensures) (c.in_err-matches.ensures.usage (no_room _ f e))) f e in
+    search rules
+
+pub returns-in_err-input-clause-cause : goal.returns-in_err-input-clause-cause
+returns-in_err-input-clause-cause c =
+    let rows = found_in c.in_ok-matches.matches in
+    let found = found_migrate c.args.parts.now (app_of c.in_ok-migrate_command.field-0) (texts c.as_slice.result.now) c.in_ok-migrate_command.ensures
+    (ap texts c.as_slice.ensures.value ∙ c.in_ok-line.ensures) rows c.in_ok-matches.ensures.taken c.in_ok-matches.ensures.found in
+    let told : (f : Fault) → c.in_err-input.field-0.0 ≡ error_is.Refused f → IsFaultOf (codes "migrate") c.args.parts.now f =
+    λ f e. from_cause (IsFaultOf (codes "migrate") c.args.parts.now) c.in_err-input.field-0.0 (fault.Empty 0) c.in_err-input.ensures.cause
+    (omega arith, empty_argument c.args.parts.now (word_of rows (codes "input") ∷ word_of rows (codes "output") ∷ []) 0 (word_of rows (codes "input")) found refl (c.in_err-input.ensures.usage (no_room _ f e))) f e in
+    search rules
+
+pub returns-in_err-output-clause-cause : goal.returns-in_err-output-clause-cause
+returns-in_err-output-clause-cause c =
+    let rows = found_in c.in_ok-matches.matches in
+    let found = found_migrate c.args.parts.now (app_of c.in_ok-migrate_command.field-0) (texts c.as_slice.result.now) c.in_ok-migrate_command.ensures
+    (ap texts c.as_slice.ensures.value ∙ c.in_ok-line.ensures) rows c.in_ok-matches.ensures.taken c.in_ok-matches.ensures.found in
+    let told : (f : Fault) → c.in_err-output.field-0.0 ≡ error_is.Refused f → IsFaultOf (codes "migrate") c.args.parts.now f =
+    λ f e. from_cause (IsFaultOf (codes "migrate") c.args.parts.now) c.in_err-output.field-0.0 (fault.Empty 1) c.in_err-output.ensures.cause
+    (omega arith, empty_argument c.args.parts.now (word_of rows (codes "input") ∷ word_of rows (codes "output") ∷ []) 1 (word_of rows (codes "output")) found refl (c.in_err-output.ensures.usage (no_room _ f e))) f e in
+    search rules
+
+pub returns-then-eq-clause-cause : goal.returns-then-eq-clause-cause
+returns-then-eq-clause-cause c =
+    let rows = found_in c.in_ok-matches.matches in
+    let found = found_migrate c.args.parts.now (app_of c.in_ok-migrate_command.field-0) (texts c.as_slice.result.now) c.in_ok-migrate_command.ensures
+    (ap texts c.as_slice.ensures.value ∙ c.in_ok-line.ensures) rows c.in_ok-matches.ensures.taken c.in_ok-matches.ensures.found in
+    let equal = same_texts c.eq.result c.as_str.result.now c.as_str-2.result.now c.in_ok-input.input c.in_ok-output.output c.eq.ensures c.if-eq.true
+    c.as_str.ensures c.as_str-2.ensures in
+    let same : word_of rows (codes "input") ≡ word_of rows (codes "output") = sym c.in_ok-input.ensures.name.0 ∙ equal ∙ c.in_ok-output.ensures.name.0 in
+    as_cause (IsFaultOf (codes "migrate") c.args.parts.now) fault.SameTable
+    (refl, (word_of rows (codes "input"), found ∙ ap (λ (n : List ℕ). word_of rows (codes "input") ∷ n ∷ []) (sym same)))

@@ -1,18 +1,24 @@
-use Rattle.std.proofs.Common.{◌≡◌, ◌∙◌, List, ℕ, ap, refl, sym, codes, rules, subst}
+use Rattle.std.proofs.Common.{◌≡◌, ◌≢◌, ◌∙◌, List, ℕ, ap, refl, sym, codes, rules, subst}
+use Rattle.std.specs.Prelude.{slice_get}
 use Rattle.clap.specs.Words.{app_of}
-use Rattle.aftr_text.specs.Commands.{found_in}
+use Rattle.aftr_text.specs.Commands.{found_in, words_of}
+use Rattle.aftr_text.specs.Faults.{HasFallen, IsFaultOf}
 use Rattle.aftr_text.specs.Jobs.{AreRising, AreWorkers, AsksFor, IsLimit, windows_of}
 use Rattle.aftr_text.specs.Parts.{texts}
 use Rattle.aftr_text.specs.declared.jobs.Job.{Job}
+use Rattle.aftr_text.specs.declared.parts.Slot.TheVariants as slot_is
 use Rattle.aftr_text.specs.declared.jobs.LoadWords.{LoadWords}
 use Rattle.aftr_text.specs.declared.jobs.RunJob.{RunJob}
-use Rattle.aftr_text.specs.declared.jobs.UsageError.TheVariants as usage
-use Rattle.aftr_text.proofs.AskLemmas.{IsMade, asked_run, no_run, refused_run, found_run, loads_asked, sound_as}
+use Rattle.aftr_text.specs.declared.faults.Fault.{Fault}
+use Rattle.aftr_text.specs.declared.faults.Fault.TheVariants as fault
+use Rattle.aftr_text.specs.declared.faults.JobError.TheVariants as error_is
+use Rattle.aftr_text.proofs.FaultLemmas.{as_cause, bad_load, from_cause, from_load, from_values, named_run, no_room}
+use Rattle.aftr_text.proofs.AskLemmas.{count_run, IsMade, asked_run, no_run, refused_run, found_run, loads_asked, sound_as}
 use Rattle.aftr_text.proofs.words.read_run.Goals as goal
 
 pub returns-in_err-matches-clause-usage : goal.returns-in_err-matches-clause-usage
 returns-in_err-matches-clause-usage c =
-    let none : c.in_err-matches.field-0.0 ≡ usage.Usage → (j : Job) → AsksFor (codes "run") c.args.parts.now j → ⊥ =
+    let none : c.in_err-matches.field-0.0 ≢ error_is.OutOfMemory → (j : Job) → AsksFor (codes "run") c.args.parts.now j → ⊥ =
     λ e. no_run c.args.parts.now (refused_run c.args.parts.now (app_of c.in_ok-run_command.field-0) (texts c.as_slice.result.now)
     c.in_ok-run_command.ensures (ap texts c.as_slice.ensures.value ∙ c.in_ok-line.ensures) (c.in_err-matches.ensures.usage e)) in
     search rules
@@ -22,7 +28,7 @@ returns-in_err-workers-clause-usage c =
     let rows = found_in c.in_ok-matches.matches in
     let found = found_run c.args.parts.now (app_of c.in_ok-run_command.field-0) (texts c.as_slice.result.now) c.in_ok-run_command.ensures
     (ap texts c.as_slice.ensures.value ∙ c.in_ok-line.ensures) rows c.in_ok-matches.ensures.taken c.in_ok-matches.ensures.found in
-    let none : c.in_err-workers.field-0.0 ≡ usage.Usage → (j : Job) → AsksFor (codes "run") c.args.parts.now j → ⊥ =
+    let none : c.in_err-workers.field-0.0 ≢ error_is.OutOfMemory → (j : Job) → AsksFor (codes "run") c.args.parts.now j → ⊥ =
     λ e. no_run c.args.parts.now (λ other a. c.in_err-workers.ensures.usage other.workers
     (subst (λ (g : List (List ℕ)). AreWorkers g other.workers) (sym c.workers.ensures) a.workers)) in
     search rules
@@ -32,12 +38,12 @@ returns-in_err-loads-clause-usage c =
     let rows = found_in c.in_ok-matches.matches in
     let found = found_run c.args.parts.now (app_of c.in_ok-run_command.field-0) (texts c.as_slice.result.now) c.in_ok-run_command.ensures
     (ap texts c.as_slice.ensures.value ∙ c.in_ok-line.ensures) rows c.in_ok-matches.ensures.taken c.in_ok-matches.ensures.found in
-    let none : c.in_err-loads.field-0.0 ≡ usage.Usage → (j : Job) → AsksFor (codes "run") c.args.parts.now j → ⊥ =
+    let none : c.in_err-loads.field-0.0 ≢ error_is.OutOfMemory → (j : Job) → AsksFor (codes "run") c.args.parts.now j → ⊥ =
     λ e. no_run c.args.parts.now (λ other a. c.in_err-loads.ensures.usage e other.loads a.loads (loads_asked c.args.parts.now rows found other a)) in
     search rules
 
-pub returns-then-not-are_names-clause-usage : goal.returns-then-not-are_names-clause-usage
-returns-then-not-are_names-clause-usage c =
+pub returns-in-Some-clause-usage : goal.returns-in-Some-clause-usage
+returns-in-Some-clause-usage c =
     let rows = found_in c.in_ok-matches.matches in
     let found = found_run c.args.parts.now (app_of c.in_ok-run_command.field-0) (texts c.as_slice.result.now) c.in_ok-run_command.ensures
     (ap texts c.as_slice.ensures.value ∙ c.in_ok-line.ensures) rows c.in_ok-matches.ensures.taken c.in_ok-matches.ensures.found in
@@ -60,10 +66,10 @@ returns-then-not-are_names-clause-usage c =
       loads = c.in_ok-loads.ensures.loads.0;
       each = c.in_ok-loads.ensures.loads.1;
     } in
-    λ e. no_run c.args.parts.now (λ other a. let bad = c.if-not-are_names.ensures.1 (sound_as c.args.parts.now rows found other a run made).0 in absurd cc)
+    λ e. no_run c.args.parts.now (λ other a. c.in-Some.ensures.empty (sound_as c.args.parts.now rows found other a run made).0)
 
-pub returns-then-not-are_apart-clause-usage : goal.returns-then-not-are_apart-clause-usage
-returns-then-not-are_apart-clause-usage c =
+pub returns-in-Some-first_shared-clause-usage : goal.returns-in-Some-first_shared-clause-usage
+returns-in-Some-first_shared-clause-usage c =
     let rows = found_in c.in_ok-matches.matches in
     let found = found_run c.args.parts.now (app_of c.in_ok-run_command.field-0) (texts c.as_slice.result.now) c.in_ok-run_command.ensures
     (ap texts c.as_slice.ensures.value ∙ c.in_ok-line.ensures) rows c.in_ok-matches.ensures.taken c.in_ok-matches.ensures.found in
@@ -86,10 +92,10 @@ returns-then-not-are_apart-clause-usage c =
       loads = c.in_ok-loads.ensures.loads.0;
       each = c.in_ok-loads.ensures.loads.1;
     } in
-    λ e. no_run c.args.parts.now (λ other a. let bad = c.if-not-are_apart.ensures.1 (sound_as c.args.parts.now rows found other a run made).1 in absurd cc)
+    λ e. no_run c.args.parts.now (λ other a. c.in-Some-first_shared.ensures.shared (sound_as c.args.parts.now rows found other a run made).1)
 
-pub returns-then-not-are_rising-clause-usage : goal.returns-then-not-are_rising-clause-usage
-returns-then-not-are_rising-clause-usage c =
+pub returns-in-Some-first_fall-clause-usage : goal.returns-in-Some-first_fall-clause-usage
+returns-in-Some-first_fall-clause-usage c =
     let rows = found_in c.in_ok-matches.matches in
     let found = found_run c.args.parts.now (app_of c.in_ok-run_command.field-0) (texts c.as_slice.result.now) c.in_ok-run_command.ensures
     (ap texts c.as_slice.ensures.value ∙ c.in_ok-line.ensures) rows c.in_ok-matches.ensures.taken c.in_ok-matches.ensures.found in
@@ -114,8 +120,7 @@ returns-then-not-are_rising-clause-usage c =
     } in
     λ e. no_run c.args.parts.now (λ other a.
     let rising = (sound_as c.args.parts.now rows found other a run made).2 in
-    let bad = c.if-not-are_rising.ensures.1 (subst (λ (l : List LoadWords). AreRising (windows_of l)) (sym c.as_slice-2.ensures) rising) in
-    absurd cc)
+    c.in-Some-first_fall.ensures.falls (subst (λ (l : List LoadWords). AreRising (windows_of l)) (sym c.as_slice-2.ensures) rising))
 
 pub returns-clause-job : goal.returns-clause-job
 returns-clause-job c =
@@ -142,8 +147,122 @@ returns-clause-job c =
       each = c.in_ok-loads.ensures.loads.1;
     } in (
       refl,
-      asked_run c.args.parts.now rows run found made (c.if-not-are_names.ensures.0 refl) (c.if-not-are_apart.ensures.0 refl)
-          (subst (λ (l : List LoadWords). AreRising (windows_of l)) c.as_slice-2.ensures (c.if-not-are_rising.ensures.0 refl))
+      asked_run c.args.parts.now rows run found made c.in_default.ensures.none c.in_default-first_shared.ensures.none
+          (subst (λ (l : List LoadWords). AreRising (windows_of l)) c.as_slice-2.ensures c.in_default-first_fall.ensures.none)
           (subst (λ (g : List (List ℕ)). AreWorkers g c.in_ok-workers.workers) c.workers.ensures c.in_ok-workers.ensures.workers)
           (subst (λ (g : List (List ℕ)). IsLimit g c.in_ok-errors.errors) c.errors.ensures c.in_ok-errors.ensures.limit),
     )
+
+pub returns-in_err-matches-clause-cause : goal.returns-in_err-matches-clause-cause
+returns-in_err-matches-clause-cause c =
+    let told : (f : Fault) → c.in_err-matches.field-0.0 ≡ error_is.Refused f → IsFaultOf (codes "run") c.args.parts.now f =
+    λ f e. from_cause (IsFaultOf (codes "run") c.args.parts.now) c.in_err-matches.field-0.0 fault.Count c.in_err-matches.ensures.count
+    (count_run c.args.parts.now (app_of c.in_ok-run_command.field-0) (texts c.as_slice.result.now)
+    c.in_ok-run_command.ensures (ap texts c.as_slice.ensures.value ∙ c.in_ok-line.ensures) (c.in_err-matches.ensures.usage (no_room _ f e))) f e in
+    search rules
+
+pub returns-in_err-loads-clause-cause : goal.returns-in_err-loads-clause-cause
+returns-in_err-loads-clause-cause c =
+    let rows = found_in c.in_ok-matches.matches in
+    let found = found_run c.args.parts.now (app_of c.in_ok-run_command.field-0) (texts c.as_slice.result.now) c.in_ok-run_command.ensures
+    (ap texts c.as_slice.ensures.value ∙ c.in_ok-line.ensures) rows c.in_ok-matches.ensures.taken c.in_ok-matches.ensures.found in
+    let told : (f : Fault) → c.in_err-loads.field-0.0 ≡ error_is.Refused f → IsFaultOf (codes "run") c.args.parts.now f =
+    from_load (IsFaultOf (codes "run") c.args.parts.now) c.in_err-loads.field-0.0 (words_of rows (codes "loads")) c.in_err-loads.ensures.cause
+    (λ at bad. (refl, bad_load c.args.parts.now rows found at bad)) in
+    search rules
+
+pub returns-in_err-workers-clause-cause : goal.returns-in_err-workers-clause-cause
+returns-in_err-workers-clause-cause c =
+    let told : (f : Fault) → c.in_err-workers.field-0.0 ≡ error_is.Refused f → IsFaultOf (codes "run") c.args.parts.now f =
+    from_values c.args.parts.now slot_is.Workers c.workers.result.now c.in_err-workers.field-0.0 c.workers.ensures c.in_err-workers.ensures.cause in
+    search rules
+
+pub returns-in_err-errors-clause-cause : goal.returns-in_err-errors-clause-cause
+returns-in_err-errors-clause-cause c =
+    let told : (f : Fault) → c.in_err-errors.field-0.0 ≡ error_is.Refused f → IsFaultOf (codes "run") c.args.parts.now f =
+    from_values c.args.parts.now slot_is.Errors c.errors.result.now c.in_err-errors.field-0.0 c.errors.ensures c.in_err-errors.ensures.cause in
+    search rules
+
+pub returns-in-Some-clause-cause : goal.returns-in-Some-clause-cause
+returns-in-Some-clause-cause c =
+    let rows = found_in c.in_ok-matches.matches in
+    let found = found_run c.args.parts.now (app_of c.in_ok-run_command.field-0) (texts c.as_slice.result.now) c.in_ok-run_command.ensures
+    (ap texts c.as_slice.ensures.value ∙ c.in_ok-line.ensures) rows c.in_ok-matches.ensures.taken c.in_ok-matches.ensures.found in
+    let run : RunJob = record {
+      input = c.in_ok-input.input;
+      output = c.in_ok-output.output;
+      verdicts = c.in_ok-verdicts.verdicts;
+      versions = c.in_ok-versions.versions;
+      table = c.in_ok-table.table;
+      loads = c.in_ok-loads.loads;
+      workers = c.in_ok-workers.workers;
+      errors = c.in_ok-errors.errors;
+    } in
+    let made : IsMade rows run = record {
+      input = c.in_ok-input.ensures;
+      output = c.in_ok-output.ensures;
+      verdicts = c.in_ok-verdicts.ensures;
+      versions = c.in_ok-versions.ensures;
+      table = c.in_ok-table.ensures;
+      loads = c.in_ok-loads.ensures.loads.0;
+      each = c.in_ok-loads.ensures.loads.1;
+    } in
+    let named = named_run c.args.parts.now rows run found made in
+    as_cause (IsFaultOf (codes "run") c.args.parts.now) (fault.Empty c.in-Some.at)
+    (c.in-Some.ensures.some.0, ap (λ (l : List (List ℕ)). slice_get l c.in-Some.at) named.arguments ∙ c.in-Some.ensures.some.1)
+
+pub returns-in-Some-first_shared-clause-cause : goal.returns-in-Some-first_shared-clause-cause
+returns-in-Some-first_shared-clause-cause c =
+    let rows = found_in c.in_ok-matches.matches in
+    let found = found_run c.args.parts.now (app_of c.in_ok-run_command.field-0) (texts c.as_slice.result.now) c.in_ok-run_command.ensures
+    (ap texts c.as_slice.ensures.value ∙ c.in_ok-line.ensures) rows c.in_ok-matches.ensures.taken c.in_ok-matches.ensures.found in
+    let run : RunJob = record {
+      input = c.in_ok-input.input;
+      output = c.in_ok-output.output;
+      verdicts = c.in_ok-verdicts.verdicts;
+      versions = c.in_ok-versions.versions;
+      table = c.in_ok-table.table;
+      loads = c.in_ok-loads.loads;
+      workers = c.in_ok-workers.workers;
+      errors = c.in_ok-errors.errors;
+    } in
+    let made : IsMade rows run = record {
+      input = c.in_ok-input.ensures;
+      output = c.in_ok-output.ensures;
+      verdicts = c.in_ok-verdicts.ensures;
+      versions = c.in_ok-versions.ensures;
+      table = c.in_ok-table.ensures;
+      loads = c.in_ok-loads.ensures.loads.0;
+      each = c.in_ok-loads.ensures.loads.1;
+    } in
+    let named = named_run c.args.parts.now rows run found made in
+    as_cause (IsFaultOf (codes "run") c.args.parts.now) (fault.Same c.in-Some-first_shared.at)
+    (refl, (run, named, c.in-Some-first_shared.ensures.some))
+
+pub returns-in-Some-first_fall-clause-cause : goal.returns-in-Some-first_fall-clause-cause
+returns-in-Some-first_fall-clause-cause c =
+    let rows = found_in c.in_ok-matches.matches in
+    let found = found_run c.args.parts.now (app_of c.in_ok-run_command.field-0) (texts c.as_slice.result.now) c.in_ok-run_command.ensures
+    (ap texts c.as_slice.ensures.value ∙ c.in_ok-line.ensures) rows c.in_ok-matches.ensures.taken c.in_ok-matches.ensures.found in
+    let run : RunJob = record {
+      input = c.in_ok-input.input;
+      output = c.in_ok-output.output;
+      verdicts = c.in_ok-verdicts.verdicts;
+      versions = c.in_ok-versions.versions;
+      table = c.in_ok-table.table;
+      loads = c.in_ok-loads.loads;
+      workers = c.in_ok-workers.workers;
+      errors = c.in_ok-errors.errors;
+    } in
+    let made : IsMade rows run = record {
+      input = c.in_ok-input.ensures;
+      output = c.in_ok-output.ensures;
+      verdicts = c.in_ok-verdicts.ensures;
+      versions = c.in_ok-versions.ensures;
+      table = c.in_ok-table.ensures;
+      loads = c.in_ok-loads.ensures.loads.0;
+      each = c.in_ok-loads.ensures.loads.1;
+    } in
+    let named = named_run c.args.parts.now rows run found made in
+    as_cause (IsFaultOf (codes "run") c.args.parts.now) (fault.Falls c.in-Some-first_fall.at)
+    (refl, (run, named, subst (λ (l : List LoadWords). HasFallen l c.in-Some-first_fall.at) c.as_slice-2.ensures c.in-Some-first_fall.ensures.some))
