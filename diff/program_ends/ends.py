@@ -86,30 +86,25 @@ class Front:
         return f"a front of {shown(self.data)}"
 
 
-class Begins:
-    """These bytes, and whatever comes behind them."""
-
-    def __init__(self, data):
-        self.data = data
-
-    def __eq__(self, seen):
-        return seen.startswith(self.data)
-
-    def __repr__(self):
-        return f"what begins with {shown(self.data)}"
-
-
 # What a run leaves that could not write to one of its outputs.
 FRONTS = {name: Front(data) for name, data in WHOLE.items()}
 
-# Words that ask for nothing: the status, and behind it what the commands are.
-USAGE = Begins(b"usage\n")
+USAGE = b"usage\n"
 
 
 def expect(title, what, seen, wanted):
     if wanted is ANY or (isinstance(wanted, list) and seen in wanted) or wanted == seen:
         return
     failures.append(f"{title}: {what} is {shown(seen)}, and not {shown(wanted)}")
+
+
+def expect_error(title, seen, wanted):
+    """The status line, and below it lines for people, which begin with two blanks."""
+    line, _, below = seen.partition(b"\n")
+    expect(title, "the status line", line + b"\n" * (len(line) < len(seen)), wanted)
+    for text in below.splitlines():
+        if not text.startswith(b"  "):
+            failures.append(f"{title}: {shown(text)} below the status line")
 
 
 def folder_with_files():
@@ -196,7 +191,7 @@ def case(program, title, line, code, err, out=b"", files=NONE, run=run_plain):
     try:
         seen = run(program, line, folder)
         expect(title, "the exit code", seen[0], code)
-        expect(title, "standard error", seen[2], err)
+        expect_error(title, seen[2], err)
         expect(title, "standard output", seen[1], out)
         for name, data in {"in.pcap": CAPTURE, "t0.toml": TABLE, "bad.toml": b"=", **files}.items():
             expect(title, name, held(folder, name), data)
@@ -268,7 +263,7 @@ def piped(program):
     try:
         code, out, err = run_piped(program, words(w1="pipe"), folder)
         whole = (code, out, err) == (0, SAID, b"")
-        refused = (code, out) == (3, b"") and err == b"read fault\n"
+        refused = (code, out) == (3, b"") and err.startswith(b"read fault\n")
         if not whole and not refused:
             failures.append(f"{title}: code {code}, {shown(out)} on standard output and {shown(err)} on standard error")
         for name, data in (WHOLE if whole else NONE).items():

@@ -1,0 +1,115 @@
+// The lines below the status line, for people. Each begins with two blanks.
+ghost use Rattle.std.specs.Prelude.{◌≡◌, [], IfOk};
+ghost use Rattle.lwaftr_engine.specs.declared.status.Status.TheVariants as status_is;
+
+use crate::naming::{
+    capture_name, push_named, read_names, table_name, versions_name, written_names,
+};
+use aftr_base::{OutOfMemory, Text};
+use aftr_text::{HELP, Job, JobError, fault_line, read_job, usage_line};
+use capture_io::CaptureBad;
+use lwaftr_engine::Status;
+use std::alloc::Global;
+
+/// What a person may want to know of a job that did not end well: which word is wrong, which files it was about, and what helps.
+/// The words are those behind the program's name. No file is read for it.
+pub fn lines_below(alloc: Global, words: &[&str], status: &Status) -> Result<Text, OutOfMemory>
+    ensures done { status.now ≡ status_is.Done → IfOk result (λ lines. lines ≡ []) }
+{
+    if let Status::Done = status {
+        return Ok(Text::of(String::new(alloc)));
+    }
+    match read_job(alloc, words) {
+        Ok(job) => job_lines(alloc, &job, status),
+        Err(JobError::Refused(fault)) => {
+            let line = fault_line(alloc, words, fault)?;
+            usage_lines(alloc, words, line.as_str())
+        }
+        Err(JobError::OutOfMemory) => Err(OutOfMemory),
+    }
+}
+
+// What is wrong with the words, and how the command is written; where there is no such command, how all are.
+fn usage_lines(alloc: Global, words: &[&str], fault: &str) -> Result<Text, OutOfMemory> {
+    let mut text = String::new(alloc);
+    text.push_str(fault)?;
+    match usage_of(words) {
+        Some(usage) => {
+            text.push_str("  ")?;
+            text.push_str(usage)?;
+            text.push_str("\n")?;
+        }
+        None => push_commands(&mut text)?,
+    }
+    Ok(Text::of(text))
+}
+
+fn usage_of(words: &[&str]) -> Option<&'static str> {
+    match words.first() {
+        Some(command) => usage_line(command),
+        None => None,
+    }
+}
+
+// The lines of all commands, out of `HELP`.
+fn push_commands(text: &mut String) -> Result<(), OutOfMemory> {
+    'lines: for line in HELP.lines() {
+        if line.starts_with("lwaftr ") {
+            text.push_str("  ")?;
+            text.push_str(line)?;
+            text.push_str("\n")?;
+        }
+    }
+    Ok(())
+}
+
+fn job_lines(alloc: Global, job: &Job, status: &Status) -> Result<Text, OutOfMemory> {
+    match status {
+        Status::DoneRefused => named(alloc, "which load, and why, is in", versions_name(job)),
+        Status::ReadFault => read_names(alloc, job),
+        Status::WriteFault => written_names(alloc, job),
+        Status::BadTable(_) => named(alloc, "the table file is", table_name(job)),
+        Status::BadCapture(cause) => capture_lines(alloc, job, cause),
+        Status::OutOfMemory => Ok(Text::of(format!(in alloc;
+            "  memory was wanted, or a table file would cost too much to read: see What reading costs in docs/FORMATS.md\n"
+        )?)),
+        Status::Done | Status::Usage => Ok(Text::of(String::new(alloc))),
+    }
+}
+
+fn named(alloc: Global, what: &str, name: Option<&str>) -> Result<Text, OutOfMemory> {
+    let mut text = String::new(alloc);
+    if let Some(name) = name {
+        push_named(&mut text, what, name)?;
+    }
+    Ok(Text::of(text))
+}
+
+// The name of the capture that was refused, and what makes one that can be read.
+fn capture_lines(alloc: Global, job: &Job, cause: &CaptureBad) -> Result<Text, OutOfMemory> {
+    let mut text = String::new(alloc);
+    if let Some(name) = capture_name(job) {
+        push_named(&mut text, "the capture is", name)?;
+    }
+    text.push_str(help_for(cause))?;
+    Ok(Text::of(text))
+}
+
+fn help_for(cause: &CaptureBad) -> &'static str {
+    match cause {
+        CaptureBad::Magic | CaptureBad::Version => {
+            "  it is no classic capture and no pcapng; if it is compressed, gunzip it first; else try: editcap -F pcap IN OUT\n"
+        }
+        CaptureBad::Link { .. } => {
+            "  captures of Ethernet (1) and of plain IP (101) are read: capture on one interface of such a kind\n"
+        }
+        CaptureBad::CutHeader { .. } | CaptureBad::CutRecord { .. } => {
+            "  it ends within a header or a record; all whole records before that were judged and written\n"
+        }
+        CaptureBad::TooLong { .. } => {
+            "  a record says that it has more than 262144 bytes: the file is damaged there, or was captured with a longer snapshot\n"
+        }
+        CaptureBad::TooMany { .. } => "  editcap -c 100000000 IN OUT splits it\n",
+        CaptureBad::Ng(_) => "  editcap -F pcap IN OUT makes a classic capture of it\n",
+    }
+}

@@ -1,0 +1,94 @@
+// The program over a runtime.
+ghost use Rattle.std.specs.Prelude.{◌≤◌};
+
+use crate::lines::lines_below;
+use aftr_base::{RealFiles, RealSink};
+use lwaftr_engine::{Status, code, lwaftr, status_line};
+use std::alloc::Global;
+use std::env;
+use std::io::ErrorKind;
+use std::rt::{Env, Files};
+use std::sync::Wait;
+use std::thread::Threads;
+use worker_gate::OpenGate;
+
+/// Does the job that the words behind the program's name ask for, and answers the exit code. A word that is no UTF-8 asks for none.
+/// Unless all was done, the status line goes to standard error, and where that was written, the lines below it.
+pub fn run_program<
+    R: Alloc<A = Global> + Env + Files + Print + Eprint + Threads + Wait + Sync + Drop,
+>(rt: &R) -> u8
+    ensures code { result ≤ 7 }
+{
+    let alloc = rt.alloc();
+    let args = match env::args(rt) {
+        Ok(args) => args,
+        Err(error) if error.kind() == ErrorKind::OutOfMemory => {
+            return end_early(rt, alloc, &Status::OutOfMemory);
+        }
+        Err(_) => return end_early(rt, alloc, &Status::Usage),
+    };
+    let mut texts = Vec::new(alloc);
+    for text in args {
+        if texts.push(text).is_err() {
+            return end_early(rt, alloc, &Status::OutOfMemory);
+        }
+    }
+    let mut words = Vec::new(alloc);
+    for text in texts.iter().skip(1) {
+        if words.push(text.as_str()).is_err() {
+            return end_early(rt, alloc, &Status::OutOfMemory);
+        }
+    }
+    let status = do_job(rt, alloc, &words);
+    report(rt, alloc, &words, &status);
+    code(&status)
+}
+
+fn do_job<R: Files + Print + Threads + Wait + Sync + Drop>(
+    rt: &R,
+    alloc: Global,
+    words: &[&str],
+) -> Status {
+    let mut files = RealFiles::new(rt, alloc);
+    let mut out = RealSink::new(rt);
+    let mut history = None;
+    lwaftr(
+        rt,
+        alloc,
+        words,
+        &mut files,
+        &mut out,
+        &OpenGate,
+        &mut history,
+    )
+}
+
+// The status line on standard error, where memory and standard error allow it, and then the lines below it.
+fn report<R: Eprint>(rt: &R, alloc: Global, words: &[&str], status: &Status) {
+    if *status == Status::Done || !tell_status(rt, alloc, status) {
+        return;
+    }
+    if let Ok(lines) = lines_below(alloc, words, status) {
+        let _ = rt.eprint(lines.as_str());
+    }
+}
+
+// The same where the words could not be read.
+fn end_early<R: Eprint>(rt: &R, alloc: Global, status: &Status) -> u8
+    ensures code { result ≤ 7 }
+{
+    if tell_status(rt, alloc, status) {
+        if *status == Status::Usage {
+            let _ = rt.eprint("  a word is no text in UTF-8\n");
+        }
+    }
+    code(status)
+}
+
+// Whether the status line was written.
+fn tell_status<R: Eprint>(rt: &R, alloc: Global, status: &Status) -> bool {
+    match status_line(alloc, status) {
+        Ok(line) => rt.eprint(line.as_str()).is_ok(),
+        Err(_) => false,
+    }
+}
