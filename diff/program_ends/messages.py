@@ -1,0 +1,70 @@
+#!/usr/bin/env python3
+"""What the program says to standard error where words, files, tables or captures are wrong, held against messages.txt.
+
+    diff/program_ends/messages.py [--write] [PROGRAM]
+
+Each call of messages.txt is a line `$ WORDS`, and behind it stands what is printed. With --write the page is made anew: read it then. PROGRAM
+takes the words of `lwaftr`; without it the program of this repository is built. It ends with 1 where a call says something else.
+"""
+import os
+import shlex
+import shutil
+import subprocess
+import sys
+
+import ends
+
+HERE = os.path.dirname(os.path.realpath(__file__))
+PAGE = os.path.join(HERE, "messages.txt")
+FILES = {
+    "list.json": b'[{"address": "203.0.113.1"}]\n',
+    "no-aftr.toml": b"version = 1\n[softwire]\nown = \"192.0.2.1\"\n",
+    "key.toml": ends.TABLE + b"port = 3\n",
+    "twice.toml": ends.TABLE + ends.TABLE[ends.TABLE.index(b"[[binding]]"):],
+    "link.pcap": ends.HEADER[:20] + (113).to_bytes(4, "little"),
+    "cut.pcap": ends.CAPTURE[:-1],
+    "long.pcap": ends.HEADER + b"\0" * 8 + (300_000).to_bytes(4, "little") * 2,
+    "in.pcap.gz": b"\x1f\x8b\x08\0\0\0\0\0\0\x03" + b"\0" * 30,
+    "cut.pcapng": bytes.fromhex("0a0d0d0a1c0000004d3c2b1a01000000"),
+    "costly.toml": b"version = 1\n" + b"a.b = 1\n" * 600_000,
+}
+
+
+def calls():
+    with open(PAGE, encoding="utf-8") as it:
+        return [line[2:].rstrip("\n") for line in it if line.startswith("$ ")]
+
+
+def said(program, call):
+    folder = ends.folder_with_files()
+    try:
+        for name, data in FILES.items():
+            with open(os.path.join(folder, name), "wb") as it:
+                it.write(data)
+        it = subprocess.run([program, *shlex.split(call)], cwd=folder, stdin=subprocess.DEVNULL, capture_output=True, timeout=60)
+        return it.stderr.decode("utf-8", "replace")
+    finally:
+        shutil.rmtree(folder)
+
+
+def main():
+    words = [it for it in sys.argv[1:] if it != "--write"]
+    top = os.path.dirname(os.path.dirname(HERE))
+    program = os.path.abspath(words[0]) if words else subprocess.run(
+        [f"{top}/build", "--program"], capture_output=True, text=True, check=True).stdout.strip()
+    page = "".join(f"$ {call}\n{said(program, call)}" for call in calls())
+    if "--write" in sys.argv:
+        with open(PAGE, "w", encoding="utf-8") as it:
+            it.write(page)
+        return 0
+    with open(PAGE, encoding="utf-8") as it:
+        wanted = it.read()
+    for seen, due in zip(page.split("\n$ "), wanted.split("\n$ ")):
+        if seen != due:
+            print(f"otherwise: {seen}\nand not:   {due}")
+    print(f"{page.count('$ ')} calls, {sum(a != b for a, b in zip(page.split(chr(10) + '$ '), wanted.split(chr(10) + '$ ')))} say something else")
+    return page != wanted
+
+
+if __name__ == "__main__":
+    sys.exit(main())
