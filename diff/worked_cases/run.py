@@ -80,7 +80,7 @@ def run(program, folder, spec, options, data):
     words = [program, "run", "in.pcap", *names, "t0.toml", *options]
     done = subprocess.run(words, cwd=folder, stdin=subprocess.DEVNULL, capture_output=True, timeout=60)
     held = [open(f"{folder}/{name}", "rb").read() if os.path.exists(f"{folder}/{name}") else None for name in names]
-    return done.stderr.decode() or "done\n", done.stdout.decode(), held
+    return (done.stderr.decode().splitlines(True) or ["done\n"])[0], done.stdout.decode(), held
 
 
 def compare(title, seen, wanted):
