@@ -3,7 +3,7 @@
 ghost use Rattle.std.specs.Prelude.{◌≤◌};
 
 use crate::block_rounds::two_sections;
-use crate::rounds::{MOST, Told, tell_rounds};
+use crate::rounds::{MOST, tell_rounds};
 use aftr_base::{Fault, Files, MemFiles};
 use capture_io::Records;
 use case_data::CAPTURE;
@@ -50,27 +50,37 @@ impl Files for Pipe {
     }
 }
 
-// What is told of a pipe that gives at most so many bytes a read, of which one call fails; a bar stands behind each round.
-fn piped(alloc: Global, bytes: &[u8], most: usize, call: u64, room: Records) -> Result<Told, Fail> {
+// A pipe that gives these bytes, at most so many a read, and of which one call fails.
+fn pipe_of(alloc: Global, bytes: &[u8], most: usize, call: u64) -> Result<Pipe, Fail> {
     let mut files = MemFiles::new(alloc);
     files.set(alloc, "in", bytes)?;
     files.fail_at(alloc, call)?;
-    let mut pipe = Pipe {
+    Ok(Pipe {
         files,
         most,
         at: 0,
         strays: 0,
-    };
-    let told = match Reader::open(alloc, &mut pipe, "in") {
+    })
+}
+
+// What its reader tells of the records; a bar stands behind each round.
+fn told_of(alloc: Global, pipe: &mut Pipe) -> Result<String, Fail> {
+    match Reader::open(alloc, pipe, "in") {
         Ok(reader) => {
             let mut reader = reader;
-            tell_rounds(alloc, &mut reader, &mut pipe, MOST, room)?
+            let (told, _) = tell_rounds(alloc, &mut reader, pipe, MOST, Records::new(alloc))?;
+            Ok(told)
         }
-        Err(error) => (format!(in alloc; "{error}")?, room),
-    };
+        Err(error) => Ok(format!(in alloc; "{error}")?),
+    }
+}
+
+// What is told of such a pipe, or that a byte was asked for twice.
+fn piped(alloc: Global, bytes: &[u8], most: usize, call: u64) -> Result<String, Fail> {
+    let mut pipe = pipe_of(alloc, bytes, most, call)?;
+    let told = told_of(alloc, &mut pipe)?;
     if pipe.strays > 0 {
-        let (_, room) = told;
-        return Ok((format!(in alloc; "{} strays", pipe.strays)?, room));
+        return Ok(format!(in alloc; "strays")?);
     }
     Ok(told)
 }
@@ -84,31 +94,41 @@ fn joined_rounds(alloc: Global, text: &str) -> Result<String, Fail> {
     Ok(joined)
 }
 
+// Whether this is told of a pipe that gives at most so many bytes a read.
+fn gives(alloc: Global, bytes: &[u8], most: usize, text: &str) -> Result<bool, Fail> {
+    let told = piped(alloc, bytes, most, NO_CALL)?;
+    let joined = joined_rounds(alloc, &told)?;
+    Ok(joined.as_str() == text)
+}
+
+// Whether this is told of a pipe of single bytes of which a read fails.
+fn fails_with(alloc: Global, bytes: &[u8], call: u64, text: &str) -> Result<bool, Fail> {
+    let told = piped(alloc, bytes, 1, call)?;
+    Ok(told.as_str() == text)
+}
+
 #[test]
-fn a_pipe_gives_what_a_file_gives(rt: HostRuntime) -> Result<(), Fail> {
-    let alloc = rt.alloc();
-    let blocks = two_sections(alloc)?;
-    let mut room = Records::new(alloc);
-    for most in 1..=65 {
-        let most = if most == 65 { 4_097 } else { most };
-        let (told, back) = piped(alloc, CAPTURE, most, NO_CALL, room)?;
-        assert_eq!(rt;
-            joined_rounds(alloc, &told)?.as_str(),
-            "1.0 72 112; end",
+fn a_pipe_gives_what_a_classic_file_gives(rt: HostRuntime) -> Result<(), Fail> {
+    for most in 1..=64 {
+        assert!(rt;
+            gives(rt.alloc(), CAPTURE, most, "1.0 72 112; end")?,
             "{most}"
         );
-        let (told, back) = piped(alloc, &blocks, most, NO_CALL, back)?;
-        assert_eq!(rt;
-            joined_rounds(alloc, &told)?.as_str(),
-            "1.0 72 152; 1.0 80 308; end",
-            "{most}"
-        );
-        room = back;
     }
-    let (told, back) = piped(alloc, &CAPTURE[..3], 1, NO_CALL, room)?;
-    assert_eq!(rt; told.as_str(), "cut header at 0");
-    let (told, _) = piped(alloc, &blocks[..3], 1, NO_CALL, back)?;
-    assert_eq!(rt; told.as_str(), "cut header at 0");
+    assert!(rt; gives(rt.alloc(), CAPTURE, 4_097, "1.0 72 112; end")?);
+    assert!(rt; gives(rt.alloc(), &CAPTURE[..3], 1, "cut header at 0")?);
+    Ok(())
+}
+
+#[test]
+fn a_pipe_gives_what_a_file_of_blocks_gives(rt: HostRuntime) -> Result<(), Fail> {
+    let blocks = two_sections(rt.alloc())?;
+    let text = "1.0 72 152; 1.0 80 308; end";
+    for most in 1..=64 {
+        assert!(rt; gives(rt.alloc(), &blocks, most, text)?, "{most}");
+    }
+    assert!(rt; gives(rt.alloc(), &blocks, 4_097, text)?);
+    assert!(rt; gives(rt.alloc(), b"\x0a\x0d\x0d", 1, "cut header at 0")?);
     Ok(())
 }
 
@@ -137,19 +157,24 @@ fn blocks_text(call: u64) -> &'static str {
 }
 
 #[test]
-fn each_byte_of_a_pipe_may_fail(rt: HostRuntime) -> Result<(), Fail> {
-    let alloc = rt.alloc();
-    let blocks = two_sections(alloc)?;
-    let mut room = Records::new(alloc);
+fn each_byte_of_a_classic_pipe_may_fail(rt: HostRuntime) -> Result<(), Fail> {
     for call in 0..=112 {
-        let (told, back) = piped(alloc, CAPTURE, 1, call, room)?;
-        assert_eq!(rt; told.as_str(), classic_text(call), "call {call}");
-        room = back;
+        assert!(rt;
+            fails_with(rt.alloc(), CAPTURE, call, classic_text(call))?,
+            "call {call}"
+        );
     }
+    Ok(())
+}
+
+#[test]
+fn each_byte_of_a_pipe_of_blocks_may_fail(rt: HostRuntime) -> Result<(), Fail> {
+    let blocks = two_sections(rt.alloc())?;
     for call in 0..=308 {
-        let (told, back) = piped(alloc, &blocks, 1, call, room)?;
-        assert_eq!(rt; told.as_str(), blocks_text(call), "call {call}");
-        room = back;
+        assert!(rt;
+            fails_with(rt.alloc(), &blocks, call, blocks_text(call))?,
+            "call {call}"
+        );
     }
     Ok(())
 }
