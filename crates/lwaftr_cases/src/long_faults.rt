@@ -12,7 +12,7 @@ use std::test::Fail;
 use std::thread::Threads;
 use worker_gate::OpenGate;
 
-const COUNT: u32 = 40_000;
+const COUNT: u32 = 50_000;
 
 /// What is due of so many datagrams that go up.
 fn due_of(alloc: Global) -> Result<Due, Fail> {
@@ -20,7 +20,7 @@ fn due_of(alloc: Global) -> Result<Due, Fail> {
     for number in 0..COUNT {
         verdicts.push_str(&format!(in alloc; "{number} 0 up 1\n")?)?;
     }
-    let said = "records 40000 held 0 forwarded 40000 dropped 0 packets 40000 version 0\n";
+    let said = "records 50000 held 0 forwarded 50000 dropped 0 packets 50000 version 0\n";
     Ok(Due {
         packets: lowered(alloc, COUNT)?,
         verdicts,
@@ -71,7 +71,7 @@ fn each_call_may_fail_over_many_rounds(rt: HostRuntime) -> Result<(), Fail> {
     let alloc = rt.alloc();
     let capture = capture(alloc, COUNT)?;
     let due = due_of(alloc)?;
-    for (workers, stride) in [("1", 1), ("16", 5)] {
+    for (workers, stride) in [("1", 1), ("4", 3), ("16", 5)] {
         let right = ends_well(&rt, alloc, (&capture, &due), workers, stride)?;
         assert!(rt; right, "{workers}");
     }
