@@ -10,7 +10,7 @@ use std::alloc::Global;
 use std::marker::Brand;
 use std::sync::ledger::{Blank, Ledger};
 use table_words::{SliceWords, Steps, softwire};
-use verdict_core::{Path, Reply, Verdict, judge, judge_with};
+use verdict_core::{Path, Reply, Verdict, judge, judge_into};
 
 pub const FORWARDED: Verdict = Verdict::Outward { mtu: 1500 };
 
@@ -110,8 +110,8 @@ pub fn judged(words: &WordList, item: &ItemView<'_>) -> Verdict
     judged_in::<Brand>(words.as_slice(), item, Blank::new(1))
 }
 
-// The same with the settings read first.
-fn judged_with_in<L: Ledger>(words: &[u64], item: &ItemView<'_>, blank: Blank) -> Verdict
+// The same with the settings read first, written where another verdict stands.
+fn judged_over_in<L: Ledger>(words: &[u64], item: &ItemView<'_>, blank: Blank) -> Verdict
     requires compiled { AreCompiled words.now }
     requires name { blank.name ≡ L.name }
     requires parts { blank.parts ≡ L.parts }
@@ -120,13 +120,15 @@ fn judged_with_in<L: Ledger>(words: &[u64], item: &ItemView<'_>, blank: Blank) -
     let mut words = SliceWords(words);
     let mut steps = Steps::<L>::start(blank);
     let settings = softwire(&mut words, &mut steps);
-    judge_with(&mut words, &settings, item, &mut steps)
+    let mut verdict = Verdict::Outward { mtu: 576 };
+    judge_into(&mut words, &settings, item, &mut verdict, &mut steps);
+    verdict
 }
 
-pub fn judged_with(words: &WordList, item: &ItemView<'_>) -> Verdict
+pub fn judged_over(words: &WordList, item: &ItemView<'_>) -> Verdict
     requires { AreCompiled words.now }
 {
-    judged_with_in::<Brand>(words.as_slice(), item, Blank::new(1))
+    judged_over_in::<Brand>(words.as_slice(), item, Blank::new(1))
 }
 
 // An upstream packet from a tunnel's end to an address of the router.

@@ -2,7 +2,7 @@
 ghost use Rattle.table_words.specs.Layout.{AreCompiled};
 
 use crate::under_tables::{
-    FORWARDED, dropped, exceeded, judged, judged_with, padded, sent_by, table, table_under, told,
+    FORWARDED, dropped, exceeded, judged, judged_over, padded, sent_by, table, table_under, told,
     too_big, tunnel, up,
 };
 use aftr_base::{V6, WordList};
@@ -248,7 +248,7 @@ fn settings_handed_in_give_the_same_verdict(rt: HostRuntime) -> Result<(), Fail>
     ];
     for (inner, expected) in cases {
         let item = sent_by(1, inner);
-        assert_eq!(rt; judged_with(&words, &item), expected);
+        assert_eq!(rt; judged_over(&words, &item), expected);
     }
     Ok(())
 }

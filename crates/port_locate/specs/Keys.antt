@@ -1,6 +1,6 @@
 -- The keys of packets: what a binding must own beside a packet's address (RFC 7596, sections 6.2 and 8.1). Which protocols
 -- have ports, and what stands for the port where a packet names none, is this router's own choice.
-use Rattle.std.specs.Prelude.{ℕ, ◌==◌, nat_lt, Bool, not, ◌||◌, ◌&&◌, if◌then◌else◌, List, length, slice_index, Option, Some, None, Result, Ok, Err}
+use Rattle.std.specs.Prelude.{ℕ, ◌==◌, nat_lt, Bool, not, ◌||◌, if◌then◌else◌, List, length, slice_index, Option, Some, None, Result, Ok, Err}
 use Rattle.aftr_base.specs.Numbers.{big_endian, span}
 use Rattle.binding_rules.specs.declared.binding.Want.{Want}
 use Rattle.binding_rules.specs.declared.binding.Want.TheVariants as want
@@ -10,7 +10,8 @@ use Rattle.icmp_codec.specs.declared.message4.IcmpBad.{IcmpBad}
 use Rattle.ip_codec.specs.Packet4.{Packet4, is_fragment}
 use Rattle.port_locate.specs.declared.keys.Key.{Key}
 use Rattle.port_locate.specs.declared.keys.Key.TheVariants as key
-use Rattle.port_locate.specs.declared.ports.Ports.{Ports}
+use Rattle.port_locate.specs.declared.keys.Keys.{Keys}
+use Rattle.port_locate.specs.declared.keys.Keys.TheVariants as keys
 
 -- The protocols whose packets begin with a source port and a destination port of 16 bits: TCP (RFC 9293), UDP (RFC 768),
 -- DCCP (RFC 4340), SCTP (RFC 9260) and UDP-Lite (RFC 3828).
@@ -77,9 +78,14 @@ upstream_key = key_at source_at destination_at
 abbrev pub downstream_key : Packet4 → Key
 downstream_key = key_at destination_at source_at
 
--- Both ports of an ordinary packet, which is of TCP or UDP and no fragment. Which packets are ordinary is this router's own
--- choice: no key depends on it.
-abbrev pub ports_of : Packet4 → Option Ports
-ports_of p =
-    if is_fragment p || (not (p.protocol == 17) && not (p.protocol == 6)) || nat_lt (length p.payload) 4 then None
-    else Some (record { source = big_endian (span p.payload source_at 2); destination = big_endian (span p.payload destination_at 2) })
+-- what a packet asks for at its source, of both keys together
+abbrev pub source_key : Keys → Key
+source_key (keys.At wants) = key.At wants.source
+source_key keys.NoPort = key.NoPort
+source_key keys.IcmpBad = key.IcmpBad
+
+-- the same at its destination
+abbrev pub destination_key : Keys → Key
+destination_key (keys.At wants) = key.At wants.destination
+destination_key keys.NoPort = key.NoPort
+destination_key keys.IcmpBad = key.IcmpBad

@@ -1,9 +1,10 @@
 // What a packet asks of the binding table.
-ghost use Rattle.std.specs.Prelude.{◌≡◌, ◌≢◌, ◌+◌, ◌≤◌, false};
+ghost use Rattle.std.specs.Prelude.{◌≡◌, false};
+ghost use Rattle.std.specs.Option.{option_map};
 ghost use Rattle.icmp_codec.specs.Message4.{icmp4_of};
 ghost use Rattle.icmp_codec.specs.Quoted.{embedded_packet};
 ghost use Rattle.ip_codec.specs.Packet4.{packet4, is_fragment};
-ghost use Rattle.port_locate.specs.Keys.{destination_at, downstream_key, has_ports, icmp_key, identifier_want, key_at, key_of, plain_want, port_want, quoted_want, source_at, upstream_key};
+ghost use Rattle.port_locate.specs.Keys.{destination_at, destination_key, downstream_key, has_ports, icmp_key, identifier_want, key_of, plain_want, port_want, quoted_want, source_at, source_key, upstream_key};
 
 use aftr_base::be16;
 use binding_rules::Want;
@@ -23,18 +24,35 @@ pub enum Key {
     IcmpBad,
 }
 
+/// What a packet asks of the table at its source and at its destination.
+#[derive(Clone, Copy, Debug, PartialEq, Eq)]
+pub struct Wants {
+    pub source: Want,
+    pub destination: Want,
+}
+
+/// Both keys of a packet, which are read together: there are two or none.
+#[derive(Clone, Copy, Debug, PartialEq, Eq)]
+pub enum Keys {
+    At(Wants),
+    /// As in `Key`.
+    NoPort,
+    /// As in `Key`.
+    IcmpBad,
+}
+
 const ICMP: u8 = 1;
 
-pub(crate) const TCP: u8 = 6;
+const TCP: u8 = 6;
 
-pub(crate) const UDP: u8 = 17;
+const UDP: u8 = 17;
 
 // The two ports, of 16 bits each.
-pub(crate) const PORTS_LEN: usize = 4;
+const PORTS_LEN: usize = 4;
 
-pub(crate) const SOURCE_PORT: usize = 0;
+const SOURCE_PORT: usize = 0;
 
-pub(crate) const DESTINATION_PORT: usize = 2;
+const DESTINATION_PORT: usize = 2;
 
 // The first part of an ICMP message, with its type at 0 and the identifier of an echo at 4 (RFC 792).
 const ICMP_HEAD_LEN: usize = 8;
@@ -48,7 +66,11 @@ const IDENTIFIER: usize = 4;
 pub fn key_up(p: &Ip4View<'_>) -> Key
     ensures { result ≡ upstream_key (packet4 p.now) }
 {
-    key_at(p, SOURCE_PORT, DESTINATION_PORT)
+    match keys_of(p) {
+        Keys::At(wants) => Key::At(wants.source),
+        Keys::NoPort => Key::NoPort,
+        Keys::IcmpBad => Key::IcmpBad,
+    }
 }
 
 /// The key of a packet to a subscriber: its destination port, or the identifier of an ICMP echo. An ICMP error has the
@@ -58,90 +80,122 @@ pub fn key_up(p: &Ip4View<'_>) -> Key
 pub fn key_down(p: &Ip4View<'_>) -> Key
     ensures { result ≡ downstream_key (packet4 p.now) }
 {
-    key_at(p, DESTINATION_PORT, SOURCE_PORT)
+    match keys_of(p) {
+        Keys::At(wants) => Key::At(wants.destination),
+        Keys::NoPort => Key::NoPort,
+        Keys::IcmpBad => Key::IcmpBad,
+    }
+}
+
+/// What `key_up` and `key_down` answer, by one reading: the checksum of an ICMP message is summed once.
+#[inline(always)]
+pub fn keys_of(p: &Ip4View<'_>) -> Keys
+    ensures up { source_key result ≡ upstream_key (packet4 p.now) }
+    ensures down { destination_key result ≡ downstream_key (packet4 p.now) }
+{
+    if p.is_fragment() {
+        return Keys::NoPort;
+    }
+    // Nearly every packet is of these two: asked for by themselves they take two compares, and no jump by a table.
+    if p.protocol == UDP || p.protocol == TCP {
+        return keys_at(port_wants(p.payload));
+    }
+    other_keys(p)
+}
+
+// Those of a packet that is no fragment, whatever its protocol.
+#[cold]
+#[inline(never)]
+fn other_keys(p: &Ip4View<'_>) -> Keys
+    requires whole { is_fragment (packet4 p.now) ≡ false }
+    ensures up { source_key result ≡ upstream_key (packet4 p.now) }
+    ensures down { destination_key result ≡ downstream_key (packet4 p.now) }
+{
+    if p.protocol == ICMP {
+        return icmp_keys(p.payload);
+    }
+    keys_at(plain_wants(p.protocol, p.payload))
+}
+
+// Those of an ICMP message. What it quotes went the other way.
+fn icmp_keys(message: &[u8]) -> Keys
+    ensures up { source_key result ≡ icmp_key (icmp4_of message.now) destination_at }
+    ensures down { destination_key result ≡ icmp_key (icmp4_of message.now) source_at }
+{
+    let Ok(view) = icmp4(message) else {
+        return Keys::IcmpBad;
+    };
+    match view.embedded {
+        None => keys_at(Some(both(Want::Port(view.id)))),
+        Some(quoted) => keys_at(reversed(quoted_wants(&quoted))),
+    }
+}
+
+#[inline(always)]
+fn keys_at(wants: Option<Wants>) -> Keys
+    ensures source { source_key result ≡ key_of (option_map (λ w. w.source) wants) }
+    ensures destination { destination_key result ≡ key_of (option_map (λ w. w.destination) wants) }
+{
+    match wants {
+        Some(wants) => Keys::At(wants),
+        None => Keys::NoPort,
+    }
+}
+
+// What a packet that goes the other way asks for.
+fn reversed(wants: Option<Wants>) -> Option<Wants>
+    ensures source { option_map (λ w. w.source) result ≡ option_map (λ w. w.destination) wants }
+    ensures destination { option_map (λ w. w.destination) result ≡ option_map (λ w. w.source) wants }
+{
+    let Wants {
+        source,
+        destination,
+    } = wants?;
+    Some(Wants {
+        source: destination,
+        destination: source,
+    })
+}
+
+// One thing at both ends.
+fn both(want: Want) -> Wants
+    ensures { result ≡ record { source = want; destination = want } }
+{
+    Wants {
+        source: want,
+        destination: want,
+    }
 }
 
 /// What the sender of a quoted packet must own, or nothing where the quote names no port.
 pub fn quoted_source(quoted: &Embedded<'_>) -> Option<Want>
     ensures { result ≡ quoted_want (embedded_packet quoted.now) source_at }
 {
-    quoted_want(quoted, SOURCE_PORT)
+    let wants = quoted_wants(quoted)?;
+    Some(wants.source)
 }
 
 /// What the receiver of a quoted packet must own, or nothing where the quote names no port.
 pub fn quoted_destination(quoted: &Embedded<'_>) -> Option<Want>
     ensures { result ≡ quoted_want (embedded_packet quoted.now) destination_at }
 {
-    quoted_want(quoted, DESTINATION_PORT)
+    let wants = quoted_wants(quoted)?;
+    Some(wants.destination)
 }
 
-// The key by the port at a place of the payload, and for an ICMP error at a place of the quoted payload.
-#[inline(always)]
-fn key_at(p: &Ip4View<'_>, at: usize, quoted_at: usize) -> Key
-    requires within { at ≤ 2 }
-    requires quoted_within { quoted_at ≤ 2 }
-    ensures { result ≡ key_at at quoted_at (packet4 p.now) }
-{
-    if p.is_fragment() {
-        return Key::NoPort;
-    }
-    // Nearly every packet is of these two: asked for by themselves they take two compares, and no jump by a table.
-    if p.protocol == UDP || p.protocol == TCP {
-        return key_of(port_want(p.payload, at));
-    }
-    seldom_key(p, at, quoted_at)
-}
-
-// The key of a packet that is no fragment, whatever its protocol.
-#[cold]
-#[inline(never)]
-fn seldom_key(p: &Ip4View<'_>, at: usize, quoted_at: usize) -> Key
-    requires whole { is_fragment (packet4 p.now) ≡ false }
-    requires within { at ≤ 2 }
-    requires quoted_within { quoted_at ≤ 2 }
-    ensures { result ≡ key_at at quoted_at (packet4 p.now) }
-{
-    if p.protocol == ICMP {
-        return icmp_key(p.payload, quoted_at);
-    }
-    key_of(plain_want(p.protocol, p.payload, at))
-}
-
-fn key_of(want: Option<Want>) -> Key
-    ensures { result ≡ key_of want }
-{
-    match want {
-        Some(want) => Key::At(want),
-        None => Key::NoPort,
-    }
-}
-
-// The key of an ICMP message, by the port at a place of the quoted payload.
-#[inline(never)]
-fn icmp_key(message: &[u8], at: usize) -> Key
-    requires { at ≤ 2 }
-    ensures { result ≡ icmp_key (icmp4_of message.now) at }
-{
-    match icmp4(message) {
-        Err(_) => Key::IcmpBad,
-        Ok(view) => match view.embedded {
-            None => Key::At(Want::Port(view.id)),
-            Some(quoted) => key_of(quoted_want(&quoted, at)),
-        },
-    }
-}
-
-fn quoted_want(quoted: &Embedded<'_>, at: usize) -> Option<Want>
-    requires { at ≤ 2 }
-    ensures { result ≡ quoted_want (embedded_packet quoted.now) at }
+// What a packet asks for that an ICMP message quotes.
+fn quoted_wants(quoted: &Embedded<'_>) -> Option<Wants>
+    ensures source { option_map (λ w. w.source) result ≡ quoted_want (embedded_packet quoted.now) source_at }
+    ensures destination { option_map (λ w. w.destination) result ≡ quoted_want (embedded_packet quoted.now) destination_at }
 {
     if quoted.offset != 0 {
         return None;
     }
     if quoted.protocol == ICMP {
-        return identifier_want(quoted.payload);
+        let want = identifier_want(quoted.payload)?;
+        return Some(both(want));
     }
-    plain_want(quoted.protocol, quoted.payload, at)
+    plain_wants(quoted.protocol, quoted.payload)
 }
 
 // The identifier of an echo or echo reply.
@@ -154,26 +208,31 @@ fn identifier_want(message: &[u8]) -> Option<Want>
     Some(Want::Port(be16(message, IDENTIFIER)))
 }
 
-// By the port at a place of the payload, or the whole address where the protocol has no ports.
-fn plain_want(protocol: u8, payload: &[u8], at: usize) -> Option<Want>
-    requires { at ≤ 2 }
-    ensures { result ≡ plain_want protocol payload.now at }
+// By the ports of the payload, or the whole address where the protocol has no ports.
+fn plain_wants(protocol: u8, payload: &[u8]) -> Option<Wants>
+    ensures source { option_map (λ w. w.source) result ≡ plain_want protocol payload.now source_at }
+    ensures destination { option_map (λ w. w.destination) result ≡ plain_want protocol payload.now destination_at }
 {
-    if !has_ports(protocol) {
-        return Some(Want::Whole);
+    if has_ports(protocol) {
+        port_wants(payload)
+    } else {
+        Some(both(Want::Whole))
     }
-    port_want(payload, at)
 }
 
-// The port at a place of a payload that begins with two ports.
-fn port_want(payload: &[u8], at: usize) -> Option<Want>
-    requires { at ≤ 2 }
-    ensures { result ≡ port_want payload.now at }
+// By the ports of a payload that begins with two.
+#[inline(always)]
+fn port_wants(payload: &[u8]) -> Option<Wants>
+    ensures source { option_map (λ w. w.source) result ≡ port_want payload.now source_at }
+    ensures destination { option_map (λ w. w.destination) result ≡ port_want payload.now destination_at }
 {
     if payload.len() < PORTS_LEN {
         return None;
     }
-    Some(Want::Port(be16(payload, at)))
+    Some(Wants {
+        source: Want::Port(be16(payload, SOURCE_PORT)),
+        destination: Want::Port(be16(payload, DESTINATION_PORT)),
+    })
 }
 
 // Whether the payload of the protocol begins with a source port and a destination port.

@@ -3,7 +3,5 @@
 #![tactic(auto)]
 
 mod keys;
-mod ports;
 
-pub use keys::{Key, key_down, key_up, quoted_destination, quoted_source};
-pub use ports::{Ports, ports_of};
+pub use keys::{Key, Keys, Wants, key_down, key_up, keys_of, quoted_destination, quoted_source};

@@ -11,8 +11,8 @@ IsLook t n =
     ⊎ (((most_shapes t.bindings ≡ 1) ⊎ (t.edition ≡ edition.One)) × (n ≡ found_bound t.bindings))
 
 -- the most steps of a verdict where the settings are known: two lookups, and one word more
-abbrev pub judge_with_bound : ℕ → ℕ
-judge_with_bound look = 2 * look + 1
+abbrev pub judge_into_bound : ℕ → ℕ
+judge_into_bound look = 2 * look + 1
 
 -- the most steps of a verdict: four words more, of the settings
 abbrev pub judge_bound : ℕ → ℕ

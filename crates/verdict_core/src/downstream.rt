@@ -1,8 +1,9 @@
 // The verdict on a packet from the IPv4 network.
-ghost use Rattle.std.specs.Prelude.{◌≡◌, ℕ, ◌+◌, ◌-◌, ◌==◌, ◌≤◌, not, ◌&&◌, Some, Ok};
-ghost use Rattle.std.specs.Option.{option_map};
+ghost use Rattle.std.specs.Prelude.{◌≡◌, ℕ, ◌+◌, ◌-◌, ◌==◌, ◌≤◌, IfErr, IfOk, not, ◌&&◌, Some, None, Ok};
 ghost use Rattle.binding_rules.specs.Tables.{BindingTable, binding_table};
 ghost use Rattle.ip_codec.specs.Packet4.{packet4};
+ghost use Rattle.port_locate.specs.Keys.{downstream_key};
+ghost use Rattle.port_locate.specs.declared.keys.Key.TheVariants as key;
 ghost use Rattle.table_words.specs.Layout.{IsCompiled, AreCompiled};
 ghost use Rattle.table_words.specs.Reads.{read_more};
 ghost use Rattle.verdict_core.specs.Answers.{no_owner, silent, too_large, used_up};
@@ -18,7 +19,7 @@ use crate::answers::{
 use crate::owners::{owner_end, read_count};
 use crate::verdicts::{Path, Verdict};
 use aftr_base::V6;
-use binding_rules::Softwire;
+use binding_rules::{Softwire, Want};
 use ip_codec::{Ip4View, Rule};
 use port_locate::{Key, key_down};
 use std::sync::ledger::Ledger;
@@ -43,30 +44,35 @@ pub fn judge_down<W: Words, L: Ledger>(
     ensures rises { steps.old + 1 ≤ steps.new }
     ensures bound { (t : BindingTable) → IsCompiled t (W.list words.old) → (n : ℕ) → IsLook t n → steps.new ≤ steps.old + n }
 {
-    let key = key_down(packet);
-    if let Some(why) = down_refusal(settings, packet, key) {
-        read_count(words, steps);
-        drop_silently(why, verdict);
-        return;
-    }
-    let end = owner_end(words, packet.dst, key, steps);
+    let want = match down_want(settings, packet) {
+        Ok(want) => want,
+        Err(why) => {
+            read_count(words, steps);
+            drop_silently(why, verdict);
+            return;
+        }
+    };
+    let end = owner_end(words, packet.dst, Key::At(want), steps);
     down_way(settings, packet, end, verdict);
 }
 
-// What needs no search.
-fn down_refusal(settings: &Softwire, packet: &Ip4View<'_>, key: Key) -> Option<Rule>
-    ensures { verdict_in (down_refusals settings.now (packet4 packet.now) key) ≡ option_map silent result }
+// What the packet asks of the table, or why nothing is searched for. ICMP that the table lets not in is not read.
+#[inline(always)]
+fn down_want(settings: &Softwire, packet: &Ip4View<'_>) -> Result<Want, Rule>
+    ensures refused { IfErr result (λ why. verdict_in (down_refusals settings.now (packet4 packet.now) (downstream_key (packet4 packet.now))) ≡ Some (silent why)) }
+    ensures searched { IfOk result (λ want. verdict_in (down_refusals settings.now (packet4 packet.now) (key.At want)) ≡ None) }
+    ensures destination { IfOk result (λ want. key.At want ≡ downstream_key (packet4 packet.now)) }
 {
     if packet.dst == settings.own {
-        return Some(Rule::ToSelf);
+        return Err(Rule::ToSelf);
     }
     if is_kept_out(settings, packet) {
-        return Some(Rule::IcmpOff);
+        return Err(Rule::IcmpOff);
     }
-    match key {
-        Key::IcmpBad => Some(Rule::IcmpBad),
-        Key::NoPort => Some(Rule::NoPort),
-        Key::At(_) => None,
+    match key_down(packet) {
+        Key::At(want) => Ok(want),
+        Key::NoPort => Err(Rule::NoPort),
+        Key::IcmpBad => Err(Rule::IcmpBad),
     }
 }
 

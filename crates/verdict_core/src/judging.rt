@@ -8,7 +8,7 @@ ghost use Rattle.table_words.specs.Bounds.{found_bound, look_bound, most_shapes}
 ghost use Rattle.table_words.specs.Layout.{IsCompiled, AreCompiled};
 ghost use Rattle.table_words.specs.Reads.{read_more};
 ghost use Rattle.verdict_core.specs.Access.{Delivers, Forbidden, Forwards, Refused, RelaysAll, RelaysOwn};
-ghost use Rattle.verdict_core.specs.Bounds.{IsLook, judge_bound, judge_with_bound};
+ghost use Rattle.verdict_core.specs.Bounds.{IsLook, judge_bound, judge_into_bound};
 ghost use Rattle.verdict_core.specs.Fitting.{AsksTable, Fits, HasRoom};
 ghost use Rattle.verdict_core.specs.Lines.{verdict_in};
 ghost use Rattle.verdict_core.specs.Verdicts.{Judged, lines, verdict_of};
@@ -62,54 +62,14 @@ pub fn judge<W: Words, L: Ledger>(
     ensures edition_one { (t : BindingTable) → IsCompiled t (W.list words.old) → t.edition ≡ edition.One → steps.new ≤ steps.old + judge_bound (found_bound t.bindings) }
 {
     let settings = softwire(words, steps);
-    judge_with(words, &settings, item, steps)
-}
-
-/// The same with the table's settings handed in, as `softwire` gives them, so that a caller with many items under one table
-/// reads them once. It reads one word at least, unless the item is kept or dropped already.
-pub fn judge_with<W: Words, L: Ledger>(
-    words: &mut W,
-    settings: &Softwire,
-    item: &ItemView<'_>,
-    steps: &mut Steps<L>,
-) -> Verdict
-    requires compiled { AreCompiled (W.list words.old) }
-    requires settings { (t : BindingTable) → IsCompiled t (W.list words.old) → settings.now ≡ t.softwire }
-
-    // Which verdict it is.
-    ensures verdict { (t : BindingTable) → IsCompiled t (W.list words.old) → Judged t (seen item.now) result }
-    ensures value { (t : BindingTable) → IsCompiled t (W.list words.old) → result ≡ verdict_of t (seen item.now) }
-    ensures only { (t : BindingTable) → IsCompiled t (W.list words.old) → (v : Verdict) → Judged t (seen item.now) v → v ≡ result }
-
-    // What it can be.
-    ensures fits { Fits (seen item.now) result }
-    ensures room { HasRoom result }
-
-    // Who may send, who receives, and whom errors reach.
-    ensures forwards { (t : BindingTable) → IsCompiled t (W.list words.old) → Forwards t (seen item.now) result }
-    ensures forbidden { (t : BindingTable) → IsCompiled t (W.list words.old) → Forbidden t (seen item.now) result }
-    ensures refused { (t : BindingTable) → IsCompiled t (W.list words.old) → Refused t (seen item.now) result }
-    ensures delivers { (t : BindingTable) → IsCompiled t (W.list words.old) → Delivers t (seen item.now) result }
-    ensures relays_own { (t : BindingTable) → IsCompiled t (W.list words.old) → RelaysOwn t (seen item.now) result }
-    ensures relays_all { (t : BindingTable) → IsCompiled t (W.list words.old) → RelaysAll t (seen item.now) result }
-
-    // What it reads.
-    ensures list { W.list words.new ≡ W.list words.old }
-    ensures reads { W.reads words.new ≡ read_more (W.reads words.old) (steps.new - steps.old) }
-    ensures goes { W.goes words.old words.new }
-    ensures later { steps.old ≤ steps.new }
-    ensures rises { AsksTable (seen item.now) → steps.old + 1 ≤ steps.new }
-    ensures bound { (t : BindingTable) → IsCompiled t (W.list words.old) → steps.new ≤ steps.old + judge_with_bound (look_bound t.bindings) }
-    ensures one_shape { (t : BindingTable) → IsCompiled t (W.list words.old) → most_shapes t.bindings ≡ 1 → steps.new ≤ steps.old + judge_with_bound (found_bound t.bindings) }
-    ensures edition_one { (t : BindingTable) → IsCompiled t (W.list words.old) → t.edition ≡ edition.One → steps.new ≤ steps.old + judge_with_bound (found_bound t.bindings) }
-{
     let mut verdict = Verdict::Held;
-    judge_into(words, settings, item, &mut verdict, steps);
+    judge_into(words, &settings, item, &mut verdict, steps);
     verdict
 }
 
-/// The same with the verdict written where the caller keeps it, whatever stood there: a verdict has many words, and each call
-/// that hands it on would copy them.
+/// The same verdict with the table's settings handed in, as `softwire` gives them, so that a caller with many items under one table
+/// reads them once, and written where the caller keeps it, whatever stood there: a verdict has many words, and each call that hands
+/// it on would copy them. It reads one word at least, unless the item is kept or dropped already.
 pub fn judge_into<W: Words, L: Ledger>(
     words: &mut W,
     settings: &Softwire,
@@ -129,9 +89,9 @@ pub fn judge_into<W: Words, L: Ledger>(
     ensures goes { W.goes words.old words.new }
     ensures later { steps.old ≤ steps.new }
     ensures rises { AsksTable (seen item.now) → steps.old + 1 ≤ steps.new }
-    ensures bound { (t : BindingTable) → IsCompiled t (W.list words.old) → steps.new ≤ steps.old + judge_with_bound (look_bound t.bindings) }
-    ensures one_shape { (t : BindingTable) → IsCompiled t (W.list words.old) → most_shapes t.bindings ≡ 1 → steps.new ≤ steps.old + judge_with_bound (found_bound t.bindings) }
-    ensures edition_one { (t : BindingTable) → IsCompiled t (W.list words.old) → t.edition ≡ edition.One → steps.new ≤ steps.old + judge_with_bound (found_bound t.bindings) }
+    ensures bound { (t : BindingTable) → IsCompiled t (W.list words.old) → steps.new ≤ steps.old + judge_into_bound (look_bound t.bindings) }
+    ensures one_shape { (t : BindingTable) → IsCompiled t (W.list words.old) → most_shapes t.bindings ≡ 1 → steps.new ≤ steps.old + judge_into_bound (found_bound t.bindings) }
+    ensures edition_one { (t : BindingTable) → IsCompiled t (W.list words.old) → t.edition ≡ edition.One → steps.new ≤ steps.old + judge_into_bound (found_bound t.bindings) }
 {
     judge_under(words, settings, item, verdict, steps);
 }
@@ -153,7 +113,7 @@ fn judge_under<W: Words, L: Ledger>(
     ensures goes { W.goes words.old words.new }
     ensures later { steps.old ≤ steps.new }
     ensures rises { AsksTable (seen item.now) → steps.old + 1 ≤ steps.new }
-    ensures bound { (t : BindingTable) → IsCompiled t (W.list words.old) → (n : ℕ) → IsLook t n → steps.new ≤ steps.old + judge_with_bound n }
+    ensures bound { (t : BindingTable) → IsCompiled t (W.list words.old) → (n : ℕ) → IsLook t n → steps.new ≤ steps.old + judge_into_bound n }
 {
     match item {
         ItemView::Held => *verdict = Verdict::Held,

@@ -11,6 +11,6 @@ mod owners;
 mod upstream;
 mod verdicts;
 
-pub use judging::{judge, judge_into, judge_with};
+pub use judging::{judge, judge_into};
 pub use laws::access;
 pub use verdicts::{Path, Reply, Verdict};

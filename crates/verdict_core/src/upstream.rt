@@ -1,13 +1,13 @@
 // The verdict on a packet from a subscriber.
-ghost use Rattle.std.specs.Prelude.{◌≡◌, ℕ, ◌+◌, ◌*◌, ◌-◌, ◌≤◌, not, true, Some, None, Ok, Err};
-ghost use Rattle.std.specs.Option.{option_map};
+ghost use Rattle.std.specs.Prelude.{◌≡◌, ℕ, ◌+◌, ◌-◌, ◌≤◌, IfErr, IfOk, not, true, Some, None, Ok, Err};
 ghost use Rattle.binding_rules.specs.Tables.{BindingTable, binding_table};
 ghost use Rattle.ip_codec.specs.Packet4.{packet4};
 ghost use Rattle.port_locate.specs.Keys.{downstream_key, upstream_key};
+ghost use Rattle.port_locate.specs.declared.keys.Key.TheVariants as key;
 ghost use Rattle.table_words.specs.Layout.{IsCompiled, AreCompiled};
 ghost use Rattle.table_words.specs.Reads.{read_more};
 ghost use Rattle.verdict_core.specs.Answers.{ends_at, not_sender, silent, too_large, used_up, way_back};
-ghost use Rattle.verdict_core.specs.Bounds.{IsLook, judge_with_bound};
+ghost use Rattle.verdict_core.specs.Bounds.{IsLook, judge_into_bound};
 ghost use Rattle.verdict_core.specs.Lines.{verdict_in};
 ghost use Rattle.verdict_core.specs.Verdicts.{hairpin_lines, outward_lines, up_lines, up_refusals};
 
@@ -18,9 +18,9 @@ use crate::answers::{
 use crate::owners::{owner_at, owner_end, read_count};
 use crate::verdicts::Verdict;
 use aftr_base::V6;
-use binding_rules::{Softwire, Want};
+use binding_rules::Softwire;
 use ip_codec::{Ip4Bad, Ip4View, Outer, Rule};
-use port_locate::{Key, key_down, key_up, ports_of};
+use port_locate::{Key, Keys, Wants, keys_of};
 use std::sync::ledger::Ledger;
 use table_words::{Destination, Steps, Words};
 
@@ -41,90 +41,17 @@ pub fn judge_up<W: Words, L: Ledger>(
     ensures reads { W.reads words.new ≡ read_more (W.reads words.old) (steps.new - steps.old) }
     ensures goes { W.goes words.old words.new }
     ensures rises { steps.old + 1 ≤ steps.new }
-    ensures bound { (t : BindingTable) → IsCompiled t (W.list words.old) → (n : ℕ) → IsLook t n → steps.new ≤ steps.old + judge_with_bound n }
+    ensures bound { (t : BindingTable) → IsCompiled t (W.list words.old) → (n : ℕ) → IsLook t n → steps.new ≤ steps.old + judge_into_bound n }
 {
-    // Nearly every packet is whole and of TCP or UDP: one look at it gives both keys, and which they are needs no test.
-    let Some(ports) = ports_of(packet) else {
-        judge_seldom(words, settings, outer, packet, verdict, steps);
-        return;
+    let wants = match up_wants(settings, outer, packet) {
+        Ok(wants) => wants,
+        Err(why) => {
+            read_count(words, steps);
+            drop_silently(why, verdict);
+            return;
+        }
     };
-    let source = Key::At(Want::Port(ports.source));
-    let destination = Key::At(Want::Port(ports.destination));
-    judge_by_keys(
-        words,
-        settings,
-        outer,
-        packet,
-        source,
-        destination,
-        verdict,
-        steps,
-    );
-}
-
-// The same, whatever the packet's keys.
-#[cold]
-#[inline(never)]
-fn judge_seldom<W: Words, L: Ledger>(
-    words: &mut W,
-    settings: &Softwire,
-    outer: &Outer,
-    packet: &Ip4View<'_>,
-    verdict: &mut Verdict,
-    steps: &mut Steps<L>,
-)
-    requires { AreCompiled (W.list words.old) }
-    ensures verdict { (t : BindingTable) → IsCompiled t (W.list words.old) →
-        verdict_in (up_lines (binding_table t.edition settings.now t.bindings) outer.now (Ok (packet4 packet.now))) ≡ Some verdict.new }
-    ensures list { W.list words.new ≡ W.list words.old }
-    ensures reads { W.reads words.new ≡ read_more (W.reads words.old) (steps.new - steps.old) }
-    ensures goes { W.goes words.old words.new }
-    ensures rises { steps.old + 1 ≤ steps.new }
-    ensures bound { (t : BindingTable) → IsCompiled t (W.list words.old) → (n : ℕ) → IsLook t n → steps.new ≤ steps.old + judge_with_bound n }
-{
-    let source = key_up(packet);
-    let destination = key_down(packet);
-    judge_by_keys(
-        words,
-        settings,
-        outer,
-        packet,
-        source,
-        destination,
-        verdict,
-        steps,
-    );
-}
-
-// The same by what the packet asks for at its source and at its destination.
-#[inline(always)]
-fn judge_by_keys<W: Words, L: Ledger>(
-    words: &mut W,
-    settings: &Softwire,
-    outer: &Outer,
-    packet: &Ip4View<'_>,
-    source: Key,
-    destination: Key,
-    verdict: &mut Verdict,
-    steps: &mut Steps<L>,
-)
-    requires compiled { AreCompiled (W.list words.old) }
-    requires source { source ≡ upstream_key (packet4 packet.now) }
-    requires destination { destination ≡ downstream_key (packet4 packet.now) }
-    ensures verdict { (t : BindingTable) → IsCompiled t (W.list words.old) →
-        verdict_in (up_lines (binding_table t.edition settings.now t.bindings) outer.now (Ok (packet4 packet.now))) ≡ Some verdict.new }
-    ensures list { W.list words.new ≡ W.list words.old }
-    ensures reads { W.reads words.new ≡ read_more (W.reads words.old) (steps.new - steps.old) }
-    ensures goes { W.goes words.old words.new }
-    ensures rises { steps.old + 1 ≤ steps.new }
-    ensures bound { (t : BindingTable) → IsCompiled t (W.list words.old) → (n : ℕ) → IsLook t n → steps.new ≤ steps.old + judge_with_bound n }
-{
-    if let Some(why) = up_refusal(settings, outer, source) {
-        read_count(words, steps);
-        drop_silently(why, verdict);
-        return;
-    }
-    let end = owner_end(words, packet.src, source, steps);
+    let end = owner_end(words, packet.src, Key::At(wants.source), steps);
     if is_foreign(outer, end) {
         drop_foreign(settings, outer, verdict);
         return;
@@ -133,7 +60,7 @@ fn judge_by_keys<W: Words, L: Ledger>(
         drop_used_up(settings, outer, packet, verdict);
         return;
     }
-    match owner_at(words, packet.dst, destination, steps) {
+    match owner_at(words, packet.dst, Key::At(wants.destination), steps) {
         Destination::Unbound => outward(settings, outer, packet, verdict),
         Destination::Unowned => turned_to_nobody(settings, outer, packet, verdict),
         Destination::Owned(to) => turned(settings, outer, packet, to, verdict),
@@ -154,17 +81,21 @@ pub fn judge_unread(settings: &Softwire, outer: &Outer, refusal: Ip4Bad, verdict
     }
 }
 
-// What needs no search.
-fn up_refusal(settings: &Softwire, outer: &Outer, key: Key) -> Option<Rule>
-    ensures { verdict_in (up_refusals settings.now outer.now key) ≡ option_map silent result }
+// What the packet asks of the table, or why nothing is searched for. A packet for another router is not read.
+#[inline(always)]
+fn up_wants(settings: &Softwire, outer: &Outer, packet: &Ip4View<'_>) -> Result<Wants, Rule>
+    ensures refused { IfErr result (λ why. verdict_in (up_refusals settings.now outer.now (upstream_key (packet4 packet.now))) ≡ Some (silent why)) }
+    ensures searched { IfOk result (λ wants. verdict_in (up_refusals settings.now outer.now (key.At wants.source)) ≡ None) }
+    ensures source { IfOk result (λ wants. key.At wants.source ≡ upstream_key (packet4 packet.now)) }
+    ensures destination { IfOk result (λ wants. key.At wants.destination ≡ downstream_key (packet4 packet.now)) }
 {
     if outer.dst != settings.aftr {
-        return Some(Rule::NotOurs);
+        return Err(Rule::NotOurs);
     }
-    match key {
-        Key::IcmpBad => Some(Rule::IcmpBad),
-        Key::NoPort => Some(Rule::NoPort),
-        Key::At(_) => None,
+    match keys_of(packet) {
+        Keys::At(wants) => Ok(wants),
+        Keys::NoPort => Err(Rule::NoPort),
+        Keys::IcmpBad => Err(Rule::IcmpBad),
     }
 }
 
