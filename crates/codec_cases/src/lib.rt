@@ -11,6 +11,8 @@ mod blocks;
 #[cfg(test)]
 mod captures;
 #[cfg(test)]
+mod fast_readers;
+#[cfg(test)]
 mod headers;
 #[cfg(test)]
 mod lists;
