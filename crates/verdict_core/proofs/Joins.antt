@@ -1,5 +1,5 @@
 -- Which of the lists laid end to end decides, by what the code found in each.
-use Rattle.std.proofs.Common.{◌≡◌, ℕ, Bool, true, false, not, if◌then◌else◌, List, ◌++◌, Option, Some, None, Ok, refl, ap, sym, ◌∙◌, subst}
+use Rattle.std.proofs.Common.{◌≡◌, ◌==◌, ◌&&◌, ℕ, Bool, true, false, not, if◌then◌else◌, List, ◌++◌, Option, Some, None, Ok, refl, ap, sym, ◌∙◌, subst}
 use Rattle.aftr_base.specs.declared.numbers.V6.{V6}
 use Rattle.binding_rules.specs.Tables.{BindingTable}
 use Rattle.binding_rules.specs.declared.settings.Softwire.{Softwire}
@@ -8,13 +8,14 @@ use Rattle.icmp_relay.specs.Quotes.{TunnelQuote}
 use Rattle.ip_codec.specs.Packet4.{Packet4}
 use Rattle.ip_codec.specs.declared.items.Item.TheVariants as item
 use Rattle.ip_codec.specs.declared.items.Outer.{Outer}
+use Rattle.ip_codec.specs.declared.rules.Rule.TheVariants as rule
 use Rattle.port_locate.specs.Keys.{downstream_key, upstream_key}
 use Rattle.port_locate.specs.declared.keys.Key.{Key}
 use Rattle.table_words.specs.Answers.{has_binding, tunnel_of}
 use Rattle.table_words.specs.declared.destination.Destination.{Destination}
-use Rattle.verdict_core.specs.Answers.{ends_at, is_used_up, not_sender, used_up, way_back}
+use Rattle.verdict_core.specs.Answers.{ends_at, is_used_up, not_sender, silent, used_up, way_back}
 use Rattle.verdict_core.specs.Lines.{Line, verdict_in}
-use Rattle.verdict_core.specs.Verdicts.{down_lines, down_refusals, down_ways, error_lines, hairpin_lines, is_bound_address, lines, message_refusals, onward_lines, outward_lines, owner_end, quote_lines, quote_refusals, quoted_destination, quoted_source, receiver_lines, relay_lines, sender_lines, ttl_lines, up_lines, up_refusals}
+use Rattle.verdict_core.specs.Verdicts.{down_lines, down_refusals, down_ways, error_lines, hairpin_lines, is_bound_address, is_icmp_bad, lines, message_refusals, names_no_port, onward_lines, outward_lines, owner_end, quote_lines, quote_refusals, quoted_destination, quoted_source, receiver_lines, relay_lines, sender_lines, ttl_lines, up_lines, up_refusals}
 use Rattle.verdict_core.specs.declared.verdicts.Verdict.{Verdict}
 use Rattle.verdict_core.proofs.Firsts.{decided_before, decided_behind}
 
@@ -44,6 +45,35 @@ module _ (s : Softwire) (outer : Outer) where
 
   pub more_hops : (p : Packet4) → is_used_up p ≡ false → verdict_in (ttl_lines s outer p) ≡ None
   more_hops p is = one_passes (is_used_up p) (used_up s (way_back s outer) p) is
+
+-- What decides before the table is searched: the lines that need no key come first.
+abbrev pub refused_by : Key → Option Verdict
+refused_by k = if is_icmp_bad k then Some (silent rule.IcmpBad) else if names_no_port k then Some (silent rule.NoPort) else None
+
+module _ (s : Softwire) (p : Packet4) (k : Key) where
+  abbrev by_icmp : Bool → Option Verdict
+  by_icmp b = if b then Some (silent rule.IcmpOff) else refused_by k
+
+  abbrev Downwards : Option Verdict → Type 0
+  Downwards first = verdict_in (down_refusals s p k) ≡ first
+
+  pub for_itself : (p.dst == s.own.0) ≡ true → Downwards (Some (silent rule.ToSelf))
+  for_itself is = ap (λ (b : Bool). if b then Some (silent rule.ToSelf) else by_icmp ((p.protocol == 1) && not s.icmp_in)) is
+
+  pub icmp_kept_out : (p.dst == s.own.0) ≡ false → ((p.protocol == 1) && not s.icmp_in) ≡ true → Downwards (Some (silent rule.IcmpOff))
+  icmp_kept_out other is =
+      ap (λ (b : Bool). if b then Some (silent rule.ToSelf) else by_icmp ((p.protocol == 1) && not s.icmp_in)) other ∙ ap by_icmp is
+
+  pub by_key_down : (p.dst == s.own.0) ≡ false → ((p.protocol == 1) && not s.icmp_in) ≡ false → Downwards (refused_by k)
+  by_key_down other let_in =
+      ap (λ (b : Bool). if b then Some (silent rule.ToSelf) else by_icmp ((p.protocol == 1) && not s.icmp_in)) other ∙ ap by_icmp let_in
+
+module _ (s : Softwire) (outer : Outer) (k : Key) where
+  pub for_another : not (outer.dst.0 == s.aftr.0) ≡ true → verdict_in (up_refusals s outer k) ≡ Some (silent rule.NotOurs)
+  for_another is = ap (λ (b : Bool). if b then Some (silent rule.NotOurs) else refused_by k) is
+
+  pub by_key_up : not (outer.dst.0 == s.aftr.0) ≡ false → verdict_in (up_refusals s outer k) ≡ refused_by k
+  by_key_up ours = ap (λ (b : Bool). if b then Some (silent rule.NotOurs) else refused_by k) ours
 
 module _ (t : BindingTable) (p : Packet4) (k : Key) (k_is : k ≡ downstream_key p) (v : Verdict) where
   down_whole : verdict_in (down_refusals t.softwire p k ++ down_ways t.softwire p (owner_end t p.dst k)) ≡ Some v →

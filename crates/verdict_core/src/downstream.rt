@@ -1,25 +1,21 @@
 // The verdict on a packet from the IPv4 network.
-ghost use Rattle.std.specs.Prelude.{◌≡◌, ℕ, ◌+◌, ◌-◌, ◌==◌, ◌≤◌, IfErr, IfOk, not, ◌&&◌, Some, None, Ok};
+ghost use Rattle.std.specs.Prelude.{◌≡◌, ℕ, ◌+◌, ◌-◌, ◌==◌, ◌≤◌, not, ◌&&◌, Some, Ok};
 ghost use Rattle.binding_rules.specs.Tables.{BindingTable, binding_table};
 ghost use Rattle.ip_codec.specs.Packet4.{packet4};
-ghost use Rattle.port_locate.specs.Keys.{downstream_key};
-ghost use Rattle.port_locate.specs.declared.keys.Key.TheVariants as key;
 ghost use Rattle.table_words.specs.Layout.{IsCompiled, AreCompiled};
 ghost use Rattle.table_words.specs.Reads.{read_more};
-ghost use Rattle.verdict_core.specs.Answers.{no_owner, silent, too_large, used_up};
+ghost use Rattle.verdict_core.specs.Answers.{no_owner, too_large, used_up};
 ghost use Rattle.verdict_core.specs.Bounds.{IsLook};
 ghost use Rattle.verdict_core.specs.Lines.{verdict_in};
-ghost use Rattle.verdict_core.specs.Verdicts.{down_lines, down_refusals, down_ways};
+ghost use Rattle.verdict_core.specs.Verdicts.{down_lines, down_ways};
 ghost use Rattle.verdict_core.specs.declared.verdicts.Path.TheVariants as path;
 ghost use Rattle.ip_codec.specs.declared.rules.Rule.TheVariants as rule;
 
-use crate::answers::{
-    drop_silently, inward, inward_room, is_too_large, is_used_up, no_owner, too_large, used_up,
-};
-use crate::owners::{owner_end, read_count};
+use crate::answers::{inward, inward_room, is_too_large, is_used_up, no_owner, too_large, used_up};
+use crate::owners::{owner_end, refuse};
 use crate::verdicts::{Path, Verdict};
 use aftr_base::V6;
-use binding_rules::{Softwire, Want};
+use binding_rules::Softwire;
 use ip_codec::{Ip4View, Rule};
 use port_locate::{Key, key_down};
 use std::sync::ledger::Ledger;
@@ -44,11 +40,22 @@ pub fn judge_down<W: Words, L: Ledger>(
     ensures rises { steps.old + 1 ≤ steps.new }
     ensures bound { (t : BindingTable) → IsCompiled t (W.list words.old) → (n : ℕ) → IsLook t n → steps.new ≤ steps.old + n }
 {
-    let want = match down_want(settings, packet) {
-        Ok(want) => want,
-        Err(why) => {
-            read_count(words, steps);
-            drop_silently(why, verdict);
+    if is_own(settings, packet) {
+        refuse(words, Rule::ToSelf, verdict, steps);
+        return;
+    }
+    if is_kept_out(settings, packet) {
+        refuse(words, Rule::IcmpOff, verdict, steps);
+        return;
+    }
+    let want = match key_down(packet) {
+        Key::At(want) => want,
+        Key::NoPort => {
+            refuse(words, Rule::NoPort, verdict, steps);
+            return;
+        }
+        Key::IcmpBad => {
+            refuse(words, Rule::IcmpBad, verdict, steps);
             return;
         }
     };
@@ -56,24 +63,11 @@ pub fn judge_down<W: Words, L: Ledger>(
     down_way(settings, packet, end, verdict);
 }
 
-// What the packet asks of the table, or why nothing is searched for. ICMP that the table lets not in is not read.
-#[inline(always)]
-fn down_want(settings: &Softwire, packet: &Ip4View<'_>) -> Result<Want, Rule>
-    ensures refused { IfErr result (λ why. verdict_in (down_refusals settings.now (packet4 packet.now) (downstream_key (packet4 packet.now))) ≡ Some (silent why)) }
-    ensures searched { IfOk result (λ want. verdict_in (down_refusals settings.now (packet4 packet.now) (key.At want)) ≡ None) }
-    ensures destination { IfOk result (λ want. key.At want ≡ downstream_key (packet4 packet.now)) }
+// Whether the packet is for the router itself.
+fn is_own(settings: &Softwire, packet: &Ip4View<'_>) -> bool
+    ensures { result ≡ ((packet4 packet.now).dst == settings.now.own.0) }
 {
-    if packet.dst == settings.own {
-        return Err(Rule::ToSelf);
-    }
-    if is_kept_out(settings, packet) {
-        return Err(Rule::IcmpOff);
-    }
-    match key_down(packet) {
-        Key::At(want) => Ok(want),
-        Key::NoPort => Err(Rule::NoPort),
-        Key::IcmpBad => Err(Rule::IcmpBad),
-    }
+    packet.dst == settings.own
 }
 
 // ICMP that the table lets not in.

@@ -4,10 +4,14 @@ ghost use Rattle.binding_rules.specs.Tables.{BindingTable};
 ghost use Rattle.table_words.specs.Answers.{has_binding, tunnel_of};
 ghost use Rattle.table_words.specs.Layout.{IsCompiled, AreCompiled};
 ghost use Rattle.table_words.specs.Reads.{read_more};
+ghost use Rattle.verdict_core.specs.Answers.{silent};
 ghost use Rattle.verdict_core.specs.Bounds.{IsLook};
 ghost use Rattle.verdict_core.specs.Verdicts.{is_bound_address, owner_end};
 
+use crate::answers::silent;
+use crate::verdicts::Verdict;
 use aftr_base::{V4, V6};
+use ip_codec::Rule;
 use port_locate::Key;
 use std::sync::ledger::Ledger;
 use table_words::{Destination, Steps, Words, destination_of, has_address, look};
@@ -24,6 +28,26 @@ pub fn read_count<W: Words, L: Ledger>(words: &mut W, steps: &mut Steps<L>)
     ensures steps { steps.new ≡ steps.old + 1 }
 {
     words.word(COUNT, steps);
+}
+
+// Dropped before anything is looked up, and nobody is told.
+#[cold]
+#[inline(never)]
+pub fn refuse<W: Words, L: Ledger>(
+    words: &mut W,
+    why: Rule,
+    verdict: &mut Verdict,
+    steps: &mut Steps<L>,
+)
+    requires { AreCompiled (W.list words.old) }
+    ensures verdict { verdict.new ≡ silent why }
+    ensures list { W.list words.new ≡ W.list words.old }
+    ensures reads { W.reads words.new ≡ read_more (W.reads words.old) (steps.new - steps.old) }
+    ensures goes { W.goes words.old words.new }
+    ensures steps { steps.new ≡ steps.old + 1 }
+{
+    read_count(words, steps);
+    *verdict = silent(why);
 }
 
 // The tunnel's end of the one binding that owns what the key asks for at the address. It reads a word at least.

@@ -1,21 +1,19 @@
 // The verdict on a packet from a subscriber.
-ghost use Rattle.std.specs.Prelude.{◌≡◌, ℕ, ◌+◌, ◌-◌, ◌≤◌, IfErr, IfOk, not, true, Some, None, Ok, Err};
+ghost use Rattle.std.specs.Prelude.{◌≡◌, ℕ, ◌+◌, ◌-◌, ◌==◌, ◌≤◌, not, true, Some, None, Ok, Err};
 ghost use Rattle.binding_rules.specs.Tables.{BindingTable, binding_table};
 ghost use Rattle.ip_codec.specs.Packet4.{packet4};
-ghost use Rattle.port_locate.specs.Keys.{downstream_key, upstream_key};
-ghost use Rattle.port_locate.specs.declared.keys.Key.TheVariants as key;
 ghost use Rattle.table_words.specs.Layout.{IsCompiled, AreCompiled};
 ghost use Rattle.table_words.specs.Reads.{read_more};
 ghost use Rattle.verdict_core.specs.Answers.{ends_at, not_sender, silent, too_large, used_up, way_back};
 ghost use Rattle.verdict_core.specs.Bounds.{IsLook, judge_into_bound};
 ghost use Rattle.verdict_core.specs.Lines.{verdict_in};
-ghost use Rattle.verdict_core.specs.Verdicts.{hairpin_lines, outward_lines, up_lines, up_refusals};
+ghost use Rattle.verdict_core.specs.Verdicts.{hairpin_lines, outward_lines, up_lines};
 
 use crate::answers::{
     drop_silently, ends_at, inward, inward_room, is_too_large, is_used_up, no_owner, not_sender,
     silent, too_large, used_up, way_back,
 };
-use crate::owners::{owner_at, owner_end, read_count};
+use crate::owners::{owner_at, owner_end, refuse};
 use crate::verdicts::Verdict;
 use aftr_base::V6;
 use binding_rules::Softwire;
@@ -43,11 +41,18 @@ pub fn judge_up<W: Words, L: Ledger>(
     ensures rises { steps.old + 1 ≤ steps.new }
     ensures bound { (t : BindingTable) → IsCompiled t (W.list words.old) → (n : ℕ) → IsLook t n → steps.new ≤ steps.old + judge_into_bound n }
 {
-    let wants = match up_wants(settings, outer, packet) {
-        Ok(wants) => wants,
-        Err(why) => {
-            read_count(words, steps);
-            drop_silently(why, verdict);
+    if is_not_ours(settings, outer) {
+        refuse(words, Rule::NotOurs, verdict, steps);
+        return;
+    }
+    let wants = match keys_of(packet) {
+        Keys::At(wants) => wants,
+        Keys::NoPort => {
+            refuse(words, Rule::NoPort, verdict, steps);
+            return;
+        }
+        Keys::IcmpBad => {
+            refuse(words, Rule::IcmpBad, verdict, steps);
             return;
         }
     };
@@ -81,22 +86,11 @@ pub fn judge_unread(settings: &Softwire, outer: &Outer, refusal: Ip4Bad, verdict
     }
 }
 
-// What the packet asks of the table, or why nothing is searched for. A packet for another router is not read.
-#[inline(always)]
-fn up_wants(settings: &Softwire, outer: &Outer, packet: &Ip4View<'_>) -> Result<Wants, Rule>
-    ensures refused { IfErr result (λ why. verdict_in (up_refusals settings.now outer.now (upstream_key (packet4 packet.now))) ≡ Some (silent why)) }
-    ensures searched { IfOk result (λ wants. verdict_in (up_refusals settings.now outer.now (key.At wants.source)) ≡ None) }
-    ensures source { IfOk result (λ wants. key.At wants.source ≡ upstream_key (packet4 packet.now)) }
-    ensures destination { IfOk result (λ wants. key.At wants.destination ≡ downstream_key (packet4 packet.now)) }
+// Whether the packet came for another router's tunnel address.
+fn is_not_ours(settings: &Softwire, outer: &Outer) -> bool
+    ensures { result ≡ not (outer.now.dst.0 == settings.now.aftr.0) }
 {
-    if outer.dst != settings.aftr {
-        return Err(Rule::NotOurs);
-    }
-    match keys_of(packet) {
-        Keys::At(wants) => Ok(wants),
-        Keys::NoPort => Err(Rule::NoPort),
-        Keys::IcmpBad => Err(Rule::IcmpBad),
-    }
+    outer.dst != settings.aftr
 }
 
 // Whether the packet came through another tunnel than that of its source's owner.
