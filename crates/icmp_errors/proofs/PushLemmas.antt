@@ -9,11 +9,11 @@ use Rattle.aftr_base.specs.declared.numbers.V6.{V6}
 use Rattle.icmp_codec.specs.Message4.{icmp4_bytes}
 use Rattle.icmp_codec.specs.Message6.{icmp6_bytes}
 use Rattle.ip_codec.specs.Packet4.{header4}
-use Rattle.ip_codec.specs.Packet6.{bytes6}
+use Rattle.ip_codec.specs.Packet6.{bytes6, header6}
 use Rattle.ip_codec.specs.declared.items.Outer.{Outer}
 use Rattle.ip_codec.specs.declared.packet6.Head6.{Head6}
 use Rattle.icmp_errors.specs.Errors4.{error4, error_head}
-use Rattle.icmp_errors.specs.Policy6.{header6_bytes, policy6, policy_head, quoted_head}
+use Rattle.icmp_errors.specs.Policy6.{policy6, policy_head, quoted_head}
 
 -- a header was appended, and then the rest with success
 pub pushed : {A E : Type 0} (r : Result A E) (new list old header rest whole : List ℕ) → IsOk r →
@@ -44,17 +44,17 @@ error4-parts own to kind code word n quote packet n_is quote_is =
     ap (λ m. header4 (error_head own to) [] m ++ icmp4_bytes kind code word quote) len
     ∙ ap (λ q. header4 (error_head own to) [] (length (icmp4_bytes kind code word q)) ++ icmp4_bytes kind code word q) quote_is
 
-header6-length : (head : Head6) (n : ℕ) → length (header6_bytes head n) ≡ 40
+header6-length : (head : Head6) (n : ℕ) → length (header6 head n) ≡ 40
 header6-length head n = refl
 
-header6-bytes6 : (head : Head6) (body : List ℕ) → header6_bytes head (length body) ++ body ≡ bytes6 head body
+header6-bytes6 : (head : Head6) (body : List ℕ) → header6 head (length body) ++ body ≡ bytes6 head body
 header6-bytes6 head body = refl
 
 -- a tunnel's header and the first bytes behind it
 pub tunnel_front : (head : Head6) (body more : List ℕ) → more ≡ take 1192 body →
-    header6_bytes head (length body) ++ more ≡ take 1232 (bytes6 head body)
+    header6 head (length body) ++ more ≡ take 1232 (bytes6 head body)
 tunnel_front head body more more_is =
-    let header = header6_bytes head (length body) in
+    let header = header6 head (length body) in
     ap (λ l. header ++ l) more_is
     ∙ sym (take-append-add header body 1192)
     ∙ ap (λ n. take (n + 1192) (header ++ body)) (header6-length head (length body))
@@ -62,21 +62,21 @@ tunnel_front head body more more_is =
 
 -- the same of a body in two parts, of which the first is quoted whole
 pub tunnel_fronts : (head : Head6) (first second more tunnel quote : List ℕ) → length first ≤ 1192 →
-    tunnel ≡ header6_bytes head (length first + length second) → quote ≡ tunnel ++ first → more ≡ take (1192 - length first) second →
+    tunnel ≡ header6 head (length first + length second) → quote ≡ tunnel ++ first → more ≡ take (1192 - length first) second →
     quote ++ more ≡ take 1232 (bytes6 head (first ++ second))
 tunnel_fronts head first second more tunnel quote short tunnel_is quote_is more_is =
     ap (λ l. l ++ more) quote_is
     ∙ append_assoc tunnel first more
-    ∙ ap (λ l. l ++ (first ++ more)) (tunnel_is ∙ ap (λ n. header6_bytes head n) (sym (length-append first second)))
+    ∙ ap (λ l. l ++ (first ++ more)) (tunnel_is ∙ ap (λ n. header6 head n) (sym (length-append first second)))
     ∙ tunnel_front head (first ++ second) (first ++ more)
     (front_of_both 1192 first second first more (sym (take_all 1192 first short)) more_is)
 
 pub policy6-parts : (from to : V6) (hop n : ℕ) (outer : Outer) (inner quote : List ℕ) → n ≡ 8 + length quote →
     quote ≡ take 1232 (bytes6 (quoted_head outer) inner) →
-    header6_bytes (policy_head from to hop) n ++ icmp6_bytes from.0 to.0 1 5 0 quote ≡ policy6 from to hop outer inner
+    header6 (policy_head from to hop) n ++ icmp6_bytes from.0 to.0 1 5 0 quote ≡ policy6 from to hop outer inner
 policy6-parts from to hop n outer inner quote n_is quote_is =
     let len : n ≡ length (icmp6_bytes from.0 to.0 1 5 0 quote) = n_is ∙ omega arith in
-    ap (λ m. header6_bytes (policy_head from to hop) m ++ icmp6_bytes from.0 to.0 1 5 0 quote) len
+    ap (λ m. header6 (policy_head from to hop) m ++ icmp6_bytes from.0 to.0 1 5 0 quote) len
     ∙ header6-bytes6 (policy_head from to hop) (icmp6_bytes from.0 to.0 1 5 0 quote)
     ∙ ap (λ q. bytes6 (policy_head from to hop) (icmp6_bytes from.0 to.0 1 5 0 q)) quote_is
 

@@ -1,7 +1,5 @@
 -- The ICMPv6 error to a subscriber whose packets no binding covers (RFC 7596, section 6.2; RFC 4443, section 3.1).
-use Rattle.std.specs.Prelude.{◌≡◌, ℕ, List, [], ◌∷◌, ◌++◌, take, Ok}
-use Rattle.std.specs.Int.{w32, w128, to_be_bytes}
-use Rattle.aftr_base.specs.Numbers.{word_bytes}
+use Rattle.std.specs.Prelude.{◌≡◌, ℕ, List, take, Ok}
 use Rattle.aftr_base.specs.declared.numbers.V6.{V6}
 use Rattle.icmp_codec.specs.Message6.{icmp6_bytes, icmp6_of, made_message6}
 use Rattle.ip_codec.specs.Packet6.{bytes6, ip6_of, made6}
@@ -33,15 +31,6 @@ policy_head from to hop = record {
   src = from;
   dst = to;
 }
-
--- an IPv6 header with these fields before a payload of a length (RFC 8200, section 3)
-abbrev pub header6_bytes : Head6 → ℕ → List ℕ
-header6_bytes head payload_len =
-    to_be_bytes w32 head.word
-    ++ word_bytes payload_len
-    ++ head.next ∷ head.hop ∷ []
-    ++ to_be_bytes w128 head.src.0
-    ++ to_be_bytes w128 head.dst.0
 
 -- destination unreachable, code 5: the source address failed the policy; byte for byte
 abbrev pub policy6 : V6 → V6 → ℕ → Outer → List ℕ → List ℕ

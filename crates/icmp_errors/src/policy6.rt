@@ -1,11 +1,12 @@
 // The ICMPv6 error to a subscriber whose packets no binding covers.
 ghost use Rattle.std.specs.Prelude.{◌≡◌, ◌+◌, ◌^◌, ◌<◌, ◌≤◌, ◌++◌, min, take, length, if◌then◌else◌, is_ok, IfOk};
-ghost use Rattle.icmp_errors.specs.Policy6.{TellsPolicy, header6_bytes, most_quoted6, policy6, quoted_head};
+ghost use Rattle.icmp_errors.specs.Policy6.{TellsPolicy, most_quoted6, policy6, quoted_head};
+ghost use Rattle.ip_codec.specs.Packet6.{header6};
 
 use crate::fronts::front;
 use aftr_base::{Bytes, OutOfMemory, V6};
 use icmp_codec::{IcmpHead, push_icmp6};
-use ip_codec::{Head6, Outer};
+use ip_codec::{Head6, Outer, head6_bytes};
 use std::alloc::Global;
 
 // Version 6, with no traffic class and no flow label (RFC 8200, section 3).
@@ -83,7 +84,7 @@ pub fn push_source_policy6(
     let more = front(payload, MOST_INNER - header.len());
     let message_len = MESSAGE_HEAD_LEN + HEADER_LEN + header.len() + more.len();
     list.reserve(HEADER_LEN + message_len)?;
-    list.extend_from_slice(&header6(head, message_len as u16))?;
+    list.extend_from_slice(&head6_bytes(head, message_len as u16))?;
     push_icmp6(list, from, to, SOURCE_POLICY, quote, more)
 }
 
@@ -100,7 +101,7 @@ fn joined(tunnel: &[u8; 40], header: &[u8]) -> [u8; 100]
 
 // The header of the tunnel packet that came, with IPv4 behind it and this payload length.
 fn tunnel_header(outer: &Outer, payload_len: u16) -> [u8; 40]
-    ensures { result ≡ header6_bytes (quoted_head outer.now) payload_len }
+    ensures { result ≡ header6 (quoted_head outer.now) payload_len }
 {
     let head = Head6 {
         word: outer.word,
@@ -109,20 +110,5 @@ fn tunnel_header(outer: &Outer, payload_len: u16) -> [u8; 40]
         src: outer.src,
         dst: outer.dst,
     };
-    header6(head, payload_len)
-}
-
-// An IPv6 header with these fields and this payload length.
-fn header6(head: Head6, payload_len: u16) -> [u8; 40]
-    ensures bytes { result ≡ header6_bytes head payload_len }
-    ensures addresses_fit { (head.src.0 < 2 ^ 128) × (head.dst.0 < 2 ^ 128) }
-{
-    let mut bytes = [0; 40];
-    bytes[..4].copy_from_slice(&head.word.to_be_bytes());
-    bytes[4..6].copy_from_slice(&payload_len.to_be_bytes());
-    bytes[6] = head.next;
-    bytes[7] = head.hop;
-    bytes[8..24].copy_from_slice(&head.src.0.to_be_bytes());
-    bytes[24..].copy_from_slice(&head.dst.0.to_be_bytes());
-    bytes
+    head6_bytes(head, payload_len)
 }

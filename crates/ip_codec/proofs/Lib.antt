@@ -1,4 +1,5 @@
 pub mod FieldLemmas
+mod HalfLemmas
 pub mod Laws
 pub mod Packet4Lemmas
 pub mod Packet6Lemmas

@@ -1,5 +1,6 @@
 // IPv6 packets, read and written.
 ghost use Rattle.std.specs.Prelude.{◌≡◌, ◌+◌, ◌^◌, ◌<◌, ◌≤◌, ◌++◌, length, IfOk, Ok, is_ok, true};
+ghost use Rattle.std.specs.Int.{w128, to_be_bytes};
 ghost use Rattle.ip_codec.specs.Packet6.{ip6_of, packet6, Reads6, IsBounded6, version6, bytes6, fields6, header6, made6, payload_len};
 
 use aftr_base::{Bytes, OutOfMemory, V6, be16, be32, be128};
@@ -109,7 +110,7 @@ pub fn put6(alloc: Global, head: &Head6, body: &[u8]) -> Result<Bytes, OutOfMemo
     ensures read { IfOk result (λ packet. ip6_of packet ≡ Ok (made6 head.now body.now)) }
 {
     let mut list = Vec::with_capacity(alloc, 40 + body.len())?;
-    list.extend_from_slice(&head_bytes(*head, body.len() as u16))?;
+    list.extend_from_slice(&head6_bytes(*head, body.len() as u16))?;
     list.extend_from_slice(body)?;
     Ok(Bytes::of(list))
 }
@@ -118,12 +119,13 @@ pub fn put6(alloc: Global, head: &Head6, body: &[u8]) -> Result<Bytes, OutOfMemo
 pub fn push_head6(out: &mut Vec<u8>, head: &Head6, payload_len: u16) -> Result<(), OutOfMemory>
     ensures { IfOk result (λ _. out.new.items ≡ out.old.items ++ header6 head.now payload_len) }
 {
-    out.extend_from_slice(&head_bytes(*head, payload_len))?;
+    out.extend_from_slice(&head6_bytes(*head, payload_len))?;
     Ok(())
 }
 
-// The fixed header, byte for byte.
-fn head_bytes(head: Head6, payload_len: u16) -> [u8; 40]
+/// The fixed header with these fields, before a body of a length (RFC 8200, section 3).
+#[inline(always)]
+pub fn head6_bytes(head: Head6, payload_len: u16) -> [u8; 40]
     ensures bytes { result ≡ header6 head payload_len }
     ensures word_fits { head.word < 2 ^ 32 }
     ensures addresses_fit { (head.src.0 < 2 ^ 128) × (head.dst.0 < 2 ^ 128) }
@@ -133,7 +135,18 @@ fn head_bytes(head: Head6, payload_len: u16) -> [u8; 40]
     bytes[4..6].copy_from_slice(&payload_len.to_be_bytes());
     bytes[6] = head.next;
     bytes[7] = head.hop;
-    bytes[8..24].copy_from_slice(&head.src.0.to_be_bytes());
-    bytes[24..].copy_from_slice(&head.dst.0.to_be_bytes());
+    bytes[8..24].copy_from_slice(&address_bytes(head.src));
+    bytes[24..].copy_from_slice(&address_bytes(head.dst));
+    bytes
+}
+
+// By halves, each of which a processor turns round at once.
+#[inline(always)]
+fn address_bytes(address: V6) -> [u8; 16]
+    ensures { result ≡ to_be_bytes w128 address.0 }
+{
+    let mut bytes = [0; 16];
+    bytes[..8].copy_from_slice(&((address.0 >> 64) as u64).to_be_bytes());
+    bytes[8..].copy_from_slice(&((address.0 % (1 << 64)) as u64).to_be_bytes());
     bytes
 }

@@ -1,14 +1,14 @@
 // What a packet asks of the binding table.
-ghost use Rattle.std.specs.Prelude.{◌≡◌, false};
+ghost use Rattle.std.specs.Prelude.{◌≡◌, Err, IfErr, IfOk};
 ghost use Rattle.std.specs.Option.{option_map};
 ghost use Rattle.icmp_codec.specs.Message4.{icmp4_of};
 ghost use Rattle.icmp_codec.specs.Quoted.{embedded_packet};
-ghost use Rattle.ip_codec.specs.Packet4.{packet4, is_fragment};
+ghost use Rattle.ip_codec.specs.Packet4.{packet4};
 ghost use Rattle.port_locate.specs.Keys.{destination_at, destination_key, downstream_key, has_ports, icmp_key, identifier_want, key_of, plain_want, port_want, quoted_want, source_at, source_key, upstream_key};
 
 use aftr_base::be16;
 use binding_rules::Want;
-use icmp_codec::{Embedded, icmp4};
+use icmp_codec::{Embedded, IcmpBad, icmp4};
 use ip_codec::Ip4View;
 
 /// What a binding must own for a packet to be its subscriber's: the packet's IPv4 address and its port (RFC 7596, section
@@ -100,34 +100,27 @@ pub fn keys_of(p: &Ip4View<'_>) -> Keys
     if p.protocol == UDP || p.protocol == TCP {
         return keys_at(port_wants(p.payload));
     }
-    other_keys(p)
+    if p.protocol != ICMP {
+        return keys_at(plain_wants(p.protocol, p.payload));
+    }
+    match message_wants(p.payload) {
+        Ok(wants) => keys_at(wants),
+        Err(_) => Keys::IcmpBad,
+    }
 }
 
-// Those of a packet that is no fragment, whatever its protocol.
+// What an ICMP message asks for. What it quotes went the other way.
 #[cold]
 #[inline(never)]
-fn other_keys(p: &Ip4View<'_>) -> Keys
-    requires whole { is_fragment (packet4 p.now) ≡ false }
-    ensures up { source_key result ≡ upstream_key (packet4 p.now) }
-    ensures down { destination_key result ≡ downstream_key (packet4 p.now) }
+fn message_wants(message: &[u8]) -> Result<Option<Wants>, IcmpBad>
+    ensures up { IfOk result (λ wants. icmp_key (icmp4_of message.now) destination_at ≡ key_of (option_map (λ w. w.source) wants)) }
+    ensures down { IfOk result (λ wants. icmp_key (icmp4_of message.now) source_at ≡ key_of (option_map (λ w. w.destination) wants)) }
+    ensures bad { IfErr result (λ why. icmp4_of message.now ≡ Err why) }
 {
-    if p.protocol == ICMP {
-        return icmp_keys(p.payload);
-    }
-    keys_at(plain_wants(p.protocol, p.payload))
-}
-
-// Those of an ICMP message. What it quotes went the other way.
-fn icmp_keys(message: &[u8]) -> Keys
-    ensures up { source_key result ≡ icmp_key (icmp4_of message.now) destination_at }
-    ensures down { destination_key result ≡ icmp_key (icmp4_of message.now) source_at }
-{
-    let Ok(view) = icmp4(message) else {
-        return Keys::IcmpBad;
-    };
+    let view = icmp4(message)?;
     match view.embedded {
-        None => keys_at(Some(both(Want::Port(view.id)))),
-        Some(quoted) => keys_at(reversed(quoted_wants(&quoted))),
+        None => Ok(Some(both(Want::Port(view.id)))),
+        Some(quoted) => Ok(reversed(quoted_wants(&quoted))),
     }
 }
 
@@ -209,6 +202,8 @@ fn identifier_want(message: &[u8]) -> Option<Want>
 }
 
 // By the ports of the payload, or the whole address where the protocol has no ports.
+#[cold]
+#[inline(never)]
 fn plain_wants(protocol: u8, payload: &[u8]) -> Option<Wants>
     ensures source { option_map (λ w. w.source) result ≡ plain_want protocol payload.now source_at }
     ensures destination { option_map (λ w. w.destination) result ≡ plain_want protocol payload.now destination_at }

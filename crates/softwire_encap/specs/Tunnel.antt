@@ -1,9 +1,7 @@
 -- IPv4 packets in IPv6 packets: the header of the tunnel (RFC 2473, sections 5 and 6; RFC 8200, section 3).
-use Rattle.std.specs.Prelude.{◌≡◌, ℕ, ◌+◌, ◌*◌, ◌/◌, ◌%◌, List, [], ◌∷◌, ◌++◌, slice_index}
-use Rattle.std.specs.Int.{w32, w128, to_be_bytes}
-use Rattle.aftr_base.specs.Numbers.{word_bytes}
+use Rattle.std.specs.Prelude.{◌≡◌, ℕ, ◌+◌, ◌*◌, ◌/◌, ◌%◌, List, slice_index}
 use Rattle.aftr_base.specs.declared.numbers.V6.{V6}
-use Rattle.ip_codec.specs.Packet6.{Packet6, bytes6, made6, version6}
+use Rattle.ip_codec.specs.Packet6.{Packet6, bytes6, header6, made6, version6}
 use Rattle.ip_codec.specs.declared.packet6.Head6.{Head6}
 
 -- the type of service of an IPv4 packet
@@ -16,10 +14,10 @@ pub record IsFirstWord (word class flow : ℕ) : Type 0 where
   pub class_is : word / 1048576 % 256 ≡ class
   pub flow_is : word % 1048576 ≡ flow
 
--- the header of the tunnel: no flow label, the traffic class is the inner type of service, and IPv4 (4) stands behind it
-abbrev pub tunnel_head : V6 → V6 → ℕ → List ℕ → Head6
-tunnel_head from to hop inner = record {
-  word = 6 * 268435456 + tos_of inner * 1048576;
+-- the fields of the tunnel's header: no flow label, the traffic class is the inner type of service, and IPv4 (4) stands behind it
+abbrev pub tunnel_head : V6 → V6 → ℕ → ℕ → Head6
+tunnel_head from to hop tos = record {
+  word = 6 * 268435456 + tos * 1048576;
   next = 4;
   hop = hop;
   src = from;
@@ -28,21 +26,15 @@ tunnel_head from to hop inner = record {
 
 -- the tunnel packet, byte for byte
 abbrev pub wrapped : V6 → V6 → ℕ → List ℕ → List ℕ
-wrapped from to hop inner = bytes6 (tunnel_head from to hop inner) inner
+wrapped from to hop inner = bytes6 (tunnel_head from to hop (tos_of inner)) inner
 
--- What stands before the inner packet in it, where that has this type of service and so many bytes: `wrapped` is these 40
--- bytes and then the inner packet.
+-- What stands before the inner packet in it, where that has this type of service and so many bytes.
 abbrev pub tunnel_front : V6 → V6 → ℕ → ℕ → ℕ → List ℕ
-tunnel_front from to hop tos len =
-    to_be_bytes w32 (6 * 268435456 + tos * 1048576)
-    ++ word_bytes len
-    ++ 4 ∷ hop ∷ []
-    ++ to_be_bytes w128 from.0
-    ++ to_be_bytes w128 to.0
+tunnel_front from to hop tos len = header6 (tunnel_head from to hop tos) len
 
 -- what the tunnel packet is read as
 abbrev pub tunnelled : V6 → V6 → ℕ → List ℕ → Packet6
-tunnelled from to hop inner = made6 (tunnel_head from to hop inner) inner
+tunnelled from to hop inner = made6 (tunnel_head from to hop (tos_of inner)) inner
 
 -- a packet with another body
 abbrev pub with_body : Packet6 → List ℕ → Packet6

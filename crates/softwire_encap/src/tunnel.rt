@@ -3,11 +3,11 @@ ghost use Rattle.std.specs.Prelude.{◌≡◌, ℕ, ◌+◌, ◌*◌, ◌≤◌,
 ghost use Rattle.ip_codec.specs.Packet4.{ip4_of, packet4, packet_len};
 ghost use Rattle.ip_codec.specs.Packet6.{Packet6, ip6_of, packet6};
 ghost use Rattle.softwire_encap.specs.Passing.{lowered};
-ghost use Rattle.softwire_encap.specs.Tunnel.{IsFirstWord, tos_of, tunnel_front, with_body, wrapped, tunnelled};
+ghost use Rattle.softwire_encap.specs.Tunnel.{IsFirstWord, tos_of, tunnel_front, tunnel_head, with_body, wrapped, tunnelled};
 
 use crate::passing::push_lowered;
 use aftr_base::{Bytes, OutOfMemory, V6};
-use ip_codec::{Head6, Ip4View, Ip6View, put6};
+use ip_codec::{Head6, Ip4View, Ip6View, push_head6, put6};
 use std::alloc::Global;
 
 // The version in the first word of an IPv6 header, and how far its traffic class is moved up (RFC 8200, section 3).
@@ -30,17 +30,23 @@ pub fn encap(alloc: Global, from: V6, to: V6, hop: u8, inner: &[u8]) -> Result<B
         (p : Packet6) → ip6_of packet ≡ Ok p → IsFirstWord p.word (tos_of inner.now) 0) }
     ensures size { IfOk result (λ packet. length packet ≡ length inner.now + 40) }
 {
-    let head = Head6 {
-        word: first_word(inner[1]),
+    put6(alloc, &tunnel_head(from, to, hop, inner[1]), inner)
+}
+
+// The fields of the header, before a packet with this type of service.
+fn tunnel_head(from: V6, to: V6, hop: u8, tos: u8) -> Head6
+    ensures { result ≡ tunnel_head from to hop tos }
+{
+    Head6 {
+        word: first_word(tos),
         next: IPV4,
         hop,
         src: from,
         dst: to,
-    };
-    put6(alloc, &head, inner)
+    }
 }
 
-// The first word of the header, before a packet with this type of service.
+// Its first word.
 fn first_word(tos: u8) -> u32
     ensures { result ≡ 6 * 268435456 + tos * 1048576 }
 {
@@ -66,6 +72,7 @@ pub fn tunnel_view<'a>(from: V6, to: V6, hop: u8, inner: &'a [u8]) -> Ip6View<'a
 
 /// Puts the header of the tunnel packet that `encap` makes behind what `out` holds, for an inner packet of `len` bytes with
 /// the type of service `tos`. The inner packet goes behind it. After an `Err` some of the header may stand there.
+#[inline(always)]
 pub fn push_tunnel_head(
     out: &mut Vec<u8>,
     from: V6,
@@ -76,22 +83,7 @@ pub fn push_tunnel_head(
 ) -> Result<(), OutOfMemory>
     ensures { IfOk result (λ _. out.new.items ≡ out.old.items ++ tunnel_front from to hop tos len) }
 {
-    out.extend_from_slice(&tunnel_head(from, to, hop, tos, len))?;
-    Ok(())
-}
-
-fn tunnel_head(from: V6, to: V6, hop: u8, tos: u8, len: u16) -> [u8; 40]
-    ensures { result ≡ tunnel_front from to hop tos len }
-{
-    let word = first_word(tos);
-    let mut bytes = [0; 40];
-    bytes[..4].copy_from_slice(&word.to_be_bytes());
-    bytes[4..6].copy_from_slice(&len.to_be_bytes());
-    bytes[6] = IPV4;
-    bytes[7] = hop;
-    bytes[8..24].copy_from_slice(&from.0.to_be_bytes());
-    bytes[24..].copy_from_slice(&to.0.to_be_bytes());
-    bytes
+    push_head6(out, &tunnel_head(from, to, hop, tos), len)
 }
 
 /// Puts the packet that `lower` makes behind what `out` holds, in the tunnel packet that `encap` makes of it. After an `Err`

@@ -2,7 +2,8 @@
 use Rattle.std.proofs.Common.{◌≡◌, ◌+◌, ◌++◌, length, ap, ◌∙◌, arith}
 use Rattle.std.proofs.lemmas.List.{length-append}
 use Rattle.icmp_codec.specs.Message6.{icmp6_bytes}
-use Rattle.icmp_errors.specs.Policy6.{header6_bytes, policy6, policy_head, quoted_head}
+use Rattle.ip_codec.specs.Packet6.{header6}
+use Rattle.icmp_errors.specs.Policy6.{policy6, policy_head, quoted_head}
 use Rattle.icmp_errors.proofs.PushLemmas.{on_success, policy6-parts, pushed, tunnel_fronts}
 use Rattle.icmp_errors.proofs.PolicyLemmas.{policy6-sizes, policy6-tells}
 use Rattle.icmp_errors.proofs.policy6.push_source_policy6.Goals as goal
@@ -15,11 +16,11 @@ returns-clause-bytes c =
     let inner = first ++ c.args.payload.now in
     let outer = c.args.outer.now in
     let n = 48 + length first + length more in
-    let header = header6_bytes (policy_head c.args.from c.args.to c.args.hop) n in
+    let header = header6 (policy_head c.args.from c.args.to c.args.hop) n in
     let message = icmp6_bytes c.args.from.0 c.args.to.0 1 5 0 (quote ++ more) in
     let list_is : c.extend_from_slice.new.self.items ≡ c.args.list.now.items ++ header =
-    c.in_ok-extend_from_slice.ensures.items ∙ ap (λ l. l ++ c.header6.result) c.reserve.ensures.items
-    ∙ ap (λ l. c.args.list.now.items ++ l) c.header6.ensures.bytes in
+    c.in_ok-extend_from_slice.ensures.items ∙ ap (λ l. l ++ c.head6_bytes.result) c.reserve.ensures.items
+    ∙ ap (λ l. c.args.list.now.items ++ l) c.head6_bytes.ensures.bytes in
     let both_are : quote ≡ c.tunnel_header-tunnel.result ++ first = c.front-quote.ensures.bytes ∙ c.joined-headers.ensures in
     let quote_is = tunnel_fronts (quoted_head outer) first c.args.payload.now more c.tunnel_header-tunnel.result quote
     (omega (arith, c.requires.header)) c.tunnel_header-tunnel.ensures both_are c.front-more.ensures.bytes in
@@ -41,7 +42,7 @@ returns-clause-told c =
     let quote_is = tunnel_fronts (quoted_head outer) first c.args.payload.now more c.tunnel_header-tunnel.result quote
     (omega (arith, c.requires.header)) c.tunnel_header-tunnel.ensures (c.front-quote.ensures.bytes ∙ c.joined-headers.ensures)
     c.front-more.ensures.bytes in
-    let fit = c.header6.ensures.addresses_fit in
+    let fit = c.head6_bytes.ensures.addresses_fit in
     on_success c.push_icmp6.result
     (policy6-tells c.args.from c.args.to c.args.hop outer (first ++ c.args.payload.now) (quote ++ more) fit.0 fit.1 quote_is c.push_icmp6.ensures.read)
 
