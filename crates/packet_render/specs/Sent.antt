@@ -1,5 +1,5 @@
 -- The packets that are sent for an item (RFC 7596, section 6.2; RFC 1812, section 5.2.1).
-use Rattle.std.specs.Prelude.{ℕ, List, [], ◌∷◌, Option, Some, None, Result, Ok, Err, option_map, option_and_then, unwrap_or}
+use Rattle.std.specs.Prelude.{ℕ, Bool, true, false, List, [], ◌∷◌, Option, Some, None, Result, Ok, Err, option_map, option_and_then, unwrap_or}
 use Rattle.aftr_base.specs.declared.numbers.V4.{V4}
 use Rattle.aftr_base.specs.declared.numbers.V6.{V6}
 use Rattle.fragmenter.specs.Pieces4.{pieces4}
@@ -58,6 +58,13 @@ outward mtu packet = pieces4 (passed packet) mtu
 abbrev pub inward : V6 → V6 → ℕ → ℕ → ℕ → Packet4 → List (List ℕ)
 inward from to hop mtu number packet =
     pieces6 (wrapped from to hop (lowered packet)) (tunnelled from to hop (lowered packet)) mtu number
+
+-- the item's own packet goes on: out, or to a subscriber
+abbrev pub is_forwarded : Verdict → Bool
+is_forwarded (verdict.Outward mtu) = true
+is_forwarded (verdict.Inward from to hop mtu back) = true
+is_forwarded (verdict.Drop why told) = false
+is_forwarded verdict.Held = false
 
 -- a reply goes as it is, or in the tunnel to the sender (RFC 7596, section 6.2)
 abbrev pub along : Path → List ℕ → List ℕ

@@ -136,14 +136,35 @@ pub(crate) fn push_inward(
     let Some(packet) = packet_of(item) else {
         return Ok(0);
     };
-    if TUNNEL + packet.view.total_len() <= usize::from(mtu) {
-        let count = push_whole_inward(out, stamp, &packet, tunnel)?;
-        return Ok(count);
-    }
-    let count = push_cut_inward(out, stamp, &packet, tunnel, mtu, number)?;
+    let count = push_packet_inward(out, stamp, &packet, tunnel, mtu, number)?;
     Ok(count)
 }
 
+// Puts this packet there as it goes to a subscriber.
+#[inline(always)]
+pub(crate) fn push_packet_inward(
+    out: &mut Vec<u8>,
+    stamp: Stamp,
+    packet: &ReadPacket<'_>,
+    tunnel: Tunnel,
+    mtu: u16,
+    number: u32,
+) -> Result<u32, OutOfMemory>
+    requires alive { 1 ≤ packet.now.view.ttl }
+    requires least_mtu { 1280 ≤ mtu }
+    ensures pushed { IfOk result (λ count. ArePushed (packet_bytes stamp.form stamp.seconds stamp.fraction)
+        (inward tunnel.from tunnel.to tunnel.hop mtu number (packet4 packet.now.view)) out.old.items out.new.items count) }
+    ensures few { IfOk result (λ count. count ≤ 54) }
+{
+    if TUNNEL + packet.view.total_len() <= usize::from(mtu) {
+        let count = push_whole_inward(out, stamp, packet, tunnel)?;
+        return Ok(count);
+    }
+    let count = push_cut_inward(out, stamp, packet, tunnel, mtu, number)?;
+    Ok(count)
+}
+
+#[inline(always)]
 fn push_whole_inward(
     out: &mut Vec<u8>,
     stamp: Stamp,

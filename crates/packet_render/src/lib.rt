@@ -10,4 +10,4 @@ mod replying;
 mod stamps;
 
 pub use laws::forwarded_is_sent;
-pub use rendering::{MOST_PACKETS, push_outgoing, push_packets};
+pub use rendering::{MOST_PACKETS, push_forwarded, push_packets};

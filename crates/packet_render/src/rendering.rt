@@ -1,16 +1,17 @@
 // The packets of a verdict.
-ghost use Rattle.std.specs.Prelude.{◌≡◌, ◌≤◌, ◌++◌, ℕ, Some, length, IfOk};
+ghost use Rattle.std.specs.Prelude.{◌≡◌, ◌≤◌, ◌++◌, true, Some, length, IfOk};
 ghost use Rattle.std.specs.List.{flat_map};
 ghost use Rattle.capture_io.specs.Packets.{packet_bytes};
 ghost use Rattle.ip_codec.specs.Packet4.{packet4};
 ghost use Rattle.ip_codec.specs.Seen.{seen};
 ghost use Rattle.ip_codec.specs.declared.items.Item.{Item};
 ghost use Rattle.packet_render.specs.Pushed.{ArePushed};
-ghost use Rattle.packet_render.specs.Sent.{packet_of_item, sent};
+ghost use Rattle.packet_render.specs.Sent.{is_forwarded, packet_of_item, sent};
 ghost use Rattle.verdict_core.specs.Fitting.{Fits, HasRoom};
-ghost use Rattle.verdict_core.specs.declared.verdicts.Verdict.TheVariants as verdict;
 
-use crate::forwarding::{Tunnel, push_inward, push_outward, push_packet_outward};
+use crate::forwarding::{
+    Tunnel, push_inward, push_outward, push_packet_inward, push_packet_outward,
+};
 use crate::replying::push_reply;
 use crate::stamps::Stamp;
 use aftr_base::OutOfMemory;
@@ -52,23 +53,25 @@ pub fn push_packets(
     Ok(count)
 }
 
-/// Puts the packets there that `push_packets` puts for an item with the verdict `Outward` and this IPv4 packet, which is what it
-/// needs of the item.
+/// Puts the packets there that `push_packets` puts for an item with a verdict by which its IPv4 packet is forwarded, out or to a
+/// subscriber, and with this packet, which is what it needs of the item.
 #[inline(always)]
-pub fn push_outgoing(
+pub fn push_forwarded(
     out: &mut Vec<u8>,
     form: Written,
     packet: &ReadPacket<'_>,
-    mtu: u16,
+    verdict: &Verdict,
+    number: u32,
     seconds: u32,
     fraction: u32,
 ) -> Result<u32, OutOfMemory>
     requires alive { 1 ≤ packet.now.view.ttl }
-    requires room { 576 ≤ mtu }
-    ensures bytes { IfOk result (λ _. (i : Item) (number : ℕ) → packet_of_item i ≡ Some (packet4 packet.now.view) →
-        out.new.items ≡ out.old.items ++ flat_map (packet_bytes form seconds fraction) (sent i (verdict.Outward mtu) number)) }
-    ensures count { IfOk result (λ count. (i : Item) (number : ℕ) → packet_of_item i ≡ Some (packet4 packet.now.view) →
-        count ≡ length (sent i (verdict.Outward mtu) number)) }
+    requires forwarded { is_forwarded verdict.now ≡ true }
+    requires room { HasRoom verdict.now }
+    ensures bytes { IfOk result (λ _. (i : Item) → packet_of_item i ≡ Some (packet4 packet.now.view) →
+        out.new.items ≡ out.old.items ++ flat_map (packet_bytes form seconds fraction) (sent i verdict.now number)) }
+    ensures count { IfOk result (λ count. (i : Item) → packet_of_item i ≡ Some (packet4 packet.now.view) →
+        count ≡ length (sent i verdict.now number)) }
     ensures few { IfOk result (λ count. count ≤ MOST_PACKETS) }
 {
     let stamp = Stamp {
@@ -76,8 +79,21 @@ pub fn push_outgoing(
         seconds,
         fraction,
     };
-    let count = push_packet_outward(out, stamp, packet, mtu)?;
-    Ok(count)
+    match *verdict {
+        Verdict::Outward { mtu } => push_packet_outward(out, stamp, packet, mtu),
+        Verdict::Inward {
+            from,
+            to,
+            hop,
+            mtu,
+            ..
+        } => {
+            let tunnel = Tunnel { from, to, hop };
+            let count = push_packet_inward(out, stamp, packet, tunnel, mtu, number)?;
+            Ok(count)
+        }
+        Verdict::Drop { .. } | Verdict::Held => Ok(0),
+    }
 }
 
 fn push_stamped(

@@ -10,6 +10,7 @@ use Rattle.ip_codec.specs.declared.items.Item.{Item}
 use Rattle.item_stage.specs.declared.entries.Entry.{Entry}
 use Rattle.item_stage.specs.Items.{entries_of, unfinished_of}
 use Rattle.packet_render.specs.Sent.{sent}
+pub use Rattle.packet_render.specs.Sent.{is_forwarded}
 use Rattle.verdict_core.specs.Verdicts.{verdict_of}
 use Rattle.verdict_core.specs.declared.verdicts.Verdict.{Verdict}
 use Rattle.verdict_core.specs.declared.verdicts.Verdict.TheVariants as verdict
@@ -69,11 +70,6 @@ is_held _ = false
 abbrev pub is_dropped : Verdict → Bool
 is_dropped (verdict.Drop why reply) = true
 is_dropped _ = false
-
-abbrev pub is_forwarded : Verdict → Bool
-is_forwarded (verdict.Inward from to hop mtu back) = true
-is_forwarded (verdict.Outward mtu) = true
-is_forwarded _ = false
 
 -- the verdicts on items from a number on
 abbrev pub verdicts_from : Course → ℕ → List Entry → List Verdict

@@ -1,12 +1,12 @@
 // What a round of records writes.
-ghost use Rattle.std.specs.Prelude.{◌≡◌, ◌≤◌, ◌<◌, ◌+◌, ◌-◌, ◌*◌, ◌++◌, ◌^◌, ℕ, List, [], IfOk, IfErr, false, flat_map, drop, length, slice_get, slice_index_or, string_bytes, take, Some};
+ghost use Rattle.std.specs.Prelude.{◌≡◌, ◌≤◌, ◌<◌, ◌+◌, ◌-◌, ◌*◌, ◌++◌, ◌^◌, ℕ, List, [], IfOk, IfErr, true, false, flat_map, drop, length, slice_get, slice_index_or, string_bytes, take, Some};
 ghost use Rattle.std.specs.Thread.{IsSync};
 ghost use Rattle.capture_io.specs.declared.forms.Rec.{Rec as Record};
 ghost use Rattle.capture_io.specs.Packets.{packet_bytes};
 ghost use Rattle.ip_codec.specs.declared.items.Item.{Item};
 ghost use Rattle.item_stage.specs.Items.{items_in};
 ghost use Rattle.item_stage.specs.declared.entries.Entry.{Entry};
-ghost use Rattle.packet_render.specs.Sent.{sent};
+ghost use Rattle.packet_render.specs.Sent.{is_forwarded, sent};
 ghost use Rattle.aftr_text.specs.Lines.{ended_text};
 ghost use Rattle.run_output.specs.Cells.{ArePartsFrom, ArePartsUnless, FitsAt, IsMore, IsPart, IsPartUnless, IsFitting, cells_in, chunk, shown};
 ghost use Rattle.run_output.specs.Counting.{IsWithin, with_record};
@@ -14,7 +14,6 @@ ghost use Rattle.run_output.specs.Limiting.{HasAsked, IsLimited, rate_of};
 ghost use Rattle.run_output.specs.Outputs.{Course, record_text, sent_unless};
 ghost use Rattle.run_output.specs.Rendering.{AreFitting, IsCourseOf, IsRendered};
 ghost use Rattle.verdict_core.specs.Fitting.{HasRoom};
-ghost use Rattle.verdict_core.specs.declared.verdicts.Verdict.TheVariants as verdict;
 
 use crate::counting::{count_parts, count_record};
 use crate::limits::mark_limited;
@@ -26,7 +25,7 @@ use aftr_text::Totals;
 use capture_io::{Form, RecordView, Records, Written};
 use error_limit::{Limiter, one_marking};
 use item_stage::{Items, RoundItems};
-use packet_render::{push_outgoing, push_packets};
+use packet_render::{push_forwarded, push_packets};
 use std::thread::{Threads, join_mut};
 use verdict_core::Verdict;
 use worker_gate::{Outcome, Outcomes};
@@ -250,8 +249,8 @@ fn render_record(
     Ok(())
 }
 
-// Puts the packets of one record behind others: none where its error is kept back. Of a packet that goes out no more of the item
-// is asked for than the packet.
+// Puts the packets of one record behind others: none where its error is kept back. Of an item whose packet goes on no more is
+// asked for than that packet.
 fn push_sent(
     packets: &mut Vec<u8>,
     round: &Round<'_>,
@@ -273,8 +272,8 @@ fn push_sent(
     if limited {
         return Ok(0);
     }
-    if let Verdict::Outward { mtu } = *verdict {
-        let count = push_out(packets, round, index, rec, mtu)?;
+    if is_forwarded(verdict) {
+        let count = push_packet(packets, round, number, index, rec, verdict)?;
         return Ok(count);
     }
     push_item(
@@ -288,7 +287,7 @@ fn push_sent(
     )
 }
 
-// Puts the packets of a record there by its item. Nothing of it is made for a packet that goes out, so it stands apart.
+// Puts the packets of a record there by its item. Nothing of it is made for a packet that goes on, so it stands apart.
 #[inline(never)]
 fn push_item(
     packets: &mut Vec<u8>,
@@ -321,28 +320,38 @@ fn push_item(
     Ok(count)
 }
 
-// Puts the packets of a record there whose packet goes out.
-fn push_out(
+// Whether the record's own packet goes on.
+fn is_forwarded(verdict: &Verdict) -> bool
+    ensures { result ≡ is_forwarded verdict.now }
+{
+    matches!(verdict, Verdict::Outward { .. } | Verdict::Inward { .. })
+}
+
+// Puts the packets of a record there whose own packet goes on.
+fn push_packet(
     packets: &mut Vec<u8>,
     round: &Round<'_>,
+    number: u32,
     index: usize,
     rec: &RecordView<'_>,
-    mtu: u16,
+    verdict: &Verdict,
 ) -> Result<u32, OutOfMemory>
     requires inside { index < length round.now.records.now }
-    requires fits { FitsAt round.now.items.now index (verdict.Outward mtu) }
-    requires room { 576 ≤ mtu }
-    ensures bytes { IfOk result (λ _. (i : Item) (number : ℕ) → slice_get (items_in round.now.items.now) index ≡ Some i → packets.new.items ≡ packets.old.items
-        ++ flat_map (packet_bytes round.now.written rec.now.seconds rec.now.fraction) (sent i (verdict.Outward mtu) number)) }
-    ensures count { IfOk result (λ count. (i : Item) (number : ℕ) → slice_get (items_in round.now.items.now) index ≡ Some i → count ≡ length (sent i (verdict.Outward mtu) number)) }
+    requires fits { FitsAt round.now.items.now index verdict.now }
+    requires room { HasRoom verdict.now }
+    requires forwarded { is_forwarded verdict.now ≡ true }
+    ensures bytes { IfOk result (λ _. (i : Item) → slice_get (items_in round.now.items.now) index ≡ Some i → packets.new.items ≡ packets.old.items
+        ++ flat_map (packet_bytes round.now.written rec.now.seconds rec.now.fraction) (sent i verdict.now number)) }
+    ensures count { IfOk result (λ count. (i : Item) → slice_get (items_in round.now.items.now) index ≡ Some i → count ≡ length (sent i verdict.now number)) }
     ensures few { IfOk result (λ count. count ≤ 128) }
 {
     let packet = round.items.packet(index);
-    let count = push_outgoing(
+    let count = push_forwarded(
         packets,
         round.written,
         &packet,
-        mtu,
+        verdict,
+        number,
         rec.seconds,
         rec.fraction,
     )?;
