@@ -8,3 +8,4 @@ pub mod PieceLemmas
 pub mod PlaceLemmas
 pub mod SumLemmas
 pub mod TotalLemmas
+pub mod WindowLemmas

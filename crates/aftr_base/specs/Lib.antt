@@ -1,4 +1,6 @@
 pub mod Entries
+pub mod FailedCall
+pub mod Known
 pub mod First
 pub mod Contents
 pub mod Memory
@@ -6,3 +8,4 @@ pub mod Numbers
 pub mod Outside
 pub mod Pieces
 pub mod Sums
+pub mod System
