@@ -1,6 +1,7 @@
 mod ShelfLemmas
 pub mod FirstLemmas
 pub mod ContentLemmas
+pub mod HandleLemmas
 pub mod MemberLemmas
 pub mod NumberLemmas
 pub mod OutsideLemmas

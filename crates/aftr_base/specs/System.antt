@@ -1,6 +1,8 @@
 -- What is told of the files of a system, what was read ahead of one of them, and the call that failed last.
-use Rattle.std.specs.Prelude.{◌≡◌, ℕ, Bool, true, false, List, length, take, drop, Option, Some, None, slice_index_or}
-use Rattle.aftr_base.specs.Contents.{Contents}
+use Rattle.std.specs.Prelude.{◌≡◌, ◌≢◌, ℕ, ◌+◌, Bool, true, false, List, length, take, drop, Option, Some, None, slice_index_or}
+use Rattle.std.specs.List.{All, AllPairs}
+use Rattle.std.specs.Option.{option_map, ForSome}
+use Rattle.aftr_base.specs.Contents.{Contents, content}
 
 -- what is held, where it is told
 abbrev pub told_if : Bool → Contents → Option Contents
@@ -15,6 +17,29 @@ pub record Ahead : Type 0 where
 -- they stand in the file at that place
 abbrev pub StandsIn : Ahead → List ℕ → Type 0
 StandsIn ahead file = ahead.bytes ≡ take (length ahead.bytes) (drop ahead.start file)
+
+-- A handle to write by: the name of its file, and the place of its next write. Where there is no place, that is the file's end at the
+-- time of the write.
+abbrev pub WriteHandle : Type 0
+WriteHandle = List ℕ × Option ℕ
+
+-- the handle after a write of so many bytes
+abbrev pub moved : WriteHandle → ℕ → WriteHandle
+moved handle count = (handle.0, option_map (λ place. place + count) handle.1)
+
+-- its next write is behind the last byte of its file
+abbrev pub IsAtEnd : Contents → WriteHandle → Type 0
+IsAtEnd held handle = ForSome handle.1 (λ place. place ≡ length (content held handle.0))
+
+-- A table of handles.
+module _ {Entry : Type 0} (handle_of : Entry → WriteHandle) where
+  -- each writes at the end of its file, and no two write one file
+  abbrev pub WriteAtEnds : Contents → List Entry → Type 0
+  WriteAtEnds held table = All (λ entry. IsAtEnd held (handle_of entry)) table × AllPairs (λ a b. (handle_of a).0 ≢ (handle_of b).0) table
+
+  -- none writes this file
+  abbrev pub NoneWrites : List ℕ → List Entry → Type 0
+  NoneWrites name table = All (λ entry. (handle_of entry).0 ≢ name) table
 
 -- the entry at a place of a table has the name
 abbrev pub IsNamed : {Entry : Type 0} → (Entry → List ℕ) → List Entry → List ℕ → ℕ → Type 0

@@ -1,6 +1,7 @@
 // The calls of a system over files in memory, each of which can be told to fail.
-ghost use Rattle.std.specs.Prelude.{◌≡◌, ◌<◌, ◌∷◌, [], ◌++◌, OnOk, OnErr};
-ghost use Rattle.std.specs.Option.{option_copied};
+ghost use Rattle.std.specs.Prelude.{◌≡◌, ◌+◌, ◌<◌, ◌∷◌, [], ◌++◌, IfOk, OnOk, OnErr, length};
+ghost use Rattle.std.specs.Option.{option_copied, option_map};
+ghost use Rattle.aftr_base.specs.Contents.{content};
 ghost use Rattle.std.specs.FinMap as map;
 
 use crate::copying::copy_from;
@@ -11,8 +12,8 @@ use std::alloc::Global;
 use std::io;
 use std::io::ErrorKind;
 
-/// A system that is files in memory. It fails exactly at the calls that it was told to, at the opening of a name that is not there, and
-/// where a write has no memory. A call reads or writes so many bytes at the most, and at least one.
+/// A system that is files in memory. It fails at the calls that it was told to, at the opening of a name that is not there, at a write
+/// where bytes stand already, and for want of memory. A call reads or writes so many bytes at the most.
 #[derive(Drop)]
 pub struct MemSystem {
     shelf: Shelf,
@@ -33,6 +34,7 @@ pub struct MemReading {
 #[derive(Drop)]
 pub struct MemWriting {
     name: String,
+    at: Option<u64>,
 }
 
 impl MemSystem {
@@ -80,6 +82,31 @@ fn count(calls: &mut u64, failing: &[u64]) -> io::Result<()> {
     Ok(())
 }
 
+fn length_of(shelf: &Shelf, name: &str) -> u64
+    ensures { result ≡ length (content shelf.now name.now) }
+{
+    match shelf.get(name) {
+        Some(bytes) => bytes.len() as u64,
+        None => 0,
+    }
+}
+
+// The place behind so many bytes that are put at a place, which has to be the file's end.
+fn place_behind(at: Option<u64>, length: u64, count: u64) -> io::Result<Option<u64>>
+    ensures { IfOk result (λ next. next ≡ option_map (λ place. place + count) at) }
+{
+    let Some(place) = at else {
+        return Ok(None);
+    };
+    if place != length {
+        return Err(io::Error::from(ErrorKind::InvalidInput));
+    }
+    match place.checked_add(count) {
+        Some(next) => Ok(Some(next)),
+        None => Err(io::Error::from(ErrorKind::FileTooLarge)),
+    }
+}
+
 impl System for MemSystem {
     ghost use Rattle.std.specs.Prelude.{true, string_bytes};
 
@@ -93,7 +120,7 @@ impl System for MemSystem {
 
     ghost reads = { λ file. (string_bytes file.name, file.at) };
 
-    ghost writes = { λ file. string_bytes file.name };
+    ghost writes = { λ file. (string_bytes file.name, file.at) };
 
     fn open(&mut self, alloc: Global, name: &str) -> io::Result<MemReading> {
         count(&mut self.calls, &self.failing)?;
@@ -127,7 +154,10 @@ impl System for MemSystem {
         count(&mut self.calls, &self.failing)?;
         let kept = String::from_str(alloc, name)?;
         self.shelf.set(alloc, name, &[])?;
-        Ok(MemWriting { name: kept })
+        Ok(MemWriting {
+            name: kept,
+            at: Some(0),
+        })
     }
 
     fn open_end(&mut self, alloc: Global, name: &str) -> io::Result<MemWriting> {
@@ -137,6 +167,7 @@ impl System for MemSystem {
         }
         Ok(MemWriting {
             name: String::from_str(alloc, name)?,
+            at: None,
         })
     }
 
@@ -146,8 +177,11 @@ impl System for MemSystem {
             return Ok(0);
         }
         let most = self.most.min(bytes.len());
+        let length = length_of(&self.shelf, file.name.as_str());
+        let behind = place_behind(file.at, length, most as u64)?;
         self.shelf
             .append(alloc, file.name.as_str(), &bytes[..most])?;
+        file.at = behind;
         Ok(most)
     }
 }

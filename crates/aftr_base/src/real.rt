@@ -3,7 +3,7 @@ ghost use Rattle.std.specs.Prelude.{◌≡◌, ◌↔◌, IsNone, IsTrue, string
 ghost use Rattle.std.specs.Option.{option_copied, ForSome};
 ghost use Rattle.aftr_base.specs.Contents.{content};
 ghost use Rattle.aftr_base.specs.Outside.{has_failed, nothing_known};
-ghost use Rattle.aftr_base.specs.System.{StandsIn, told_if};
+ghost use Rattle.aftr_base.specs.System.{StandsIn, WriteAtEnds, told_if};
 
 use crate::failure::Failure;
 use crate::last_error::{Call, Counts, LastError};
@@ -22,6 +22,7 @@ pub struct SystemFiles<S: System + Drop> {
     writers: Vec<Writer<S>>,
     counts: Counts,
     ghost stands: { IsTrue S.tells → ForSome reader (λ r. StandsIn r.window (content (S.held system) (string_bytes r.name))) },
+    ghost ends: { IsTrue S.tells → WriteAtEnds (λ w. S.writes w.file) (S.held system) writers.items },
 }
 
 impl<S: System + Drop> SystemFiles<S> {

@@ -25,7 +25,7 @@ pub struct RealSystem<R: FileSystem + Drop> {
 }
 
 impl<R: FileSystem + Drop> System for RealSystem<R> {
-    ghost use Rattle.std.specs.Prelude.{false, []};
+    ghost use Rattle.std.specs.Prelude.{None, false, []};
     ghost use Rattle.std.specs.FinMap.{empty};
 
     type Reading = R::File;
@@ -38,7 +38,7 @@ impl<R: FileSystem + Drop> System for RealSystem<R> {
 
     ghost reads = { λ _. ([], 0) };
 
-    ghost writes = { λ _. [] };
+    ghost writes = { λ _. ([], None) };
 
     fn open(&mut self, _alloc: Global, name: &str) -> io::Result<R::File> {
         fs::open(&self.runtime, name)

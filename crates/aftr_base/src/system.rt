@@ -1,6 +1,7 @@
 // The calls of a system on files, by handles.
-ghost use Rattle.std.specs.Prelude.{◌≡◌, ℕ, ◌+◌, ◌<◌, ◌≤◌, Bool, IsTrue, List, [], ◌++◌, length, take, drop, IfOk, OnOk, OnErr};
+ghost use Rattle.std.specs.Prelude.{◌≡◌, ℕ, ◌+◌, ◌<◌, ◌≤◌, Bool, IsTrue, List, None, Some, [], ◌++◌, length, take, drop, IfOk, OnOk, OnErr};
 ghost use Rattle.aftr_base.specs.Contents.{Contents, content, Writes};
+ghost use Rattle.aftr_base.specs.System.{IsAtEnd, WriteHandle, moved};
 
 use std::alloc::Global;
 use std::io;
@@ -23,8 +24,8 @@ pub trait System {
     /// The name of the file that a handle reads, and the place of its next read.
     ghost reads: { Self.Reading → List ℕ × ℕ };
 
-    /// The name of the file that a handle writes.
-    ghost writes: { Self.Writing → List ℕ };
+    /// The name of the file that a handle writes, and the place of its next write; where there is none, it is always the file's end.
+    ghost writes: { Self.Writing → WriteHandle };
 
     /// Opens a file, to be read from its start on.
     fn open(&mut self, alloc: Global, name: &str) -> io::Result<Self::Reading>
@@ -49,23 +50,25 @@ pub trait System {
         ensures place { IsTrue tells → IfOk result (λ n. (reads file.new).1 ≡ (reads file.old).1 + n) }
         ensures same { IsTrue tells → held self.new ≡ held self.old };
 
-    /// Makes the file, empty, to be written; one that was there loses its bytes.
+    /// Makes the file, empty, to be written from its start on; one that was there loses its bytes.
     fn create(&mut self, alloc: Global, name: &str) -> io::Result<Self::Writing>
-        ensures file { IsTrue tells → IfOk result (λ file. writes file ≡ name.now) }
+        ensures file { IsTrue tells → IfOk result (λ file. writes file ≡ (name.now, Some 0)) }
         ensures made { IsTrue tells → OnOk result (Writes (held self.old) (held self.new) name.now []) }
         ensures same { IsTrue tells → OnErr result (held self.new ≡ held self.old) };
 
-    /// Opens a file that is there, to be written behind its last byte.
+    /// Opens a file that is there, to be written behind its last byte, whoever wrote that.
     fn open_end(&mut self, alloc: Global, name: &str) -> io::Result<Self::Writing>
-        ensures file { IsTrue tells → IfOk result (λ file. writes file ≡ name.now) }
+        ensures file { IsTrue tells → IfOk result (λ file. writes file ≡ (name.now, None)) }
         ensures same { IsTrue tells → held self.new ≡ held self.old };
 
-    /// Puts bytes behind those that the file holds, and answers how many of the front of `bytes` it took.
+    /// Puts bytes at the place of the next write, goes on behind them, and answers how many of the front of `bytes` it took. What it
+    /// does to bytes that stand there already is not told.
     fn write(&mut self, alloc: Global, file: &mut Self::Writing, bytes: &[u8]) -> io::Result<usize>
         ensures within { IfOk result (λ n. n ≤ length bytes.now) }
-        ensures bytes { IsTrue tells → IfOk result (λ n. Writes (held self.old) (held self.new) (writes file.old)
-            (content (held self.old) (writes file.old) ++ take n bytes.now)) }
+        ensures bytes { IsTrue tells → IsAtEnd (held self.old) (writes file.old) → IfOk result (λ n.
+            Writes (held self.old) (held self.new) (writes file.old).0 (content (held self.old) (writes file.old).0 ++ take n bytes.now)) }
         ensures none { IsTrue tells → IfOk result (λ n. n ≡ 0 → held self.new ≡ held self.old) }
-        ensures file { IsTrue tells → writes file.new ≡ writes file.old }
-        ensures same { IsTrue tells → OnErr result (held self.new ≡ held self.old) };
+        ensures place { IsTrue tells → IfOk result (λ n. writes file.new ≡ moved (writes file.old) n) }
+        ensures same { IsTrue tells → OnErr result (held self.new ≡ held self.old) }
+        ensures stays { IsTrue tells → OnErr result (writes file.new ≡ writes file.old) };
 }
