@@ -26,3 +26,5 @@ mod pipes;
 mod real_files;
 #[cfg(test)]
 mod rounds;
+#[cfg(test)]
+mod systems;

@@ -310,6 +310,7 @@ fn a_sink_takes_a_part_and_then_fails(rt: HostRuntime) -> Result<(), Fail> {
         pipe: &pipe,
         room: &room,
     });
+    let first = sink.last_error().is_none();
     let answers = [
         put_all(alloc, &mut sink, b"abcdefgh"),
         put_all(alloc, &mut sink, b"ABCDEFGH"),
@@ -322,5 +323,7 @@ fn a_sink_takes_a_part_and_then_fails(rt: HostRuntime) -> Result<(), Fail> {
     assert_eq!(rt; answers, [Ok(()), failed, Ok(()), failed]);
     assert_eq!(rt; count, 13);
     assert_eq!(rt; &into[..13], b"abcdefghABCDE".as_slice());
+    let last = sink.last_error().map(|error| error.kind());
+    assert_eq!(rt; (first, last), (true, Some(ErrorKind::Other)));
     Ok(())
 }
