@@ -3,8 +3,10 @@
 
     diff/program_ends/messages.py [--write] [PROGRAM]
 
-Each call of messages.txt is a line `$ WORDS`, and behind it stands what is printed. With --write the page is made anew: read it then. PROGRAM
-takes the words of `lwaftr`; without it the program of this repository is built. It ends with 1 where a call says something else.
+Each call of messages.txt is a line `$ WORDS`, and behind it stands what is printed. A call ends with `> /dev/full` or `>&-` where standard
+output is that or is closed, with `| :` where nobody reads it, and with `# nobody` where a user calls who may neither read closed.toml nor
+write into the folder. With --write the page is made anew: read it then. PROGRAM takes the words of `lwaftr`; without it the program of this
+repository is built. It ends with 1 where a call says something else.
 """
 import os
 import shlex
@@ -26,6 +28,7 @@ FILES = {
     "long.pcap": ends.HEADER + b"\0" * 8 + (300_000).to_bytes(4, "little") * 2,
     "in.pcap.gz": b"\x1f\x8b\x08\0\0\0\0\0\0\x03" + b"\0" * 30,
     "cut.pcapng": bytes.fromhex("0a0d0d0a1c0000004d3c2b1a01000000"),
+    "closed.toml": ends.TABLE,
     "costly.toml": b"version = 1\n" + b"a.b = 1\n" * 600_000,
 }
 
@@ -35,15 +38,47 @@ def calls():
         return [line[2:].rstrip("\n") for line in it if line.startswith("$ ")]
 
 
+def without_reader():
+    read, write = os.pipe()
+    os.close(read)
+    return write
+
+
+def as_nobody():
+    if os.geteuid() == 0:
+        os.setgroups([])
+        os.setgid(65534)
+        os.setuid(65534)
+
+
+# How a call is made that ends so: what standard output is, and what is done before the program begins.
+WAYS = {
+    " > /dev/full": (lambda: os.open("/dev/full", os.O_WRONLY), None),
+    " >&-": (lambda: None, lambda: os.close(1)),
+    " | :": (without_reader, None),
+    " # nobody": (lambda: subprocess.PIPE, as_nobody),
+}
+
+
 def said(program, call):
     folder = ends.folder_with_files()
     try:
         for name, data in FILES.items():
             with open(os.path.join(folder, name), "wb") as it:
                 it.write(data)
-        it = subprocess.run([program, *shlex.split(call)], cwd=folder, stdin=subprocess.DEVNULL, capture_output=True, timeout=60)
+        os.chmod(os.path.join(folder, "closed.toml"), 0)
+        os.chmod(folder, 0o555 if call.endswith(" # nobody") else 0o755)
+        words, output, before = call, subprocess.PIPE, None
+        for end, (make_output, first) in WAYS.items():
+            if call.endswith(end):
+                words, output, before = call[:-len(end)], make_output(), first
+        it = subprocess.run([program, *shlex.split(words)], cwd=folder, stdin=subprocess.DEVNULL, stdout=output,
+                            stderr=subprocess.PIPE, preexec_fn=before, timeout=60)
+        if isinstance(output, int) and output >= 0:
+            os.close(output)
         return it.stderr.decode("utf-8", "replace")
     finally:
+        os.chmod(folder, 0o755)
         shutil.rmtree(folder)
 
 

@@ -12,6 +12,7 @@ mod lines;
 mod messages;
 mod numbers;
 mod parts;
+mod said;
 mod short_lines;
 mod summaries;
 mod tables;
@@ -25,6 +26,7 @@ pub use lines::{
 };
 pub use messages::{fault_line, usage_line};
 pub use parts::Slot;
+pub use said::{file_line, output_line};
 pub use summaries::{Totals, migrated_line, push_migrated_line, push_summary, summary};
 pub use tables::{
     initial_line, point_line, push_initial_line, push_point_line, push_refused_line,

@@ -157,6 +157,11 @@ fn story<F: Files>(alloc: Global, files: &mut F, name: &str) -> Result<String, F
     Ok(told)
 }
 
+fn story_of<R: FileSystem + Drop>(alloc: Global, system: R, name: &str) -> Result<String, Fail> {
+    let mut files = RealFiles::new(system, alloc);
+    story(alloc, &mut files, name)
+}
+
 // By the number of the call that fails. The calls are: open to create, three writes (behind which the file has 0, 3 and 6
 // bytes if they fail); open to read, two reads; a seek and a read; a seek and three reads.
 const STORIES: &str =
@@ -169,15 +174,12 @@ fn each_failing_call_of_the_system_is_told(rt: HostRuntime) -> Result<(), Fail> 
     let mut failing = 0u32;
     for wanted in STORIES.split_whitespace() {
         let calls = Cell::new(0);
-        let mut files = RealFiles::new(
-            Worn {
-                system: &rt,
-                calls: &calls,
-                failing,
-            },
-            alloc,
-        );
-        let told = story(alloc, &mut files, path.as_str())?;
+        let worn = Worn {
+            system: &rt,
+            calls: &calls,
+            failing,
+        };
+        let told = story_of(alloc, worn, path.as_str())?;
         let _ = fs::remove_file(&rt, path.as_str());
         assert_eq!(rt; told.as_str(), wanted, "call {failing}");
         failing = failing.saturating_add(1);

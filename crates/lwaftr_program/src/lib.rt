@@ -2,9 +2,11 @@
 //! output; unless all was done, the status goes to standard error, with lines for people below it; the answer is the exit code.
 #![tactic(auto)]
 
+mod faults;
 mod lines;
 mod naming;
 mod running;
 
+pub use faults::Said;
 pub use lines::lines_below;
 pub use running::run_program;

@@ -2,25 +2,29 @@
 ghost use Rattle.std.specs.Prelude.{◌≡◌, [], IfOk};
 ghost use Rattle.lwaftr_engine.specs.declared.status.Status.TheVariants as status_is;
 
-use crate::naming::{
-    capture_name, push_named, read_names, table_name, versions_name, written_names,
-};
+use crate::faults::{Said, read_line, write_line};
+use crate::naming::{capture_name, push_named, table_name, versions_name};
 use aftr_base::{OutOfMemory, Text};
 use aftr_text::{HELP, Job, JobError, fault_line, read_job, usage_line};
 use capture_io::CaptureBad;
 use lwaftr_engine::Status;
 use std::alloc::Global;
 
-/// What a person may want to know of a job that did not end well: which word is wrong, which files it was about, and what helps.
-/// The words are those behind the program's name. No file is read for it.
-pub fn lines_below(alloc: Global, words: &[&str], status: &Status) -> Result<Text, OutOfMemory>
+/// What a person may want to know of a job that did not end well: which word is wrong, which files it was about, what the system said of
+/// them, and what helps. The words are those behind the program's name. No file is read for it.
+pub fn lines_below(
+    alloc: Global,
+    words: &[&str],
+    status: &Status,
+    said: Said<'_>,
+) -> Result<Text, OutOfMemory>
     ensures done { status.now ≡ status_is.Done → IfOk result (λ lines. lines ≡ []) }
 {
     if let Status::Done = status {
         return Ok(Text::of(String::new(alloc)));
     }
     match read_job(alloc, words) {
-        Ok(job) => job_lines(alloc, &job, status),
+        Ok(job) => job_lines(alloc, &job, status, said),
         Err(JobError::Refused(fault)) => {
             let line = fault_line(alloc, words, fault)?;
             usage_lines(alloc, words, line.as_str())
@@ -63,11 +67,16 @@ fn push_commands(text: &mut String) -> Result<(), OutOfMemory> {
     Ok(())
 }
 
-fn job_lines(alloc: Global, job: &Job, status: &Status) -> Result<Text, OutOfMemory> {
+fn job_lines(
+    alloc: Global,
+    job: &Job,
+    status: &Status,
+    said: Said<'_>,
+) -> Result<Text, OutOfMemory> {
     match status {
         Status::DoneRefused => named(alloc, "which load, and why, is in", versions_name(job)),
-        Status::ReadFault => read_names(alloc, job),
-        Status::WriteFault => written_names(alloc, job),
+        Status::ReadFault => read_line(alloc, said),
+        Status::WriteFault => write_line(alloc, said),
         Status::BadTable(_) => named(alloc, "the table file is", table_name(job)),
         Status::BadCapture(cause) => capture_lines(alloc, job, cause),
         Status::OutOfMemory => Ok(Text::of(format!(in alloc;

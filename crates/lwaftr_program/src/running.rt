@@ -1,6 +1,7 @@
 // The program over a runtime.
 ghost use Rattle.std.specs.Prelude.{◌≤◌};
 
+use crate::faults::Said;
 use crate::lines::lines_below;
 use aftr_base::{RealFiles, RealSink};
 use lwaftr_engine::{Status, code, lwaftr, status_line};
@@ -39,20 +40,21 @@ pub fn run_program<
             return end_early(rt, alloc, &Status::OutOfMemory);
         }
     }
-    let status = do_job(rt, alloc, &words);
-    report(rt, alloc, &words, &status);
-    code(&status)
+    do_job(rt, alloc, &words)
 }
 
-fn do_job<R: Files + Print + Threads + Wait + Sync + Drop>(
+// Does the job, says how it ended, and answers the exit code.
+fn do_job<R: Files + Print + Eprint + Threads + Wait + Sync + Drop>(
     rt: &R,
     alloc: Global,
     words: &[&str],
-) -> Status {
+) -> u8
+    ensures code { result ≤ 7 }
+{
     let mut files = RealFiles::new(rt, alloc);
     let mut out = RealSink::new(rt);
     let mut history = None;
-    lwaftr(
+    let status = lwaftr(
         rt,
         alloc,
         words,
@@ -60,15 +62,21 @@ fn do_job<R: Files + Print + Threads + Wait + Sync + Drop>(
         &mut out,
         &OpenGate,
         &mut history,
-    )
+    );
+    let said = Said {
+        file: files.last_error(),
+        sink: out.last_error(),
+    };
+    report(rt, alloc, words, &status, said);
+    code(&status)
 }
 
 // The status line on standard error, where memory and standard error allow it, and then the lines below it.
-fn report<R: Eprint>(rt: &R, alloc: Global, words: &[&str], status: &Status) {
+fn report<R: Eprint>(rt: &R, alloc: Global, words: &[&str], status: &Status, said: Said<'_>) {
     if *status == Status::Done || !tell_status(rt, alloc, status) {
         return;
     }
-    if let Ok(lines) = lines_below(alloc, words, status) {
+    if let Ok(lines) = lines_below(alloc, words, status, said) {
         let _ = rt.eprint(lines.as_str());
     }
 }

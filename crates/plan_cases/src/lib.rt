@@ -9,6 +9,8 @@ mod lines;
 #[cfg(test)]
 mod plans;
 #[cfg(test)]
+mod said;
+#[cfg(test)]
 mod traffic;
 #[cfg(test)]
 mod words;
