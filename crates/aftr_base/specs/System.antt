@@ -1,4 +1,4 @@
--- What is told of the files of a system, what was read ahead of one of them, and the call that failed last.
+-- What is told of the files of a system, what was read ahead of one of them, and the handles by which they are written.
 use Rattle.std.specs.Prelude.{◌≡◌, ◌≢◌, ℕ, ◌+◌, Bool, true, false, List, length, take, drop, Option, Some, None, slice_index_or}
 use Rattle.std.specs.List.{All, AllPairs}
 use Rattle.std.specs.Option.{option_map, ForSome}

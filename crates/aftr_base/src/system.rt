@@ -1,5 +1,6 @@
 // The calls of a system on files, by handles.
-ghost use Rattle.std.specs.Prelude.{◌≡◌, ℕ, ◌+◌, ◌<◌, ◌≤◌, Bool, IsTrue, List, None, Some, [], ◌++◌, length, take, drop, IfOk, OnOk, OnErr};
+ghost use Rattle.std.specs.Prelude.{◌≡◌, ℕ, ◌+◌, ◌<◌, ◌≤◌, Bool, IsTrue, List, [], ◌++◌, length, take, drop};
+ghost use Rattle.std.specs.Prelude.{None, Some, IfOk, OnOk, OnErr};
 ghost use Rattle.aftr_base.specs.Contents.{Contents, content, Writes};
 ghost use Rattle.aftr_base.specs.System.{IsAtEnd, WriteHandle, moved};
 
@@ -12,10 +13,10 @@ pub trait System {
     /// A file that is open to be read.
     type Reading: Drop;
 
-    /// A file that is open to be written at its end.
+    /// A file that is open to be written.
     type Writing: Drop;
 
-    /// Whether it is told what the files hold and what handles are of.
+    /// Whether it is told what the files hold and what the handles are of. Where it is not, no clause says anything of them.
     ghost tells: { Bool };
 
     /// What the files hold: a file that has no entry holds no bytes.

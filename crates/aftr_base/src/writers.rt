@@ -1,5 +1,6 @@
 // The files that are open to be written, one handle a name.
-ghost use Rattle.std.specs.Prelude.{◌≡◌, ◌≢◌, ◌<◌, ◌≤◌, [], ◌++◌, IsTrue, IfOk, IfNone, IfSome, OnErr, OnOk, length, take, string_bytes, vec_len};
+ghost use Rattle.std.specs.Prelude.{◌≡◌, ◌≢◌, ◌<◌, ◌≤◌, [], ◌++◌, length, take, string_bytes};
+ghost use Rattle.std.specs.Prelude.{IsTrue, IfOk, IfNone, IfSome, OnErr, OnOk};
 ghost use Rattle.std.specs.List.{All};
 ghost use Rattle.aftr_base.specs.Contents.{Contents, content, Writes};
 ghost use Rattle.aftr_base.specs.System.{IsAtEnd, IsNamed, NoneWrites, WriteAtEnds, moved};
