@@ -40,18 +40,19 @@ pub fn run_program<
             return end_early(rt, alloc, &Status::OutOfMemory);
         }
     }
-    do_job(rt, alloc, &words)
+    do_job(rt, rt, alloc, &words)
 }
 
-// Does the job, says how it ended, and answers the exit code.
-fn do_job<R: Files + Print + Eprint + Threads + Wait + Sync + Drop>(
+// Does the job over a system's files, says how it ended, and answers the exit code.
+fn do_job<F: Files + Drop, R: Print + Eprint + Threads + Wait + Sync + Drop>(
+    system: F,
     rt: &R,
     alloc: Global,
     words: &[&str],
 ) -> u8
     ensures code { result ≤ 7 }
 {
-    let mut files = RealFiles::new(rt, alloc);
+    let mut files = RealFiles::new(system, alloc);
     let mut out = RealSink::new(rt);
     let mut history = None;
     let status = lwaftr(
