@@ -17,3 +17,5 @@ mod KeyWalks
 mod ValueWalks
 mod LineWalks
 mod Puts
+mod LineLemmas
+mod Troubles

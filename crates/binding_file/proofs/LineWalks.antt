@@ -9,7 +9,7 @@ use Rattle.toml.specs.Data.{Data, Items, Members, array, no_items, push_item, ta
 use Rattle.toml.specs.Parse.{after_byte, after_element, atom, ends_line, expression, header_key, items, key_equals, keyval, line, members, read_map, skip_bom, val}
 use Rattle.toml.specs.Tables.{Expression, Nodes, array_table, close, key_value, no_nodes, put, std_table}
 use Rattle.binding_file.specs.Bounds.{AreRead, HasLightHeader, HaveLightHeaders, IsBounded, definition_size, items_size, key_weight, lines_size, members_size, size}
-use Rattle.binding_file.specs.Costs.{begun, has_long_header, header_weight, is_costly, is_held_back, is_mark, marks, most_header, most_marks, seen}
+use Rattle.binding_file.specs.Costs.{begun, has_long_header, header_weight, is_costly, is_held_back, is_mark, marks, most_header, most_marks}
 use Rattle.binding_file.specs.declared.costs.Part.TheVariants as part
 use Rattle.binding_file.proofs.KeyWalks.{IsOver, blank_walks, key_walks, read_more}
 use Rattle.binding_file.proofs.Passing.{IfRead, Passes, Walks, later, outside, passes_all, passes_byte, passes_less, passes_mark, passes_then, read_then, walks_same, walks_then}

@@ -5,3 +5,4 @@ pub mod Parts
 pub mod Costs
 pub mod FirstLines
 pub mod Bounds
+pub mod Lines

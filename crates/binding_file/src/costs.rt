@@ -14,7 +14,7 @@ pub(crate) const MOST_HEADER: usize = 96;
 
 /// Where a byte of a TOML text stands. A number is the mark of a quoted text: `"` or `'`.
 #[derive(Clone, Copy, Debug, PartialEq, Eq)]
-enum Part {
+pub(crate) enum Part {
     /// Outside of comments and quoted texts.
     Plain,
     Comment,
@@ -40,10 +40,11 @@ enum Part {
 }
 
 /// The most bytes of a text that is never held back.
-const MOST_FREE: usize = 131_072;
+pub(crate) const MOST_FREE: usize = 131_072;
 
-/// Whether the text is not small and would cost much.
-pub(crate) fn is_held_back(text: &[u8]) -> bool
+/// Whether a text is held back for its cost: it is not small, and has more marks than a table of bindings can need, or a heavier
+/// header. `read_table` answers such a text by want of memory, unless it is too big, no UTF-8, or begins with no line of TOML.
+pub fn is_held_back(text: &[u8]) -> bool
     ensures exact { result ≡ is_held_back text.now }
     ensures small { length text.now ≤ 131072 → result ≡ false }
 {
@@ -107,7 +108,7 @@ fn begun(byte: u8) -> Part
     }
 }
 
-fn part_after(part: Part, byte: u8) -> Part
+pub(crate) fn part_after(part: Part, byte: u8) -> Part
     ensures { result ≡ part_after part byte }
 {
     match part {
@@ -156,7 +157,7 @@ fn lines_after(mark: u8, byte: u8) -> Part
     }
 }
 
-fn seen_as(part: Part, byte: u8) -> u8
+pub(crate) fn seen_as(part: Part, byte: u8) -> u8
     ensures { result ≡ seen_as part byte }
 {
     match part {

@@ -4,6 +4,7 @@ ghost use Rattle.toml_parser.specs.Lexical as lexical;
 ghost use Rattle.toml_parser.specs.Strings.{key};
 ghost use Rattle.toml.specs.Parse as parse;
 ghost use Rattle.binding_file.specs.FirstLines.{begins_line, begins_toml};
+ghost use Rattle.binding_file.specs.Lines.{first_place};
 
 use aftr_base::OutOfMemory;
 use std::alloc::Global;
@@ -20,6 +21,14 @@ pub(crate) fn begins_toml(alloc: Global, text: &str) -> Result<bool, OutOfMemory
         return Ok(true);
     }
     begins_line(alloc, start)
+}
+
+/// Where the first line that is neither blank nor a comment begins.
+pub(crate) fn first_place(text: &str) -> usize
+    ensures { result ≡ first_place text.now }
+{
+    text.len()
+        .saturating_sub(skip_blank(skip_bom(text), true).len())
 }
 
 #[tactic(auto, using(crate::proofs::FirstLineLemmas::bom_boundary), unfolding(crate::specs::FirstLines::skip_bom))]

@@ -2,18 +2,25 @@
 //! the reader reads as the same table. TOML itself is read and printed by `toml`.
 #![tactic(auto)]
 
+mod about;
 mod costs;
 mod element;
 mod first_line;
 mod glances;
+mod headers;
 mod keys;
 mod laws;
+mod lines;
 mod names;
 mod reading;
 mod refusals;
+mod trouble;
 mod writing;
 
+pub use about::line_of;
+pub use costs::is_held_back;
 pub use laws::{light_texts, one_table};
+pub use lines::Lines;
 pub use names::{Name, Place};
 pub use reading::read_table;
 pub use refusals::{FileError, FileRefused, LoadText, RuleText};

@@ -5,6 +5,7 @@ ghost use Rattle.binding_rules.specs.Tables.{binding_table};
 ghost use Rattle.binding_file.specs.Files.{top_edition, settings_of, port_set_of, elements_of, are_tables, IsSoftwire, IsElement, AreBindings, IsDocument, IsTree, TableOf, IsFileCause, most_bytes};
 ghost use Rattle.binding_file.specs.Costs.{is_held_back};
 ghost use Rattle.binding_file.specs.FirstLines.{begins_toml, IsNotToml};
+ghost use Rattle.binding_file.specs.Lines.{binding_count};
 ghost use Rattle.binding_file.specs.Parts.{IsRead, value_or_refusal};
 ghost use Rattle.binding_file.specs.declared.refusals.FileError.TheVariants as file_error;
 ghost use Rattle.binding_file.specs.declared.refusals.FileRefused.TheVariants as refused;
@@ -23,7 +24,7 @@ use std::alloc::Global;
 use std::str;
 use toml::Value;
 
-const MOST_BYTES: usize = 16_777_216;
+pub(crate) const MOST_BYTES: usize = 16_777_216;
 
 const TOP_NAMES: [Name; 3] = [Name::Version, Name::Softwire, Name::Binding];
 
@@ -102,7 +103,7 @@ struct Spelled {
     bindings: Vec<Binding>,
 }
 
-fn document_of(alloc: Global, text: &str) -> Result<toml::Table, FileError>
+pub(crate) fn document_of(alloc: Global, text: &str) -> Result<toml::Table, FileError>
     requires { IsUtf8 text.now }
     ensures read { IsRead (λ t. table_view t) (IsDocument text.now) result }
     ensures no_line { begins_toml text.now ≡ false → IsNotToml result }
@@ -186,6 +187,16 @@ fn elements_of(document: &toml::Table) -> Result<&[Value], FileRefused>
     match value.as_array() {
         Some(array) if are_tables(array) => Ok(array),
         _ => Err(FileRefused::Kind(place)),
+    }
+}
+
+/// How many bindings a document has.
+pub(crate) fn binding_count(document: &toml::Table) -> usize
+    ensures { result ≡ binding_count (table_view document.now) }
+{
+    match elements_of(document) {
+        Ok(values) => values.len(),
+        Err(_) => 0,
     }
 }
 
