@@ -9,6 +9,8 @@ mod files;
 #[cfg(test)]
 mod held_back;
 #[cfg(test)]
+mod lines;
+#[cfg(test)]
 mod lookups;
 #[cfg(test)]
 mod port_sets;

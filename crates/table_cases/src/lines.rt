@@ -1,0 +1,179 @@
+// The lines that the refusals of files are about.
+use aftr_base::OutOfMemory;
+use binding_file::{FileError, FileRefused, Lines, is_held_back, line_of, read_table};
+use std::alloc::Global;
+use std::test::Fail;
+
+// A line has a file, its refusal and its lines. `|` ends a line of the file.
+const FILES: &str = "= ~ not-toml ~ line 1
+version = 1|= 2 ~ not-toml ~ line 2
+version = 1|version = 1 ~ not-toml ~ line 2
+version = 1||# a comment|version = 1| ~ not-toml ~ line 4
+version = 1|a = [1,|2,|3|b = 1 ~ not-toml ~ lines 2 to 5
+version = 1|a = [1,|2,|=]|b = 1 ~ not-toml ~ lines 2 to 4
+version = 1|a = [1,|\"]\", # ]|']'|b = 1 ~ not-toml ~ lines 2 to 5
+version = 1|a = {b = 1,|c = }|d = 1 ~ not-toml ~ lines 2 to 3
+version = 1|a = \"\"\"|b = 1|c = 2 ~ not-toml ~ lines 2 to 4
+version = 1|a = '''|b = 1'''''''|c = 2 ~ not-toml ~ lines 2 to 3
+version = 1|a = '''|b = 1|'''|c = ~ not-toml ~ line 5
+version = 1|a = \"b ~ not-toml ~ line 2
+version = 1|a = \"b|c = 2 ~ not-toml ~ line 2
+a = [|1]|[a.b]|c = 1 ~ not-toml ~ line 3
+[a]|b = 1|[a]|c = 1 ~ not-toml ~ line 3
+a = 1|b = [|1, 2]|a = [|3, 4] ~ not-toml ~ line 4
+||# nothing||[1, 2] ~ not-toml ~ line 5
+\u{feff}|# nothing|[1, 2] ~ not-toml ~ line 3
+\u{feff}version = 1|version = 1 ~ not-toml ~ line 2
+# a|b4,ipv4,offset,length,psid ~ not-toml ~ line 2
+version = 2 ~ missing softwire ~ none
+version = 1|x = 1 ~ unknown-key ~ none
+S[[binding]] ~ missing binding 0 b4 ~ line 5
+S|[[binding]]|b4 = 1|[[binding]] ~ kind binding 0 b4 ~ line 6
+S[[binding]]|b4 = \"::2\"|ipv4 = \"1.2.3.5\"|  [[ binding\t]]  # 2|ipv4 = \"1.2.3.6\" ~ missing binding 1 b4 ~ line 8
+S[[binding]]|b4 = \"::2\"|ipv4 = \"1.2.3.5\"|# [[binding]]|[[binding]]|b4 = \"x\" ~ address binding 1 b4 ~ line 9
+S[[binding]] # [[binding]]|b4 = \"::2\"|ipv4 = \"1.2.3.5\"||[[binding]]|b4 = \"::3\"|ipv4 = \"1.2.3.5\" ~ rules twice 0 1 ~ lines 5, 9
+S[[binding]]|b4 = \"::2\"|ipv4 = \"1.2.3.5\"|length = 9|offset = 8 ~ rules shape 0 ~ line 5
+S[[binding]]|b4 = \"::2\"|ipv4 = \"1.2.3.5\"|length = 2|psid = 4 ~ rules psid 0 ~ line 5
+S[[binding]]|b4 = \"::2\"|ipv4 = \"1.2.3.5\"|[[binding]]|b4 = \"::3\"|ipv4 = \"1.2.3.4\" ~ rules own-address 1 ~ line 8
+S[[binding]]|b4 = \"::2\"|ipv4 = \"1.2.3.5\"|length = 2|[[binding]]|b4 = \"::3\"|ipv4 = \"1.2.3.5\" ~ rules mixed-shape 0 1 ~ lines 5, 9
+S[[binding]]|b4 = \"::2\"|ipv4 = \"1.2.3.5\"|[[binding]]|b4 = \"::3\"|ipv4 = \"1.2.3.6\"|psid = 65536 ~ range binding 1 psid ~ line 8
+S[[binding]]|b4 = \"::2\"|ipv4 = \"\"\"|[[binding]]|\"\"\" ~ address binding 0 ipv4 ~ line 5
+S[[binding]]|b4 = '''|[[binding]]'''|[['binding']]|ipv4 = 1 ~ address binding 0 b4 ~ none
+S[[\"binding\"]] ~ missing binding 0 b4 ~ none
+S[[binding]]|b4 = \"::2\"|ipv4 = \"1.2.3.5\"|[['binding']] ~ missing binding 1 b4 ~ none
+version = 1|binding = [{b4 = 1}]|softwire = {aftr = \"::1\", own = \"1.2.3.4\"} ~ kind binding 0 b4 ~ none
+version = 1|binding = [1]|softwire = {aftr = \"::1\", own = \"1.2.3.4\"} ~ kind binding ~ none
+S|mtu6 = 1279 ~ rules mtu ~ none
+Shop_limit = 0 ~ rules hop ~ none
+";
+
+const SETTINGS: &str = "version = 1\n[softwire]\naftr = \"::1\"\nown = \"1.2.3.4\"\n";
+
+// The refusal of a file.
+fn refusal(alloc: Global, file: &[u8]) -> Result<FileRefused, Fail> {
+    match read_table(alloc, file) {
+        Err(FileError::Refused(refused)) => Ok(refused),
+        _ => Err("a refusal".into()),
+    }
+}
+
+// The refusal of a file and its lines, as a text.
+fn told(alloc: Global, file: &[u8]) -> Result<String, Fail> {
+    let refused = refusal(alloc, file)?;
+    let lines = lines_text(alloc, line_of(alloc, file, &refused)?)?;
+    Ok(format!(in alloc; "{refused} ~ {lines}")?)
+}
+
+fn lines_text(alloc: Global, lines: Option<Lines>) -> Result<String, OutOfMemory> {
+    Ok(match lines {
+        None => format!(in alloc; "none")?,
+        Some(Lines::One(line)) => format!(in alloc; "line {line}")?,
+        Some(Lines::Both(first, second)) => format!(in alloc; "lines {first}, {second}")?,
+        Some(Lines::Through(first, last)) => format!(in alloc; "lines {first} to {last}")?,
+    })
+}
+
+// The file of a row: `S` at its begin stands for the settings.
+fn file_of(alloc: Global, row: &str, end: &str) -> Result<String, Fail> {
+    let text = match row.strip_prefix("S") {
+        Some(rest) => format!(in alloc; "{SETTINGS}{rest}")?,
+        None => format!(in alloc; "{row}")?,
+    };
+    let lines = text.replace(alloc, "|", "\n")?;
+    Ok(lines.replace(alloc, "\n", end)?)
+}
+
+#[test]
+fn tells_the_lines_of_a_refusal(rt: HostRuntime) -> Result<(), Fail> {
+    let alloc = rt.alloc();
+    for line in FILES.lines() {
+        let (row, wanted) = line.split_once(" ~ ").ok_or("an answer")?;
+        let file = file_of(alloc, row, "\n")?;
+        let said = told(alloc, file.as_bytes())?;
+        assert!(rt; said.as_str() == wanted, "{line}: {said}");
+        let file = file_of(alloc, row, "\r\n")?;
+        let said = told(alloc, file.as_bytes())?;
+        assert!(rt; said.as_str() == wanted, "CRLF: {line}: {said}");
+    }
+    Ok(())
+}
+
+#[test]
+fn tells_the_line_of_the_first_byte_that_is_no_text(rt: HostRuntime) -> Result<(), Fail> {
+    let alloc = rt.alloc();
+    assert!(rt;
+        told(alloc, b"version = 1\n# \xc3\xa4\n# \xc3\n# \xff\n")?.as_str() == "not-toml ~ line 3"
+    );
+    assert!(rt; told(alloc, b"\n\n\xff")?.as_str() == "not-toml ~ line 3");
+    assert!(rt; told(alloc, b"# \xe2\x82")?.as_str() == "not-toml ~ line 1");
+    Ok(())
+}
+
+#[test]
+fn tells_nothing_of_a_file_that_was_changed(rt: HostRuntime) -> Result<(), Fail> {
+    let alloc = rt.alloc();
+    let old = file_of(alloc, "S[[binding]]|b4 = \"::2\"|[[binding]]|b4 = 1", "\n")?;
+    let refused = refusal(alloc, old.as_bytes())?;
+    for row in [
+        "S[[binding]]|b4 = \"::2\"|ipv4 = \"1.2.3.5\"|[[binding]]|b4 = 1",
+        "S[[binding]]|b4 = 1|[[binding]]|b4 = 1",
+        "S",
+        "S[[binding]",
+        "S[[binding]]|b4 = \"::2\"|ipv4 = \"1.2.3.5\"",
+    ] {
+        let new = file_of(alloc, row, "\n")?;
+        assert!(rt;
+            line_of(alloc, new.as_bytes(), &refused)?.is_none(),
+            "{row}"
+        );
+        if !row.ends_with("[[binding]") {
+            assert!(rt;
+                line_of(alloc, new.as_bytes(), &FileRefused::NotToml)?.is_none(),
+                "{row}"
+            );
+        }
+    }
+    Ok(())
+}
+
+// What is told of a file with so many marks, in a comment, and a wrong last line.
+fn told_of_marks(alloc: Global, marks: usize) -> Result<String, Fail> {
+    let run = ".".repeat(alloc, marks - 2)?;
+    let file = format!(in alloc; "a = 1\n# {run}\n= 2\n")?;
+    told(alloc, file.as_bytes())
+}
+
+#[test]
+fn tells_no_line_where_reading_once_more_would_take_long(rt: HostRuntime) -> Result<(), Fail> {
+    let alloc = rt.alloc();
+    assert!(rt; told_of_marks(alloc, 131_000)?.as_str() == "not-toml ~ line 3");
+    assert!(rt; told_of_marks(alloc, 524_288)?.as_str() == "not-toml ~ line 3");
+    assert!(rt; told_of_marks(alloc, 524_289)?.as_str() == "not-toml ~ none");
+    let many = file_of(alloc, "S[[binding]]|b4 = 1|#", "\n")?;
+    let run = "{".repeat(alloc, 524_270)?;
+    let file = format!(in alloc; "{many}{run}")?;
+    assert!(rt; told(alloc, file.as_bytes())?.as_str() == "kind binding 0 b4 ~ line 5");
+    let file = format!(in alloc; "{many}{run}{run}")?;
+    assert!(rt; told(alloc, file.as_bytes())?.as_str() == "kind binding 0 b4 ~ none");
+    Ok(())
+}
+
+#[test]
+fn says_which_texts_are_held_back(rt: HostRuntime) -> Result<(), Fail> {
+    let alloc = rt.alloc();
+    let blanks = "\n".repeat(alloc, 131_072)?;
+    let heavy = "x".repeat(alloc, 97)?;
+    for (file, held) in [("[xHEAVY]", true), ("# [xHEAVY]", false), ("a = 1", false)] {
+        let file = file.replace(alloc, "xHEAVY", heavy.as_str())?;
+        assert!(rt; !is_held_back(file.as_bytes()));
+        let file = format!(in alloc; "{file}{blanks}")?;
+        assert!(rt; is_held_back(file.as_bytes()) == held);
+        assert!(rt;
+            held == matches!(
+                read_table(alloc, file.as_bytes()),
+                Err(FileError::OutOfMemory)
+            )
+        );
+    }
+    Ok(())
+}
