@@ -16,13 +16,8 @@ done
 mkdir -p "$repository/crates/lookups_bench/src" "$repository/crates/lookups_bench/proofs/found_in"
 cp "$here/program/main.rt.txt" "$repository/crates/lookups_bench/src/main.rt"
 cp "$here/program/Invariants.antt.txt" "$repository/crates/lookups_bench/proofs/found_in/Invariants.antt"
-cat > "$repository/crates.txt" <<'C'
-aftr_base:
-port_set:
-binding_rules: aftr_base port_set thiserror
-table_words: aftr_base port_set binding_rules
-lookups_bench: aftr_base binding_rules table_words
-C
+sed -n '/^\(aftr_base\|port_set\|binding_rules\|table_words\):/p' "$top/crates.txt" > "$repository/crates.txt"
+echo "lookups_bench: aftr_base binding_rules table_words" >> "$repository/crates.txt"
 (cd "$repository/crates/lookups_bench" && rt run > "$work/build.txt" 2>&1) || true
 program="$repository/crates/lookups_bench/out/lookups_bench"
 [ -x "$program" ] || { tail "$work/build.txt"; exit 1; }

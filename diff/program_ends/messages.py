@@ -30,6 +30,15 @@ FILES = {
     "cut.pcapng": bytes.fromhex("0a0d0d0a1c0000004d3c2b1a01000000"),
     "closed.toml": ends.TABLE,
     "costly.toml": b"version = 1\n" + b"a.b = 1\n" * 600_000,
+    "costly.json": b"[\n" + b"a.b = 1\n" * 600_000,
+    "quote.toml": ends.TABLE.replace(b'own = "192.0.2.1"', b'own = "192.0.2.1'),
+    "open.toml": b"version = 1\nnames = [\n  'a',\n  'b'\n" + ends.TABLE[12:],
+    "key-twice.toml": ends.TABLE + b'ipv4 = "203.0.113.2"\n',
+    "latin.toml": b"# \xc3\xa4\n# \xe4\n" + ends.TABLE,
+    "second.toml": ends.TABLE + b"\n# [[binding]]\n[[ binding ]]  # two\nipv4 = \"203.0.113.2\"\n",
+    "shape.toml": ends.TABLE + b"offset = 9\nlength = 9\n",
+    "inline.toml": ends.TABLE[:ends.TABLE.index(b"[[binding]]")].replace(b"[softwire]", b"binding = [{b4 = 4}]\n[softwire]"),
+    "big.toml": ends.TABLE + b"#" * 16_777_216,
 }
 
 

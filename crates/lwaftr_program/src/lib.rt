@@ -4,9 +4,12 @@
 
 mod faults;
 mod lines;
+mod loads;
 mod naming;
 mod running;
+mod tables;
 
 pub use faults::Said;
 pub use lines::lines_below;
 pub use running::run_program;
+pub use tables::table_lines;

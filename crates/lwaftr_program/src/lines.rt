@@ -3,7 +3,7 @@ ghost use Rattle.std.specs.Prelude.{◌≡◌, [], IfOk};
 ghost use Rattle.lwaftr_engine.specs.declared.status.Status.TheVariants as status_is;
 
 use crate::faults::{Said, read_line, write_line};
-use crate::naming::{capture_name, push_named, table_name, versions_name};
+use crate::naming::{capture_name, push_named};
 use aftr_base::{OutOfMemory, Text};
 use aftr_text::{HELP, Job, JobError, fault_line, read_job, usage_line};
 use capture_io::CaptureBad;
@@ -74,24 +74,11 @@ fn job_lines(
     said: Said<'_>,
 ) -> Result<Text, OutOfMemory> {
     match status {
-        Status::DoneRefused => named(alloc, "which load, and why, is in", versions_name(job)),
         Status::ReadFault => read_line(alloc, said),
         Status::WriteFault => write_line(alloc, said),
-        Status::BadTable(_) => named(alloc, "the table file is", table_name(job)),
         Status::BadCapture(cause) => capture_lines(alloc, job, cause),
-        Status::OutOfMemory => Ok(Text::of(format!(in alloc;
-            "  memory was wanted, or a table file would cost too much to read: see What reading costs in docs/FORMATS.md\n"
-        )?)),
-        Status::Done | Status::Usage => Ok(Text::of(String::new(alloc))),
+        _ => Ok(Text::of(String::new(alloc))),
     }
-}
-
-fn named(alloc: Global, what: &str, name: Option<&str>) -> Result<Text, OutOfMemory> {
-    let mut text = String::new(alloc);
-    if let Some(name) = name {
-        push_named(&mut text, what, name)?;
-    }
-    Ok(Text::of(text))
 }
 
 // The name of the capture that was refused, and what makes one that can be read.

@@ -30,11 +30,3 @@ pub(crate) fn capture_name(job: &Job) -> Option<&str> {
         _ => None,
     }
 }
-
-/// The file with a run's line for each table.
-pub(crate) fn versions_name(job: &Job) -> Option<&str> {
-    match job {
-        Job::Run(run) => Some(run.versions.as_str()),
-        _ => None,
-    }
-}

@@ -3,7 +3,8 @@ ghost use Rattle.std.specs.Prelude.{◌≤◌};
 
 use crate::faults::Said;
 use crate::lines::lines_below;
-use aftr_base::{RealFiles, RealSink};
+use crate::tables::table_lines;
+use aftr_base::{OutOfMemory, RealFiles, RealSink};
 use lwaftr_engine::{Status, code, lwaftr, status_line};
 use std::alloc::Global;
 use std::env;
@@ -44,7 +45,10 @@ pub fn run_program<
 }
 
 // Does the job over a system's files, says how it ended, and answers the exit code.
-fn do_job<F: Files + Drop, R: Print + Eprint + Threads + Wait + Sync + Drop>(
+fn do_job<
+    F: Files + Drop,
+    R: Alloc<A = Global> + Files + Print + Eprint + Threads + Wait + Sync + Drop,
+>(
     system: F,
     rt: &R,
     alloc: Global,
@@ -73,12 +77,27 @@ fn do_job<F: Files + Drop, R: Print + Eprint + Threads + Wait + Sync + Drop>(
 }
 
 // The status line on standard error, where memory and standard error allow it, and then the lines below it.
-fn report<R: Eprint>(rt: &R, alloc: Global, words: &[&str], status: &Status, said: Said<'_>) {
+fn report<R: Alloc<A = Global> + Eprint + Files>(
+    rt: &R,
+    alloc: Global,
+    words: &[&str],
+    status: &Status,
+    said: Said<'_>,
+) {
     if *status == Status::Done || !tell_status(rt, alloc, status) {
         return;
     }
     if let Ok(lines) = lines_below(alloc, words, status, said) {
         let _ = rt.eprint(lines.as_str());
+    }
+    match table_lines(rt, alloc, words, status) {
+        Ok(lines) => {
+            let _ = rt.eprint(lines.as_str());
+        }
+        Err(OutOfMemory) if *status == Status::OutOfMemory => {
+            let _ = rt.eprint("  memory was wanted\n");
+        }
+        Err(OutOfMemory) => {}
     }
 }
 

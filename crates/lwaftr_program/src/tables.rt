@@ -1,0 +1,156 @@
+// What is told of table files below the status line, for which they are read once more: which lines a refusal is about, which loads
+// were refused, and which table is held back for its cost. A file that is none by now, or is too big, is not looked at.
+ghost use Rattle.std.specs.Prelude.{◌≡◌, [], IfOk};
+ghost use Rattle.lwaftr_engine.specs.declared.status.Status.TheVariants as status_is;
+
+use crate::loads::push_loads;
+use crate::naming::table_name;
+use aftr_base::{OutOfMemory, Text};
+use aftr_text::{Job, read_job};
+use binding_file::{FileError, FileRefused, Lines, is_held_back, line_of, read_table};
+use lwaftr_engine::Status;
+use std::alloc::Global;
+use std::fs;
+use std::rt::Files;
+
+/// The most bytes of a file that is looked at.
+const MOST_BYTES: u64 = 16_777_216;
+
+/// The lines below the status line that tell of table files. The words are those behind the program's name.
+pub fn table_lines<R: Files + Alloc<A = Global>>(
+    rt: &R,
+    alloc: Global,
+    words: &[&str],
+    status: &Status,
+) -> Result<Text, OutOfMemory>
+    ensures done { status.now ≡ status_is.Done → IfOk result (λ lines. lines ≡ []) }
+{
+    let mut text = String::new(alloc);
+    match status {
+        Status::BadTable(refused) => {
+            if let Ok(job) = read_job(alloc, words) {
+                push_refused(rt, alloc, &mut text, &job, refused)?;
+            }
+        }
+        Status::DoneRefused => {
+            if let Ok(Job::Run(run)) = read_job(alloc, words) {
+                push_loads(rt, alloc, &mut text, &run)?;
+            }
+        }
+        Status::OutOfMemory => {
+            if let Ok(job) = read_job(alloc, words) {
+                push_held_back(rt, alloc, &mut text, &job)?;
+            }
+        }
+        _ => {}
+    }
+    Ok(Text::of(text))
+}
+
+/// The bytes of a file, where it is one that can be read at once.
+pub(crate) fn bytes_of<R: Files + Alloc<A = Global>>(rt: &R, name: &str) -> Option<Vec<u8>> {
+    let about = fs::metadata(rt, name).ok()?;
+    if !about.is_file() || about.len() > MOST_BYTES {
+        return None;
+    }
+    fs::read(rt, name).ok()
+}
+
+// The file that was refused, with the lines of it where they can be told.
+fn push_refused<R: Files + Alloc<A = Global>>(
+    rt: &R,
+    alloc: Global,
+    text: &mut String,
+    job: &Job,
+    refused: &FileRefused,
+) -> Result<(), OutOfMemory> {
+    let Some(name) = table_name(job) else {
+        return Ok(());
+    };
+    text.push_str("  the table file is ")?;
+    text.push_str(name)?;
+    if let Some(bytes) = bytes_of(rt, name) {
+        push_lines(alloc, text, line_of(alloc, &bytes, refused)?)?;
+    }
+    text.push_str("\n")?;
+    Ok(())
+}
+
+/// Which lines, behind a name.
+pub(crate) fn push_lines(
+    alloc: Global,
+    text: &mut String,
+    lines: Option<Lines>,
+) -> Result<(), OutOfMemory> {
+    let told = match lines {
+        None => return Ok(()),
+        Some(Lines::One(line)) => format!(in alloc; ", line {line}")?,
+        Some(Lines::Both(first, second)) => format!(in alloc; ", lines {first} and {second}")?,
+        Some(Lines::Through(first, last)) => format!(in alloc; ", lines {first} to {last}")?,
+    };
+    text.push_str(told.as_str())?;
+    Ok(())
+}
+
+// Which table is held back for its cost, or that memory was wanted.
+fn push_held_back<R: Files + Alloc<A = Global>>(
+    rt: &R,
+    alloc: Global,
+    text: &mut String,
+    job: &Job,
+) -> Result<(), OutOfMemory> {
+    let mut all_seen = true;
+    if let Some(name) = table_name(job) {
+        match cost_of(rt, alloc, name) {
+            Cost::HeldBack => return push_costly(text, name),
+            Cost::Unknown => all_seen = false,
+            Cost::Read => {}
+        }
+    }
+    if let Job::Run(run) = job {
+        'loads: for load in run.loads.as_slice() {
+            match cost_of(rt, alloc, load.name.as_str()) {
+                Cost::HeldBack => return push_costly(text, load.name.as_str()),
+                Cost::Unknown => all_seen = false,
+                Cost::Read => {}
+            }
+        }
+    }
+    if all_seen {
+        text.push_str("  memory was wanted\n")?;
+    } else {
+        text.push_str(
+            "  memory was wanted, or a table file would cost too much to read: see What reading costs in docs/FORMATS.md\n",
+        )?;
+    }
+    Ok(())
+}
+
+enum Cost {
+    Read,
+    HeldBack,
+    Unknown,
+}
+
+// Whether a file is held back for its cost. A text that is, and is answered otherwise, was refused for what it begins with.
+fn cost_of<R: Files + Alloc<A = Global>>(rt: &R, alloc: Global, name: &str) -> Cost {
+    let Some(bytes) = bytes_of(rt, name) else {
+        return Cost::Unknown;
+    };
+    if !is_held_back(&bytes) {
+        return Cost::Read;
+    }
+    match read_table(alloc, &bytes) {
+        Err(FileError::OutOfMemory) => Cost::HeldBack,
+        _ => Cost::Read,
+    }
+}
+
+fn push_costly(text: &mut String, name: &str) -> Result<(), OutOfMemory> {
+    text.push_str("  ")?;
+    text.push_str(name)?;
+    text.push_str(
+        " would cost too much to read, and is held back: see What reading costs in docs/FORMATS.md\n",
+    )?;
+    Ok(())
+}
