@@ -6,7 +6,7 @@ use Rattle.toml_parser.specs.Lexical.{skip_blank}
 use Rattle.toml.specs.Data.{Members, Items, no_items, item}
 use Rattle.binding_rules.specs.declared.refused.Refused.{Refused}
 use Rattle.binding_rules.specs.declared.refused.Refused.TheVariants as rule
-use Rattle.binding_file.specs.Costs.{part_after, seen_as, marks, most_free}
+use Rattle.binding_file.specs.Costs.{part_after, seen, seen_as, marks, most_free}
 use Rattle.binding_file.specs.declared.costs.Part.{Part}
 use Rattle.binding_file.specs.declared.costs.Part.TheVariants as part
 use Rattle.binding_file.specs.Files.{IsDocument, elements_of}
@@ -94,13 +94,13 @@ one_of i ls = option_map lines.One (slice_get ls i)
 abbrev pub both_of : ℕ → ℕ → List ℕ → Option Lines
 both_of i k ls = option_and_then (λ first. option_map (lines.Both first) (slice_get ls k)) (slice_get ls i)
 
--- a text of more bytes than are always read has no more marks than this, wherever they stand, or is not read once more for its lines:
--- a table of 65,536 bindings has at most 458,771
+-- A text is read once more for its lines where it is small, or has no more marks than this outside of comments and quoted texts: a table
+-- of 65,536 bindings has at most 458,771.
 abbrev pub most_told : ℕ
 most_told = 524288
 
 abbrev pub is_told : List ℕ → Bool
-is_told text = nat_le (length text) most_free || nat_le (marks text) most_told
+is_told text = nat_le (length text) most_free || nat_le (marks (seen part.Plain text)) most_told
 
 -- the lines of the bindings of a text that is told and a document; else nothing
 pub record AreBindingLines (text : List ℕ) (o : Option (List ℕ)) : Type 0 where

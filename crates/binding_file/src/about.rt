@@ -4,8 +4,7 @@ ghost use Rattle.std.specs.Option.{option_and_then};
 ghost use Rattle.binding_file.specs.Files.{TableOf};
 ghost use Rattle.binding_file.specs.Lines.{AreAbout, AreBindingLines, is_told, one_of, both_of, subject_at, subject_of, subject_of_rule};
 
-use crate::costs::MOST_FREE;
-use crate::glances::count_marks;
+use crate::costs::{MOST_FREE, count_outside};
 use crate::headers::header_lines;
 use crate::laws::one_table;
 use crate::lines::Lines;
@@ -18,8 +17,8 @@ use binding_rules::Refused;
 use std::alloc::Global;
 use std::str;
 
-/// The most marks, wherever they stand, of a text of more than 131,072 bytes that is read once more for its lines: more than the 458,771
-/// of a table of 65,536 bindings.
+/// The most marks outside of comments and quoted texts of a text of more than 131,072 bytes that is read once more for its lines: more
+/// than the 458,771 of a table of 65,536 bindings.
 const MOST_TOLD: usize = 524_288;
 
 /// What a refusal is about: nothing that has a line of its own, the text, one binding, or two.
@@ -35,7 +34,8 @@ enum Subject {
 /// that is no UTF-8, or its first line where that is no line of TOML, or by the lines between which its trouble stands: those before
 /// them are a document by themselves, with them they are none. A binding is told by the line of its header `[[binding]]`, where each
 /// has one. Other refusals have no line. Nothing is told where the text has another refusal, as of a file that was changed since, or
-/// where to read it once more would take long: it has more than 131,072 bytes, and more than 524,288 of the bytes `.`, `=`, `[`, `{`.
+/// where to read it once more would take long: it has more than 131,072 bytes, and more than 524,288 of the bytes `.`, `=`, `[`, `{`
+/// outside of comments and quoted texts.
 /// `OutOfMemory` comes where the allocator has no room for the document or the list of lines.
 pub fn line_of(
     alloc: Global,
@@ -197,5 +197,5 @@ fn same_rule(found: Refused, rule: Refused) -> bool
 pub(crate) fn is_told(text: &[u8]) -> bool
     ensures { result ≡ is_told text.now }
 {
-    text.len() <= MOST_FREE || count_marks(text) <= MOST_TOLD
+    text.len() <= MOST_FREE || count_outside(text) <= MOST_TOLD
 }

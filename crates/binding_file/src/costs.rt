@@ -1,7 +1,8 @@
 // Whether a text would cost too much time or memory to be read as TOML: one look over its bytes, in no memory.
 ghost use Rattle.std.specs.Prelude.{◌≡◌, ◌≤◌, false, length};
-ghost use Rattle.binding_file.specs.Costs.{begun, part_after, line_after, lines_after, seen_as, is_mark, ends_header, weight, is_costly, is_held_back};
+ghost use Rattle.binding_file.specs.Costs.{begun, part_after, line_after, lines_after, seen, seen_as, is_mark, marks, ends_header, weight, is_costly, is_held_back};
 ghost use Rattle.binding_file.specs.Parts.{header_after};
+ghost use Rattle.binding_file.specs.declared.costs.Part.TheVariants as part;
 
 use crate::glances::is_plainly_cheap;
 
@@ -82,6 +83,21 @@ fn has_too_much(text: &[u8]) -> bool
         rest = after;
     }
     marks > MOST_MARKS
+}
+
+/// How many marks there are outside of comments and quoted texts.
+pub(crate) fn count_outside(text: &[u8]) -> usize
+    ensures { result ≡ marks (seen part.Plain text.now) }
+{
+    let mut part = Part::Plain;
+    let mut marks = 0;
+    let mut rest = text;
+    'bytes: while let [byte, after @ ..] = rest {
+        marks += usize::from(is_mark(seen_as(part, *byte)));
+        part = part_after(part, *byte);
+        rest = after;
+    }
+    marks
 }
 
 /// The weight of the header so far, its bracket included; 0 outside of headers.

@@ -25,8 +25,8 @@ pub(crate) fn is_plainly_cheap(text: &[u8]) -> bool
     has_short_headers(text)
 }
 
-/// How many marks there are, wherever they stand.
-pub(crate) fn count_marks(text: &[u8]) -> usize
+// How many marks there are, wherever they stand.
+fn count_marks(text: &[u8]) -> usize
     ensures { result ≡ marks text.now }
 {
     let mut count = 0;

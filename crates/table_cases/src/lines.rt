@@ -136,25 +136,23 @@ fn tells_nothing_of_a_file_that_was_changed(rt: HostRuntime) -> Result<(), Fail>
     Ok(())
 }
 
-// What is told of a file with so many marks, in a comment, and a wrong last line.
+// What is told of a file whose second line is wrong, and that has so many marks.
 fn told_of_marks(alloc: Global, marks: usize) -> Result<String, Fail> {
     let run = ".".repeat(alloc, marks - 2)?;
-    let file = format!(in alloc; "a = 1\n# {run}\n= 2\n")?;
+    let file = format!(in alloc; "a = 1\n= 2\n{run}")?;
     told(alloc, file.as_bytes())
 }
 
 #[test]
 fn tells_no_line_where_reading_once_more_would_take_long(rt: HostRuntime) -> Result<(), Fail> {
     let alloc = rt.alloc();
-    assert!(rt; told_of_marks(alloc, 131_000)?.as_str() == "not-toml ~ line 3");
-    assert!(rt; told_of_marks(alloc, 524_288)?.as_str() == "not-toml ~ line 3");
+    assert!(rt; told_of_marks(alloc, 131_000)?.as_str() == "not-toml ~ line 2");
+    assert!(rt; told_of_marks(alloc, 524_288)?.as_str() == "not-toml ~ line 2");
     assert!(rt; told_of_marks(alloc, 524_289)?.as_str() == "not-toml ~ none");
-    let many = file_of(alloc, "S[[binding]]|b4 = 1|#", "\n")?;
-    let run = "{".repeat(alloc, 524_270)?;
-    let file = format!(in alloc; "{many}{run}")?;
+    let row = file_of(alloc, "S[[binding]]|b4 = 1 #", "\n")?;
+    let run = ".[={".repeat(alloc, 131_073)?;
+    let file = format!(in alloc; "{row}{run}")?;
     assert!(rt; told(alloc, file.as_bytes())?.as_str() == "kind binding 0 b4 ~ line 5");
-    let file = format!(in alloc; "{many}{run}{run}")?;
-    assert!(rt; told(alloc, file.as_bytes())?.as_str() == "kind binding 0 b4 ~ none");
     Ok(())
 }
 
