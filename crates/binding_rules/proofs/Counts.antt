@@ -2,7 +2,7 @@
 use Rattle.std.proofs.Common.{◌≡◌, ℕ, zero, suc, ◌+◌, ◌*◌, ◌<◌, ◌≤◌, ◌==◌, Bool, true, false, ◌||◌, if◌then◌else◌, Option, Some, None, List, [], ◌∷◌, length, take, drop, refl, sym, ap, ◌∙◌, arith}
 use Rattle.std.proofs.lemmas.Bool.{eqb-true, eq-eqb}
 use Rattle.binding_rules.specs.declared.binding.Binding.{Binding}
-use Rattle.binding_rules.specs.Scans.{HasAddress, IsLast, IsLinked, IsNearest, ends_within, slot}
+use Rattle.binding_rules.specs.Scans.{IsAtAddress, IsLast, IsLinked, IsNearest, ends_within, slot}
 use Rattle.binding_rules.specs.Steps.{addresses, count_of, has_some}
 use Rattle.binding_rules.proofs.Links.{IsOf, near_of, no_binding, of_within, reach, read}
 use Rattle.std.proofs.lemmas.List.{drop_more}
@@ -23,14 +23,14 @@ none_by : (is_same : Bool) (n m : ℕ) → (is_same ≡ true → ⊥) → n ≡ 
 none_by true n m never is = absurd (never refl)
 none_by false n m never is = omega (arith, is)
 
-below_more : (bs : List Binding) (a p : ℕ) → HasAddress bs a p → below bs a (suc p) ≡ 1 + below bs a p
+below_more : (bs : List Binding) (a p : ℕ) → IsAtAddress bs a p → below bs a (suc p) ≡ 1 + below bs a p
 below_more [] a p h = absurd cc
 below_more (x ∷ xs) a zero h =
     let same : x ≡ h.0 = cc in
     one_by (x.v4.0 == a) 0 (eq-eqb x.v4.0 a (ap (λ (y : Binding). y.v4.0) same ∙ h.2))
 below_more (x ∷ xs) a (suc p) h = let more : below xs a (suc p) ≡ 1 + below xs a p = below_more xs a p (h.0, h.1, h.2) in omega (arith, more)
 
-below_same : (bs : List Binding) (a q p : ℕ) → q ≤ p → ((n : ℕ) → q ≤ n → n < p → HasAddress bs a n → ⊥) → below bs a p ≡ below bs a q
+below_same : (bs : List Binding) (a q p : ℕ) → q ≤ p → ((n : ℕ) → q ≤ n → n < p → IsAtAddress bs a n → ⊥) → below bs a p ≡ below bs a q
 below_same [] a zero zero up none = refl
 below_same [] a zero (suc p) up none = refl
 below_same [] a (suc q) zero up none = refl
@@ -53,7 +53,7 @@ pub all_to_come : (bs : List Binding) (a : ℕ) (o : Option ℕ) → remaining b
 all_to_come bs a o = below_most bs a (reach o)
 
 -- a place on the way down is one less
-pub step_down : (bs : List Binding) (previous : List (Option ℕ)) (a p : ℕ) → IsLinked bs previous → HasAddress bs a p → remaining bs a (Some p) ≡ 1 + remaining bs a (slot previous p)
+pub step_down : (bs : List Binding) (previous : List (Option ℕ)) (a p : ℕ) → IsLinked bs previous → IsAtAddress bs a p → remaining bs a (Some p) ≡ 1 + remaining bs a (slot previous p)
 step_down bs previous a p linked h =
     let same : suc p ≡ p + 1 = omega arith in
     sym (ap (below bs a) same) ∙ below_more bs a p h ∙ ap (λ n. 1 + n) (by_near (slot previous p) (near_of bs previous a p linked h))
@@ -63,7 +63,7 @@ step_down bs previous a p linked h =
     by_near (Some q) near = below_same bs a (q + 1) p (omega (arith, near.0)) (λ n l m at. near.1.1 n (omega (arith, l)) m at)
 
 -- the same where the place is known by an equation
-pub step_at : (bs : List Binding) (previous : List (Option ℕ)) (a p : ℕ) (o : Option ℕ) → IsLinked bs previous → HasAddress bs a p → o ≡ Some p →
+pub step_at : (bs : List Binding) (previous : List (Option ℕ)) (a p : ℕ) (o : Option ℕ) → IsLinked bs previous → IsAtAddress bs a p → o ≡ Some p →
     remaining bs a o ≡ 1 + remaining bs a (slot previous p)
 step_at bs previous a p o linked h is = ap (remaining bs a) is ∙ step_down bs previous a p linked h
 
@@ -132,7 +132,7 @@ left_more y rest (x ∷ xs) = by_test (y.v4.0 == x.v4.0) (has_some x.v4.0 rest) 
     by_test false false more = omega (arith, more)
 
 -- behind the last place of an address it comes no more
-has_no : (bs : List Binding) (a : ℕ) → ((n : ℕ) → HasAddress bs a n → ⊥) → has_some a bs ≡ false
+has_no : (bs : List Binding) (a : ℕ) → ((n : ℕ) → IsAtAddress bs a n → ⊥) → has_some a bs ≡ false
 has_no [] a none = refl
 has_no (x ∷ xs) a none = by_test (x.v4.0 == a) refl (has_no xs a (λ n h. none (suc n) h))
   where
@@ -140,7 +140,7 @@ has_no (x ∷ xs) a none = by_test (x.v4.0 == a) refl (has_no xs a (λ n h. none
     by_test true e more = absurd (none 0 (x, refl, eqb-true x.v4.0 a e))
     by_test false e more = more
 
-pub none_behind : (bs : List Binding) (a i : ℕ) → ((n : ℕ) → i ≤ n → HasAddress bs a n → ⊥) → has_some a (drop i bs) ≡ false
+pub none_behind : (bs : List Binding) (a i : ℕ) → ((n : ℕ) → i ≤ n → IsAtAddress bs a n → ⊥) → has_some a (drop i bs) ≡ false
 none_behind bs a zero none = has_no bs a (λ n h. none n (omega arith) h)
 none_behind [] a (suc i) none = refl
 none_behind (x ∷ xs) a (suc i) none = none_behind xs a i (λ n l h. none (suc n) (omega (arith, l)) h)

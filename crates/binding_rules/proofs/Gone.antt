@@ -8,13 +8,13 @@ use Rattle.binding_rules.specs.declared.binding.Binding.{Binding}
 use Rattle.binding_rules.specs.declared.conflicts.Pair.{Pair}
 use Rattle.binding_rules.specs.declared.settings.Edition.{Edition}
 use Rattle.binding_rules.specs.Conflicts.{Conflict}
-use Rattle.binding_rules.specs.Scans.{IsFirstPair, ArePair, IsNearest, IsLast, HasAddress, IsOwnersOf, AreFresh, owner_named, has_address, slot, earlier_of}
+use Rattle.binding_rules.specs.Scans.{IsFirstPair, ArePair, IsNearest, IsLast, IsAtAddress, IsOwnersOf, AreFresh, owner_named, is_at_address, slot, earlier_of}
 use Rattle.binding_rules.proofs.Leasts.{pair_iff, pair_or}
-use Rattle.binding_rules.proofs.Links.{has_address_of, same_binding}
+use Rattle.binding_rules.proofs.Links.{at_address_of, same_binding}
 
 -- from the place i on no binding has the address of the binding at n
 abbrev pub IsGone : List Binding → ℕ → ℕ → Type 0
-IsGone bs i n = (x : Binding) → slice_get bs n ≡ Some x → (m : ℕ) → i ≤ m → HasAddress bs x.v4.0 m → ⊥
+IsGone bs i n = (x : Binding) → slice_get bs n ≡ Some x → (m : ℕ) → i ≤ m → IsAtAddress bs x.v4.0 m → ⊥
 
 abbrev pub AreGone : List Binding → ℕ → List (Option ℕ) → Type 0
 AreGone bs i owners = (key n : ℕ) → key < 65536 → slot owners key ≡ Some n → IsGone bs i n
@@ -23,13 +23,13 @@ pub gone_later : (bs : List Binding) (i n : ℕ) → IsGone bs i n → IsGone bs
 gone_later bs i n gone x e m l h = gone x e m (omega arith) h
 
 -- at the last place of an address: after it the address is gone
-pub gone_here : (bs : List Binding) (a i n : ℕ) → IsLast bs a i → HasAddress bs a n → IsGone bs (i + 1) n
+pub gone_here : (bs : List Binding) (a i n : ℕ) → IsLast bs a i → IsAtAddress bs a n → IsGone bs (i + 1) n
 gone_here bs a i n last at_n x e m l h =
-    last.none_after m (omega arith) (subst (λ (b : ℕ). HasAddress bs b m) (has_address_of bs a n x e at_n) h)
+    last.none_after m (omega arith) (subst (λ (b : ℕ). IsAtAddress bs b m) (at_address_of bs a n x e at_n) h)
 
 -- what is gone after the place i was gone before it or has its address
 pub gone_before : (bs : List Binding) (i f : ℕ) (y x : Binding) → slice_get bs i ≡ Some y → slice_get bs f ≡ Some x
-    → IsGone bs (i + 1) f → IsGone bs i f ⊎ HasAddress bs y.v4.0 f
+    → IsGone bs (i + 1) f → IsGone bs i f ⊎ IsAtAddress bs y.v4.0 f
 gone_before bs i f y x here there gone =
     elim (cases_eq x.v4.0 y.v4.0) [
       | inl same ↦ inr (x, there, same)
@@ -38,7 +38,7 @@ gone_before bs i f y x here there gone =
         | inr more ↦ (let same : m ≡ i = omega arith in
             let z_is : z ≡ x = same_binding bs f z x e there in
             apart (sym (ap (λ (b : Binding). b.v4.0) z_is)
-            ∙ sym (has_address_of bs z.v4.0 i y here (subst (HasAddress bs z.v4.0) same h))))
+            ∙ sym (at_address_of bs z.v4.0 i y here (subst (IsAtAddress bs z.v4.0) same h))))
       ])
     ]
 
@@ -49,7 +49,7 @@ gone_same bs i f y o here nearest not_last gone x e m l h =
     elim (cases_lt i m) [
       | inl less ↦ gone x e m (omega arith) h
       | inr more ↦ (let same : m ≡ i = omega arith in
-          let address = has_address_of bs x.v4.0 i y here (subst (HasAddress bs x.v4.0) same h) in
+          let address = at_address_of bs x.v4.0 i y here (subst (IsAtAddress bs x.v4.0) same h) in
           later o refl nearest address)
     ]
   where
@@ -60,7 +60,7 @@ gone_same bs i f y o here nearest not_last gone x e m l h =
           | inl less ↦ near.1.1 i less (slice_get_within bs i y here) (y, here, refl)
           | inr not_less ↦ elim (cases_eq p i) [
             | inl same ↦ not_last (is ∙ ap (λ (n : ℕ). Some n) same)
-            | inr apart ↦ gone x e p (omega arith) (subst (λ (b : ℕ). HasAddress bs b p) address near.1.0)
+            | inr apart ↦ gone x e p (omega arith) (subst (λ (b : ℕ). IsAtAddress bs b p) address near.1.0)
           ]
         ]
 
@@ -75,10 +75,10 @@ pub fresh_for : (bs : List Binding) (i : ℕ) (y : Binding) (owners : List (Opti
     → AreFresh bs y.v4.0 owners
 fresh_for bs i y owners here gone key l = by_slot (slot owners key) refl
   where
-    by_binding : (n : ℕ) (o : Option Binding) → slice_get bs n ≡ o → slot owners key ≡ Some n → has_address y.v4.0 o ≡ false
+    by_binding : (n : ℕ) (o : Option Binding) → slice_get bs n ≡ o → slot owners key ≡ Some n → is_at_address y.v4.0 o ≡ false
     by_binding n None e is = refl
     by_binding n (Some x) e is =
-        elim (cases_Bool (has_address y.v4.0 (Some x))) [
+        elim (cases_Bool (is_at_address y.v4.0 (Some x))) [
           | inl t ↦ absurd (gone key n l is x e i (omega arith) (y, here, sym (eqb-true x.v4.0 y.v4.0 t)))
           | inr t ↦ t
         ]
@@ -97,14 +97,14 @@ gone_names bs a i before now last gone names key n l e =
     ]
 
 pub gone_best : (bs : List Binding) (e : Edition) (i : ℕ) (y : Binding) (best found : Option Pair) → slice_get bs i ≡ Some y → IsLast bs y.v4.0 i
-    → IsFirstPair bs (Conflict e) (IsGone bs i) best → IsFirstPair bs (Conflict e) (HasAddress bs y.v4.0) found
+    → IsFirstPair bs (Conflict e) (IsGone bs i) best → IsFirstPair bs (Conflict e) (IsAtAddress bs y.v4.0) found
     → IsFirstPair bs (Conflict e) (IsGone bs (i + 1)) (earlier_of best found)
 gone_best bs e i y best found here last old new =
-    pair_iff (λ f s. ArePair bs (Conflict e) (IsGone bs i) f s ⊎ ArePair bs (Conflict e) (HasAddress bs y.v4.0) f s)
+    pair_iff (λ f s. ArePair bs (Conflict e) (IsGone bs i) f s ⊎ ArePair bs (Conflict e) (IsAtAddress bs y.v4.0) f s)
     (ArePair bs (Conflict e) (IsGone bs (i + 1))) (earlier_of best found)
     (λ f s c. elim c [ inl h ↦ (gone_later bs i f h.0, h.1) | inr h ↦ (gone_here bs y.v4.0 i f last h.0, h.1) ])
     (λ f s h. elim (gone_before bs i f y h.1.there.0 here h.1.there.1 h.0) [ inl g ↦ inl (g, h.1) | inr g ↦ inr (g, h.1) ])
-    (pair_or (ArePair bs (Conflict e) (IsGone bs i)) (ArePair bs (Conflict e) (HasAddress bs y.v4.0)) best found old new)
+    (pair_or (ArePair bs (Conflict e) (IsGone bs i)) (ArePair bs (Conflict e) (IsAtAddress bs y.v4.0)) best found old new)
 
 pub same_best : (bs : List Binding) (e : Edition) (i : ℕ) (y : Binding) (o : Option ℕ) (best : Option Pair) → slice_get bs i ≡ Some y
     → IsNearest bs y.v4.0 (length bs) o → (o ≡ Some i → ⊥)

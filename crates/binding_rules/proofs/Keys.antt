@@ -16,9 +16,9 @@ use Rattle.binding_rules.specs.declared.conflicts.Pair.{Pair}
 use Rattle.binding_rules.specs.declared.settings.Edition.TheVariants as edition
 use Rattle.binding_rules.specs.Conflicts.{HaveCommonPort, HaveOneShape, Conflict}
 use Rattle.binding_rules.specs.Refusals.{AtBoth}
-use Rattle.binding_rules.specs.Scans.{IsLeast, IsFirstPair, ArePair, IsLeastUnlike, HasAddress, HaveCommonKey, AreShared, AreUnlike, IsWell, AreWell, paired, earlier_of}
+use Rattle.binding_rules.specs.Scans.{IsLeast, IsFirstPair, ArePair, IsLeastUnlike, IsAtAddress, HaveCommonKey, AreShared, AreUnlike, IsWell, AreWell, paired, earlier_of}
 use Rattle.binding_rules.proofs.Leasts.{pair_iff, pair_or}
-use Rattle.binding_rules.proofs.Links.{has_address_of, same_binding}
+use Rattle.binding_rules.proofs.Links.{at_address_of, same_binding}
 
 pub shape_cases : (x y : Binding) → HaveOneShape x y ⊎ (HaveOneShape x y → ⊥)
 shape_cases x y =
@@ -116,9 +116,9 @@ alike_both z x y h g = (sym h.0 ∙ g.0, sym h.1 ∙ g.1)
 
 -- in edition Two, where all bindings of the address have one shape
 pub two_by_identifier : (bs : List Binding) (a : ℕ) (like : Binding) (o : Option Pair) → AreWell bs → IsLeastUnlike bs a like None
-    → IsFirstPair bs (AreShared false) (HasAddress bs a) o → IsFirstPair bs (Conflict edition.Two) (HasAddress bs a) o
+    → IsFirstPair bs (AreShared false) (IsAtAddress bs a) o → IsFirstPair bs (Conflict edition.Two) (IsAtAddress bs a) o
 two_by_identifier bs a like o well none =
-    pair_iff (ArePair bs (AreShared false) (HasAddress bs a)) (ArePair bs (Conflict edition.Two) (HasAddress bs a)) o
+    pair_iff (ArePair bs (AreShared false) (IsAtAddress bs a)) (ArePair bs (Conflict edition.Two) (IsAtAddress bs a)) o
     (λ f s h. (
       h.0,
       both_map bs f s (AreShared false) (Conflict edition.Two)
@@ -139,30 +139,30 @@ two_by_identifier bs a like o well none =
           }) h.1,
     ))
   where
-    alike : (f s : ℕ) → HasAddress bs a f → (x y : Binding) → slice_get bs f ≡ Some x → slice_get bs s ≡ Some y → x.v4.0 ≡ y.v4.0 → HaveOneShape x y
+    alike : (f s : ℕ) → IsAtAddress bs a f → (x y : Binding) → slice_get bs f ≡ Some x → slice_get bs s ≡ Some y → x.v4.0 ≡ y.v4.0 → HaveOneShape x y
     alike f s h x y e g same =
-        let at_f = has_address_of bs a f x e h in
+        let at_f = at_address_of bs a f x e h in
         alike_both like x y (all_alike bs a like none f x e at_f) (all_alike bs a like none s y g (sym same ∙ at_f))
 
 -- the first two of unlike shapes are the first place of the address and the first whose shape is another
-pub unlike_first : (bs : List Binding) (a head : ℕ) (z : Binding) (unlike : Option ℕ) → IsLeast (HasAddress bs a) (Some head)
-    → slice_get bs head ≡ Some z → IsLeastUnlike bs a z unlike → IsFirstPair bs AreUnlike (HasAddress bs a) (paired head unlike)
+pub unlike_first : (bs : List Binding) (a head : ℕ) (z : Binding) (unlike : Option ℕ) → IsLeast (IsAtAddress bs a) (Some head)
+    → slice_get bs head ≡ Some z → IsLeastUnlike bs a z unlike → IsFirstPair bs AreUnlike (IsAtAddress bs a) (paired head unlike)
 unlike_first bs a head z None first there least = λ f s h.
     let g = h.1.there.2 in
     let x = h.1.there.0 in
-    let at_f = has_address_of bs a f x h.1.there.1 h.0 in
+    let at_f = at_address_of bs a f x h.1.there.1 h.0 in
     g.2.unlike (alike_both z x g.0 (all_alike bs a z least f x h.1.there.1 at_f) (all_alike bs a z least s g.0 g.1 (sym g.2.address ∙ at_f)))
 unlike_first bs a head z (Some u) first there least =
     let g = least.0.there in
     let apart : head ≡ u → ⊥ =
     (λ e. g.2.1 (subst (HaveOneShape z) (same_binding bs u z g.0 (subst (λ (n : ℕ). slice_get bs n ≡ Some z) e there) g.1) (refl, refl))) in
-    let at_head = has_address_of bs a head z there first.0 in
+    let at_head = at_address_of bs a head z there first.0 in
     let behind : head ≤ u = first.1 u (g.0, g.1, g.2.0) in (
       (first.0, record { ordered = omega arith; there = (z, there, (g.0, g.1, record { address = at_head ∙ sym g.2.0; unlike = g.2.1 })) }),
       λ f s h.
           let x = h.1.there.0 in
           let k = h.1.there.2 in
-          let at_f = has_address_of bs a f x h.1.there.1 h.0 in
+          let at_f = at_address_of bs a f x h.1.there.1 h.0 in
           let at_s = sym k.2.address ∙ at_f in
           let not_before : head ≤ f = first.1 f h.0 in
           elim (shape_cases z k.0) [
@@ -175,11 +175,11 @@ unlike_first bs a head z (Some u) first there least =
     )
 
 -- in edition One a conflict is two unlike shapes or an equal identifier
-pub one_by_identifier : (bs : List Binding) (a : ℕ) (u o : Option Pair) → AreWell bs → IsFirstPair bs AreUnlike (HasAddress bs a) u
-    → IsFirstPair bs (AreShared false) (HasAddress bs a) o → IsFirstPair bs (Conflict edition.One) (HasAddress bs a) (earlier_of u o)
+pub one_by_identifier : (bs : List Binding) (a : ℕ) (u o : Option Pair) → AreWell bs → IsFirstPair bs AreUnlike (IsAtAddress bs a) u
+    → IsFirstPair bs (AreShared false) (IsAtAddress bs a) o → IsFirstPair bs (Conflict edition.One) (IsAtAddress bs a) (earlier_of u o)
 one_by_identifier bs a u o well unlike shared =
-    pair_iff (λ f s. ArePair bs AreUnlike (HasAddress bs a) f s ⊎ ArePair bs (AreShared false) (HasAddress bs a) f s)
-    (ArePair bs (Conflict edition.One) (HasAddress bs a)) (earlier_of u o)
+    pair_iff (λ f s. ArePair bs AreUnlike (IsAtAddress bs a) f s ⊎ ArePair bs (AreShared false) (IsAtAddress bs a) f s)
+    (ArePair bs (Conflict edition.One) (IsAtAddress bs a)) (earlier_of u o)
     (λ f s e. elim e [
       | inl h ↦ (h.0, both_map bs f s AreUnlike (Conflict edition.One) (λ x y e g r. record { address = r.address; cause = inl r.unlike }) h.1)
       | inr h ↦ (
@@ -194,10 +194,10 @@ one_by_identifier bs a u o well unlike shared =
       )
     ])
     (λ f s h. split f s h.0 h.1)
-    (pair_or (ArePair bs AreUnlike (HasAddress bs a)) (ArePair bs (AreShared false) (HasAddress bs a)) u o unlike shared)
+    (pair_or (ArePair bs AreUnlike (IsAtAddress bs a)) (ArePair bs (AreShared false) (IsAtAddress bs a)) u o unlike shared)
   where
-    split : (f s : ℕ) → HasAddress bs a f → AtBoth bs f s (Conflict edition.One)
-        → ArePair bs AreUnlike (HasAddress bs a) f s ⊎ ArePair bs (AreShared false) (HasAddress bs a) f s
+    split : (f s : ℕ) → IsAtAddress bs a f → AtBoth bs f s (Conflict edition.One)
+        → ArePair bs AreUnlike (IsAtAddress bs a) f s ⊎ ArePair bs (AreShared false) (IsAtAddress bs a) f s
     split f s at_f both =
         let x = both.there.0 in
         let h = both.there.2 in
@@ -226,6 +226,6 @@ one_by_identifier bs a u o well unlike shared =
 
 pub two_by_none : (bs : List Binding) (a : ℕ) (like : Binding) (unlike : Option ℕ) (o : Option Pair) → AreWell bs
     → is_some unlike ≡ false → IsLeastUnlike bs a like unlike
-    → IsFirstPair bs (AreShared false) (HasAddress bs a) o → IsFirstPair bs (Conflict edition.Two) (HasAddress bs a) o
+    → IsFirstPair bs (AreShared false) (IsAtAddress bs a) o → IsFirstPair bs (Conflict edition.Two) (IsAtAddress bs a) o
 two_by_none bs a like None o well none least first = two_by_identifier bs a like o well least first
 two_by_none bs a like (Some u) o well none least first = absurd (true≢false none)

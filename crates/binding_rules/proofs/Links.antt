@@ -12,11 +12,11 @@ use Rattle.std.specs.BTreeMap.{BTreeMap, get, is_at}
 use Rattle.binding_rules.specs.Conflicts.{HaveOneShape}
 use Rattle.binding_rules.specs.declared.binding.Binding.{Binding}
 use Rattle.binding_rules.specs.Refusals.{At}
-use Rattle.binding_rules.specs.Scans.{IsNearest, IsAbove, IsLater, HasAddress, IsLeast, IsLast, IsLinked, ends_within, slot}
+use Rattle.binding_rules.specs.Scans.{IsNearest, IsAbove, IsLater, IsAtAddress, IsLeast, IsLast, IsLinked, ends_within, slot}
 use Rattle.binding_rules.proofs.Leasts.{least_iff}
 
 -- what a place has, without the property
-pub address_of : (bs : List Binding) (a n : ℕ) (P : Binding → Type 0) → At bs n (λ x. (x.v4.0 ≡ a) × P x) → HasAddress bs a n
+pub address_of : (bs : List Binding) (a n : ℕ) (P : Binding → Type 0) → At bs n (λ x. (x.v4.0 ≡ a) × P x) → IsAtAddress bs a n
 address_of bs a n P h = (h.0, h.1, h.2.0)
 
 -- behind the nearest earlier place are those behind the place, and the place itself
@@ -71,9 +71,9 @@ none_later bs a last P h = λ n l. h.none_after n l.above (address_of bs a n P l
 -- the place, where there is one, is of the address
 abbrev pub IsOf : List Binding → ℕ → Option ℕ → Type 0
 IsOf bs a None = Unit {0}
-IsOf bs a (Some p) = HasAddress bs a p
+IsOf bs a (Some p) = IsAtAddress bs a p
 
-pub near_of : (bs : List Binding) (previous : List (Option ℕ)) (a p : ℕ) → IsLinked bs previous → HasAddress bs a p
+pub near_of : (bs : List Binding) (previous : List (Option ℕ)) (a p : ℕ) → IsLinked bs previous → IsAtAddress bs a p
     → IsNearest bs a p (slot previous p)
 near_of bs previous a p linked h = subst (λ v. IsNearest bs v p (slot previous p)) h.2 (linked.nearest p h.0 h.1)
 
@@ -81,11 +81,11 @@ pub nearest_is_of : (bs : List Binding) (a p : ℕ) (o : Option ℕ) → IsNeare
 nearest_is_of bs a p None nearest = tt
 nearest_is_of bs a p (Some q) nearest = nearest.1.0
 
-pub nearest_below : (bs : List Binding) (a p q : ℕ) (o : Option ℕ) → IsNearest bs a p o → o ≡ Some q → (q < p) × HasAddress bs a q
+pub nearest_below : (bs : List Binding) (a p q : ℕ) (o : Option ℕ) → IsNearest bs a p o → o ≡ Some q → (q < p) × IsAtAddress bs a q
 nearest_below bs a p q o nearest e = let h = subst (λ v. IsNearest bs a p v) e nearest in (h.0, h.1.0)
 
 pub head_is : (bs : List Binding) (previous : List (Option ℕ)) (a p : ℕ) → IsLinked bs previous → slot previous p ≡ None
-    → HasAddress bs a p → IsLeast (HasAddress bs a) (Some p)
+    → IsAtAddress bs a p → IsLeast (IsAtAddress bs a) (Some p)
 head_is bs previous a p linked e h =
     let none = subst (λ v. IsNearest bs a p v) e (near_of bs previous a p linked h) in
     (h, λ n g. elim (cases_lt n p) [ inl l ↦ absurd (none n l g) | inr m ↦ m ])
@@ -95,7 +95,7 @@ abbrev pub reach : Option ℕ → ℕ
 reach None = 0
 reach (Some p) = p + 1
 
-pub of_within : (bs : List Binding) (a p : ℕ) → HasAddress bs a p → p < length bs
+pub of_within : (bs : List Binding) (a p : ℕ) → IsAtAddress bs a p → p < length bs
 of_within bs a p h = slice_get_within bs p h.0 h.1
 
 pub there_is : (bs : List Binding) (p : ℕ) → p < length bs → (x : Binding) × (slice_get bs p ≡ Some x)
@@ -121,10 +121,10 @@ abbrev pub IsToCome : ℕ → Option ℕ → Type 0
 IsToCome place None = ⊥
 IsToCome place (Some at) = place ≤ at
 
-pub last_to_come : (bs : List Binding) (a last place : ℕ) → IsLast bs a last → HasAddress bs a place → place ≤ last
+pub last_to_come : (bs : List Binding) (a last place : ℕ) → IsLast bs a last → IsAtAddress bs a place → place ≤ last
 last_to_come bs a last place h at_place = elim (cases_lt last place) [ inl less ↦ absurd (h.none_after place less at_place) | inr m ↦ m ]
 
-pub still_to_come : (bs : List Binding) (a p place : ℕ) (o : Option ℕ) → IsNearest bs a p o → HasAddress bs a place → place ≤ p
+pub still_to_come : (bs : List Binding) (a p place : ℕ) (o : Option ℕ) → IsNearest bs a p o → IsAtAddress bs a place → place ≤ p
     → (p ≡ place → ⊥) → IsToCome place o
 still_to_come bs a p place None near h l apart = near place (omega arith) h
 still_to_come bs a p place (Some q) near h l apart =
@@ -152,7 +152,7 @@ reach_less bs previous o p linked l e =
     below (Some q) near = omega (arith, near.0)
 
 pub head_down : (bs : List Binding) (previous : List (Option ℕ)) (p q : ℕ) → IsLinked bs previous → p < length bs
-    → slot previous p ≡ Some q → (q < p) × ((a : ℕ) → HasAddress bs a p → HasAddress bs a q)
+    → slot previous p ≡ Some q → (q < p) × ((a : ℕ) → IsAtAddress bs a p → IsAtAddress bs a q)
 head_down bs previous p q linked l e =
     let x = there_is bs p l in (
       (nearest_below bs x.0.v4.0 p q _ (linked.nearest p x.0 x.1) e).0,
@@ -163,15 +163,15 @@ pub same_binding : (bs : List Binding) (p : ℕ) (x y : Binding) → slice_get b
 same_binding bs p x y e f = same_Some x y (sym e ∙ f)
 
 -- the binding at a place of the address has the address
-pub has_address_of : (bs : List Binding) (a p : ℕ) (y : Binding) → slice_get bs p ≡ Some y → HasAddress bs a p → y.v4.0 ≡ a
-has_address_of bs a p y e h = subst (λ (z : Binding). z.v4.0 ≡ a) (same_binding bs p h.0 y h.1 e) h.2
+pub at_address_of : (bs : List Binding) (a p : ℕ) (y : Binding) → slice_get bs p ≡ Some y → IsAtAddress bs a p → y.v4.0 ≡ a
+at_address_of bs a p y e h = subst (λ (z : Binding). z.v4.0 ≡ a) (same_binding bs p h.0 y h.1 e) h.2
 
 -- a step of the search for an unlike shape, where the place has one and where it has not
 pub unlike_found : (bs : List Binding) (like y : Binding) (p : ℕ) (o : Option ℕ) → IsNearest bs like.v4.0 p o
-    → slice_get bs p ≡ Some y → HasAddress bs like.v4.0 p → (HaveOneShape like y → ⊥)
+    → slice_get bs p ≡ Some y → IsAtAddress bs like.v4.0 p → (HaveOneShape like y → ⊥)
     → IsLeast (IsLater bs like.v4.0 o (λ x. HaveOneShape like x → ⊥)) (Some p)
 unlike_found bs like y p o nearest e h unlike =
-    least_here bs like.v4.0 p o (λ x. HaveOneShape like x → ⊥) nearest (y, e, (has_address_of bs like.v4.0 p y e h, unlike))
+    least_here bs like.v4.0 p o (λ x. HaveOneShape like x → ⊥) nearest (y, e, (at_address_of bs like.v4.0 p y e h, unlike))
 
 pub unlike_kept : (bs : List Binding) (like y : Binding) (p : ℕ) (o found : Option ℕ) → IsNearest bs like.v4.0 p o
     → slice_get bs p ≡ Some y → HaveOneShape like y
@@ -202,13 +202,13 @@ nearest_next bs i a y old new e here others before =
       | inl same ↦ subst (λ o. IsNearest bs a (i + 1) o) (sym here ∙ ap (get nat_cmp new) same)
           (omega arith, ((y, e, same), λ n l m h. absurd (omega arith)))
       | inr apart ↦ subst (λ o. IsNearest bs a (i + 1) o) (sym (others a (not_at y.v4.0 a apart)))
-          (kept (get nat_cmp old a) before (λ h. apart (has_address_of bs a i y e h)))
+          (kept (get nat_cmp old a) before (λ h. apart (at_address_of bs a i y e h)))
     ]
   where
-    kept : (o : Option ℕ) → IsNearest bs a i o → (HasAddress bs a i → ⊥) → IsNearest bs a (i + 1) o
+    kept : (o : Option ℕ) → IsNearest bs a i o → (IsAtAddress bs a i → ⊥) → IsNearest bs a (i + 1) o
     kept None near not_here = λ n l h. elim (cases_lt n i) [
       | inl less ↦ near n less h
-      | inr more ↦ (let same : n ≡ i = omega arith in not_here (subst (HasAddress bs a) same h))
+      | inr more ↦ (let same : n ≡ i = omega arith in not_here (subst (IsAtAddress bs a) same h))
     ]
     kept (Some q) near not_here = (
       omega (arith, near.0),
@@ -216,7 +216,7 @@ nearest_next bs i a y old new e here others before =
         near.1.0,
         λ n l m h. elim (cases_lt n i) [
           | inl less ↦ near.1.1 n l less h
-          | inr more ↦ (let same : n ≡ i = omega arith in not_here (subst (HasAddress bs a) same h))
+          | inr more ↦ (let same : n ≡ i = omega arith in not_here (subst (IsAtAddress bs a) same h))
         ],
       ),
     )

@@ -6,7 +6,7 @@ use Rattle.std.proofs.lemmas.Option.{same_Some}
 use Rattle.binding_rules.specs.declared.binding.Binding.{Binding}
 use Rattle.binding_rules.specs.declared.conflicts.Pair.{Pair}
 use Rattle.binding_rules.specs.Refusals.{AtBoth}
-use Rattle.binding_rules.specs.Scans.{IsLeast, IsLeastPair, IsFirstPair, ArePair, IsNearest, IsLinked, IsLast, IsLater, HasAddress, HaveCommonKey, AreShared, AreFresh, IsMet, IsTaken, IsOwnersOf, has_key, owner_named, slot, paired, earlier_of}
+use Rattle.binding_rules.specs.Scans.{IsLeast, IsLeastPair, IsFirstPair, ArePair, IsNearest, IsLinked, IsLast, IsLater, IsAtAddress, HaveCommonKey, AreShared, AreFresh, IsMet, IsTaken, IsOwnersOf, has_key, owner_named, slot, paired, earlier_of}
 use Rattle.binding_rules.specs.Conflicts.{HaveCommonPort}
 use Rattle.binding_rules.proofs.Keys.{port_is_key, key_is_port}
 use Rattle.binding_rules.proofs.Leasts.{least_iff, pair_iff, pair_or}
@@ -46,7 +46,7 @@ module _ (bp : Bool) (bs : List Binding) (a p : ℕ) (x : Binding) (there : slic
   owners_next owners before now taken old key n l e =
       elim (cases_Bool (has_key bp x key)) [
         | inl t ↦ (let same : p ≡ n = same_Some p n (sym (taken.taken key l t) ∙ e) in
-            inr (subst (HasAddress bs a) same (x, there, address)))
+            inr (subst (IsAtAddress bs a) same (x, there, address)))
         | inr t ↦ old key n l (sym (taken.kept key l t) ∙ e)
       ]
 
@@ -151,15 +151,15 @@ walked_none bp bs a last owners h fresh = record {
 }
 
 all_behind : (bp : Bool) (bs : List Binding) (a : ℕ) (best : Option Pair) → IsFirstPair bs (AreShared bp) (IsBehind bs a None) best
-    → IsFirstPair bs (AreShared bp) (HasAddress bs a) best
+    → IsFirstPair bs (AreShared bp) (IsAtAddress bs a) best
 all_behind bp bs a best first =
-    pair_iff (ArePair bs (AreShared bp) (IsBehind bs a None)) (ArePair bs (AreShared bp) (HasAddress bs a)) best
+    pair_iff (ArePair bs (AreShared bp) (IsBehind bs a None)) (ArePair bs (AreShared bp) (IsAtAddress bs a)) best
     (λ f s h. ((h.0.there.0, h.0.there.1, h.0.there.2.0), h.1))
     (λ f s h. (record { above = tt; there = (h.0.0, h.0.1, (h.0.2, tt)) }, h.1))
     first
 
 pub walked_all : (bp : Bool) (bs : List Binding) (a : ℕ) (at : Option ℕ) (before owners : List (Option ℕ)) (best : Option Pair) → at ≡ None
-    → IsWalked bp bs a at before owners best → IsFirstPair bs (AreShared bp) (HasAddress bs a) best
+    → IsWalked bp bs a at before owners best → IsFirstPair bs (AreShared bp) (IsAtAddress bs a) best
 walked_all bp bs a at before owners best e walked =
     all_behind bp bs a best (subst (λ o. IsWalked bp bs a o before owners best) e walked).first
 
@@ -187,7 +187,7 @@ compared_next bs previous a p x best met linked there address walked least =
     }
 
 pub compared_all : (bs : List Binding) (a : ℕ) (at : Option ℕ) (best : Option Pair) → at ≡ None → IsCompared bs a at best
-    → IsFirstPair bs (AreShared true) (HasAddress bs a) best
+    → IsFirstPair bs (AreShared true) (IsAtAddress bs a) best
 compared_all bs a at best e walked =
     let w = subst (λ o. IsCompared bs a o best) e walked in
     all_behind true bs a best w.first

@@ -5,8 +5,8 @@ use Rattle.std.proofs.lemmas.Bool.{cases_Bool, cases_lt, cases_eq}
 use Rattle.std.proofs.lemmas.Option.{none-some, same_Some, slice_get_within}
 use Rattle.binding_rules.specs.declared.binding.Binding.{Binding}
 use Rattle.binding_rules.specs.Refusals.{At}
-use Rattle.binding_rules.specs.Scans.{IsLeast, IsFirstPair, IsFollowing, ArePair, HasAddress, AreShared, AreFresh, IsMet, IsTaken, IsOwnersOf, has_key, owner_named, slot}
-use Rattle.binding_rules.proofs.Links.{has_address_of, same_binding}
+use Rattle.binding_rules.specs.Scans.{IsLeast, IsFirstPair, IsFollowing, ArePair, IsAtAddress, AreShared, AreFresh, IsMet, IsTaken, IsOwnersOf, has_key, owner_named, slot}
+use Rattle.binding_rules.proofs.Links.{at_address_of, same_binding}
 use Rattle.binding_rules.proofs.Pairs.{counted_here, owners_next}
 
 -- what holds before the place i: each key has at most one owner among the places of the address before it, and the slot
@@ -27,28 +27,28 @@ risen_none bp bs a owners fresh = record {
 
 -- no two places before the place share a key
 apart : (bp : Bool) (bs : List Binding) (a i : ℕ) (before owners : List (Option ℕ)) → IsRisen bp bs a i before owners → (f s : ℕ) → s < i
-    → ArePair bs (AreShared bp) (HasAddress bs a) f s → ⊥
+    → ArePair bs (AreShared bp) (IsAtAddress bs a) f s → ⊥
 apart bp bs a i before owners risen f s l h =
     let both = h.1.there in
     let other = both.2 in
     let x = both.0 in
     let y = other.0 in
     let common = other.2.common in
-    let at_f : x.v4.0 ≡ a = has_address_of bs a f x both.1 h.0 in
+    let at_f : x.v4.0 ≡ a = at_address_of bs a f x both.1 h.0 in
     let at_s : y.v4.0 ≡ a = sym other.2.address ∙ at_f in
     let first = risen.taken common.0 f x common.1 (omega (arith, h.1.ordered, l)) both.1 at_f common.2 in
     let second = risen.taken common.0 s y common.1 l other.1 at_s common.3 in
     omega (arith, h.1.ordered, same_Some f s (sym first ∙ second))
 
 pub risen_all : (bp : Bool) (bs : List Binding) (a : ℕ) (before owners : List (Option ℕ)) → IsRisen bp bs a (length bs) before owners
-    → IsFirstPair bs (AreShared bp) (HasAddress bs a) None
+    → IsFirstPair bs (AreShared bp) (IsAtAddress bs a) None
 risen_all bp bs a before owners risen f s h =
     let other = h.1.there.2 in
     apart bp bs a (length bs) before owners risen f s (slice_get_within bs s other.0 other.1) h
 
 -- from one place to a later one, where none between them is of the address
 pub risen_past : (bp : Bool) (bs : List Binding) (a i j : ℕ) (before owners : List (Option ℕ)) → i ≤ j
-    → ((n : ℕ) → i ≤ n → n < j → HasAddress bs a n → ⊥) → IsRisen bp bs a i before owners → IsRisen bp bs a j before owners
+    → ((n : ℕ) → i ≤ n → n < j → IsAtAddress bs a n → ⊥) → IsRisen bp bs a i before owners → IsRisen bp bs a j before owners
 risen_past bp bs a i j before owners up none risen = record {
   named = λ key n l e. (let h = risen.named key n l e in (omega (arith, h.0, up), h.1));
   taken = λ key n x l m at_n address has. elim (cases_lt n i) [
@@ -63,7 +63,7 @@ abbrev pub IsRisenTo : Bool → List Binding → ℕ → Option ℕ → List (Op
 IsRisenTo bp bs a None before owners = IsRisen bp bs a (length bs) before owners
 IsRisenTo bp bs a (Some i) before owners = IsRisen bp bs a i before owners
 
-pub risen_first : (bp : Bool) (bs : List Binding) (a head : ℕ) (owners : List (Option ℕ)) → IsLeast (HasAddress bs a) (Some head)
+pub risen_first : (bp : Bool) (bs : List Binding) (a head : ℕ) (owners : List (Option ℕ)) → IsLeast (IsAtAddress bs a) (Some head)
     → AreFresh bs a owners → IsRisen bp bs a head owners owners
 risen_first bp bs a head owners least fresh =
     risen_past bp bs a 0 head owners owners (omega arith) (λ n m l h. absurd (omega (arith, l, least.1 n h))) (risen_none bp bs a owners fresh)
@@ -106,7 +106,7 @@ module _ (bp : Bool) (bs : List Binding) (a i : ℕ) (x : Binding) (before owner
   -- a place of the address that shares a key: it is the second of the first pair, and the least that it shares one with is
   -- the first
   pub risen_found : (first : ℕ) → IsLeast (IsMet bp x bs a owners) (Some first)
-      → IsFirstPair bs (AreShared bp) (HasAddress bs a) (Some (record { first = first; second = i }))
+      → IsFirstPair bs (AreShared bp) (IsAtAddress bs a) (Some (record { first = first; second = i }))
   risen_found first least =
       let met = least.0 in
       let owner = risen.named met.key first met.in_range met.named in
@@ -126,7 +126,7 @@ module _ (bp : Bool) (bs : List Binding) (a i : ℕ) (x : Binding) (before owner
                 (let both = h.1.there in
                 let other = both.2 in
                 let common = other.2.common in
-                let at_f : both.0.v4.0 ≡ a = has_address_of bs a f both.0 both.1 h.0 in
+                let at_f : both.0.v4.0 ≡ a = at_address_of bs a f both.0 both.1 h.0 in
                 let x_is : other.0 ≡ x = same_binding bs i other.0 x (subst (λ (k : ℕ). slice_get bs k ≡ Some other.0) same other.1) there in
                 let t = sym (ap (λ (z : Binding). has_key bp z common.0) x_is) ∙ common.3 in
                 let named = risen.taken common.0 f both.0 common.1 (omega (arith, h.1.ordered, same)) both.1 at_f common.2 in

@@ -5,15 +5,15 @@ use Rattle.std.proofs.lemmas.Bool.{cases_order, cases_lt, cases_eq}
 use Rattle.std.proofs.lemmas.List.{get_or_append_left, get_or-set_same, get_or-set_other}
 use Rattle.std.proofs.Math.Seq.{get_or-append_seam}
 use Rattle.binding_rules.specs.declared.binding.Binding.{Binding}
-use Rattle.binding_rules.specs.Scans.{IsNearest, IsFollowing, HasAddress, IsLinkedUp, slot}
-use Rattle.binding_rules.proofs.Links.{IsOf, has_address_of}
+use Rattle.binding_rules.specs.Scans.{IsNearest, IsFollowing, IsAtAddress, IsLinkedUp, slot}
+use Rattle.binding_rules.proofs.Links.{IsOf, at_address_of}
 
 -- one more place below the end, where it changes nothing
-pub following_kept : (bs : List Binding) (a p i : ℕ) (o : Option ℕ) → IsFollowing bs a p i o → (o ≡ None → HasAddress bs a i → ⊥)
+pub following_kept : (bs : List Binding) (a p i : ℕ) (o : Option ℕ) → IsFollowing bs a p i o → (o ≡ None → IsAtAddress bs a i → ⊥)
     → IsFollowing bs a p (i + 1) o
 following_kept bs a p i None follows not_here = λ n l m h. elim (cases_lt n i) [
   | inl less ↦ follows n l less h
-  | inr more ↦ (let same : n ≡ i = omega (arith, m, more) in not_here refl (subst (HasAddress bs a) same h))
+  | inr more ↦ (let same : n ≡ i = omega (arith, m, more) in not_here refl (subst (IsAtAddress bs a) same h))
 ]
 following_kept bs a p i (Some q) follows not_here = (follows.0, omega (arith, follows.1), follows.2, follows.3)
 
@@ -38,7 +38,7 @@ module _ (bs : List Binding) (i : ℕ) (y : Binding) (next : List (Option ℕ)) 
   linked_first nearest p x l h = elim (cases_lt p i) [
     | inl less ↦ subst (λ o. IsFollowing bs x.v4.0 p (i + 1) o) (sym (old_slot p less))
         (following_kept bs x.v4.0 p i (slot next p) (before p x less h)
-        (λ none here. nearest p less (x, h, sym (has_address_of bs x.v4.0 i y there here))))
+        (λ none here. nearest p less (x, h, sym (at_address_of bs x.v4.0 i y there here))))
     | inr more ↦ (let same : p ≡ i = omega (arith, l, more) in
         subst (λ o. IsFollowing bs x.v4.0 p (i + 1) o) (sym (new_slot p same)) (none_behind x.v4.0 p same))
   ]
@@ -54,14 +54,14 @@ module _ (bs : List Binding) (i : ℕ) (y : Binding) (next : List (Option ℕ)) 
         ap (slot linked) same ∙ get_or-set_same longer q (Some i) None within
 
     -- a place that has none behind it below i is no other place of the address
-    no_other : (p : ℕ) (x : Binding) → p < i → (p ≡ q → ⊥) → slice_get bs p ≡ Some x → slot next p ≡ None → HasAddress bs x.v4.0 i → ⊥
+    no_other : (p : ℕ) (x : Binding) → p < i → (p ≡ q → ⊥) → slice_get bs p ≡ Some x → slot next p ≡ None → IsAtAddress bs x.v4.0 i → ⊥
     no_other p x less apart h none here =
         let follows = subst (λ o. IsFollowing bs x.v4.0 p i o) none (before p x less h) in
-        let address : y.v4.0 ≡ x.v4.0 = has_address_of bs x.v4.0 i y there here in
+        let address : y.v4.0 ≡ x.v4.0 = at_address_of bs x.v4.0 i y there here in
         elim (cases_order p q) [
           | inl same ↦ apart same
           | inr c ↦ elim c [
-            | inl below ↦ follows q below nearest.0 (subst (λ v. HasAddress bs v q) address nearest.1.0)
+            | inl below ↦ follows q below nearest.0 (subst (λ v. IsAtAddress bs v q) address nearest.1.0)
             | inr above ↦ nearest.1.1 p above less (x, h, sym address)
           ]
         ]
@@ -69,12 +69,12 @@ module _ (bs : List Binding) (i : ℕ) (y : Binding) (next : List (Option ℕ)) 
     pub linked_behind : (p : ℕ) (x : Binding) → p < i + 1 → slice_get bs p ≡ Some x → IsFollowing bs x.v4.0 p (i + 1) (slot linked p)
     linked_behind p x l h = elim (cases_eq p q) [
       | inl same ↦
-          (let address : x.v4.0 ≡ y.v4.0 = has_address_of bs y.v4.0 q x (subst (λ (n : ℕ). slice_get bs n ≡ Some x) same h) nearest.1.0 in
+          (let address : x.v4.0 ≡ y.v4.0 = at_address_of bs y.v4.0 q x (subst (λ (n : ℕ). slice_get bs n ≡ Some x) same h) nearest.1.0 in
           subst (λ o. IsFollowing bs x.v4.0 p (i + 1) o) (sym (linked_at p same)) (
             omega (arith, same, nearest.0),
             omega arith,
             (y, there, sym address),
-            λ n m k g. nearest.1.1 n (omega (arith, same, m)) k (subst (λ v. HasAddress bs v n) address g),
+            λ n m k g. nearest.1.1 n (omega (arith, same, m)) k (subst (λ v. IsAtAddress bs v n) address g),
           ))
       | inr apart ↦
           (let kept : slot linked p ≡ slot longer p = get_or-set_other longer q p (Some i) None apart in
@@ -86,7 +86,7 @@ module _ (bs : List Binding) (i : ℕ) (y : Binding) (next : List (Option ℕ)) 
           ])
     ]
 
-pub following_of : (bs : List Binding) (next : List (Option ℕ)) (a p : ℕ) → IsLinkedUp bs next → HasAddress bs a p
+pub following_of : (bs : List Binding) (next : List (Option ℕ)) (a p : ℕ) → IsLinkedUp bs next → IsAtAddress bs a p
     → IsFollowing bs a p (length bs) (slot next p)
 following_of bs next a p linked h = subst (λ v. IsFollowing bs v p (length bs) (slot next p)) h.2 (linked.following p h.0 h.1)
 

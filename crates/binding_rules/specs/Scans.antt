@@ -114,14 +114,14 @@ pub record AreUnlike (x y : Binding) : Type 0 where
   pub address : x.v4.0 ≡ y.v4.0
   pub unlike : HaveOneShape x y → ⊥
 
-abbrev pub has_address : ℕ → Option Binding → Bool
-has_address a None = false
-has_address a (Some x) = x.v4.0 == a
+abbrev pub is_at_address : ℕ → Option Binding → Bool
+is_at_address a None = false
+is_at_address a (Some x) = x.v4.0 == a
 
 -- what a slot says of the address: the place that it names, where the binding there has this address
 abbrev pub owner_named : List Binding → ℕ → Option ℕ → Option ℕ
 owner_named bindings a None = None
-owner_named bindings a (Some place) = if has_address a (slice_get bindings place) then Some place else None
+owner_named bindings a (Some place) = if is_at_address a (slice_get bindings place) then Some place else None
 
 -- a slot of a key of the binding names the place
 pub record IsMet (by_port : Bool) (x : Binding) (bindings : List Binding) (a : ℕ) (owners : List (Option ℕ)) (place : ℕ) : Type 0 where
@@ -151,13 +151,17 @@ ArePair bindings R G f s = G f × AtBoth bindings f s R
 abbrev pub IsFirstPair : List Binding → (Binding → Binding → Type 0) → (ℕ → Type 0) → Option Pair → Type 0
 IsFirstPair bindings R G pair = IsLeastPair (ArePair bindings R G) pair
 
+-- so many bindings of one address are compared two by two, and no more
+abbrev pub most_compared : ℕ
+most_compared = 256
+
 -- the binding at the place has the address
-abbrev pub HasAddress : List Binding → ℕ → ℕ → Type 0
-HasAddress bindings a n = At bindings n (λ x. x.v4.0 ≡ a)
+abbrev pub IsAtAddress : List Binding → ℕ → ℕ → Type 0
+IsAtAddress bindings a n = At bindings n (λ x. x.v4.0 ≡ a)
 
 -- a slot's new name is its old one or a place of the address
 abbrev pub IsOwnersOf : List Binding → ℕ → List (Option ℕ) → List (Option ℕ) → Type 0
-IsOwnersOf bindings a before now = (key n : ℕ) → key < 65536 → slot now key ≡ Some n → (slot before key ≡ Some n) ⊎ HasAddress bindings a n
+IsOwnersOf bindings a before now = (key n : ℕ) → key < 65536 → slot now key ≡ Some n → (slot before key ≡ Some n) ⊎ IsAtAddress bindings a n
 
 -- no slot counts for the address
 abbrev pub AreFresh : List Binding → ℕ → List (Option ℕ) → Type 0

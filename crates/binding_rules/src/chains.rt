@@ -3,7 +3,7 @@ ghost use Rattle.std.specs.Prelude.{ℕ, ◌≡◌, ◌+◌, ◌<◌, ◌≤◌,
 ghost use Rattle.std.specs.Ordering.{nat_cmp};
 ghost use Rattle.std.specs.BTreeMap.{get};
 ghost use Rattle.binding_rules.specs.Conflicts.{HaveCommonPort, HaveOneShape};
-ghost use Rattle.binding_rules.specs.Scans.{IsLinked, IsLinkedUp, IsNearest, IsLast, IsLeast, IsLeastUnlike, IsLater, HasAddress, AreWell, ends_within};
+ghost use Rattle.binding_rules.specs.Scans.{IsLinked, IsLinkedUp, IsNearest, IsLast, IsLeast, IsLeastUnlike, IsLater, IsAtAddress, AreWell, ends_within};
 ghost use Rattle.binding_rules.specs.Steps.{count_of};
 
 use crate::binding::Binding;
@@ -72,8 +72,8 @@ pub(crate) fn head_of<L: Ledger>(
 ) -> u32
     requires linked { IsLinked bindings.now previous.now }
     requires within { last < length bindings.now }
-    ensures head { (a : ℕ) → HasAddress bindings.now a last → IsLeast (HasAddress bindings.now a) (Some result) }
-    ensures cost { (a : ℕ) → HasAddress bindings.now a last → steps.new ≤ steps.old + count_of a bindings.now }
+    ensures head { (a : ℕ) → IsAtAddress bindings.now a last → IsLeast (IsAtAddress bindings.now a) (Some result) }
+    ensures cost { (a : ℕ) → IsAtAddress bindings.now a last → steps.new ≤ steps.old + count_of a bindings.now }
 {
     let mut place = last;
     'chain: while let Some(earlier) = previous[place as usize] {

@@ -1,7 +1,7 @@
 // The first conflict, found address by address.
 ghost use Rattle.std.specs.Prelude.{◌≡◌, ℕ, ◌+◌, ◌*◌, ◌<◌, ◌≤◌, true, false, None, Some, length, IfOk};
 ghost use Rattle.binding_rules.specs.Conflicts.{Conflict};
-ghost use Rattle.binding_rules.specs.Scans.{IsLinked, IsLinkedUp, IsLast, IsLeast, IsFirstPair, HasAddress, AreShared, IsOwnersOf, AreWell, AreFresh, earlier_of, ends_within, paired, slot};
+ghost use Rattle.binding_rules.specs.Scans.{IsLinked, IsLinkedUp, IsLast, IsLeast, IsFirstPair, IsAtAddress, AreShared, IsOwnersOf, AreWell, AreFresh, earlier_of, ends_within, paired, slot, most_compared};
 ghost use Rattle.binding_rules.specs.Steps.{addresses, count_of};
 
 use crate::binding::Binding;
@@ -65,7 +65,7 @@ fn shared_pair<L: Ledger>(
     requires well { AreWell bindings.now }
     requires size { length owners.old ≡ 65536 }
     requires fresh { AreFresh bindings.now v4.0 owners.old }
-    ensures first { IsFirstPair bindings.now (AreShared false) (HasAddress bindings.now v4.0) result }
+    ensures first { IsFirstPair bindings.now (AreShared false) (IsAtAddress bindings.now v4.0) result }
     ensures owners { IsOwnersOf bindings.now v4.0 owners.old owners.new }
     ensures cost { steps.new ≤ steps.old + count_of v4.0 bindings.now }
 {
@@ -87,7 +87,7 @@ fn shared_pair<L: Ledger>(
     best
 }
 
-/// The same for ports, by a comparison of each two bindings of the address. It takes no slots. At most 256 bindings are
+/// The same for ports, by a comparison of each two bindings of the address. It takes no slots. At most `MOST_COMPARED` bindings are
 /// compared so, since the comparisons grow with the square of their number.
 fn compared_pair<L: Ledger>(
     bindings: &[Binding],
@@ -97,10 +97,10 @@ fn compared_pair<L: Ledger>(
     steps: &mut Steps<L>,
 ) -> Option<Pair>
     requires linked { IsLinked bindings.now previous.now }
-    requires few { ends_within previous.now (Some last) 256 ≡ true }
+    requires few { ends_within previous.now (Some last) most_compared ≡ true }
     requires last { IsLast bindings.now v4.0 last }
     requires well { AreWell bindings.now }
-    ensures first { IsFirstPair bindings.now (AreShared true) (HasAddress bindings.now v4.0) result }
+    ensures first { IsFirstPair bindings.now (AreShared true) (IsAtAddress bindings.now v4.0) result }
     ensures cost { steps.new ≤ steps.old + 65792 }
 {
     let mut best = None;
@@ -132,11 +132,11 @@ fn risen_pair<L: Ledger>(
 ) -> Option<Pair>
     requires few { length bindings.now ≤ 65536 }
     requires linked { IsLinkedUp bindings.now next.now }
-    requires head { IsLeast (HasAddress bindings.now v4.0) (Some head) }
+    requires head { IsLeast (IsAtAddress bindings.now v4.0) (Some head) }
     requires well { AreWell bindings.now }
     requires size { length owners.old ≡ 65536 }
     requires fresh { AreFresh bindings.now v4.0 owners.old }
-    ensures first { IsFirstPair bindings.now (AreShared true) (HasAddress bindings.now v4.0) result }
+    ensures first { IsFirstPair bindings.now (AreShared true) (IsAtAddress bindings.now v4.0) result }
     ensures owners { IsOwnersOf bindings.now v4.0 owners.old owners.new }
     ensures cost { steps.new ≤ steps.old + 262144 }
 {
@@ -169,7 +169,7 @@ fn address_pair<L: Ledger>(
     requires well { AreWell bindings.now }
     requires size { length owners.old ≡ 65536 }
     requires fresh { AreFresh bindings.now v4.0 owners.old }
-    ensures first { IsFirstPair bindings.now (Conflict edition) (HasAddress bindings.now v4.0) result }
+    ensures first { IsFirstPair bindings.now (Conflict edition) (IsAtAddress bindings.now v4.0) result }
     ensures owners { IsOwnersOf bindings.now v4.0 owners.old owners.new }
     ensures cost { steps.new ≤ steps.old + 400000 + 10 * count_of v4.0 bindings.now }
 {

@@ -4,7 +4,7 @@ use Rattle.binding_rules.specs.Conflicts.{HaveCommonPort}
 use Rattle.binding_rules.specs.Scans.{IsLeast, IsLater}
 use Rattle.binding_rules.specs.Scans.{slot}
 use Rattle.binding_rules.proofs.Counts.{all_to_come, step_at, remaining}
-use Rattle.binding_rules.proofs.Links.{IsOf, IsToCome, none_later, near_of, nearest_is_of, last_to_come, still_to_come, least_here, least_kept, of_within, read, read_is, has_address_of, same_binding}
+use Rattle.binding_rules.proofs.Links.{IsOf, IsToCome, none_later, near_of, nearest_is_of, last_to_come, still_to_come, least_here, least_kept, of_within, read, read_is, at_address_of, same_binding}
 use Rattle.binding_rules.proofs.chains.least_common.Goals as goal
 use Rattle.binding_rules.proofs.chains.least_common.Goals.{then-have_common_port, else-have_common_port}
 
@@ -49,7 +49,7 @@ chain-preserved g c =
       to_come = still_to_come bs x.v4.0 p c.args.place _ nearest (x, c.requires.there, refl) still c.if-later-place.false;
       least = elim c.if-have_common_port.branch [
         | then-have_common_port w ↦ rw w.found-is (least_here bs x.v4.0 p _ (HaveCommonPort x) nearest
-            (read bs p, there, (has_address_of bs x.v4.0 p _ there here, c.have_common_port.ensures.0 w.if-have_common_port.true)))
+            (read bs p, there, (at_address_of bs x.v4.0 p _ there here, c.have_common_port.ensures.0 w.if-have_common_port.true)))
         | else-have_common_port w ↦ rw w.found-is (least_kept bs x.v4.0 p _ (HaveCommonPort x) c.chain.found nearest
             (λ h. true≢false (sym (c.have_common_port.ensures.1 (subst (HaveCommonPort x) (same_binding bs p h.0 (read bs p) h.1 there) h.2.1))
             ∙ w.if-have_common_port.false))

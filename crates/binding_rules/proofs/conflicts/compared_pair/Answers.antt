@@ -2,7 +2,7 @@ use Rattle.std.proofs.Common.{◌≡◌, ◌+◌, ◌<◌, ◌≤◌, Some, leng
 use Rattle.binding_rules.specs.Scans.{IsLast, slot}
 use Rattle.binding_rules.specs.Steps.{count_of}
 use Rattle.binding_rules.proofs.Counts.{all_to_come, few_bindings, step_at, remaining}
-use Rattle.binding_rules.proofs.Links.{IsOf, of_within, has_address_of, read, read_is, reach_less}
+use Rattle.binding_rules.proofs.Links.{IsOf, of_within, at_address_of, read, read_is, reach_less}
 use Rattle.binding_rules.proofs.Pairs.{IsCompared, compared_none, compared_next, compared_all}
 use Rattle.binding_rules.proofs.conflicts.compared_pair.Goals as goal
 
@@ -20,7 +20,7 @@ least_common-met-requires-clause-last g c =
     let bs = c.args.bindings.now in
     let here = subst (IsOf bs c.args.v4.0) c.in-Some.is c.chain.invariant.walked.here in
     let there = read_is bs c.in-Some.place (of_within bs c.args.v4.0 _ here) in
-    subst (λ v. IsLast bs v c.args.last) (sym (has_address_of bs c.args.v4.0 _ _ there here)) c.requires.last
+    subst (λ v. IsLast bs v c.args.last) (sym (at_address_of bs c.args.v4.0 _ _ there here)) c.requires.last
 
 pub least_common-met-requires-clause-there : goal.least_common-met-requires-clause-there
 least_common-met-requires-clause-there g c =
@@ -46,12 +46,12 @@ chain-preserved g c =
     let there = read_is bs c.in-Some.place (of_within bs a _ walked.here) in
     let less : remaining bs a c.chain.at ≡ 1 + remaining bs a (slot c.args.previous.now c.in-Some.place) = step_at bs c.args.previous.now a c.in-Some.place c.chain.at c.requires.linked walked.here c.in-Some.is in
     let few : count_of a bs ≤ 256 = few_bindings bs c.args.previous.now a c.args.last 256 c.requires.linked c.requires.last c.requires.few in
-    let same : count_of (read bs c.in-Some.place).v4.0 bs ≡ count_of a bs = ap (λ v. count_of v bs) (has_address_of bs a _ _ there walked.here) in
+    let same : count_of (read bs c.in-Some.place).v4.0 bs ≡ count_of a bs = ap (λ v. count_of v bs) (at_address_of bs a _ _ there walked.here) in
     record {
       cost = omega (arith, less, few, same, c.least_common-met.ensures.cost, c.chain.invariant.cost);
       walked = rw (c.earlier-best.ensures, c.pair_of.ensures)
           (compared_next bs c.args.previous.now a c.in-Some.place (read bs c.in-Some.place) c.chain.best c.least_common-met.result c.requires.linked there
-          (has_address_of bs a _ _ there walked.here) walked c.least_common-met.ensures.least);
+          (at_address_of bs a _ _ there walked.here) walked c.least_common-met.ensures.least);
     }
 
 pub returns-clause-first : goal.returns-clause-first

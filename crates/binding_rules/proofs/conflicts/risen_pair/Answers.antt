@@ -1,5 +1,5 @@
 use Rattle.std.proofs.Common.{◌≡◌, ◌+◌, ◌<◌, true, length, subst, arith}
-use Rattle.binding_rules.proofs.Links.{IsOf, of_within, has_address_of, read, read_is}
+use Rattle.binding_rules.proofs.Links.{IsOf, of_within, at_address_of, read, read_is}
 use Rattle.binding_rules.proofs.Rising.{IsRisenTo, risen_first, risen_names, risen_next, risen_up, risen_found, risen_all}
 use Rattle.binding_rules.specs.Steps.{port_steps}
 use Rattle.binding_rules.proofs.Taken.{ports_most, taken, taken_most, taken_next}
@@ -30,7 +30,7 @@ returns-in-Some-meet-clause-first g c =
     let here = subst (IsOf bs a) c.in-Some.is c.chain.invariant.here in
     let there = read_is bs i (of_within bs a i here) in
     let risen = subst (λ o. IsRisenTo true bs a o c.args.owners.now c.chain.owners) c.in-Some.is c.chain.invariant.risen in
-    risen_found true bs a i (read bs i) c.args.owners.now c.chain.owners there (has_address_of bs a i _ there here) risen
+    risen_found true bs a i (read bs i) c.args.owners.now c.chain.owners there (at_address_of bs a i _ there here) risen
     c.in-Some-meet.first c.in-Some-meet.ensures.least
 
 pub returns-in-Some-meet-clause-owners : goal.returns-in-Some-meet-clause-owners
@@ -41,7 +41,7 @@ returns-in-Some-meet-clause-owners g c =
     let here = subst (IsOf bs a) c.in-Some.is c.chain.invariant.here in
     let there = read_is bs i (of_within bs a i here) in
     let risen = subst (λ o. IsRisenTo true bs a o c.args.owners.now c.chain.owners) c.in-Some.is c.chain.invariant.risen in
-    risen_names true bs a i (read bs i) c.args.owners.now c.chain.owners there (has_address_of bs a i _ there here) risen
+    risen_names true bs a i (read bs i) c.args.owners.now c.chain.owners there (at_address_of bs a i _ there here) risen
     c.meet.new.owners c.in-Some-meet.ensures.taken
 
 pub bounds-next-second : goal.bounds-next-second
@@ -69,12 +69,12 @@ chain-preserved g c =
     let risen = subst (λ o. IsRisenTo true bs a o c.args.owners.now c.chain.owners) c.in-Some.is c.chain.invariant.risen in
     let follows = following_of bs c.args.next.now a i c.requires.linked here in
     let more : taken bs a c.meet.new.owners ≡ taken bs a c.chain.owners + port_steps (read bs i) =
-    taken_next bs a i (read bs i) c.chain.owners c.meet.new.owners there (has_address_of bs a i _ there here) c.in_default-meet.ensures.least c.in_default-meet.ensures.taken in
+    taken_next bs a i (read bs i) c.chain.owners c.meet.new.owners there (at_address_of bs a i _ there here) c.in_default-meet.ensures.least c.in_default-meet.ensures.taken in
     record {
       cost = omega (arith, more, c.in_default-meet.ensures.cost, c.chain.invariant.cost);
       here = following_is_of bs a i _ follows;
       risen = risen_up true bs a i _ c.args.owners.now c.meet.new.owners within follows
-          (risen_next true bs a i (read bs i) c.args.owners.now c.chain.owners there (has_address_of bs a i _ there here) risen
+          (risen_next true bs a i (read bs i) c.args.owners.now c.chain.owners there (at_address_of bs a i _ there here) risen
           c.meet.new.owners c.in_default-meet.ensures.least c.in_default-meet.ensures.taken);
     }
 

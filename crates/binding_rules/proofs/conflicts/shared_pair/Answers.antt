@@ -2,7 +2,7 @@ use Rattle.std.proofs.Common.{◌≡◌, ◌+◌, false, ◌<◌, Some, length, 
 use Rattle.std.proofs.lemmas.Option.{slice_get-get_or}
 use Rattle.binding_rules.specs.Scans.{slot}
 use Rattle.binding_rules.proofs.Counts.{all_to_come, step_at, remaining}
-use Rattle.binding_rules.proofs.Links.{IsOf, of_within, has_address_of}
+use Rattle.binding_rules.proofs.Links.{IsOf, of_within, at_address_of}
 use Rattle.binding_rules.proofs.Pairs.{IsWalked, walked_none, walked_next, walked_all}
 use Rattle.binding_rules.proofs.conflicts.shared_pair.Goals as goal
 
@@ -40,7 +40,7 @@ chain-preserved g c =
     record {
       cost = omega (arith, less, c.meet-met.ensures.cost, c.chain.invariant.cost);
       walked = rw (c.earlier-best.ensures, c.pair_of.ensures)
-          (walked_next false bs a c.in-Some.place _ c.chain.owners there (has_address_of bs a _ _ there walked.here) walked.slots
+          (walked_next false bs a c.in-Some.place _ c.chain.owners there (at_address_of bs a _ _ there walked.here) walked.slots
           c.args.previous.now c.args.owners.now c.meet-met.new.owners c.chain.best c.meet-met.result c.requires.linked walked.first walked.names
           c.meet-met.ensures.least c.meet-met.ensures.taken);
     }
