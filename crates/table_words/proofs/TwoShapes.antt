@@ -291,13 +291,23 @@ are_alike t words h none a from to group d e l m n k same_d same_e =
     words_alike t h.lawful b.0 c.0 b.1 c.1 _ _ b.2.first c.2.first address
     (one_shape t.bindings (one_shape_word t words h none) b.0 c.0 b.1 c.1 address)
 
--- where the words tell of two shapes, the table is none of one shape an address, and none of edition One
+-- where the words tell of two shapes, some address has them
 module _ (t : BindingTable) (words : List ℕ) (h : IsCompiled t words) (word : ℕ) (word_is : word ≡ slice_index words 5) (other : word ≢ 0) where
   two_shapes : has_two_shapes t.bindings ≡ true
   two_shapes = two_shapes_word t words h (λ e. other (word_is ∙ e))
 
-  pub not_one_shape : most_shapes t.bindings ≡ 1 → (m n : ℕ) → m ≤ n
-  not_one_shape one m n = absurd (omega (arith, two_shapes_count t h.lawful two_shapes, one))
+  pub not_one_shape : has_two_shapes t.bindings ≡ false → (m n : ℕ) → m ≤ n
+  not_one_shape one m n = absurd (false≢true (sym one ∙ two_shapes))
 
-  pub not_edition_one : t.edition ≡ edition.One → (m n : ℕ) → m ≤ n
-  not_edition_one one m n = absurd (one_has_one_shape t h.lawful one two_shapes)
+-- an address has two shapes, or none has
+pub edition_has_one : (t : BindingTable) → IsLawful t → t.edition ≡ edition.One → has_two_shapes t.bindings ≡ false
+edition_has_one t h one = elim (cases_Bool (has_two_shapes t.bindings)) [
+  | inl two ↦ absurd (one_has_one_shape t h one two)
+  | inr none ↦ none
+]
+
+pub count_has_one : (t : BindingTable) → IsLawful t → most_shapes t.bindings ≡ 1 → has_two_shapes t.bindings ≡ false
+count_has_one t h one = elim (cases_Bool (has_two_shapes t.bindings)) [
+  | inl two ↦ absurd (omega (arith, two_shapes_count t h two, one))
+  | inr none ↦ none
+]

@@ -4,4 +4,5 @@ pub mod Layout
 pub mod Parts
 pub mod Reads
 pub mod Spans
+pub mod Spent
 pub mod Tried

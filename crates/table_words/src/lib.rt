@@ -13,6 +13,7 @@ mod probes;
 mod reader;
 mod searches;
 mod settings;
+mod shapes;
 
 pub use compiler::compile;
 pub use counter::Steps;
@@ -20,3 +21,4 @@ pub use destination::Destination;
 pub use lookups::{destination_of, has_address, look};
 pub use reader::{SliceWords, Words};
 pub use settings::softwire;
+pub use shapes::one_shape;

@@ -1,12 +1,12 @@
 // What the words of a table say of an address.
-ghost use Rattle.std.specs.Prelude.{◌≡◌, ◌+◌, ◌-◌, ◌<◌, ◌≤◌, IfSome};
+ghost use Rattle.std.specs.Prelude.{◌≡◌, ◌+◌, ◌-◌, ◌<◌, ◌≤◌};
 ghost use Rattle.binding_rules.specs.Bindings.{bound};
 ghost use Rattle.binding_rules.specs.Tables.{BindingTable};
-ghost use Rattle.binding_rules.specs.declared.settings.Edition.TheVariants as edition;
 ghost use Rattle.table_words.specs.Answers.{first_b4, has_v4, has_binding, tunnel_of};
-ghost use Rattle.table_words.specs.Bounds.{found_bound, look_bound, most_shapes, group_digits};
+ghost use Rattle.table_words.specs.Bounds.{group_digits};
 ghost use Rattle.table_words.specs.Layout.{IsCompiled, AreCompiled};
 ghost use Rattle.table_words.specs.Reads.{read_more};
+ghost use Rattle.table_words.specs.Spent.{IsBounded};
 ghost use Rattle.table_words.specs.Spans.{IsEntryRange, IsIndexGroup};
 
 use crate::counter::Steps;
@@ -26,7 +26,7 @@ const ONE_SHAPE: u64 = 0;
 /// `Whole`, whose offset and length are both 0: `has_address` and `look` in one search. The condition is that the words
 /// are compiled from a table. With B binary digits in the greatest number of bindings that agree in the top 16 bits of
 /// their addresses, and at most G different shapes at one address, it reads at most `G * (2 * B + 4) + B + 4` words, and B
-/// fewer where it finds an owner, and where G is 1 as it is in every table of edition One. It reads at least one word,
+/// fewer where it finds an owner, and where no address has two shapes, as in every table of edition One. It reads at least one word,
 /// whatever the table has.
 #[inline(always)]
 pub fn destination_of<W: Words, L: Ledger>(
@@ -38,10 +38,7 @@ pub fn destination_of<W: Words, L: Ledger>(
     requires { AreCompiled (W.list words.old) }
     ensures address { (t : BindingTable) → IsCompiled t (W.list words.old) → has_binding result ≡ has_v4 t.bindings v4 }
     ensures owner { (t : BindingTable) → IsCompiled t (W.list words.old) → tunnel_of result ≡ first_b4 (bound t.bindings v4 want) }
-    ensures bound { (t : BindingTable) → IsCompiled t (W.list words.old) → steps.new ≤ steps.old + look_bound t.bindings }
-    ensures found { IfSome (tunnel_of result) (λ _. (t : BindingTable) → IsCompiled t (W.list words.old) → steps.new ≤ steps.old + found_bound t.bindings) }
-    ensures one_shape { (t : BindingTable) → IsCompiled t (W.list words.old) → most_shapes t.bindings ≡ 1 → steps.new ≤ steps.old + found_bound t.bindings }
-    ensures edition_one { (t : BindingTable) → IsCompiled t (W.list words.old) → t.edition ≡ edition.One → steps.new ≤ steps.old + found_bound t.bindings }
+    ensures bounds { IsBounded (W.list words.old) (tunnel_of result) steps.old steps.new }
     ensures list { W.list words.new ≡ W.list words.old }
     ensures reads { W.reads words.new ≡ read_more (W.reads words.old) (steps.new - steps.old) }
     ensures goes { W.goes words.old words.new }
@@ -72,10 +69,7 @@ fn destination_among<W: Words, L: Ledger>(
     requires group { (t : BindingTable) → IsCompiled t (W.list words.old) → IsIndexGroup t (W.list words.old) v4.0 group.from group.to }
     ensures address { (t : BindingTable) → IsCompiled t (W.list words.old) → has_binding result ≡ has_v4 t.bindings v4 }
     ensures owner { (t : BindingTable) → IsCompiled t (W.list words.old) → tunnel_of result ≡ first_b4 (bound t.bindings v4 want) }
-    ensures bound { (t : BindingTable) → IsCompiled t (W.list words.old) → steps.new + 2 ≤ steps.old + look_bound t.bindings }
-    ensures found { IfSome (tunnel_of result) (λ _. (t : BindingTable) → IsCompiled t (W.list words.old) → steps.new + 2 ≤ steps.old + found_bound t.bindings) }
-    ensures one_shape { (t : BindingTable) → IsCompiled t (W.list words.old) → most_shapes t.bindings ≡ 1 → steps.new + 2 ≤ steps.old + found_bound t.bindings }
-    ensures edition_one { (t : BindingTable) → IsCompiled t (W.list words.old) → t.edition ≡ edition.One → steps.new + 2 ≤ steps.old + found_bound t.bindings }
+    ensures bounds { IsBounded (W.list words.old) (tunnel_of result) steps.old (steps.new + 2) }
     ensures list { W.list words.new ≡ W.list words.old }
     ensures reads { W.reads words.new ≡ read_more (W.reads words.old) (steps.new - steps.old) }
     ensures goes { W.goes words.old words.new }
@@ -117,10 +111,7 @@ pub fn look<W: Words, L: Ledger>(
 ) -> Option<V6>
     requires { AreCompiled (W.list words.old) }
     ensures owner { (t : BindingTable) → IsCompiled t (W.list words.old) → result ≡ first_b4 (bound t.bindings v4 want) }
-    ensures bound { (t : BindingTable) → IsCompiled t (W.list words.old) → steps.new ≤ steps.old + look_bound t.bindings }
-    ensures found { IfSome result (λ _. (t : BindingTable) → IsCompiled t (W.list words.old) → steps.new ≤ steps.old + found_bound t.bindings) }
-    ensures one_shape { (t : BindingTable) → IsCompiled t (W.list words.old) → most_shapes t.bindings ≡ 1 → steps.new ≤ steps.old + found_bound t.bindings }
-    ensures edition_one { (t : BindingTable) → IsCompiled t (W.list words.old) → t.edition ≡ edition.One → steps.new ≤ steps.old + found_bound t.bindings }
+    ensures bounds { IsBounded (W.list words.old) result steps.old steps.new }
     ensures list { W.list words.new ≡ W.list words.old }
     ensures reads { W.reads words.new ≡ read_more (W.reads words.old) (steps.new - steps.old) }
     ensures goes { W.goes words.old words.new }

@@ -1,14 +1,12 @@
 -- How many steps a verdict takes.
-use Rattle.std.specs.Prelude.{◌≡◌, ℕ, ◌+◌, ◌*◌, ◌⊎◌}
+use Rattle.std.specs.Prelude.{◌≡◌, ℕ, ◌+◌, ◌*◌, ◌⊎◌, false}
 use Rattle.binding_rules.specs.Tables.{BindingTable}
-use Rattle.binding_rules.specs.declared.settings.Edition.TheVariants as edition
-use Rattle.table_words.specs.Bounds.{found_bound, look_bound, most_shapes}
+use Rattle.table_words.specs.Bounds.{found_bound, look_bound}
+use Rattle.table_words.specs.Layout.{has_two_shapes}
 
--- so many steps are enough for a lookup: fewer where each address has one shape, as in every table of edition One
+-- so many steps are enough for a lookup: fewer where no address has two shapes, as in every table of edition One
 abbrev pub IsLook : BindingTable → ℕ → Type 0
-IsLook t n =
-    (n ≡ look_bound t.bindings)
-    ⊎ (((most_shapes t.bindings ≡ 1) ⊎ (t.edition ≡ edition.One)) × (n ≡ found_bound t.bindings))
+IsLook t n = (n ≡ look_bound t.bindings) ⊎ ((has_two_shapes t.bindings ≡ false) × (n ≡ found_bound t.bindings))
 
 -- the most steps of a verdict where the settings are known: two lookups, and one word more
 abbrev pub judge_into_bound : ℕ → ℕ

@@ -1,11 +1,10 @@
 // The verdict on an item.
-ghost use Rattle.std.specs.Prelude.{◌≡◌, ℕ, ◌+◌, ◌*◌, ◌-◌, ◌≤◌, Some};
+ghost use Rattle.std.specs.Prelude.{◌≡◌, ℕ, ◌+◌, ◌*◌, ◌-◌, ◌≤◌, false, Some};
 ghost use Rattle.binding_rules.specs.Tables.{BindingTable, binding_table};
-ghost use Rattle.binding_rules.specs.declared.settings.Edition.TheVariants as edition;
 ghost use Rattle.ip_codec.specs.Seen.{seen};
 ghost use Rattle.ip_codec.specs.declared.items.Item.TheVariants as item;
-ghost use Rattle.table_words.specs.Bounds.{found_bound, look_bound, most_shapes};
-ghost use Rattle.table_words.specs.Layout.{IsCompiled, AreCompiled};
+ghost use Rattle.table_words.specs.Bounds.{found_bound, look_bound};
+ghost use Rattle.table_words.specs.Layout.{IsCompiled, AreCompiled, has_two_shapes};
 ghost use Rattle.table_words.specs.Reads.{read_more};
 ghost use Rattle.verdict_core.specs.Access.{Delivers, Forbidden, Forwards, Refused, RelaysAll, RelaysOwn};
 ghost use Rattle.verdict_core.specs.Bounds.{IsLook, judge_bound, judge_into_bound};
@@ -58,8 +57,7 @@ pub fn judge<W: Words, L: Ledger>(
     ensures later { steps.old ≤ steps.new }
     ensures rises { AsksTable (seen item.now) → steps.old + 1 ≤ steps.new }
     ensures bound { (t : BindingTable) → IsCompiled t (W.list words.old) → steps.new ≤ steps.old + judge_bound (look_bound t.bindings) }
-    ensures one_shape { (t : BindingTable) → IsCompiled t (W.list words.old) → most_shapes t.bindings ≡ 1 → steps.new ≤ steps.old + judge_bound (found_bound t.bindings) }
-    ensures edition_one { (t : BindingTable) → IsCompiled t (W.list words.old) → t.edition ≡ edition.One → steps.new ≤ steps.old + judge_bound (found_bound t.bindings) }
+    ensures one_shape { (t : BindingTable) → IsCompiled t (W.list words.old) → has_two_shapes t.bindings ≡ false → steps.new ≤ steps.old + judge_bound (found_bound t.bindings) }
 {
     let settings = softwire(words, steps);
     let mut verdict = Verdict::Held;
@@ -90,8 +88,7 @@ pub fn judge_into<W: Words, L: Ledger>(
     ensures later { steps.old ≤ steps.new }
     ensures rises { AsksTable (seen item.now) → steps.old + 1 ≤ steps.new }
     ensures bound { (t : BindingTable) → IsCompiled t (W.list words.old) → steps.new ≤ steps.old + judge_into_bound (look_bound t.bindings) }
-    ensures one_shape { (t : BindingTable) → IsCompiled t (W.list words.old) → most_shapes t.bindings ≡ 1 → steps.new ≤ steps.old + judge_into_bound (found_bound t.bindings) }
-    ensures edition_one { (t : BindingTable) → IsCompiled t (W.list words.old) → t.edition ≡ edition.One → steps.new ≤ steps.old + judge_into_bound (found_bound t.bindings) }
+    ensures one_shape { (t : BindingTable) → IsCompiled t (W.list words.old) → has_two_shapes t.bindings ≡ false → steps.new ≤ steps.old + judge_into_bound (found_bound t.bindings) }
 {
     judge_under(words, settings, item, verdict, steps);
 }

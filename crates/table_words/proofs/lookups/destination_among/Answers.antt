@@ -1,11 +1,13 @@
 use Rattle.std.proofs.Common.{◌≡◌, true, refl, ◌≢◌, ◌+◌, ◌-◌, ◌*◌, ◌/◌, ◌%◌, ◌≤◌, List, ℕ, length, subst, sym, ap, ◌∙◌, arith}
 use Rattle.std.specs.Prelude.{IfSome, IfNone}
+use Rattle.binding_rules.specs.Tables.{BindingTable}
 use Rattle.table_words.specs.Answers.{has_binding, tunnel_of}
+use Rattle.table_words.specs.Layout.{IsCompiled}
 use Rattle.table_words.specs.Bounds.{group_digits, found_bound}
 use Rattle.table_words.specs.Reads.{read_more}
 use Rattle.table_words.specs.Spans.{first_at, IsBoundary, IsEntryRange, IsFound, IsNotFound, AreAlike, IsTunnelOfOwner, HasNoOwner, TellsAddress}
 use Rattle.table_words.proofs.Addresses.{address_told, address_at}
-use Rattle.table_words.proofs.TwoShapes.{are_alike, not_one_shape, not_edition_one}
+use Rattle.table_words.proofs.TwoShapes.{are_alike, not_one_shape}
 use Rattle.table_words.proofs.Halving.{reads_on}
 use Rattle.table_words.proofs.Trying.{tried_none, none_left, address_left, none_cost, search_cost, rest_small, tried_more, found_here, found_cost, if_some, if_none, span_rest, next_fits, above_address, found_below, alike_answer, alike_cost}
 use Rattle.table_words.proofs.lookups.destination_among.Goals as goal
@@ -37,25 +39,14 @@ returns-then-word-eq-ONE_SHAPE-clause-owner g c = λ t h.
     let none = subst (λ (ws : List ℕ). IfNone o (HasNoOwner ws from to a c.args.want)) list c.destination_alike.ensures.none in
     alike_answer t (g.W.Words.list c.args.words.now) h c.args.v4 c.args.want from to (c.requires.group t h) o owner none
 
-pub returns-then-word-eq-ONE_SHAPE-clause-bound : goal.returns-then-word-eq-ONE_SHAPE-clause-bound
-returns-then-word-eq-ONE_SHAPE-clause-bound g c = λ t h.
-    let few = c.destination_alike.ensures.bound (group_digits t.bindings) (c.requires.group t h).size in
-    omega (arith, few, alike_cost t, found_below t, c.word.ensures.steps)
-
-pub returns-then-word-eq-ONE_SHAPE-clause-found : goal.returns-then-word-eq-ONE_SHAPE-clause-found
-returns-then-word-eq-ONE_SHAPE-clause-found g c = if_some (tunnel_of c.destination_alike.result) _ (λ t h.
-    let few = c.destination_alike.ensures.bound (group_digits t.bindings) (c.requires.group t h).size in
-    omega (arith, few, alike_cost t, c.word.ensures.steps))
-
-pub returns-then-word-eq-ONE_SHAPE-clause-one_shape : goal.returns-then-word-eq-ONE_SHAPE-clause-one_shape
-returns-then-word-eq-ONE_SHAPE-clause-one_shape g c = λ t h one.
-    let few = c.destination_alike.ensures.bound (group_digits t.bindings) (c.requires.group t h).size in
-    omega (arith, few, alike_cost t, c.word.ensures.steps)
-
-pub returns-then-word-eq-ONE_SHAPE-clause-edition_one : goal.returns-then-word-eq-ONE_SHAPE-clause-edition_one
-returns-then-word-eq-ONE_SHAPE-clause-edition_one g c = λ t h one.
-    let few = c.destination_alike.ensures.bound (group_digits t.bindings) (c.requires.group t h).size in
-    omega (arith, few, alike_cost t, c.word.ensures.steps)
+pub returns-then-word-eq-ONE_SHAPE-clause-bounds : goal.returns-then-word-eq-ONE_SHAPE-clause-bounds
+returns-then-word-eq-ONE_SHAPE-clause-bounds g c =
+    let few = λ (t : BindingTable) (h : IsCompiled t (g.W.Words.list c.args.words.now)). c.destination_alike.ensures.bound (group_digits t.bindings) (c.requires.group t h).size in
+    record {
+      bound = λ t h. omega (arith, few t h, alike_cost t, found_below t, c.word.ensures.steps);
+      found = if_some (tunnel_of c.destination_alike.result) _ (λ t h. omega (arith, few t h, alike_cost t, c.word.ensures.steps));
+      one_shape = λ t h one. omega (arith, few t h, alike_cost t, c.word.ensures.steps);
+    }
 
 pub returns-then-word-eq-ONE_SHAPE-clause-goes : goal.returns-then-word-eq-ONE_SHAPE-clause-goes
 returns-then-word-eq-ONE_SHAPE-clause-goes g c =
@@ -100,14 +91,15 @@ returns-then-from-group g c =
           (λ e l m. absurd (omega (arith, c.if-from-group.true))));
       owner = λ t h. i.unowned ∙ sym (none_left words c.args.v4 c.args.want first to c.shapes.from c.shapes.least spent at i.tried i.span place t h
           (λ e l m. absurd (omega (arith, c.if-from-group.true))));
-      bound = λ t h.
-          let cost = search_cost words c.args.v4 c.args.want first to c.shapes.from c.shapes.least spent at i.tried i.span place t h _ bounded.cost in
-          let most = none_cost words c.args.v4 c.args.want first to c.shapes.from c.shapes.least spent at i.tried i.span place t h
-          (c.lower_bound-from.new.steps + 2 - c.args.steps.now) (omega (arith, cost, bounded.later, i.rises)) in
-          omega (arith, most, bounded.later, i.rises);
-      found = if_none (tunnel_of c.shapes.answer) _ i.unowned;
-      one_shape = λ t h one. not_one_shape t words h c.word.result told c.if-word-eq-ONE_SHAPE.false one (c.lower_bound-from.new.steps + 2) (c.args.steps.now + found_bound t.bindings);
-      edition_one = λ t h one. not_edition_one t words h c.word.result told c.if-word-eq-ONE_SHAPE.false one (c.lower_bound-from.new.steps + 2) (c.args.steps.now + found_bound t.bindings);
+      bounds = record {
+        bound = λ t h.
+            let cost = search_cost words c.args.v4 c.args.want first to c.shapes.from c.shapes.least spent at i.tried i.span place t h _ bounded.cost in
+            let most = none_cost words c.args.v4 c.args.want first to c.shapes.from c.shapes.least spent at i.tried i.span place t h
+            (c.lower_bound-from.new.steps + 2 - c.args.steps.now) (omega (arith, cost, bounded.later, i.rises)) in
+            omega (arith, most, bounded.later, i.rises);
+        found = if_none (tunnel_of c.shapes.answer) _ i.unowned;
+        one_shape = λ t h one. not_one_shape t words h c.word.result told c.if-word-eq-ONE_SHAPE.false one (c.lower_bound-from.new.steps + 2) (c.args.steps.now + found_bound t.bindings);
+      };
       list = bounded.list ∙ i.list;
       reads = reads_on _ _ _ reads _ _ (omega (arith, bounded.later, i.rises)) i.reads bounded.reads;
       goes = g.met.W.Words.goes_on _ _ _ i.goes bounded.goes;
@@ -137,14 +129,15 @@ returns-then-first-address g c =
       owner = λ t h. i.unowned ∙ sym (none_left words c.args.v4 c.args.want first to c.shapes.from c.shapes.least spent at i.tried i.span place t h
           (λ e l m. above_address (first_at words at) (first_at words e) c.args.v4.0 c.shapes.least (i.span.ascending at e l m)
           (place.above at (omega arith) c.if-from-group.false) i.tried.at_least (rw (← word) other)));
-      bound = λ t h.
-          let cost = search_cost words c.args.v4 c.args.want first to c.shapes.from c.shapes.least spent at i.tried i.span place t h _ bounded.cost in
-          let most = none_cost words c.args.v4 c.args.want first to c.shapes.from c.shapes.least spent at i.tried i.span place t h
-          (c.first_word-first.new.steps + 2 - c.args.steps.now) (omega (arith, cost, bounded.later, i.rises, read.steps)) in
-          omega (arith, most, bounded.later, i.rises, read.steps);
-      found = if_none (tunnel_of c.shapes.answer) _ i.unowned;
-      one_shape = λ t h one. not_one_shape t words h c.word.result told c.if-word-eq-ONE_SHAPE.false one (c.first_word-first.new.steps + 2) (c.args.steps.now + found_bound t.bindings);
-      edition_one = λ t h one. not_edition_one t words h c.word.result told c.if-word-eq-ONE_SHAPE.false one (c.first_word-first.new.steps + 2) (c.args.steps.now + found_bound t.bindings);
+      bounds = record {
+        bound = λ t h.
+            let cost = search_cost words c.args.v4 c.args.want first to c.shapes.from c.shapes.least spent at i.tried i.span place t h _ bounded.cost in
+            let most = none_cost words c.args.v4 c.args.want first to c.shapes.from c.shapes.least spent at i.tried i.span place t h
+            (c.first_word-first.new.steps + 2 - c.args.steps.now) (omega (arith, cost, bounded.later, i.rises, read.steps)) in
+            omega (arith, most, bounded.later, i.rises, read.steps);
+        found = if_none (tunnel_of c.shapes.answer) _ i.unowned;
+        one_shape = λ t h one. not_one_shape t words h c.word.result told c.if-word-eq-ONE_SHAPE.false one (c.first_word-first.new.steps + 2) (c.args.steps.now + found_bound t.bindings);
+      };
       list = read.list ∙ bounded.list ∙ i.list;
       reads = reads_on _ _ _ (c.lower_bound-from.new.steps - c.args.steps.now) 1 _ (omega (arith, bounded.later, i.rises, read.steps))
           (reads_on _ _ _ reads _ _ (omega (arith, bounded.later, i.rises)) i.reads bounded.reads) read.reads;
@@ -190,22 +183,23 @@ returns-in-Some g c =
           (address_at words first to c.args.v4.0 at word (omega (arith, i.tried.within, place.from_on)) c.if-from-group.false word_is address);
       owner = λ t h. sym (found_here words c.args.v4 c.args.want first to c.shapes.from c.shapes.least spent at i.tried i.span place c.if-from-group.false word word_is address t h
           c.in-Some.end found);
-      bound = λ t h.
-          let cost = search_cost words c.args.v4 c.args.want first to c.shapes.from c.shapes.least spent at i.tried i.span place t h _ bounded.cost in
-          let small = rest_small words c.args.v4 c.args.want first to c.shapes.from c.shapes.least spent at i.tried i.span place t h in
-          let tries = tested.bound (group_digits t.bindings) small in
-          let most = found_cost words c.args.v4 c.args.want first to c.shapes.from c.shapes.least spent at i.tried i.span place c.if-from-group.false word word_is address t h
-          now (omega (arith, cost, tries, bounded.later, i.rises, read.steps, tested.later)) in
-          omega (arith, most, found_below t, bounded.later, i.rises, read.steps, tested.later);
-      found = λ t h.
-          let cost = search_cost words c.args.v4 c.args.want first to c.shapes.from c.shapes.least spent at i.tried i.span place t h _ bounded.cost in
-          let small = rest_small words c.args.v4 c.args.want first to c.shapes.from c.shapes.least spent at i.tried i.span place t h in
-          let tries = tested.bound (group_digits t.bindings) small in
-          let most = found_cost words c.args.v4 c.args.want first to c.shapes.from c.shapes.least spent at i.tried i.span place c.if-from-group.false word word_is address t h
-          now (omega (arith, cost, tries, bounded.later, i.rises, read.steps, tested.later)) in
-          omega (arith, most, bounded.later, i.rises, read.steps, tested.later);
-      one_shape = λ t h one. not_one_shape t words h c.word.result told c.if-word-eq-ONE_SHAPE.false one (c.owner_like.new.steps + 2) (c.args.steps.now + found_bound t.bindings);
-      edition_one = λ t h one. not_edition_one t words h c.word.result told c.if-word-eq-ONE_SHAPE.false one (c.owner_like.new.steps + 2) (c.args.steps.now + found_bound t.bindings);
+      bounds = record {
+        bound = λ t h.
+            let cost = search_cost words c.args.v4 c.args.want first to c.shapes.from c.shapes.least spent at i.tried i.span place t h _ bounded.cost in
+            let small = rest_small words c.args.v4 c.args.want first to c.shapes.from c.shapes.least spent at i.tried i.span place t h in
+            let tries = tested.bound (group_digits t.bindings) small in
+            let most = found_cost words c.args.v4 c.args.want first to c.shapes.from c.shapes.least spent at i.tried i.span place c.if-from-group.false word word_is address t h
+            now (omega (arith, cost, tries, bounded.later, i.rises, read.steps, tested.later)) in
+            omega (arith, most, found_below t, bounded.later, i.rises, read.steps, tested.later);
+        found = λ t h.
+            let cost = search_cost words c.args.v4 c.args.want first to c.shapes.from c.shapes.least spent at i.tried i.span place t h _ bounded.cost in
+            let small = rest_small words c.args.v4 c.args.want first to c.shapes.from c.shapes.least spent at i.tried i.span place t h in
+            let tries = tested.bound (group_digits t.bindings) small in
+            let most = found_cost words c.args.v4 c.args.want first to c.shapes.from c.shapes.least spent at i.tried i.span place c.if-from-group.false word word_is address t h
+            now (omega (arith, cost, tries, bounded.later, i.rises, read.steps, tested.later)) in
+            omega (arith, most, bounded.later, i.rises, read.steps, tested.later);
+        one_shape = λ t h one. not_one_shape t words h c.word.result told c.if-word-eq-ONE_SHAPE.false one (c.owner_like.new.steps + 2) (c.args.steps.now + found_bound t.bindings);
+      };
       list = tested.list ∙ list;
       reads = reads_on _ _ _ (c.first_word-first.new.steps - c.args.steps.now) _ _ (omega (arith, bounded.later, i.rises, read.steps, tested.later))
           (reads_on _ _ _ (c.lower_bound-from.new.steps - c.args.steps.now) 1 _ (omega (arith, bounded.later, i.rises, read.steps))

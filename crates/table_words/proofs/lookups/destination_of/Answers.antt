@@ -1,4 +1,5 @@
 use Rattle.std.proofs.Common.{false, None, ℕ, ◌-◌, List, subst, sym, arith}
+use Rattle.binding_rules.specs.Tables.{BindingTable}
 use Rattle.table_words.specs.Answers.{tunnel_of}
 use Rattle.table_words.specs.Layout.{IsCompiled}
 use Rattle.table_words.specs.Spans.{IsEntryRange, IsIndexGroup}
@@ -40,27 +41,15 @@ returns-clause-owner g c = λ t h.
     let here = subst (λ (ws : List ℕ). IsCompiled t ws) (sym c.group_of-group.ensures.list) h in
     c.destination_among.ensures.owner t here
 
-pub returns-clause-bound : goal.returns-clause-bound
-returns-clause-bound g c = λ t h.
-    let here = subst (λ (ws : List ℕ). IsCompiled t ws) (sym c.group_of-group.ensures.list) h in
-    omega (arith, c.destination_among.ensures.bound t here, c.group_of-group.ensures.steps)
-
-pub returns-clause-found : goal.returns-clause-found
-returns-clause-found g c =
-    if_mapped (tunnel_of c.destination_among.result) _ _
-    (λ small t h.
-    let here = subst (λ (ws : List ℕ). IsCompiled t ws) (sym c.group_of-group.ensures.list) h in
-    omega (arith, small t here, c.group_of-group.ensures.steps)) c.destination_among.ensures.found
-
-pub returns-clause-one_shape : goal.returns-clause-one_shape
-returns-clause-one_shape g c = λ t h one.
-    let here = subst (λ (ws : List ℕ). IsCompiled t ws) (sym c.group_of-group.ensures.list) h in
-    omega (arith, c.destination_among.ensures.one_shape t here one, c.group_of-group.ensures.steps)
-
-pub returns-clause-edition_one : goal.returns-clause-edition_one
-returns-clause-edition_one g c = λ t h one.
-    let here = subst (λ (ws : List ℕ). IsCompiled t ws) (sym c.group_of-group.ensures.list) h in
-    omega (arith, c.destination_among.ensures.edition_one t here one, c.group_of-group.ensures.steps)
+pub returns-clause-bounds : goal.returns-clause-bounds
+returns-clause-bounds g c =
+    let here = λ (t : BindingTable) (h : IsCompiled t (g.W.Words.list c.args.words.now)). subst (λ (ws : List ℕ). IsCompiled t ws) (sym c.group_of-group.ensures.list) h in
+    record {
+      bound = λ t h. omega (arith, c.destination_among.ensures.bounds.bound t (here t h), c.group_of-group.ensures.steps);
+      found = if_mapped (tunnel_of c.destination_among.result) _ _
+          (λ small t h. omega (arith, small t (here t h), c.group_of-group.ensures.steps)) c.destination_among.ensures.bounds.found;
+      one_shape = λ t h one. omega (arith, c.destination_among.ensures.bounds.one_shape t (here t h) one, c.group_of-group.ensures.steps);
+    }
 
 pub returns-clause-reads : goal.returns-clause-reads
 returns-clause-reads g c =

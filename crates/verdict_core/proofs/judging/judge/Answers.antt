@@ -89,8 +89,3 @@ pub returns-clause-one_shape : goal.returns-clause-one_shape
 returns-clause-one_shape g c = λ t h one.
     let here = subst (λ (ws : List ℕ). IsCompiled t ws) (sym c.softwire-settings.ensures.list) h in
     omega (arith, c.judge_into.ensures.one_shape t here one, c.softwire-settings.ensures.steps)
-
-pub returns-clause-edition_one : goal.returns-clause-edition_one
-returns-clause-edition_one g c = λ t h one.
-    let here = subst (λ (ws : List ℕ). IsCompiled t ws) (sym c.softwire-settings.ensures.list) h in
-    omega (arith, c.judge_into.ensures.edition_one t here one, c.softwire-settings.ensures.steps)

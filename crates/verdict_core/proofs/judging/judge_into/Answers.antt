@@ -13,7 +13,4 @@ pub returns-clause-bound : goal.returns-clause-bound
 returns-clause-bound g c = λ t h. c.judge_under.ensures.bound t h (look_bound t.bindings) (inl refl)
 
 pub returns-clause-one_shape : goal.returns-clause-one_shape
-returns-clause-one_shape g c = λ t h one. c.judge_under.ensures.bound t h (found_bound t.bindings) (inr (inl one, refl))
-
-pub returns-clause-edition_one : goal.returns-clause-edition_one
-returns-clause-edition_one g c = λ t h one. c.judge_under.ensures.bound t h (found_bound t.bindings) (inr (inr one, refl))
+returns-clause-one_shape g c = λ t h one. c.judge_under.ensures.bound t h (found_bound t.bindings) (inr (one, refl))
