@@ -7,8 +7,47 @@ use std::alloc::Global;
 use std::test::Fail;
 use table_words::{Destination, compile};
 
+// Up to five shapes at one address, and ten bindings in one group of addresses.
+pub(crate) const MANY_SHAPES: [(u32, u8, u8, u16); 13] = [
+    (0xcb00_7101, 15, 0, 0),
+    (0xcb00_7100, 0, 16, 1024),
+    (0xcb00_7100, 6, 8, 52),
+    (0xcb00_7100, 2, 14, 70),
+    (0xcb00_7100, 6, 8, 53),
+    (0xcb00_7100, 6, 10, 5),
+    (0xcb00_7100, 0, 12, 4000),
+    (0xcb00_7100, 0, 16, 80),
+    (0xcb00_7102, 0, 0, 0),
+    (0xffff_ffff, 0, 16, 65_535),
+    (0xffff_ffff, 10, 6, 62),
+    (0, 0, 0, 0),
+    (0xffff, 1, 15, 9),
+];
+
+// One shape an address, and up to two bindings in one group.
+pub(crate) const ONE_SHAPE: [(u32, u8, u8, u16); 4] = [
+    (0xffff_0000, 0, 1, 1),
+    (0x1_0000, 4, 2, 3),
+    (0xffff_0000, 0, 1, 0),
+    (1, 0, 0, 0),
+];
+
+// One shape an address, and ten bindings in one group.
+pub(crate) const ONE_GROUP: [(u32, u8, u8, u16); 10] = [
+    (0xcb00_7102, 6, 8, 255),
+    (0xcb00_7102, 6, 8, 53),
+    (0xcb00_7102, 6, 8, 52),
+    (0xcb00_7102, 6, 8, 5),
+    (0xcb00_7102, 6, 8, 0),
+    (0xcb00_7100, 0, 0, 0),
+    (0xcb00_7101, 2, 2, 2),
+    (0xcb00_7101, 2, 2, 0),
+    (0xcb00_ffff, 15, 1, 1),
+    (0xcb00_ffff, 15, 1, 0),
+];
+
 // The table of rows (address, offset, length, identifier), of subscribers from 1 on.
-fn table(
+pub(crate) fn table(
     alloc: Global,
     edition: Edition,
     rows: &[(u32, u8, u8, u16)],
@@ -217,12 +256,12 @@ fn tells_a_bound_address_without_an_owner(rt: HostRuntime) -> Result<(), Fail> {
         let words = compile(alloc, &table(alloc, edition, rows)?)?;
         let (found, count) = destination(&words, v4, want);
         assert_eq!(rt; found, expected);
-        assert!(rt; count >= 1);
+        assert!(rt; count <= 22);
     }
     let words = compile(alloc, &table(alloc, Edition::One, &[])?)?;
     let (found, count) = destination(&words, SHARED, Want::Whole);
     assert_eq!(rt; found, Destination::Unbound);
-    assert!(rt; count >= 1);
+    assert!(rt; count <= 8);
     Ok(())
 }
 
@@ -259,43 +298,10 @@ fn agrees_with_the_list(rt: HostRuntime) -> Result<(), Fail> {
         0xffff_0000,
         0xffff_ffff,
     ];
-    let many_shapes = [
-        (0xcb00_7101, 15, 0, 0),
-        (0xcb00_7100, 0, 16, 1024),
-        (0xcb00_7100, 6, 8, 52),
-        (0xcb00_7100, 2, 14, 70),
-        (0xcb00_7100, 6, 8, 53),
-        (0xcb00_7100, 6, 10, 5),
-        (0xcb00_7100, 0, 12, 4000),
-        (0xcb00_7100, 0, 16, 80),
-        (0xcb00_7102, 0, 0, 0),
-        (0xffff_ffff, 0, 16, 65_535),
-        (0xffff_ffff, 10, 6, 62),
-        (0, 0, 0, 0),
-        (0xffff, 1, 15, 9),
-    ];
-    let one_shape = [
-        (0xffff_0000, 0, 1, 1),
-        (0x1_0000, 4, 2, 3),
-        (0xffff_0000, 0, 1, 0),
-        (1, 0, 0, 0),
-    ];
-    let one_group = [
-        (0xcb00_7102, 6, 8, 255),
-        (0xcb00_7102, 6, 8, 53),
-        (0xcb00_7102, 6, 8, 52),
-        (0xcb00_7102, 6, 8, 5),
-        (0xcb00_7102, 6, 8, 0),
-        (0xcb00_7100, 0, 0, 0),
-        (0xcb00_7101, 2, 2, 2),
-        (0xcb00_7101, 2, 2, 0),
-        (0xcb00_ffff, 15, 1, 1),
-        (0xcb00_ffff, 15, 1, 0),
-    ];
     for (edition, rows) in [
-        (Edition::Two, many_shapes.as_slice()),
-        (Edition::One, one_shape.as_slice()),
-        (Edition::One, one_group.as_slice()),
+        (Edition::Two, MANY_SHAPES.as_slice()),
+        (Edition::One, ONE_SHAPE.as_slice()),
+        (Edition::One, ONE_GROUP.as_slice()),
         (Edition::One, [].as_slice()),
     ] {
         let table = table(alloc, edition, rows)?;
@@ -319,22 +325,6 @@ fn agrees_with_the_list(rt: HostRuntime) -> Result<(), Fail> {
                 assert_eq!(rt; destination(&words, v4, want).0, all, "{address} {port}");
             }
         }
-    }
-    Ok(())
-}
-
-#[test]
-fn reads_ten_words_at_most_for_one_of_65536_addresses(rt: HostRuntime) -> Result<(), Fail> {
-    let alloc = rt.alloc();
-    let mut rows = Vec::new(alloc);
-    for high in 0..65_536u32 {
-        rows.push((high * 65_536 + 1, 0, 0, 0))?;
-    }
-    let words = compile(alloc, &table(alloc, Edition::One, &rows)?)?;
-    for high in 0..65_536u32 {
-        let (found, count) = owner(&words, V4(high * 65_536 + 1), Want::Whole);
-        assert_eq!(rt; found, Some(subscriber(high + 1)), "{high}");
-        assert!(rt; count <= 10, "{high} {count}");
     }
     Ok(())
 }
