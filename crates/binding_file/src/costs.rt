@@ -1,6 +1,6 @@
 // Whether a text would cost too much time or memory to be read as TOML: one look over its bytes, in no memory.
 ghost use Rattle.std.specs.Prelude.{◌≡◌, ◌≤◌, false, length};
-ghost use Rattle.binding_file.specs.Costs.{begun, part_after, line_after, lines_after, seen, seen_as, is_mark, marks, ends_header, weight, is_costly, is_held_back};
+ghost use Rattle.binding_file.specs.Costs.{begun, part_after, line_after, lines_after, seen, seen_as, is_mark, marks, ends_header, weight, is_costly, is_held_back, most_free};
 ghost use Rattle.binding_file.specs.Parts.{header_after};
 ghost use Rattle.binding_file.specs.declared.costs.Part.TheVariants as part;
 
@@ -47,7 +47,7 @@ pub(crate) const MOST_FREE: usize = 131_072;
 /// header. `read_table` answers such a text by want of memory, unless it is too big, no UTF-8, or begins with no line of TOML.
 pub fn is_held_back(text: &[u8]) -> bool
     ensures exact { result ≡ is_held_back text.now }
-    ensures small { length text.now ≤ 131072 → result ≡ false }
+    ensures small { length text.now ≤ most_free → result ≡ false }
 {
     text.len() > MOST_FREE && is_costly(text)
 }

@@ -4,8 +4,8 @@ ghost use Rattle.toml.specs.Parse.{skip_bom};
 ghost use Rattle.toml.specs.Tables.{Expression};
 ghost use Rattle.binding_rules.specs.Tables.{BindingTable};
 ghost use Rattle.binding_file.specs.Bounds.{AreRead, IsBounded};
-ghost use Rattle.binding_file.specs.Costs.{is_costly, is_held_back};
-ghost use Rattle.binding_file.specs.Files.{TableOf, TextOf};
+ghost use Rattle.binding_file.specs.Costs.{is_costly, is_held_back, most_free};
+ghost use Rattle.binding_file.specs.Files.{TableOf, TextOf, most_bytes};
 ghost use Rattle.binding_file.specs.declared.refusals.FileRefused.{FileRefused};
 
 use addr_text::one_address;
@@ -14,7 +14,7 @@ use addr_text::one_address;
 /// a table is such a file, so reading what `write_table` writes gives the table again.
 pub fn one_table()
     ensures answer { (bytes : List ℕ) (answer other : Result BindingTable FileRefused) → TableOf bytes answer → TableOf bytes other → answer ≡ other }
-    ensures text { (bytes : List ℕ) (t : BindingTable) → length bytes ≤ 16777216 → TextOf bytes (Ok t) → TableOf bytes (Ok t) }
+    ensures text { (bytes : List ℕ) (t : BindingTable) → length bytes ≤ most_bytes → TextOf bytes (Ok t) → TableOf bytes (Ok t) }
 {
     one_address();
 }
@@ -24,5 +24,5 @@ pub fn one_table()
 /// not held back and is not small.
 pub fn light_texts()
     ensures cheap { (bytes : List ℕ) (es : List Expression) → is_costly bytes ≡ false → AreRead es (skip_bom bytes) → IsBounded es }
-    ensures not_held_back { (bytes : List ℕ) (es : List Expression) → 131072 < length bytes → is_held_back bytes ≡ false → AreRead es (skip_bom bytes) → IsBounded es }
+    ensures not_held_back { (bytes : List ℕ) (es : List Expression) → most_free < length bytes → is_held_back bytes ≡ false → AreRead es (skip_bom bytes) → IsBounded es }
 {}

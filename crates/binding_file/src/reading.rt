@@ -3,7 +3,7 @@ ghost use Rattle.std.specs.Prelude.{◌≡◌, ◌<◌, ◌≤◌, true, false, 
 ghost use Rattle.toml.specs.View.{view, table_view, items_view};
 ghost use Rattle.binding_rules.specs.Tables.{binding_table};
 ghost use Rattle.binding_file.specs.Files.{top_edition, settings_of, port_set_of, elements_of, are_tables, IsSoftwire, IsElement, AreBindings, IsDocument, IsTree, TableOf, IsFileCause, most_bytes};
-ghost use Rattle.binding_file.specs.Costs.{is_held_back};
+ghost use Rattle.binding_file.specs.Costs.{is_held_back, most_free};
 ghost use Rattle.binding_file.specs.FirstLines.{begins_toml, IsNotToml};
 ghost use Rattle.binding_file.specs.Lines.{binding_count};
 ghost use Rattle.binding_file.specs.Parts.{IsRead, value_or_refusal};
@@ -55,7 +55,7 @@ pub fn read_table(alloc: Global, text: &[u8]) -> Result<Table, FileError>
     ensures no_text { length text.now ≤ most_bytes → (IsUtf8 text.now → ⊥) → result ≡ Err (file_error.Refused refused.NotToml) }
     ensures no_line { length text.now ≤ most_bytes → begins_toml text.now ≡ false → IsNotToml result }
     ensures held_back { length text.now ≤ most_bytes → IsUtf8 text.now → begins_toml text.now ≡ true → is_held_back text.now ≡ true → result ≡ Err file_error.OutOfMemory }
-    ensures small { length text.now ≤ 131072 → is_held_back text.now ≡ false }
+    ensures small { length text.now ≤ most_free → is_held_back text.now ≡ false }
 {
     if text.len() > MOST_BYTES {
         return Err(FileError::Refused(FileRefused::TooBig));
@@ -117,7 +117,7 @@ pub(crate) fn document_of(alloc: Global, text: &str) -> Result<toml::Table, File
 
 fn tree_of(alloc: Global, document: &toml::Table) -> Result<Spelled, FileError>
     ensures read { IsRead (λ s. binding_table s.edition s.softwire s.bindings.items) (IsTree (table_view document.now)) result }
-    ensures few { IfOk result (λ s. vec_len s.bindings ≤ 16777216) }
+    ensures few { IfOk result (λ s. vec_len s.bindings ≤ most_bytes) }
 {
     let edition = edition_of(document)?;
     let softwire = softwire_of(table_at(document, Place::Top(Name::Softwire))?)?;
@@ -209,7 +209,7 @@ fn are_tables(values: &[Value]) -> bool
 /// The bindings. An array with more elements than a file has bytes never comes from one; `OutOfMemory` would answer it.
 fn bindings_of(alloc: Global, document: &toml::Table) -> Result<Vec<Binding>, FileError>
     ensures read { IsRead (λ v. v.items) (AreBindings (table_view document.now)) result }
-    ensures few { IfOk result (λ v. vec_len v ≤ 16777216) }
+    ensures few { IfOk result (λ v. vec_len v ≤ most_bytes) }
 {
     let values = elements_of(document)?;
     if values.len() > MOST_BYTES {
