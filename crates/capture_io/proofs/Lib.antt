@@ -4,6 +4,7 @@ pub mod FrontLemmas
 pub mod GrammarLemmas
 pub mod LawLemmas
 pub mod RecordLemmas
+pub mod RefusalLemmas
 pub mod RoundLemmas
 pub mod SpellingLemmas
 pub mod SplitLemmas

@@ -8,6 +8,7 @@ pub mod Header
 pub mod Packets
 pub mod Record
 pub mod Records
+pub mod Refusals
 pub mod Rounds
 pub mod Taken
 pub mod Texts

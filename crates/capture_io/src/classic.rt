@@ -1,5 +1,5 @@
 // Captures of the pcap format, read in rounds.
-ghost use Rattle.std.specs.Prelude.{◌≡◌, ◌+◌, ◌*◌, ◌^◌, ◌<◌, ◌≤◌, [], false, None, All, IfOk, IsFalse, IsTrue, length, map, take, vec_capacity};
+ghost use Rattle.std.specs.Prelude.{◌≡◌, ◌+◌, ◌*◌, ◌^◌, ◌<◌, ◌≤◌, [], false, None, All, IfErr, IfOk, IsFalse, IsTrue, length, map, take, vec_capacity};
 ghost use Rattle.aftr_base.specs.Contents.{content, Told};
 ghost use Rattle.aftr_base.specs.Outside.{OnlyReads};
 ghost use Rattle.capture_io.specs.Answers.{is_read_fault};
@@ -7,6 +7,7 @@ ghost use Rattle.capture_io.specs.Classic.{FetchReads, IsFetched, Opens};
 ghost use Rattle.capture_io.specs.Fronts.{front_in, is_more};
 ghost use Rattle.capture_io.specs.Header.{is_known_link};
 ghost use Rattle.capture_io.specs.Records.{IsWithin, placed};
+ghost use Rattle.capture_io.specs.Refusals.{RefusesHeader};
 ghost use Rattle.capture_io.specs.Rounds.{bytes_captured, is_cut};
 ghost use Rattle.capture_io.specs.Taken.{AreTaken, Ended};
 
@@ -42,6 +43,7 @@ impl ClassicReader {
         name: &str,
     ) -> Result<ClassicReader, CaptureError>
         ensures told { Told (F.outside files.old).held (λ m. Opens result (content m name.now)) }
+        ensures refused { IfErr result RefusesHeader }
         ensures link { IfOk result (λ reader. IsTrue (is_known_link (⟦<ClassicReader as CaptureReader>⟧.form reader).link)) }
         ensures at { IfOk result (λ reader. ⟦<ClassicReader as CaptureReader>⟧.at reader ≡ 24) }
         ensures ready { IfOk result (λ reader. ⟦<ClassicReader as CaptureReader>⟧.ready reader 0) }
@@ -65,6 +67,7 @@ impl ClassicReader {
         requires first { Told (F.outside files.old).held (λ m. first.now ≡ take 4 (content m name.now)) }
         requires few { length first.now ≤ 4 }
         ensures told { Told (F.outside files.old).held (λ m. Opens result (content m name.now)) }
+        ensures refused { IfErr result RefusesHeader }
         ensures link { IfOk result (λ reader. IsTrue (is_known_link (⟦<ClassicReader as CaptureReader>⟧.form reader).link)) }
         ensures at { IfOk result (λ reader. ⟦<ClassicReader as CaptureReader>⟧.at reader ≡ 24) }
         ensures ready { IfOk result (λ reader. ⟦<ClassicReader as CaptureReader>⟧.ready reader 0) }
@@ -242,7 +245,7 @@ impl CaptureReader for ClassicReader {
 
     ghost at = { λ reader. reader.at };
 
-    ghost ready = { λ reader number. reader.at ≤ 24 + 262160 * number };
+    ghost ready = { λ reader number. (24 ≤ reader.at) × (reader.at ≤ 24 + 262160 * number) };
 
     ghost form = { λ reader. reader.form };
 

@@ -1,9 +1,10 @@
 // The file header of a capture.
-ghost use Rattle.std.specs.Prelude.{◌≡◌, ◌++◌, ◌<◌, ◌≤◌, IfOk, IsTrue, length, take};
+ghost use Rattle.std.specs.Prelude.{◌≡◌, ◌++◌, ◌<◌, ◌≤◌, IfErr, IfOk, IsTrue, length, take};
 ghost use Rattle.aftr_base.specs.Contents.{content, Told};
 ghost use Rattle.aftr_base.specs.Outside.{OnlyReads};
 ghost use Rattle.capture_io.specs.Answers.{Agrees, is_read_fault};
 ghost use Rattle.capture_io.specs.Header.{has_magic, header_in, is_known_link};
+ghost use Rattle.capture_io.specs.Refusals.{RefusesHeader};
 ghost use Rattle.capture_io.specs.Written.{header_bytes};
 
 use crate::words::{half, word};
@@ -26,6 +27,7 @@ const PLAIN_IP: u32 = 101;
 /// 24. The first record stands at place 24.
 pub fn read_header<F: Files>(alloc: Global, files: &mut F, name: &str) -> Result<Form, CaptureError>
     ensures told { Told (F.outside files.old).held (λ m. Agrees result (header_in (content m name.now))) }
+    ensures refused { IfErr result RefusesHeader }
     ensures link { IfOk result (λ form. IsTrue (is_known_link form.link)) }
     ensures reads { OnlyReads (is_read_fault result) name.now (λ place. place < 24) (F.outside files.old) (F.outside files.new) }
 {
@@ -47,6 +49,7 @@ pub fn read_header_behind<F: Files>(
     requires first { Told (F.outside files.old).held (λ m. first.now ≡ take 4 (content m name.now)) }
     requires few { length first.now ≤ 4 }
     ensures told { Told (F.outside files.old).held (λ m. Agrees result (header_in (content m name.now))) }
+    ensures refused { IfErr result RefusesHeader }
     ensures link { IfOk result (λ form. IsTrue (is_known_link form.link)) }
     ensures reads { OnlyReads (is_read_fault result) name.now (λ place. place < 24) (F.outside files.old) (F.outside files.new) }
 {

@@ -4,6 +4,7 @@ ghost use Rattle.aftr_base.specs.Contents.{content, Told};
 ghost use Rattle.capture_io.specs.declared.forms.Rec.{Rec as Record};
 ghost use Rattle.capture_io.specs.declared.forms.Form.{Form as CaptureForm};
 ghost use Rattle.capture_io.specs.declared.forms.CaptureBad.{CaptureBad as Refusal};
+ghost use Rattle.capture_io.specs.Refusals.{EndsInRecords};
 ghost use Rattle.capture_io.specs.Rounds.{IsCount, IsPlaced, GoesOn, ReadsRound};
 
 use crate::{CaptureBad, Form, Records};
@@ -81,6 +82,7 @@ pub trait CaptureReader {
         ensures told { IfOk result (λ round. Told (F.outside files.old).held (λ m. stands self.old (content m name.now) →
             GoesOn (stands self.new) (left self.old) (left self.new) (content m name.now) number round)) }
         ensures count { IfOk result (λ round. IsCount number most_bytes round) }
+        ensures ended { IfOk result (λ round. EndsInRecords round.ending) }
         ensures placed { IfOk result (λ round. IsPlaced (at self.old) (at self.new) round) }
         ensures reads { ReadsRound result name.now (stands self.old) (left self.new) (at self.new)
             (F.outside files.old) (F.outside files.new) };

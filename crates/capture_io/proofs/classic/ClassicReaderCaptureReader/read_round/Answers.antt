@@ -5,6 +5,7 @@ use Rattle.capture_io.specs.Fronts.{IsStart, front_in, is_more}
 use Rattle.capture_io.specs.Records.{placed}
 use Rattle.capture_io.specs.Rounds.{IsInNext, is_cut}
 use Rattle.capture_io.specs.Taken.{left_at}
+use Rattle.capture_io.proofs.RefusalLemmas.{ended_in_records}
 use Rattle.capture_io.proofs.RoundLemmas.{behind_taken, cut_inside, round_count, round_placed, round_reads, round_told}
 use Rattle.capture_io.proofs.classic.ClassicReaderCaptureReader.read_round.Goals as goal
 
@@ -15,6 +16,10 @@ returns-clause-count g c =
     round_count c.args.self.now.form.big buffer c.in_ok-fetched.fetched.filled c.in_ok-fetched.fetched.last c.args.self.now.at c.args.number c.args.most_bytes
     places c.take_fetched-taken.result.used c.take_fetched-taken.result.number c.take_fetched-taken.result.ending c.of.result
     c.take_fetched-taken.ensures.taken c.take_fetched-taken.ensures.within (c.of.ensures ∙ ap (λ l. map (placed l) places) (sym c.deref-2.ensures.value)) c.take_fetched-taken.ensures.some
+
+pub returns-clause-ended : goal.returns-clause-ended
+returns-clause-ended g c =
+    ended_in_records c.args.self.now.form.big _ c.in_ok-fetched.fetched.last c.args.self.now.at c.take_fetched-taken.result.used c.take_fetched-taken.result.number c.take_fetched-taken.result.ending c.requires.ready.0 c.take_fetched-taken.ensures.ended
 
 pub returns-clause-placed : goal.returns-clause-placed
 returns-clause-placed g c =
