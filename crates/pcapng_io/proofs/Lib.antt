@@ -11,6 +11,7 @@ pub mod OptionLemmas
 pub mod PieceLemmas
 pub mod PlainLemmas
 pub mod ReadLemmas
+pub mod RefusalLemmas
 pub mod RoundLemmas
 pub mod SpelledLemmas
 pub mod SplitLemmas

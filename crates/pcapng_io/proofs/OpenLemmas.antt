@@ -157,6 +157,11 @@ plain_keeps known now (passed.Section big total) plain k = ap (λ (x : Known). x
 plain_keeps known now (passed.Interface i link total) plain k = absurd plain
 plain_keeps known now (passed.Other total) plain k = ap (λ (x : Known). x.nanos) k
 
+pub plain_links : (known now : Known) (p : Passed) → IsPlain p → now ≡ known_after known p → now.link ≡ known.link
+plain_links known now (passed.Section big total) plain k = ap (λ (x : Known). x.link) k
+plain_links known now (passed.Interface i link total) plain k = absurd plain
+plain_links known now (passed.Other total) plain k = ap (λ (x : Known). x.link) k
+
 behind_by : (place end : ℕ) (interfaces : List Interface) → place < end → EndsBehind place interfaces end
 behind_by place end [] h = tt
 behind_by place end (interface ∷ interfaces) h = h

@@ -12,7 +12,7 @@ use Rattle.pcapng_io.specs.declared.interface.Interface.{Interface}
 use Rattle.pcapng_io.specs.declared.record.Found.{Found}
 use Rattle.pcapng_io.specs.declared.walk.Sighted.{Sighted}
 use Rattle.pcapng_io.specs.Seen.{IsSoundSeen, Seen, seen_by}
-use Rattle.pcapng_io.specs.Blocks.{record_of, seen_behind}
+use Rattle.pcapng_io.specs.Blocks.{block_in, record_of, seen_behind}
 use Rattle.pcapng_io.specs.Captures.{Ends, Gives, header_in, next_in, Splits, Step}
 use Rattle.pcapng_io.specs.Files.{IsSoundPacket, left_at}
 
@@ -23,6 +23,12 @@ IsNext (Ok next.End) now step = step ≡ Ok Ends
 IsNext (Err (error.Bad refusal)) now step = step ≡ Err refusal
 IsNext (Err error.ReadFault) now step = Unit {0}
 IsNext (Err error.OutOfMemory) now step = Unit {0}
+
+-- a refusal is one that some bytes have, where this is seen
+abbrev pub RefusesBlock : Seen → ℕ → CaptureError → Type 0
+RefusesBlock seen number (error.Bad refusal) = (left : List ℕ) × (block_in seen left number ≡ Err refusal)
+RefusesBlock seen number error.ReadFault = Unit {0}
+RefusesBlock seen number error.OutOfMemory = Unit {0}
 
 -- where no packet was found the reader is as before
 abbrev pub IsKept : Result Next CaptureError → Seen → Seen → Type 0

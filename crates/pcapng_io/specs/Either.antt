@@ -57,7 +57,7 @@ place_either (reader.Classic r) = r.at
 place_either (reader.Blocks s) = s.seen.known.at
 
 abbrev pub ready_either : Reader → ℕ → Type 0
-ready_either (reader.Classic r) number = r.at ≤ 24 + 262160 * number
+ready_either (reader.Classic r) number = (24 ≤ r.at) × (r.at ≤ 24 + 262160 * number)
 ready_either (reader.Blocks s) number = Unit {0}
 
 abbrev pub form_either : Reader → Form

@@ -1,8 +1,9 @@
 // Blocks, and what is known in front of one.
-ghost use Rattle.std.specs.Prelude.{◌≡◌, ◌+◌, ◌^◌, ◌<◌, ◌≤◌, All, IfOk, length};
+ghost use Rattle.std.specs.Prelude.{◌≡◌, ◌+◌, ◌^◌, ◌<◌, ◌≤◌, All, IfErr, IfOk, length};
 ghost use Rattle.aftr_base.specs.Contents.{Told};
 ghost use Rattle.aftr_base.specs.Outside.{OnlyReads};
 ghost use Rattle.capture_io.specs.Answers.{Agrees, is_read_fault};
+ghost use Rattle.pcapng_io.specs.Answers.{RefusesBlock};
 ghost use Rattle.pcapng_io.specs.Blocks.{block_in, len_of};
 ghost use Rattle.pcapng_io.specs.Files.{IsInBlock, IsSound, left_at};
 ghost use Rattle.pcapng_io.specs.Seen.{seen_by};
@@ -86,6 +87,7 @@ pub fn read_block<F: Files>(
     requires stands { IsAtFront (F.outside files.old).held name.now known.at window.old }
     ensures told { Told (F.outside files.old).held
         (λ m. Agrees result (block_in (seen_by known interfaces.now) (left_at m name.now known.at) number)) }
+    ensures refused { IfErr result (RefusesBlock (seen_by known interfaces.now) number) }
     ensures sound { IfOk result (λ block. IsSound number block) }
     ensures near { IfOk result (λ _. known.at ≤ 2 ^ 62) }
     ensures stands { IfOk result (λ _. IsAtFront (F.outside files.old).held name.now known.at window.new) }

@@ -1,8 +1,9 @@
 // A reader of a capture of either format.
-ghost use Rattle.std.specs.Prelude.{◌≡◌, IfOk};
+ghost use Rattle.std.specs.Prelude.{◌≡◌, IfErr, IfOk};
 ghost use Rattle.aftr_base.specs.Contents.{content, Told};
 ghost use Rattle.aftr_base.specs.Outside.{OnlyReads};
 ghost use Rattle.capture_io.specs.Answers.{is_read_fault};
+ghost use Rattle.capture_io.specs.Refusals.{RefusesHeader};
 ghost use Rattle.pcapng_io.specs.Either.{IsFresh, IsInHead, OpensEither, written_as};
 
 use crate::NgReader;
@@ -25,6 +26,7 @@ impl Reader {
     /// else at a place below 24.
     pub fn open<F: Files>(alloc: Global, files: &mut F, name: &str) -> Result<Reader, CaptureError>
         ensures told { Told (F.outside files.old).held (λ m. OpensEither result (content m name.now)) }
+        ensures refused { IfErr result RefusesHeader }
         ensures fresh { IfOk result IsFresh }
         ensures ready { IfOk result (λ reader. ⟦<Reader as CaptureReader>⟧.ready reader 0) }
         ensures reads { OnlyReads (is_read_fault result) name.now (IsInHead (F.outside files.old).held name.now)

@@ -1,6 +1,7 @@
 // The packets that stand in bytes that were read.
 ghost use Rattle.std.specs.Prelude.{◌≡◌, ℕ, ◌+◌, ◌^◌, ◌<◌, ◌≤◌, [], None, All, Bool, IfOk, IsErr, IsFalse, drop, length, map, vec_capacity};
 ghost use Rattle.capture_io.specs.Records.{IsWithin, placed};
+ghost use Rattle.capture_io.specs.Refusals.{EndsInRecords};
 ghost use Rattle.capture_io.specs.Rounds.{bytes_captured, is_cut};
 ghost use Rattle.pcapng_io.specs.Blocks.{interfaces_after};
 ghost use Rattle.pcapng_io.specs.Pieces.{AreBlocks, Ended, IsOpen, place_of};
@@ -56,6 +57,7 @@ pub fn take_blocks(
         Ended (seen_by known interfaces.old.items) (seen_by taken.known interfaces.new.items) piece.now last taken.number taken.ending) }
     ensures unsaid { IfOk result (λ taken. taken.ending ≡ None → places.new.items ≡ [] →
         IsOpen (seen_by taken.known interfaces.new.items) (drop taken.used piece.now) last taken.number) }
+    ensures in_records { IfOk result (λ taken. EndsInRecords taken.ending) }
     ensures within { IfOk result (λ _. All (IsWithin piece.now) places.new.items) }
     ensures well { IfOk result (λ taken. IsFalse (is_cut taken.ending)) }
     ensures counted { All (λ interface. 0 < interface.ticks) interfaces.new.items }

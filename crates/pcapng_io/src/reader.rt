@@ -3,6 +3,7 @@ ghost use Rattle.std.specs.Prelude.{◌≡◌, ◌+◌, ◌^◌, ◌<◌, ◌≤
 ghost use Rattle.aftr_base.specs.Contents.{content, Told};
 ghost use Rattle.aftr_base.specs.Outside.{OnlyReads};
 ghost use Rattle.capture_io.specs.Answers.{Agrees, is_read_fault};
+ghost use Rattle.capture_io.specs.Refusals.{RefusesHeader};
 ghost use Rattle.capture_io.specs.declared.forms.CaptureError.TheVariants as error;
 ghost use Rattle.pcapng_io.specs.Answers.{Continues, IsBeforePacket, IsBounded, IsInHeader, IsKept, IsNext};
 ghost use Rattle.pcapng_io.specs.Captures.{as_plain, form_of, is_pcapng, next_in};
@@ -82,6 +83,7 @@ impl NgReader {
         name: &str,
     ) -> Result<NgReader, CaptureError>
         ensures told { Told (F.outside files.old).held (λ m. Opens result (content m name.now)) }
+        ensures refused { IfErr result RefusesHeader }
         ensures reads { OnlyReads (is_read_fault result) name.now (IsInHeader (F.outside files.old).held name.now)
             (F.outside files.old) (F.outside files.new) }
     {
@@ -97,6 +99,7 @@ impl NgReader {
     ) -> Result<NgReader, CaptureError>
         requires { IsAtFront (F.outside files.old).held name.now 0 window }
         ensures told { Told (F.outside files.old).held (λ m. Opens result (content m name.now)) }
+        ensures refused { IfErr result RefusesHeader }
         ensures reads { OnlyReads (is_read_fault result) name.now (IsInHeader (F.outside files.old).held name.now)
             (F.outside files.old) (F.outside files.new) }
     {

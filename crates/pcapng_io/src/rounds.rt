@@ -2,6 +2,7 @@
 ghost use Rattle.std.specs.Prelude.{◌≡◌, ◌+◌, ◌^◌, ◌<◌, ◌≤◌, [], None, All, IfOk, IsErr, IsTrue, IsFalse, drop, length, take, vec_capacity};
 ghost use Rattle.capture_io.specs.Fronts.{IsStart};
 ghost use Rattle.capture_io.specs.Records.{IsWithin};
+ghost use Rattle.capture_io.specs.Refusals.{EndsInRecords};
 ghost use Rattle.capture_io.specs.Rounds.{is_cut, IsCount, IsPlaced};
 ghost use Rattle.pcapng_io.specs.Captures.{form_of};
 ghost use Rattle.pcapng_io.specs.Pieces.{FindReads, IsFound, round_of};
@@ -98,6 +99,7 @@ fn find_packets<F: Files>(
     requires begins { IsFalse window.old.last }
     ensures told { IfOk result (λ taken. IsFound (F.outside files.old).held name.now (seen_by known interfaces.old.items)
         (seen_by taken.known interfaces.new.items) window.old.bytes window.new.bytes places.new.items number taken) }
+    ensures in_records { IfOk result (λ taken. EndsInRecords taken.ending) }
     ensures count { IfOk result (λ taken. IsCount number most_bytes (round_of window.new.bytes places.new.items taken)) }
     ensures placed { IfOk result (λ taken. IsPlaced known.at taken.known.at (round_of window.new.bytes places.new.items taken)) }
     ensures within { IfOk result (λ _. All (IsWithin window.new.bytes) places.new.items) }

@@ -1,5 +1,5 @@
 -- What the front of the rest says, and one block more.
-use Rattle.std.proofs.Common.{◌+◌, ◌<◌, ◌^◌, List, ℕ, length, map, sym, ap, subst, arith}
+use Rattle.std.proofs.Common.{◌+◌, ◌<◌, ◌^◌, List, ℕ, length, drop, map, sym, ap, subst, arith}
 use Rattle.std.proofs.lemmas.Bool.Decides.{nat_tests}
 use Rattle.std.proofs.lemmas.List.{take_rest}
 use Rattle.pcapng_io.specs.declared.fronts.Front.TheVariants as front
@@ -9,6 +9,7 @@ use Rattle.pcapng_io.specs.Fronts.{is_more}
 use Rattle.pcapng_io.specs.Pieces.{AreBlocks}
 use Rattle.pcapng_io.specs.Seen.{seen_by}
 use Rattle.pcapng_io.proofs.PieceLemmas.{ended_bad, ended_end, is_open, packet_fits, packet_taken, packet_within, passed_taken, said_at, sound_said}
+use Rattle.pcapng_io.proofs.RefusalLemmas.{block_refused, front_refused}
 use Rattle.pcapng_io.proofs.pieces.take_blocks.Goals as goal
 
 pub returns-in-End-clause-ended : goal.returns-in-End-clause-ended
@@ -22,6 +23,14 @@ returns-in-Bad-clause-ended c =
     ended_bad (seen_by c.args.known c.args.interfaces.now.items) (seen_by c.blocks-2.here c.blocks-2.interfaces.items) c.args.piece.now c.args.last c.args.number c.args.most_bytes
     c.blocks-2.places.items c.blocks-2.used c.blocks-2.next c.blocks-2.bytes c.blocks-2.invariant.taken c.in-Bad.refusal
     (said_at c.blocks-2.here c.blocks-2.interfaces.items c.deref.result.now c.args.piece.now c.args.last c.blocks-2.used c.blocks-2.next c.front_of.result (front.Bad c.in-Bad.refusal) c.deref.ensures.value c.front_of.ensures.says c.in-Bad.is)
+
+pub returns-in-Bad-clause-in_records : goal.returns-in-Bad-clause-in_records
+returns-in-Bad-clause-in_records c =
+    let seen = seen_by c.blocks-2.here c.blocks-2.interfaces.items in
+    let rest = drop c.blocks-2.used c.args.piece.now in
+    block_refused seen rest c.blocks-2.next c.in-Bad.refusal
+    (front_refused seen rest c.args.last c.blocks-2.next c.in-Bad.refusal
+    (said_at c.blocks-2.here c.blocks-2.interfaces.items c.deref.result.now c.args.piece.now c.args.last c.blocks-2.used c.blocks-2.next c.front_of.result (front.Bad c.in-Bad.refusal) c.deref.ensures.value c.front_of.ensures.says c.in-Bad.is))
 
 pub returns-in-More-clause-unsaid : goal.returns-in-More-clause-unsaid
 returns-in-More-clause-unsaid c = λ ending none.

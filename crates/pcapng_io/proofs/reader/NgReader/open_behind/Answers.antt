@@ -8,8 +8,10 @@ use Rattle.pcapng_io.specs.Blocks.{known_after}
 use Rattle.pcapng_io.specs.Seen.{seen_by}
 use Rattle.pcapng_io.proofs.FileLemmas.{passed_inside}
 use Rattle.pcapng_io.proofs.WalkLemmas.{block_moved, inside_moved}
-use Rattle.pcapng_io.proofs.OpenLemmas.{open_inside, opened_interface, opened_told, opens_on, plain_by, plain_keeps}
+use Rattle.pcapng_io.proofs.OpenLemmas.{open_inside, opened_interface, opened_told, opens_on, plain_by, plain_keeps, plain_links}
 use Rattle.pcapng_io.proofs.ReadLemmas.{behind_block, block_there, front_moved}
+use Rattle.pcapng_io.proofs.RefusalLemmas.{opening_refused, refused_by}
+use Rattle.pcapng_io.specs.Standing.{Standing}
 use Rattle.pcapng_io.proofs.reader.NgReader.open_behind.Goals as goal
 
 pub returns-in_err-read_block-clause-reads : goal.returns-in_err-read_block-clause-reads
@@ -20,6 +22,11 @@ returns-in_err-read_block-clause-reads g c =
     (λ place within. open_inside (g.F.Files.outside c.args.files.now).held c.args.name.now c.opening.known place c.opening.invariant.1
     (inside_moved (g.F.Files.outside c.opening.files).held (g.F.Files.outside c.args.files.now).held c.args.name.now c.opening.known 0 place [] [] (ap (λ (o : Outside). o.held) c.opening.invariant.0) refl within))
     c.in_err-read_block.ensures.reads
+
+pub returns-in_err-read_block-clause-refused : goal.returns-in_err-read_block-clause-refused
+returns-in_err-read_block-clause-refused g c =
+    let e = err_from_is_err_and c.from_residual.result c.from_residual.ensures.1 in
+    refused_by Standing c.from_residual.result c.in_err-read_block.field-0.0 (e.1 ∙ ap Err e.2) (opening_refused c.opening.known 0 c.in_err-read_block.field-0.0 c.opening.invariant.4 c.in_err-read_block.ensures.refused)
 
 pub opening-preserved : goal.opening-preserved
 opening-preserved g c =
@@ -34,6 +41,7 @@ opening-preserved g c =
           (front_moved (g.F.Files.outside c.opening.files).held (g.F.Files.outside c.args.files.now).held c.args.name.now c.opening.known.at c.read_block.new.window (ap (λ (o : Outside). o.held) c.opening.invariant.0) c.in_ok-read_block.ensures.stands)
           (block_there c.in_ok-read_block.field-0 (block.Passed c.in-Passed.passed) c.read_block.new.window.bytes c.in-Passed.is c.in_ok-read_block.ensures.there)
           (c.pass.ensures.bytes ∙ ap (λ n. drop n c.read_block.new.window.bytes) c.len_of.ensures) c.pass.ensures.last c.behind_passed-known.ensures,
+      plain_links c.opening.known c.behind_passed-known.result c.in-Passed.passed plain c.behind_passed-known.ensures ∙ c.opening.invariant.4,
     )
 
 pub returns-in-Interface-clause-told : goal.returns-in-Interface-clause-told

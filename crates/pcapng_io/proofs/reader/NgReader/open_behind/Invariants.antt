@@ -1,4 +1,4 @@
-use Rattle.std.proofs.Common.{◌-◌, ◌^◌, ◌≡◌, ◌<◌}
+use Rattle.std.proofs.Common.{◌-◌, ◌^◌, ◌≡◌, ◌<◌, None}
 use Rattle.pcapng_io.specs.Windows.{IsAtFront}
 use Rattle.pcapng_io.proofs.OpenLemmas.{OpensFrom}
 use Rattle.pcapng_io.proofs.reader.NgReader.open_behind.Given as goal
@@ -9,6 +9,7 @@ invariant-opening g l =
     × OpensFrom (g.F.Files.outside l.initial.files).held l.name l.known
     × (l.known.nanos < 1000000000)
     × IsAtFront (g.F.Files.outside l.initial.files).held l.name l.known.at l.window
+    × (l.known.link ≡ None)
 
 abbrev pub decreases-opening : goal.decreases-opening
 decreases-opening g l = 2 ^ 63 - l.known.at
