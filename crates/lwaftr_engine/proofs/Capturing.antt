@@ -1,5 +1,5 @@
 -- What a run leaves that was ended by a fault, from the opening of its outputs on.
-use Rattle.std.proofs.Common.{◌≡◌, ℕ, List, [], ◌++◌, length, Option, Some, None, Result, Err, inl, inr, sym, ◌∙◌, subst}
+use Rattle.std.proofs.Common.{◌≡◌, ℕ, List, [], ◌++◌, length, Option, Some, None, Result, Err, inl, inr, sym, ◌∙◌, subst, arith}
 use Rattle.std.specs.Prelude.{IfSome}
 use Rattle.aftr_text.specs.Jobs.{IsRate}
 use Rattle.capture_io.specs.Rounds.{Precedes, is_cut}
@@ -12,7 +12,7 @@ use Rattle.binding_rules.specs.Tables.{BindingTable}
 use Rattle.capture_io.specs.declared.forms.Rec.{Rec}
 use Rattle.capture_io.specs.declared.rounds.Ending.{Ending}
 use Rattle.item_stage.specs.Stages.{Stands}
-use Rattle.lwaftr_engine.specs.Broken.{Breaks, IsBrokenFrom, Takes}
+use Rattle.lwaftr_engine.specs.Broken.{Breaks, IsBrokenFrom, Takes, TakesBehind}
 use Rattle.lwaftr_engine.specs.Ended.{AreSlotsOf, Ends, EndsBroken}
 use Rattle.lwaftr_engine.specs.Finishing.{Finishes, IsFinished, IsFirst, IsHalfFinished}
 use Rattle.lwaftr_engine.specs.Fronts.{Stop, stop_by}
@@ -30,6 +30,12 @@ use Rattle.lwaftr_engine.proofs.EndLemmas.{IsAtEnd, IsHalfDone, SomeLeft, same_i
 use Rattle.lwaftr_engine.proofs.Fronting.{at_finish, at_opening, at_rounds}
 use Rattle.lwaftr_engine.proofs.Moving.{moves_by, moves_join}
 use Rattle.lwaftr_engine.proofs.UnderwayLemmas.{takes_by}
+
+-- where a read failed, all outputs were made
+behind_all : (name : List ℕ) (reader : Spot) (bytes : List ℕ) (number : ℕ) (rs : List Rec) (lost lost_now : ℕ) (last : Option (List ℕ × ℕ)) →
+    Takes name reader bytes number rs lost lost_now last → TakesBehind 3 name reader bytes number rs lost lost_now last
+behind_all name reader bytes number rs lost lost_now last (inl all) = inl all
+behind_all name reader bytes number rs lost lost_now last (inr before) = inr (omega arith, before)
 
 -- a broken run, under every list of tables of which the plan's words are
 abbrev pub Broken : Setup → Tables → Spot → Stop → Option (List ℕ) → Option (List ℕ) → Contents → Contents → Type 0
@@ -55,6 +61,7 @@ opening_broken laws x plan planned rate reader stop rises same said some a b ste
     let rest = some (content m x.run.input) 0 in
     record {
       records = rest.0;
+      made = half.made;
       taken = inl (same, (rest.1, rest.2));
       front = at_opening laws x tables windows plan planned of rate rest.0 m n said stop rises half;
     }) step
@@ -79,7 +86,8 @@ module _ (laws : EndLaws) (x : Setup) (far : AreFilesApart x.run) (plan : Tables
       let L : ℕ → Type 0 = λ n. Takes x.run.input first (content a x.run.input) 0 (broken.records ++ broken.rest) n stop.after.lost stop.after.last in
       record {
         records = broken.records ++ broken.rest;
-        taken = subst L lost_is (taken_at_first a b (broken.records ++ broken.rest) lost stop.after.lost stop.after.last opened (broken.taken here));
+        made = 3;
+        taken = behind_all x.run.input first (content a x.run.input) 0 (broken.records ++ broken.rest) stop.before.lost stop.after.lost stop.after.last (subst L lost_is (taken_at_first a b (broken.records ++ broken.rest) lost stop.after.lost stop.after.last opened (broken.taken here)));
         front = at_rounds laws x far tables windows plan draws s h of closed slots_of rate a b opened p s0 first start no_points d said stop rises lost stop.after.lost stop.after.last broken;
       }) opening breaking
 
@@ -100,7 +108,8 @@ module _ (laws : EndLaws) (x : Setup) (far : AreFilesApart x.run) (plan : Tables
         let T : Option (List ℕ × ℕ) → Type 0 = λ l. Takes x.run.input first (content a x.run.input) 0 took.records before.lost after.lost l in
         record {
           records = took.records;
-          taken = subst T (sym last_is) (subst B input (takes_by x.run.input first reader (content half.middle x.run.input) 0 q.number took.records stop before.lost after.lost last some took.forward took.within (subst N start.number took.follows) took.stopped lost));
+          made = 3;
+          taken = behind_all x.run.input first (content a x.run.input) 0 took.records before.lost after.lost after.last (subst T (sym last_is) (subst B input (takes_by x.run.input first reader (content half.middle x.run.input) 0 q.number took.records stop before.lost after.lost last some took.forward took.within (subst N start.number took.follows) took.stopped lost)));
           front = at_finish laws x far tables windows plan draws s h of closed slots_of rate a half.middle half.opened q reader d e said now why before after took.records written placed (done took.records (written (bare tables s.points) (suits_bare tables windows plan draws s h of closed)).stands);
         }
 

@@ -60,7 +60,7 @@ no_points windows = record {
 
 -- the outputs are being made
 pub at_opening : EndLaws → (x : Setup) (tables : ℕ → BindingTable) (windows : List Window) (plan : Tables) → IsPlan plan → IsPlanOf tables windows plan → IfSome x.run.errors IsRate → (rs : List Rec) (a d : Contents) (said : Option (List ℕ)) (stop : Stop) → Rises stop.failed stop.before.spoiled stop.after.spoiled →
-    IsHalfOpened x.run x.written a d → IsFront x.run tables windows x.slots x.form x.written rs a d said said stop
+    (half : IsHalfOpened x.run x.written a d) → IsFront x.run tables windows x.slots x.form x.written rs half.made a d said said stop
 at_opening laws x tables windows plan planned of rate rs a d said stop rises half =
     let W : List Window → Type 0 = λ w. AreInWindows w [] 0 in
     let none : AreInWindows plan.windows [] 0 = no_points plan.windows in
@@ -71,7 +71,6 @@ at_opening laws x tables windows plan planned of rate rs a d said stop rises hal
     let shown : HasUnder tables (shown_points (nat_lt 2 half.made) x.run x.slots more.later (content d x.run.versions)) x.run.errors x.form rs =
     some_course laws.limits tables (shown_points (nat_lt 2 half.made) x.run x.slots more.later (content d x.run.versions)) x.run.errors x.form rs rate in
     record {
-      made = half.made;
       points = more.later;
       placed = subst A of.same_windows more.all;
       course = whole.course;
@@ -147,7 +146,7 @@ module _ (laws : EndLaws) (x : Setup) (far : AreFilesApart x.run) (tables : ℕ 
 
   -- rounds were ended by a fault
   pub at_rounds : (p : Progress) (s0 : Seats) (first : Spot) → IsFirst x.form x.run.errors p → s0.points ≡ [] → (d : Contents) (said : Option (List ℕ)) (stop : Stop) → Rises stop.failed stop.before.spoiled stop.after.spoiled → (lost lost_now : ℕ) (last : Option (List ℕ × ℕ)) (broken : IsBrokenFrom x plan draws s.points (mark b p s0 first) d lost lost_now last) →
-      IsFront x.run tables windows x.slots x.form x.written (broken.records ++ broken.rest) a d said said stop
+      IsFront x.run tables windows x.slots x.form x.written (broken.records ++ broken.rest) 3 a d said said stop
   at_rounds p s0 first start none d said stop rises lost lost_now last broken =
       let taken : List Rec = broken.records in
       let more : AreExtended plan.windows s.points (length draws) (length (broken.records ++ broken.rest)) =
@@ -175,7 +174,6 @@ module _ (laws : EndLaws) (x : Setup) (far : AreFilesApart x.run) (tables : ℕ 
       let L = lines_from (with_points shown.course (s.points ++ more.later)) 0 (entries_of x.form broken.records) in
       let V = load_lines (s.points ++ more.later) (loads_of x) in
       record {
-        made = 3;
         points = s.points ++ more.later;
         placed = all;
         course = whole.course;
@@ -225,7 +223,7 @@ module _ (laws : EndLaws) (x : Setup) (far : AreFilesApart x.run) (tables : ℕ 
     module _ (shown : HasUnder tables (shown_points true x.run x.slots s.points (content e x.run.versions)) x.run.errors x.form rs)
         (output_is : output_of has.course x.written x.form rs ≡ output_of shown.course x.written x.form rs) (verdicts_is : verdicts_of has.course x.form rs ≡ verdicts_of shown.course x.form rs) where
       -- a part of the last lines is written
-      at_last_lines : Rises (is_failure why) before.spoiled after.spoiled → IsHalfWritten x q s.points rs d e said now → IsFront x.run tables windows x.slots x.form x.written rs a e said now (stop_by why before after)
+      at_last_lines : Rises (is_failure why) before.spoiled after.spoiled → IsHalfWritten x q s.points rs d e said now → IsFront x.run tables windows x.slots x.form x.written rs 3 a e said now (stop_by why before after)
       at_last_lines rises half =
           let U = flat_map (ended_text false) (unfinished_of x.form rs) in
           let L = lines_from has.course 0 (entries_of x.form rs) in
@@ -233,7 +231,6 @@ module _ (laws : EndLaws) (x : Setup) (far : AreFilesApart x.run) (tables : ℕ 
           let W = last_versions x q s.points in
           let I = initial_text x.run.table in
           record {
-            made = 3;
             points = s.points;
             placed = has.is_course.placed;
             course = has.course;
@@ -253,11 +250,10 @@ module _ (laws : EndLaws) (x : Setup) (far : AreFilesApart x.run) (tables : ℕ 
           }
 
       -- all is written, and a part of the summary is put
-      at_summary : after.spoiled ≡ before.spoiled → IsHalfPut x q s.points rs d e said now → IsFront x.run tables windows x.slots x.form x.written rs a e said now (stop_by why before after)
+      at_summary : after.spoiled ≡ before.spoiled → IsHalfPut x q s.points rs d e said now → IsFront x.run tables windows x.slots x.form x.written rs 3 a e said now (stop_by why before after)
       at_summary same put =
           let whole = is_written x far laws.totals tables windows s q reader a b d e said (option_map (λ (out : List ℕ). out ++ last_line q s.points) said) rs opened has (record { wrote = put.wrote; took = refl }) in
           record {
-            made = 3;
             points = s.points;
             placed = has.is_course.placed;
             course = has.course;
@@ -280,7 +276,7 @@ module _ (laws : EndLaws) (x : Setup) (far : AreFilesApart x.run) (tables : ℕ 
             );
           }
 
-      pub at_half : IsHalfFinished x q s.points rs why before.spoiled after.spoiled d e said now → IsFront x.run tables windows x.slots x.form x.written rs a e said now (stop_by why before after)
+      pub at_half : IsHalfFinished x q s.points rs why before.spoiled after.spoiled d e said now → IsFront x.run tables windows x.slots x.form x.written rs 3 a e said now (stop_by why before after)
       at_half (inl (rises, half)) = at_last_lines rises half
       at_half (inr (same, put)) = at_summary same put
 
@@ -303,7 +299,7 @@ module _ (laws : EndLaws) (x : Setup) (far : AreFilesApart x.run) (tables : ℕ 
 
   -- the records have ended, and what is left is written in part
   pub at_finish : (q : Progress) (reader : Spot) (d e : Contents) (said now : Option (List ℕ)) (why : Fault) (before after : Outside) (rs : List Rec) → ((c : Course) → Suits plan draws c → HasWritten x c b (mark d q s reader) rs) → AreAllPoints windows s.points (length rs) →
-      IsHalfFinished x q s.points rs why before.spoiled after.spoiled d e said now → IsFront x.run tables windows x.slots x.form x.written rs a e said now (stop_by why before after)
+      IsHalfFinished x q s.points rs why before.spoiled after.spoiled d e said now → IsFront x.run tables windows x.slots x.form x.written rs 3 a e said now (stop_by why before after)
   at_finish q reader d e said now why before after rs written all half =
       let some : HasUnder tables s.points x.run.errors x.form rs = some_course laws.limits tables s.points x.run.errors x.form rs rate in
       let has0 : HasCourse x tables windows s b (mark d q s reader) rs = course_with q reader d rs written all some.course some.under in

@@ -23,7 +23,7 @@ use Rattle.capture_io.specs.declared.rounds.Ending.{Ending}
 use Rattle.capture_io.specs.declared.rounds.Ending.TheVariants as ending
 use Rattle.capture_io.specs.declared.written.Written.{Written}
 use Rattle.capture_io.specs.declared.written.Written.TheVariants as written
-use Rattle.lwaftr_engine.specs.Broken.{Takes}
+use Rattle.lwaftr_engine.specs.Broken.{TakesBehind}
 use Rattle.lwaftr_engine.specs.Ended.{Ends, EndsBroken, EndsBy, EndsWhole}
 use Rattle.lwaftr_engine.specs.Endings.{IsWhole}
 use Rattle.lwaftr_engine.specs.Fronts.{AreTaken, IsBroken, IsFront, Stop, stop_by}
@@ -86,11 +86,11 @@ same_run run tables windows slots form w header rs old new said now history form
     let W : Written → Type 0 = λ v. IsRun run tables windows slots form v rs old new said now history in
     subst F form_is (subst W written_is ran)
 
-same_front : (run : RunJob) (tables : ℕ → BindingTable) (windows : List Window) (slots : List Slot) (form : Form) (w : Written) (header : Header) (rs : List Rec) (old new : Contents) (said now : Option (List ℕ)) (stop : Stop) →
-    form ≡ header.form → w ≡ header.written → IsFront run tables windows slots form w rs old new said now stop → IsFront run tables windows slots header.form header.written rs old new said now stop
-same_front run tables windows slots form w header rs old new said now stop form_is written_is front =
-    let F : Form → Type 0 = λ f. IsFront run tables windows slots f header.written rs old new said now stop in
-    let W : Written → Type 0 = λ v. IsFront run tables windows slots form v rs old new said now stop in
+same_front : (run : RunJob) (tables : ℕ → BindingTable) (windows : List Window) (slots : List Slot) (form : Form) (w : Written) (header : Header) (rs : List Rec) (made : ℕ) (old new : Contents) (said now : Option (List ℕ)) (stop : Stop) →
+    form ≡ header.form → w ≡ header.written → IsFront run tables windows slots form w rs made old new said now stop → IsFront run tables windows slots header.form header.written rs made old new said now stop
+same_front run tables windows slots form w header rs made old new said now stop form_is written_is front =
+    let F : Form → Type 0 = λ f. IsFront run tables windows slots f header.written rs made old new said now stop in
+    let W : Written → Type 0 = λ v. IsFront run tables windows slots form v rs made old new said now stop in
     subst F form_is (subst W written_is front)
 
 module _ (x : Setup) (tables : ℕ → BindingTable) (windows : List Window) (reader : Spot) (old new : Contents) (said now : Option (List ℕ)) (before after : Outside) (history : Option HistoryValue)
@@ -103,20 +103,23 @@ module _ (x : Setup) (tables : ℕ → BindingTable) (windows : List Window) (re
     is_run = same_run x.run tables windows x.slots x.form x.written first.header ran.records old new said now history first.form_is first.written_is ran.is_run;
   }
 
-  taken : (rs : List Rec) (why : Fault) → Takes x.run.input reader (content old x.run.input) 0 rs before.lost after.lost after.last → AreTaken x.run old first.header rs (stop_by why before after)
-  taken rs why (inl (same, all)) = inl (same, (all.0, first.all rs all.0 all.1))
-  taken rs why (inr (rose, part)) = inr (
-    rose,
-    record {
-      rest = part.rest;
-      ending = part.ended;
-      capture = first.all (rs ++ part.rest) part.ended part.capture;
-      place = part.place;
-      last_is = part.last_is;
-      in_records = omega (arith, first.at_is, part.behind);
-      reached = part.reached;
-      next = part.next;
-    },
+  taken : (rs : List Rec) (made : ℕ) (why : Fault) → TakesBehind made x.run.input reader (content old x.run.input) 0 rs before.lost after.lost after.last → AreTaken x.run old first.header rs made (stop_by why before after)
+  taken rs made why (inl (same, all)) = inl (same, (all.0, first.all rs all.0 all.1))
+  taken rs made why (inr (behind, (rose, part))) = inr (
+    behind,
+    (
+      rose,
+      record {
+        rest = part.rest;
+        ending = part.ended;
+        capture = first.all (rs ++ part.rest) part.ended part.capture;
+        place = part.place;
+        last_is = part.last_is;
+        in_records = omega (arith, first.at_is, part.behind);
+        reached = part.reached;
+        next = part.next;
+      },
+    ),
   )
 
   broken : (why : Fault) → EndsBroken x tables windows reader old new said now (stop_by why before after) → IsBroken x.run tables windows x.slots old new said now (stop_by why before after)
@@ -124,8 +127,9 @@ module _ (x : Setup) (tables : ℕ → BindingTable) (windows : List Window) (re
     header = first.header;
     sound = first.sound;
     records = ran.records;
-    taken = taken ran.records why ran.taken;
-    front = same_front x.run tables windows x.slots x.form x.written first.header ran.records old new said now (stop_by why before after) first.form_is first.written_is ran.front;
+    made = ran.made;
+    taken = taken ran.records ran.made why ran.taken;
+    front = same_front x.run tables windows x.slots x.form x.written first.header ran.records ran.made old new said now (stop_by why before after) first.form_is first.written_is ran.front;
   }
 
   done : (refused : Bool) → some_slot_refused x.slots ≡ refused → EndsWhole x tables windows reader old new said now history None →
@@ -151,7 +155,7 @@ module _ (x : Setup) (tables : ℕ → BindingTable) (windows : List Window) (re
     is_run = same_run x.run tables windows x.slots x.form x.written first.header ran.taken old new said now history first.form_is first.written_is ran.is_run;
   })
   leaves_by (Err fault.Failed) refused is ran = ((λ slots_of. broken fault.Failed (ran.0 slots_of)), ran.1)
-  leaves_by (Err fault.OutOfMemory) refused is (inl same, none) = inl (record { files = same.0; sink = same.1; none = none })
+  leaves_by (Err fault.OutOfMemory) refused is (inl same, none) = inl (record { files = same.0; sink = same.1; none = none }, same.2)
   leaves_by (Err fault.OutOfMemory) refused is (inr ran, none) = inr ((λ slots_of. broken fault.OutOfMemory (ran slots_of)), none)
 
 has_history_done : (refused : Bool) (said now : Option (List ℕ)) (history : Option HistoryValue) → IsSome history → TookSummary said now → HasHistory (ended_status (Ok ending.End) refused) said now history

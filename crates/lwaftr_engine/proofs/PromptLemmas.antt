@@ -70,7 +70,7 @@ from_world P a b said was puts before files took failed holds =
 
 untouched : (run : RunJob) (h : Option Contents) (said : Option (List ℕ)) (o : Outside) → Moves h h (λ m n. Leaves run status.OutOfMemory m n said said o o None)
 untouched run None said o = tt
-untouched run (Some m) said o = inl (record { files = refl; sink = refl; none = refl })
+untouched run (Some m) said o = inl (record { files = refl; sink = refl; none = refl }, record { lost = refl; spoiled = refl; faults = refl; last = refl })
 
 -- want of memory answers whatever is asked for
 answered_so : (run : RunJob) (h : Option Contents) → Told h (λ m. (s : Status) → IsAskedFor run m s → (status.OutOfMemory ≡ s) ⊎ IsFault status.OutOfMemory)

@@ -1,13 +1,14 @@
 -- A capture that cannot be opened.
 use Rattle.std.proofs.Common.{◌≡◌, ℕ, ◌<◌, Bool, true, false, List, Option, Some, None, Result, Err, inl, inr, refl, sym, ap, subst}
 use Rattle.aftr_base.specs.Contents.{Contents, content, Moves, Told}
-use Rattle.aftr_base.specs.Outside.{FailsAt, Outside}
+use Rattle.aftr_base.specs.Outside.{FailsAt, OnlyReads, Outside}
 use Rattle.aftr_text.specs.declared.jobs.RunJob.{RunJob}
 use Rattle.area_swap.specs.Histories.{HistoryValue}
 use Rattle.capture_io.specs.Answers.{Agrees, is_read_fault}
 use Rattle.capture_io.specs.Header as classic_header
 use Rattle.capture_io.specs.declared.forms.CaptureError.{CaptureError}
 use Rattle.capture_io.specs.declared.forms.CaptureError.TheVariants as failure
+use Rattle.lwaftr_engine.specs.Causes.{NoneOfFilesRose}
 use Rattle.lwaftr_engine.specs.Inputs.{header_by, header_of, in_blocks, in_classic}
 use Rattle.lwaftr_engine.specs.Planned.{IsEarly, LeavesMade, unopened_status}
 use Rattle.lwaftr_engine.specs.Promises.{HasHistory}
@@ -24,6 +25,17 @@ use Rattle.lwaftr_engine.proofs.JobLemmas.{early_blocks, early_classic}
 -- a read failed, by an answer of some call
 abbrev pub failed_as : (T : Type 0) → CaptureError → Bool
 failed_as T error = let r : Result T CaptureError = Err error in is_read_fault r
+
+-- where memory was short no call failed
+abbrev pub IsShort : Outside → Outside → CaptureError → Type 0
+IsShort before after (failure.Bad refusal) = Unit {0}
+IsShort before after failure.ReadFault = Unit {0}
+IsShort before after failure.OutOfMemory = NoneOfFilesRose before after
+
+pub is_short : (T : Type 0) (name : List ℕ) (Inside : ℕ → Type 0) (before after : Outside) (error : CaptureError) → OnlyReads (failed_as T error) name Inside before after → IsShort before after error
+is_short T name Inside before after (failure.Bad refusal) only = tt
+is_short T name Inside before after failure.ReadFault only = tt
+is_short T name Inside before after failure.OutOfMemory only = record { lost = only.lost; spoiled = only.spoiled; faults = only.faults; last = only.last }
 
 -- why it was not opened
 abbrev pub IsUnopened : RunJob → Contents → Option (List ℕ × ℕ) → CaptureError → Type 0
@@ -62,24 +74,24 @@ either_unopened run h k named error old last =
     let P : List ℕ → Type 0 = λ q. Told h (λ m. OpensEither (Err error) (content m q)) → FailsAt (failed_as Reader error) q (IsInHead h q) old last → Told h (λ m. IsUnopened run m last error) in
     subst P (sym named) (by_name run h error old last)
 
-leaves_by_error : (run : RunJob) (plan : Tables) (slots : List Slot) (error : CaptureError) (m : Contents) (said : Option (List ℕ)) (before after : Outside) → IsUnopened run m after.last error →
+leaves_by_error : (run : RunJob) (plan : Tables) (slots : List Slot) (error : CaptureError) (m : Contents) (said : Option (List ℕ)) (before after : Outside) → IsShort before after error → IsUnopened run m after.last error →
     LeavesMade run plan slots (unopened_status error) m m said said before after None
-leaves_by_error run plan slots (failure.Bad refusal) m said before after why = λ tables windows of. inr (why, record { files = refl; sink = refl; none = refl })
-leaves_by_error run plan slots failure.ReadFault m said before after why = λ tables windows of. inr (why, record { files = refl; sink = refl; none = refl })
-leaves_by_error run plan slots failure.OutOfMemory m said before after why = λ tables windows of. inl (record { files = refl; sink = refl; none = refl })
+leaves_by_error run plan slots (failure.Bad refusal) m said before after short why = λ tables windows of. inr (why, record { files = refl; sink = refl; none = refl })
+leaves_by_error run plan slots failure.ReadFault m said before after short why = λ tables windows of. inr (why, record { files = refl; sink = refl; none = refl })
+leaves_by_error run plan slots failure.OutOfMemory m said before after short why = λ tables windows of. inl (record { files = refl; sink = refl; none = refl }, short)
 
-by_held : (run : RunJob) (plan : Tables) (slots : List Slot) (error : CaptureError) (h : Option Contents) (said : Option (List ℕ)) (before after : Outside) → Told h (λ m. IsUnopened run m after.last error) →
+by_held : (run : RunJob) (plan : Tables) (slots : List Slot) (error : CaptureError) (h : Option Contents) (said : Option (List ℕ)) (before after : Outside) → IsShort before after error → Told h (λ m. IsUnopened run m after.last error) →
     Moves h h (λ m n. LeavesMade run plan slots (unopened_status error) m n said said before after None)
-by_held run plan slots error None said before after why = tt
-by_held run plan slots error (Some m) said before after why = leaves_by_error run plan slots error m said before after why
+by_held run plan slots error None said before after short why = tt
+by_held run plan slots error (Some m) said before after short why = leaves_by_error run plan slots error m said before after short why
 
 pub unopened_leaves : (run : RunJob) (plan : Tables) (slots : List Slot) (error : CaptureError) (result : Status) (h0 h1 : Option Contents) (said : Option (List ℕ)) (before after : Outside) (history : Option HistoryValue) →
-    result ≡ unopened_status error → history ≡ None → h1 ≡ h0 → Told h0 (λ m. IsUnopened run m after.last error) → Moves h0 h1 (λ m n. LeavesMade run plan slots result m n said said before after history)
-unopened_leaves run plan slots error result h0 h1 said before after history is none same why =
+    result ≡ unopened_status error → history ≡ None → h1 ≡ h0 → IsShort before after error → Told h0 (λ m. IsUnopened run m after.last error) → Moves h0 h1 (λ m n. LeavesMade run plan slots result m n said said before after history)
+unopened_leaves run plan slots error result h0 h1 said before after history is none same short why =
     let S : Status → Type 0 = λ s. Moves h0 h1 (λ m n. LeavesMade run plan slots s m n said said before after history) in
     let N : Option HistoryValue → Type 0 = λ k. Moves h0 h1 (λ m n. LeavesMade run plan slots (unopened_status error) m n said said before after k) in
     let H : Option Contents → Type 0 = λ h. Moves h0 h (λ m n. LeavesMade run plan slots (unopened_status error) m n said said before after None) in
-    subst S (sym is) (subst N (sym none) (subst H (sym same) (by_held run plan slots error h0 said before after why)))
+    subst S (sym is) (subst N (sym none) (subst H (sym same) (by_held run plan slots error h0 said before after short why)))
 
 history_by_error : (error : CaptureError) (said : Option (List ℕ)) → HasHistory (unopened_status error) said said None
 history_by_error (failure.Bad refusal) said = refl

@@ -31,6 +31,11 @@ abbrev pub Takes : List ℕ → Spot → List ℕ → ℕ → List Rec → ℕ �
 Takes name reader bytes number rs lost lost_now last =
     ((lost_now ≡ lost) × TakesAll reader bytes number rs) ⊎ (Rose lost lost_now × TakesBefore name reader bytes number rs last)
 
+-- the same by how many outputs were made: a record is read behind all three
+abbrev pub TakesBehind : ℕ → List ℕ → Spot → List ℕ → ℕ → List Rec → ℕ → ℕ → Option (List ℕ × ℕ) → Type 0
+TakesBehind made name reader bytes number rs lost lost_now last =
+    ((lost_now ≡ lost) × TakesAll reader bytes number rs) ⊎ ((2 < made) × (Rose lost lost_now × TakesBefore name reader bytes number rs last))
+
 -- fronts of the lines of tables, of packets and of lines of records are put behind what the outputs held
 pub record WroteFronts (x : Setup) (versions packets lines : List ℕ) (old new : Contents) : Type 0 where
   pub versions_count : ℕ

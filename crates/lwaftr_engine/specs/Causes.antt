@@ -1,7 +1,7 @@
 -- What a status says of the faults of the outside.
 use Rattle.std.specs.Prelude.{◌≡◌, ◌⊎◌, ℕ, List, Option, Some}
 use Rattle.std.specs.List.{Contains}
-use Rattle.aftr_base.specs.Outside.{Rose}
+use Rattle.aftr_base.specs.Outside.{Outside, Rose}
 use Rattle.lwaftr_engine.specs.Worlds.{World}
 use Rattle.lwaftr_engine.specs.declared.status.Status.{Status}
 use Rattle.lwaftr_engine.specs.declared.status.Status.TheVariants as status
@@ -12,6 +12,13 @@ pub record NothingRose (before now : World) : Type 0 where
   pub spoiled : now.files.spoiled ≡ before.files.spoiled
   pub faults : now.files.faults ≡ before.files.faults
   pub puts : now.puts ≡ before.puts
+
+-- no call on the files failed, and the last read that failed is the one before
+pub record NoneOfFilesRose (before now : Outside) : Type 0 where
+  pub lost : now.lost ≡ before.lost
+  pub spoiled : now.spoiled ≡ before.spoiled
+  pub faults : now.faults ≡ before.faults
+  pub last : now.last ≡ before.last
 
 -- a read failed, and nothing else did
 pub record ReadsRose (before now : World) : Type 0 where

@@ -10,7 +10,8 @@ use Rattle.capture_io.specs.declared.forms.CaptureBad.{CaptureBad}
 use Rattle.capture_io.specs.declared.forms.Rec.{Rec}
 use Rattle.capture_io.specs.declared.rounds.Ending.{Ending}
 use Rattle.capture_io.specs.declared.rounds.Ending.TheVariants as ending
-use Rattle.lwaftr_engine.specs.Broken.{Takes}
+use Rattle.lwaftr_engine.specs.Broken.{TakesBehind}
+use Rattle.lwaftr_engine.specs.Causes.{NoneOfFilesRose}
 use Rattle.lwaftr_engine.specs.Endings.{IsBehind}
 use Rattle.lwaftr_engine.specs.Fronts.{IsFront, Stop, is_table, stop_by}
 use Rattle.lwaftr_engine.specs.Progress.{Setup, Spot}
@@ -43,8 +44,9 @@ pub record EndsCut (x : Setup) (tables : ℕ → BindingTable) (windows : List W
 -- the run was ended by a fault
 pub record EndsBroken (x : Setup) (tables : ℕ → BindingTable) (windows : List Window) (reader : Spot) (old new : Contents) (said now : Option (List ℕ)) (stop : Stop) : Type 0 where
   pub records : List Rec
-  pub taken : Takes x.run.input reader (content old x.run.input) 0 records stop.before.lost stop.after.lost stop.after.last
-  pub front : IsFront x.run tables windows x.slots x.form x.written records old new said now stop
+  pub made : ℕ
+  pub taken : TakesBehind made x.run.input reader (content old x.run.input) 0 records stop.before.lost stop.after.lost stop.after.last
+  pub front : IsFront x.run tables windows x.slots x.form x.written records made old new said now stop
 
 -- the versions of the loads are counted from one, behind so many that are tables
 abbrev pub AreNumbered : ℕ → List Slot → Type 0
@@ -64,7 +66,7 @@ EndsBy x tables windows reader (Ok (ending.Bad refusal)) old new said now before
 EndsBy x tables windows reader (Ok ending.ReadFault) old new said now before after history = EndsCut x tables windows reader old new said now history after.last
 EndsBy x tables windows reader (Err fault.Failed) old new said now before after history = (AreSlotsOf x.run windows x.slots → EndsBroken x tables windows reader old new said now (stop_by fault.Failed before after)) × (history ≡ None)
 EndsBy x tables windows reader (Err fault.OutOfMemory) old new said now before after history =
-    (((new ≡ old) × (now ≡ said)) ⊎ (AreSlotsOf x.run windows x.slots → EndsBroken x tables windows reader old new said now (stop_by fault.OutOfMemory before after))) × (history ≡ None)
+    (((new ≡ old) × (now ≡ said) × NoneOfFilesRose before after) ⊎ (AreSlotsOf x.run windows x.slots → EndsBroken x tables windows reader old new said now (stop_by fault.OutOfMemory before after))) × (history ≡ None)
 
 -- under every list of tables of which the plan's words are
 abbrev pub Ends : Setup → Tables → Spot → Result Ending Fault → Contents → Contents → Option (List ℕ) → Option (List ℕ) → Outside → Outside → Option HistoryValue → Type 0

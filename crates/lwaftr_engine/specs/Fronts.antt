@@ -1,5 +1,5 @@
 -- What the outputs hold where a run was ended by a file or a sink that cannot be written, or for want of memory.
-use Rattle.std.specs.Prelude.{◌≡◌, ◌⊎◌, ℕ, suc, ◌-◌, ◌≤◌, nat_le, nat_lt, Bool, true, false, if◌then◌else◌, List, [], ◌∷◌, ◌++◌, All, count_by, length, take, Option, Some, None, Ok}
+use Rattle.std.specs.Prelude.{◌≡◌, ◌⊎◌, ℕ, suc, ◌-◌, ◌<◌, ◌≤◌, nat_le, nat_lt, Bool, true, false, if◌then◌else◌, List, [], ◌∷◌, ◌++◌, All, count_by, length, take, Option, Some, None, Ok}
 use Rattle.std.specs.Option.{option_map}
 use Rattle.aftr_base.specs.Contents.{Contents, content}
 use Rattle.aftr_base.specs.Outside.{Outside, Rises, Rose}
@@ -87,8 +87,7 @@ pub record IsAtSummary (run : RunJob) (slots : List Slot) (c : Course) (points :
 -- last of the records. VERSIONS holds a front of what is due for these points; OUT and VERDICTS hold fronts of what is due for all
 -- records under those tables alone whose lines VERSIONS holds whole. The sink took nothing, and where a call failed it is a create or
 -- an append; or no such call failed, all outputs are whole, and the sink took a front of the summary.
-pub record IsFront (run : RunJob) (tables : ℕ → BindingTable) (windows : List Window) (slots : List Slot) (form : Form) (written : Written) (rs : List Rec) (old new : Contents) (said now : Option (List ℕ)) (stop : Stop) : Type 0 where
-  pub made : ℕ
+pub record IsFront (run : RunJob) (tables : ℕ → BindingTable) (windows : List Window) (slots : List Slot) (form : Form) (written : Written) (rs : List Rec) (made : ℕ) (old new : Contents) (said now : Option (List ℕ)) (stop : Stop) : Type 0 where
   pub points : List ℕ
   pub placed : AreAllPoints windows points (length rs)
   pub course : Course
@@ -113,19 +112,20 @@ pub record AreBefore (run : RunJob) (old : Contents) (header : Header) (rs : Lis
   pub reached : All (λ r. r.next_at ≤ place) rs
   pub next : IsBehind place rest
 
--- these are all whole records of the capture where no read failed, and those before it where one did
-abbrev pub AreTaken : RunJob → Contents → Header → List Rec → Stop → Type 0
-AreTaken run old header rs stop =
+-- These are all whole records of the capture where no read failed, and those before it where one did: then all outputs were made.
+abbrev pub AreTaken : RunJob → Contents → Header → List Rec → ℕ → Stop → Type 0
+AreTaken run old header rs made stop =
     ((stop.after.lost ≡ stop.before.lost) × ((ending : Option CaptureBad) × IsInput (content old run.input) header rs ending))
-    ⊎ (Rose stop.before.lost stop.after.lost × AreBefore run old header rs stop.after.last)
+    ⊎ ((2 < made) × (Rose stop.before.lost stop.after.lost × AreBefore run old header rs stop.after.last))
 
 -- the run began under a header that is accepted, and was ended by a fault
 pub record IsBroken (run : RunJob) (tables : ℕ → BindingTable) (windows : List Window) (slots : List Slot) (old new : Contents) (said now : Option (List ℕ)) (stop : Stop) : Type 0 where
   pub header : Header
   pub sound : header_of (content old run.input) ≡ Ok header
   pub records : List Rec
-  pub taken : AreTaken run old header records stop
-  pub front : IsFront run tables windows slots header.form header.written records old new said now stop
+  pub made : ℕ
+  pub taken : AreTaken run old header records made stop
+  pub front : IsFront run tables windows slots header.form header.written records made old new said now stop
 
 -- it began under tables that are accepted
 pub record IsBrokenRun (run : RunJob) (old new : Contents) (said now : Option (List ℕ)) (stop : Stop) (history : Option HistoryValue) : Type 0 where

@@ -16,6 +16,7 @@ use Rattle.capture_io.specs.declared.forms.Rec.{Rec}
 use Rattle.capture_io.specs.declared.rounds.Ending.{Ending}
 use Rattle.capture_io.specs.declared.rounds.Ending.TheVariants as ending
 use Rattle.capture_io.specs.declared.written.Written.{Written}
+use Rattle.lwaftr_engine.specs.Causes.{NoneOfFilesRose}
 use Rattle.lwaftr_engine.specs.Ended.{AreSlotsOf}
 use Rattle.lwaftr_engine.specs.Endings.{IsCut, IsUntouched, IsWhole}
 use Rattle.lwaftr_engine.specs.Fronts.{IsBroken, stop_by}
@@ -93,7 +94,8 @@ LeavesBy run tables windows slots status.ReadFault old new said now before after
     IsCut run tables windows slots old new said now history after.last ⊎ (IsEarly run.input (content old run.input) after.last × IsUntouched old new said now history)
 LeavesBy run tables windows slots status.WriteFault old new said now before after history = (AreSlotsOf run windows slots → IsBroken run tables windows slots old new said now (stop_by fault.Failed before after)) × (history ≡ None)
 LeavesBy run tables windows slots status.OutOfMemory old new said now before after history =
-    IsUntouched old new said now history ⊎ ((AreSlotsOf run windows slots → IsBroken run tables windows slots old new said now (stop_by fault.OutOfMemory before after)) × (history ≡ None))
+    (IsUntouched old new said now history × NoneOfFilesRose before after)
+    ⊎ ((AreSlotsOf run windows slots → IsBroken run tables windows slots old new said now (stop_by fault.OutOfMemory before after)) × (history ≡ None))
 LeavesBy run tables windows slots _ old new said now before after history = ⊥
 
 abbrev pub LeavesMade : RunJob → Tables → List Slot → Status → Contents → Contents → Option (List ℕ) → Option (List ℕ) → Outside → Outside → Option HistoryValue → Type 0

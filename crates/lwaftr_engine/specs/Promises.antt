@@ -12,7 +12,7 @@ use Rattle.binding_file.specs.Files.{TableOf}
 use Rattle.binding_rules.specs.Tables.{BindingTable}
 use Rattle.capture_io.specs.declared.forms.CaptureBad.{CaptureBad}
 use Rattle.capture_io.specs.declared.forms.Rec.{Rec}
-use Rattle.lwaftr_engine.specs.Causes.{FailsIn, HasCause, IsFault}
+use Rattle.lwaftr_engine.specs.Causes.{FailsIn, HasCause, IsFault, NoneOfFilesRose}
 use Rattle.lwaftr_engine.specs.Endings.{AreTables, IsBadHeader, IsCutRun, IsUnread, IsUntouched, IsWholeRun, table_names}
 use Rattle.lwaftr_engine.specs.Fronts.{IsBrokenRun, stop_by}
 use Rattle.lwaftr_engine.specs.Inputs.{Header, IsInput, header_of}
@@ -34,7 +34,7 @@ Leaves run (status.BadTable refusal) old new said now before after history =
     TableOf (content old run.table) (Err refusal) × IsUntouched old new said now history
 Leaves run status.WriteFault old new said now before after history = IsBrokenRun run old new said now (stop_by fault.Failed before after) history
 Leaves run status.OutOfMemory old new said now before after history =
-    IsUntouched old new said now history ⊎ IsBrokenRun run old new said now (stop_by fault.OutOfMemory before after) history
+    (IsUntouched old new said now history × NoneOfFilesRose before after) ⊎ IsBrokenRun run old new said now (stop_by fault.OutOfMemory before after) history
 Leaves run status.Usage old new said now before after history = ⊥
 
 -- The status that the table files and the capture ask for, whatever the outside does: the first table's refusal, else the

@@ -1,5 +1,7 @@
+use Rattle.pcapng_io.specs.Either.{IsInHead}
+use Rattle.pcapng_io.specs.declared.either.Reader.{Reader}
 use Rattle.lwaftr_engine.proofs.OpenLemmas.{left_behind, opened_first}
-use Rattle.lwaftr_engine.proofs.UnopenedLemmas.{either_unopened, unopened_history, unopened_leaves}
+use Rattle.lwaftr_engine.proofs.UnopenedLemmas.{either_unopened, is_short, unopened_history, unopened_leaves}
 use Rattle.lwaftr_engine.proofs.jobs.run_made.Goals as goal
 
 pub run_opened-requires-clause-opened : goal.run_opened-requires-clause-opened
@@ -16,7 +18,7 @@ returns-in-Err-clause-left g c =
     let before = f.outside c.args.files.now in
     let after = f.outside c.open.new.files in
     unopened_leaves c.args.job.now c.args.made.plan c.args.made.slots c.in-Err.error c.unopened.result h0 (f.outside c.open.new.files).held said before after c.args.history.now c.unopened.ensures c.requires.none
-    c.in-Err.ensures.reads.held
+    c.in-Err.ensures.reads.held (is_short Reader c.as_str.result.now (IsInHead h0 c.as_str.result.now) before after c.in-Err.error c.in-Err.ensures.reads)
     (either_unopened c.args.job.now h0 c.as_str.result.now c.as_str.ensures c.in-Err.error (f.outside c.args.files.now).last after.last c.in-Err.ensures.told c.in-Err.ensures.reads.last)
 
 pub returns-in-Ok-clause-left : goal.returns-in-Ok-clause-left
