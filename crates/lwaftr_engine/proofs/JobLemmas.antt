@@ -2,11 +2,12 @@
 use Rattle.std.proofs.Common.{◌≡◌, ℕ, ◌<◌, nat_lt, Bool, true, false, not, List, [], ◌∷◌, ◌++◌, length, Option, Some, None, Result, Ok, Err, inl, inr, refl, sym, ◌∙◌, ap, subst, arith}
 use Rattle.aftr_base.specs.Contents.{Contents, content, Moves, Told}
 use Rattle.aftr_base.specs.Outside.{FailsAt, Outside, Rises, has_failed}
-use Rattle.std.specs.Prelude.{IfOk, IsSome, OnOk}
+use Rattle.std.specs.Prelude.{IfOk}
+use Rattle.capture_io.specs.Refusals.{EndsInRecords, IsOfRecord}
 use Rattle.capture_io.specs.Rounds.{is_cut}
 use Rattle.lwaftr_engine.specs.Causes.{FailsIn, HasCause}
 use Rattle.lwaftr_engine.specs.Finishing.{HasHistoryBy}
-use Rattle.lwaftr_engine.specs.Promises.{GoesWithSummary, HasHistory, TookSummary}
+use Rattle.lwaftr_engine.specs.Promises.{GoesWithRead, GoesWithRefusal, HasHistory, HasSummary}
 use Rattle.lwaftr_engine.specs.Worlds.{World}
 use Rattle.aftr_base.specs.declared.outside.Fault.{Fault}
 use Rattle.aftr_base.specs.declared.outside.Fault.TheVariants as fault
@@ -158,24 +159,28 @@ module _ (x : Setup) (tables : ℕ → BindingTable) (windows : List Window) (re
   leaves_by (Err fault.OutOfMemory) refused is (inl same, none) = inl (record { files = same.0; sink = same.1; none = none }, same.2)
   leaves_by (Err fault.OutOfMemory) refused is (inr ran, none) = inr ((λ slots_of. broken fault.OutOfMemory (ran slots_of)), none)
 
-has_history_done : (refused : Bool) (said now : Option (List ℕ)) (history : Option HistoryValue) → IsSome history → TookSummary said now → HasHistory (ended_status (Ok ending.End) refused) said now history
-has_history_done true said now history some took = (some, took)
-has_history_done false said now history some took = (some, took)
+has_history_done : (input : List ℕ) (refused : Bool) (last : Option (List ℕ × ℕ)) (said now : Option (List ℕ)) (history : Option HistoryValue) → HasSummary said now history → HasHistory input (ended_status (Ok ending.End) refused) last said now history
+has_history_done input true last said now history summed = summed
+has_history_done input false last said now history summed = summed
 
-with_summary : (said now : Option (List ℕ)) (history : Option HistoryValue) → IsSome history → TookSummary said now → GoesWithSummary said now history
-with_summary said now (Some history) some took = took
-with_summary said now None some took = absurd (cc some)
+with_refusal : (refusal : CaptureBad) (said now : Option (List ℕ)) (history : Option HistoryValue) → IsOfRecord refusal → HasSummary said now history → GoesWithRefusal refusal said now history
+with_refusal refusal said now (Some history) of summed = (of, summed)
+with_refusal refusal said now None of summed = absurd summed
 
-pub has_history : (ended : Result Ending Fault) (refused : Bool) (result : Status) (said now : Option (List ℕ)) (history : Option HistoryValue) → result ≡ ended_status ended refused → HasHistoryBy ended history →
-    OnOk ended (TookSummary said now) → HasHistory result said now history
-has_history ended refused result said now history is by took =
-    let H : Status → Type 0 = λ s. HasHistory s said now history in subst H (sym is) (by_end ended by took) where
-      by_end : (ended : Result Ending Fault) → HasHistoryBy ended history → OnOk ended (TookSummary said now) → HasHistory (ended_status ended refused) said now history
-      by_end (Ok ending.End) some took = has_history_done refused said now history some took
-      by_end (Ok (ending.Bad refusal)) some took = with_summary said now history some took
-      by_end (Ok ending.ReadFault) some took = with_summary said now history some took
-      by_end (Err fault.Failed) none took = none
-      by_end (Err fault.OutOfMemory) none took = none
+with_read : (input : List ℕ) (last : Option (List ℕ × ℕ)) (said now : Option (List ℕ)) (history : Option HistoryValue) → (place : ℕ) × (last ≡ Some (input, place)) → HasSummary said now history → GoesWithRead input last said now history
+with_read input last said now (Some history) of summed = (of, summed)
+with_read input last said now None of summed = absurd summed
+
+pub has_history : (input : List ℕ) (ended : Result Ending Fault) (refused : Bool) (result : Status) (before after : Outside) (said now : Option (List ℕ)) (history : Option HistoryValue) → result ≡ ended_status ended refused → HasHistoryBy ended said now history →
+    IfOk ended (λ e. EndsInRecords (Some e)) → IfOk ended (λ e. ReadsOf (is_cut (Some e)) input before after) → HasHistory input result after.last said now history
+has_history input ended refused result before after said now history is by in_records reads =
+    let H : Status → Type 0 = λ s. HasHistory input s after.last said now history in subst H (sym is) (by_end ended by in_records reads) where
+      by_end : (ended : Result Ending Fault) → HasHistoryBy ended said now history → IfOk ended (λ e. EndsInRecords (Some e)) → IfOk ended (λ e. ReadsOf (is_cut (Some e)) input before after) → HasHistory input (ended_status ended refused) after.last said now history
+      by_end (Ok ending.End) summed in_records reads = has_history_done input refused after.last said now history summed
+      by_end (Ok (ending.Bad refusal)) summed in_records reads = with_refusal refusal said now history in_records summed
+      by_end (Ok ending.ReadFault) summed in_records reads = with_read input after.last said now history (reads.last.0, reads.last.2) summed
+      by_end (Err fault.Failed) none in_records reads = none
+      by_end (Err fault.OutOfMemory) none in_records reads = none
 
 -- why it ended so
 ended_cause_by : (ended : Result Ending Fault) (refused : Bool) (before now : World) → ((e : Ending) → ended ≡ Ok e → Rises (is_cut (Some e)) before.files.faults now.files.faults × Rises (is_cut (Some e)) before.files.lost now.files.lost) → OneRises (has_failed ended) before.files.spoiled now.files.spoiled before.puts now.puts → HasCause (ended_status ended refused) before now

@@ -14,7 +14,7 @@ use Rattle.lwaftr_engine.specs.Causes.{FailsIn, HasCause, IsReadOf}
 use Rattle.lwaftr_engine.specs.Endings.{IsBehindTable, table_names}
 use Rattle.lwaftr_engine.specs.Loads.{AreFitFor, AreLoadsOf, OnlyReadsAmong}
 use Rattle.lwaftr_engine.specs.Planned.{IsMade, LeavesMade}
-use Rattle.lwaftr_engine.specs.Promises.{GoesWithSummary, HasHistory, KeepsRun, Leaves}
+use Rattle.lwaftr_engine.specs.Promises.{GoesWithRead, HasHistory, KeepsRun, Leaves}
 use Rattle.lwaftr_engine.specs.Runs.{OthersKept}
 use Rattle.lwaftr_engine.specs.Worlds.{world}
 use Rattle.lwaftr_engine.specs.declared.status.Status.{Status}
@@ -40,7 +40,7 @@ module _ (one : AreSingle) (run : RunJob) (t : BindingTable) (ls : List Load) (m
       OnlyReads false k (λ _. Unit {0}) a b → OnlyReadsAmong false (map (λ (load : LoadWords). load.name) ws) b d →
       Told a.held (λ m. TableOf (content m k) (Ok t)) → Told b.held (λ m. AreLoadsOf m ws ls) → AreFitFor ws ls →
       Moves d.held e.held (λ m n. LeavesMade run made.plan made.slots result m n said now d e history) → Moves d.held e.held (OthersKept run) →
-      HasCause result (world d said puts) (world e now puts_now) → FailsIn (run.input ∷ []) result d.last e.last → HasHistory result said now history →
+      HasCause result (world d said puts) (world e now puts_now) → FailsIn (run.input ∷ []) result d.last e.last → HasHistory run.input result e.last said now history →
       KeepsRun run result (world a said puts) (world e now puts_now) history
   keeps_run k ws k_is ws_is a b d e said now puts puts_now result history read reads table loads fit left others cause failed has =
       let first : b ≡ a = read_well a a b k refl read in
@@ -93,5 +93,5 @@ keeps_unread {T} run t r r_is k k_is ws ws_is a b d said puts history none read 
       due = no_due _ a.held (λ m s asked. inr tt);
       cause = record { lost = only.lost; spoiled = only.spoiled; puts = refl };
       failed_read = table_read run d.last failed;
-      has_history = let N : Option HistoryValue → Type 0 = λ x. GoesWithSummary said said x in subst N (sym none) refl;
+      has_history = let N : Option HistoryValue → Type 0 = λ x. GoesWithRead run.input d.last said said x in subst N (sym none) refl;
     }

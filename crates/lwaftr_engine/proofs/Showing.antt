@@ -37,6 +37,8 @@ use Rattle.traffic_gen.specs.declared.generator.Kind.{Kind}
 use Rattle.traffic_gen.specs.declared.generator.Kind.TheVariants as kind
 use Rattle.traffic_gen.specs.declared.packets.Way.{Way}
 use Rattle.lwaftr_engine.proofs.Laws.{OneReading}
+use Rattle.lwaftr_engine.proofs.SummaryLemmas.{some_summed}
+use Rattle.lwaftr_engine.specs.Promises.{HasSummary}
 
 -- packets that can be recorded are read as they were written
 abbrev pub WrittenIsRead : Type 0
@@ -166,8 +168,8 @@ some_not_none (Some value) some none = absurd (cc none)
 some_not_none None some none = absurd (cc some)
 
 -- the history that is handed out with the line
-pub shown_history : (seed count : ℕ) (line : List ℕ) (history : Option HistoryValue) → IsDemo seed count line history → IsSome history → HasDemoHistory seed count status.Done history
-shown_history seed count line history is some = (line, is, some_not_none history some)
+pub shown_history : (seed count : ℕ) (line : List ℕ) (said now : Option (List ℕ)) (history : Option HistoryValue) → IsDemo seed count line history → HasSummary said now history → HasDemoHistory seed count status.Done history
+shown_history seed count line said now history is summed = (line, is, some_not_none history (some_summed said now history summed))
 
 -- a line that cannot be put
 pub no_history : (seed count : ℕ) (s : Status) (line : List ℕ) (said now : Option (List ℕ)) (history : Option HistoryValue) → Puts s line said now → (s ≡ status.Done → ⊥) → history ≡ None → HasDemoHistory seed count s history

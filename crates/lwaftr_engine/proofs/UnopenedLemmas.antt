@@ -6,6 +6,7 @@ use Rattle.aftr_text.specs.declared.jobs.RunJob.{RunJob}
 use Rattle.area_swap.specs.Histories.{HistoryValue}
 use Rattle.capture_io.specs.Answers.{Agrees, is_read_fault}
 use Rattle.capture_io.specs.Header as classic_header
+use Rattle.capture_io.specs.Refusals.{RefusesHeader}
 use Rattle.capture_io.specs.declared.forms.CaptureError.{CaptureError}
 use Rattle.capture_io.specs.declared.forms.CaptureError.TheVariants as failure
 use Rattle.lwaftr_engine.specs.Causes.{NoneOfFilesRose}
@@ -93,17 +94,18 @@ unopened_leaves run plan slots error result h0 h1 said before after history is n
     let H : Option Contents → Type 0 = λ h. Moves h0 h (λ m n. LeavesMade run plan slots (unopened_status error) m n said said before after None) in
     subst S (sym is) (subst N (sym none) (subst H (sym same) (by_held run plan slots error h0 said before after short why)))
 
-history_by_error : (error : CaptureError) (said : Option (List ℕ)) → HasHistory (unopened_status error) said said None
-history_by_error (failure.Bad refusal) said = refl
-history_by_error failure.ReadFault said = refl
-history_by_error failure.OutOfMemory said = refl
+history_by_error : (input : List ℕ) (error : CaptureError) (last : Option (List ℕ × ℕ)) (said : Option (List ℕ)) → RefusesHeader error → HasHistory input (unopened_status error) last said said None
+history_by_error input (failure.Bad refusal) last said refuses = (refuses, refl)
+history_by_error input failure.ReadFault last said refuses = refl
+history_by_error input failure.OutOfMemory last said refuses = refl
 
 -- where the capture is not opened there is no history
-pub unopened_history : (error : CaptureError) (result : Status) (said : Option (List ℕ)) (history : Option HistoryValue) → result ≡ unopened_status error → history ≡ None → HasHistory result said said history
-unopened_history error result said history is none =
-    let S : Status → Type 0 = λ s. HasHistory s said said history in
-    let N : Option HistoryValue → Type 0 = λ k. HasHistory (unopened_status error) said said k in
-    subst S (sym is) (subst N (sym none) (history_by_error error said))
+pub unopened_history : (input : List ℕ) (error : CaptureError) (result : Status) (last : Option (List ℕ × ℕ)) (said : Option (List ℕ)) (history : Option HistoryValue) → result ≡ unopened_status error → history ≡ None → RefusesHeader error →
+    HasHistory input result last said said history
+unopened_history input error result last said history is none refuses =
+    let S : Status → Type 0 = λ s. HasHistory input s last said said history in
+    let N : Option HistoryValue → Type 0 = λ k. HasHistory input (unopened_status error) last said said k in
+    subst S (sym is) (subst N (sym none) (history_by_error input error last said refuses))
 
 pub others_same : (run : RunJob) (h0 h1 : Option Contents) → h1 ≡ h0 → Moves h0 h1 (OthersKept run)
 others_same run h0 h1 same =

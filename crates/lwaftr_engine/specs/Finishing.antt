@@ -1,5 +1,5 @@
 -- What is written when the records have ended.
-use Rattle.std.specs.Prelude.{◌≡◌, ◌⊎◌, ℕ, false, List, [], ◌++◌, drop, flat_map, length, take, Option, None, IsSome, Result, Ok, Err}
+use Rattle.std.specs.Prelude.{◌≡◌, ◌⊎◌, ℕ, false, List, [], ◌++◌, drop, flat_map, length, take, Option, None, Result, Ok, Err}
 use Rattle.std.specs.Option.{option_map}
 use Rattle.aftr_base.specs.Contents.{Contents}
 use Rattle.aftr_base.specs.Outside.{Rises}
@@ -13,6 +13,7 @@ use Rattle.item_stage.specs.Items.{unfinished_of}
 use Rattle.item_stage.specs.Stages.{Stands}
 use Rattle.lwaftr_engine.specs.Fronts.{is_failure}
 use Rattle.lwaftr_engine.specs.declared.rounds.Progress.{Progress}
+use Rattle.lwaftr_engine.specs.Promises.{HasSummary}
 use Rattle.lwaftr_engine.specs.Progress.{Setup, Wrote, loads_of}
 use Rattle.run_output.specs.Counting.{no_totals, with_version}
 use Rattle.run_output.specs.Limiting.{HasAsked, rate_of}
@@ -67,7 +68,7 @@ abbrev pub Finishes : Setup → Progress → List ℕ → List Rec → Result Un
 Finishes x p points taken (Ok done) spoiled spoiled_now old new said now = IsFinished x p points taken old new said now
 Finishes x p points taken (Err why) spoiled spoiled_now old new said now = IsHalfFinished x p points taken why spoiled spoiled_now old new said now
 
--- there is a history where all is written, and none after a fault
-abbrev pub HasHistoryBy : Result Ending Fault → Option HistoryValue → Type 0
-HasHistoryBy (Ok ending) history = IsSome history
-HasHistoryBy (Err why) history = history ≡ None
+-- there is a history with its summary where all is written, and none after a fault
+abbrev pub HasHistoryBy : Result Ending Fault → Option (List ℕ) → Option (List ℕ) → Option HistoryValue → Type 0
+HasHistoryBy (Ok ending) said now history = HasSummary said now history
+HasHistoryBy (Err why) said now history = history ≡ None

@@ -1,5 +1,5 @@
 -- The promises of the program's call on a run.
-use Rattle.std.specs.Prelude.{◌≡◌, ◌⊎◌, ℕ, Bool, true, false, List, [], ◌∷◌, ◌++◌, Option, Some, None, IsSome, Ok, Err}
+use Rattle.std.specs.Prelude.{◌≡◌, ◌⊎◌, ℕ, Bool, true, false, List, [], ◌∷◌, ◌++◌, length, Option, Some, None, Ok, Err}
 use Rattle.std.specs.Option.{option_map}
 use Rattle.aftr_base.specs.Contents.{Contents, content, Moves, Told}
 use Rattle.aftr_base.specs.Outside.{Outside}
@@ -7,9 +7,10 @@ use Rattle.aftr_base.specs.declared.outside.Fault.TheVariants as fault
 use Rattle.aftr_text.specs.Lines.{summary_text}
 use Rattle.aftr_text.specs.declared.jobs.RunJob.{RunJob}
 use Rattle.aftr_text.specs.declared.summaries.Totals.{Totals}
-use Rattle.area_swap.specs.Histories.{HistoryValue}
+use Rattle.area_swap.specs.Histories.{HistoryValue, IsHistory}
 use Rattle.binding_file.specs.Files.{TableOf}
 use Rattle.binding_rules.specs.Tables.{BindingTable}
+use Rattle.capture_io.specs.Refusals.{IsOfHeader, IsOfRecord}
 use Rattle.capture_io.specs.declared.forms.CaptureBad.{CaptureBad}
 use Rattle.capture_io.specs.declared.forms.Rec.{Rec}
 use Rattle.lwaftr_engine.specs.Causes.{FailsIn, HasCause, IsFault, NoneOfFilesRose}
@@ -60,26 +61,43 @@ IsAskedFor run m status.Done = AsksDone run m false
 IsAskedFor run m status.DoneRefused = AsksDone run m true
 IsAskedFor run m _ = ⊥
 
--- the sink took a summary
-abbrev pub TookSummary : Option (List ℕ) → Option (List ℕ) → Type 0
-TookSummary said now = (totals : Totals) × (now ≡ option_map (λ taken. taken ++ summary_text totals) said)
+-- A history is one of closed areas, and the sink took its summary: as many records as were drawn in the areas, and the number of the
+-- points as the last version.
+pub record IsSummedUp (said now : Option (List ℕ)) (history : HistoryValue) : Type 0 where
+  pub closed : IsHistory history
+  pub totals : Totals
+  pub took : now ≡ option_map (λ taken. taken ++ summary_text totals) said
+  pub records : totals.records ≡ history.records
+  pub version : totals.version ≡ length history.points
 
--- a history goes with a summary: the sink took one where there is a history, and nothing where there is none
-abbrev pub GoesWithSummary : Option (List ℕ) → Option (List ℕ) → Option HistoryValue → Type 0
-GoesWithSummary said now (Some history) = TookSummary said now
-GoesWithSummary said now None = now ≡ said
+-- there is a history, with its summary
+abbrev pub HasSummary : Option (List ℕ) → Option (List ℕ) → Option HistoryValue → Type 0
+HasSummary said now (Some history) = IsSummedUp said now history
+HasSummary said now None = ⊥
+
+-- The capture is refused. Where there is a history, the refusal is one that a record can have; where there is none, it is one that a
+-- file header can have, and the sink took nothing.
+abbrev pub GoesWithRefusal : CaptureBad → Option (List ℕ) → Option (List ℕ) → Option HistoryValue → Type 0
+GoesWithRefusal refusal said now (Some history) = IsOfRecord refusal × IsSummedUp said now history
+GoesWithRefusal refusal said now None = IsOfHeader refusal × (now ≡ said)
+
+-- A read failed. Where there is a history, it is one of the capture; where there is none, the sink took nothing.
+abbrev pub GoesWithRead : List ℕ → Option (List ℕ × ℕ) → Option (List ℕ) → Option (List ℕ) → Option HistoryValue → Type 0
+GoesWithRead input last said now (Some history) = ((place : ℕ) × (last ≡ Some (input, place))) × IsSummedUp said now history
+GoesWithRead input last said now None = now ≡ said
 
 -- Whatever the files tell, the history is there where all was done, and is not where nothing came into force or a fault of writing
 -- or want of memory ended the run. Where the capture is refused or a read failed, it is there exactly where the sink took the
--- summary of the records before that. A run does not end with `Usage`.
-abbrev pub HasHistory : Status → Option (List ℕ) → Option (List ℕ) → Option HistoryValue → Type 0
-HasHistory status.Done said now history = IsSome history × TookSummary said now
-HasHistory status.DoneRefused said now history = IsSome history × TookSummary said now
-HasHistory (status.BadCapture refusal) said now history = GoesWithSummary said now history
-HasHistory status.ReadFault said now history = GoesWithSummary said now history
-HasHistory (status.BadTable refusal) said now history = (history ≡ None) × (now ≡ said)
-HasHistory status.Usage said now history = ⊥
-HasHistory _ said now history = history ≡ None
+-- summary of the records before that; where the sink tells nothing, the refusal and the name of the read tell it as far as they can.
+-- A run does not end with `Usage`.
+abbrev pub HasHistory : List ℕ → Status → Option (List ℕ × ℕ) → Option (List ℕ) → Option (List ℕ) → Option HistoryValue → Type 0
+HasHistory input status.Done last said now history = HasSummary said now history
+HasHistory input status.DoneRefused last said now history = HasSummary said now history
+HasHistory input (status.BadCapture refusal) last said now history = GoesWithRefusal refusal said now history
+HasHistory input status.ReadFault last said now history = GoesWithRead input last said now history
+HasHistory input (status.BadTable refusal) last said now history = (history ≡ None) × (now ≡ said)
+HasHistory input status.Usage last said now history = ⊥
+HasHistory input _ last said now history = history ≡ None
 
 -- a run, and what it leaves
 pub record KeepsRun (run : RunJob) (result : Status) (before now : World) (history : Option HistoryValue) : Type 0 where
@@ -91,4 +109,4 @@ pub record KeepsRun (run : RunJob) (result : Status) (before now : World) (histo
   pub due : Told before.files.held (λ m. (s : Status) → IsAskedFor run m s → (result ≡ s) ⊎ IsFault result)
   pub cause : HasCause result before now
   pub failed_read : FailsIn (table_names run ++ run.input ∷ []) result before.files.last now.files.last
-  pub has_history : HasHistory result before.said now.said history
+  pub has_history : HasHistory run.input result now.files.last before.said now.said history

@@ -3,6 +3,7 @@ use Rattle.std.specs.Prelude.{◌≡◌, ◌⊎◌, ℕ, ◌+◌, ◌^◌, ◌<�
 use Rattle.aftr_base.specs.Contents.{Contents, Told, content}
 use Rattle.aftr_base.specs.Outside.{Rose}
 use Rattle.aftr_text.specs.declared.summaries.Totals.{Totals}
+use Rattle.capture_io.specs.Refusals.{EndsInRecords}
 use Rattle.capture_io.specs.Rounds.{GoesOn, IsPlaced, Precedes}
 use Rattle.capture_io.specs.declared.forms.Rec.{Rec}
 use Rattle.capture_io.specs.declared.rounds.Ending.TheVariants as ending
@@ -145,6 +146,7 @@ pub record IsInHand (number : ℕ) (round : Round) : Type 0 where
   pub most : round.number ≤ 2 ^ 31
   pub few : length round.records ≤ 16384
   pub some : round.ending ≡ None → 0 < length round.records
+  pub in_records : EndsInRecords round.ending
 
 -- what judging needs
 pub record CanJudge (x : Setup) (shift : Shift) (p : Progress) (round : Round) : Type 0 where

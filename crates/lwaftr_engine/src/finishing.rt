@@ -1,5 +1,6 @@
 // What a run writes when its records have ended.
-ghost use Rattle.std.specs.Prelude.{◌≡◌, ◌<◌, ◌^◌, ◌≤◌, IfOk, List, OnOk, drop, false, flat_map, length, string_bytes};
+ghost use Rattle.std.specs.Option.{option_map};
+ghost use Rattle.std.specs.Prelude.{◌≡◌, ◌++◌, ◌<◌, ◌^◌, ◌≤◌, IfOk, List, OnOk, drop, false, flat_map, length, string_bytes};
 ghost use Rattle.aftr_base.specs.Contents.{Moves};
 ghost use Rattle.aftr_base.specs.Outside.{has_failed};
 ghost use Rattle.aftr_text.specs.Jobs.{AreApart};
@@ -7,9 +8,8 @@ ghost use Rattle.aftr_text.specs.Lines.{ended_text};
 ghost use Rattle.capture_io.specs.declared.forms.Rec.{Rec as Record};
 ghost use Rattle.item_stage.specs.Items.{unfinished_of};
 ghost use Rattle.item_stage.specs.Stages.{Stands};
-ghost use Rattle.lwaftr_engine.specs.Finishing.{Finishes};
+ghost use Rattle.lwaftr_engine.specs.Finishing.{Finishes, last_line};
 ghost use Rattle.lwaftr_engine.specs.Progress.{OneRises, loads_of, setup_of};
-ghost use Rattle.lwaftr_engine.specs.Promises.{TookSummary};
 ghost use Rattle.lwaftr_engine.specs.Runs.{OthersKept};
 ghost use Rattle.run_output.specs.Counting.{with_version};
 ghost use Rattle.run_output.specs.Versions.{load_lines};
@@ -85,7 +85,7 @@ pub fn finish<F: Files, O: Sink>(
         Finishes (setup_of task.entry) progress.now points.now taken result (F.outside files.old).spoiled (F.outside files.new).spoiled
         m n (O.out out.old) (O.out out.new)) }
     ensures others { Moves (F.outside files.old).held (F.outside files.new).held (OthersKept (setup_of task.entry).run) }
-    ensures summary { OnOk result (TookSummary (O.out out.old) (O.out out.new)) }
+    ensures summary { OnOk result (O.out out.new ≡ option_map (λ taken. taken ++ last_line progress.now points.now) (O.out out.old)) }
     ensures faults { OnOk result ((F.outside files.new).faults ≡ (F.outside files.old).faults) }
     ensures lost { (F.outside files.new).lost ≡ (F.outside files.old).lost }
     ensures last { (F.outside files.new).last ≡ (F.outside files.old).last }

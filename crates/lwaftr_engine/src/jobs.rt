@@ -119,7 +119,7 @@ fn run_opened<R: Threads + Wait + Sync, F: Files, O: Sink, C: CaptureReader, G: 
     ensures cause { HasCause result (world (F.outside files.old) (O.out out.old) (O.faults out.old))
         (world (F.outside files.new) (O.out out.new) (O.faults out.new)) }
     ensures failed_read { FailsIn (job.now.input ∷ []) result (F.outside files.old).last (F.outside files.new).last }
-    ensures has_history { HasHistory result (O.out out.old) (O.out out.new) history.new }
+    ensures has_history { HasHistory job.now.input result (F.outside files.new).last (O.out out.old) (O.out out.new) history.new }
 {
     let Made { plan, slots } = made;
     let refused = has_refused(slots.as_slice());
@@ -154,7 +154,7 @@ pub fn run_made<R: Threads + Wait + Sync, F: Files, O: Sink, G: Gate + Sync>(
     ensures cause { HasCause result (world (F.outside files.old) (O.out out.old) (O.faults out.old))
         (world (F.outside files.new) (O.out out.new) (O.faults out.new)) }
     ensures failed_read { FailsIn (job.now.input ∷ []) result (F.outside files.old).last (F.outside files.new).last }
-    ensures has_history { HasHistory result (O.out out.old) (O.out out.new) history.new }
+    ensures has_history { HasHistory job.now.input result (F.outside files.new).last (O.out out.old) (O.out out.new) history.new }
 {
     match Reader::open(alloc, files, job.input.as_str()) {
         Ok(mut reader) => {

@@ -5,6 +5,7 @@ ghost use Rattle.std.specs.Thread.{IsSync};
 ghost use Rattle.aftr_base.specs.Contents.{Contents, Moves, Told, content};
 ghost use Rattle.aftr_base.specs.Outside.{OnlyWrites, Rises, has_failed};
 ghost use Rattle.aftr_text.specs.Jobs.{AreApart};
+ghost use Rattle.capture_io.specs.Refusals.{EndsInRecords};
 ghost use Rattle.capture_io.specs.Rounds.{is_cut};
 ghost use Rattle.lwaftr_engine.specs.Broken.{Breaks};
 ghost use Rattle.lwaftr_engine.specs.Progress.{AddsTo, Goes, IsInRange, IsOnDuty, IsUpToDate, ReadsOf, mark, seats_of, setup_of, spot};
@@ -355,6 +356,7 @@ pub fn run_records<R: Threads + Wait + Sync, F: Files, C: CaptureReader, G: Gate
     ensures drawn { IfOk result (λ _. length shift.new.seat.known.actor.draws ≡ progress.new.number) }
     ensures settled { IfOk result (λ _. IsSettled shift.new.seat.known shift.new.desk.known) }
     ensures reads { IfOk result (λ ending. ReadsOf (is_cut (Some ending)) (setup_of task.entry).run.input (F.outside files.old) (F.outside files.new)) }
+    ensures in_records { IfOk result (λ ending. EndsInRecords (Some ending)) }
 
     // Where they could not be written to their end.
     ensures broken { IfErr result (λ _. Moves (F.outside files.old).held (F.outside files.new).held (λ m n.

@@ -1,13 +1,13 @@
 // The run, from its table files to the summary.
-ghost use Rattle.std.specs.Prelude.{◌≡◌, ◌≤◌, All, IfOk, IfSome, None, OnOk, Some, length};
+ghost use Rattle.std.specs.Prelude.{◌≡◌, ◌≤◌, All, IfOk, IfSome, None, Some, length};
 ghost use Rattle.aftr_base.specs.Contents.{Moves};
 ghost use Rattle.aftr_base.specs.Outside.{has_failed};
 ghost use Rattle.aftr_text.specs.Jobs.{AreApart, IsRate, IsWorkers};
+ghost use Rattle.capture_io.specs.Refusals.{EndsInRecords};
 ghost use Rattle.capture_io.specs.Rounds.{is_cut};
 ghost use Rattle.lwaftr_engine.specs.Ended.{Ends};
 ghost use Rattle.lwaftr_engine.specs.Finishing.{HasHistoryBy, IsFirst};
 ghost use Rattle.lwaftr_engine.specs.Progress.{OneRises, ReadsOf, setup_of, spot};
-ghost use Rattle.lwaftr_engine.specs.Promises.{TookSummary};
 ghost use Rattle.lwaftr_engine.specs.Runs.{OthersKept};
 ghost use Rattle.lwaftr_engine.specs.Underway.{IsNothing};
 ghost use Rattle.table_words.specs.Layout.{AreCompiled};
@@ -109,10 +109,10 @@ pub fn run_capture<R: Threads + Wait + Sync, F: Files, O: Sink, C: CaptureReader
     ensures ended { Moves (F.outside files.old).held (F.outside files.new).held (λ m n.
         Ends (setup_of task.entry) plan (spot (C.stands reader.old) (C.left reader.old) (C.at reader.old)) result
         m n (O.out out.old) (O.out out.new) (F.outside files.old) (F.outside files.new) history.new) }
-    ensures history { HasHistoryBy result history.new }
+    ensures history { HasHistoryBy result (O.out out.old) (O.out out.new) history.new }
+    ensures in_records { IfOk result (λ ending. EndsInRecords (Some ending)) }
     ensures others { Moves (F.outside files.old).held (F.outside files.new).held (OthersKept (setup_of task.entry).run) }
     ensures reads { IfOk result (λ ending. ReadsOf (is_cut (Some ending)) (setup_of task.entry).run.input (F.outside files.old) (F.outside files.new)) }
-    ensures summary { OnOk result (TookSummary (O.out out.old) (O.out out.new)) }
     ensures writing { OneRises (has_failed result) (F.outside files.old).spoiled (F.outside files.new).spoiled (O.faults out.old) (O.faults out.new) }
 {
     // Laws, and no steps: whatever is left has some ending, and what holds of every verdict, run and plan.

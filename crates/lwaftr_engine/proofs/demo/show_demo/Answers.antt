@@ -35,4 +35,4 @@ pub returns-in-Done-put_line-clause-history : goal.returns-in-Done-put_line-clau
 returns-in-Done-put_line-clause-history g c =
     let demo = is_demo c.one_reading.ensures c.written_is_read.ensures c.args.seed c.args.count c.requires.most c.in-Ok.show c.in-Ok.ensures c.run_made.new.files c.new-line.result.out c.run_made.new.out.out
     (ap (λ (s : SinkInMemory). s.out) c.new-line.ensures) c.run_made.new.history c.in-Done.ensures.left in
-    shown_history c.args.seed c.args.count c.run_made.new.out.out c.run_made.new.history demo c.in-Done.ensures.has_history.0
+    shown_history c.args.seed c.args.count c.run_made.new.out.out _ _ c.run_made.new.history demo c.in-Done.ensures.has_history

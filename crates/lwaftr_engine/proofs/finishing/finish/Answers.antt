@@ -1,6 +1,6 @@
-use Rattle.std.proofs.Common.{◌≡◌, ◌∙◌, ap, length, rules}
+use Rattle.std.proofs.Common.{◌≡◌, ◌∙◌, ap, rules}
 use Rattle.aftr_base.specs.Outside.{Rises, has_failed}
-use Rattle.run_output.specs.Counting.{with_version}
+use Rattle.lwaftr_engine.specs.Finishing.{last_line}
 use Rattle.aftr_text.specs.Lines.{summary_text}
 use Rattle.lwaftr_engine.specs.Progress.{setup_of}
 use Rattle.lwaftr_engine.proofs.Apart.{apart}
@@ -96,5 +96,5 @@ returns-clause-finished g c =
 
 pub returns-clause-summary : goal.returns-clause-summary
 returns-clause-summary g c =
-    took_summary c.put_all.result (g.O.Sink.out c.args.out.now) (g.O.Sink.out c.put_all.new.sink) c.as_bytes-2.result.now (with_version c.args.progress.now.totals (length c.args.points.now))
+    took_summary c.put_all.result (g.O.Sink.out c.args.out.now) (g.O.Sink.out c.put_all.new.sink) c.as_bytes-2.result.now (last_line c.args.progress.now c.args.points.now)
     (c.as_bytes-2.ensures.value ∙ (c.as_str-3.ensures ∙ (c.in_ok-line.ensures ∙ ap summary_text c.totals_with.ensures))) c.put_all.ensures.out

@@ -29,4 +29,4 @@ returns-in-Ok-clause-left g c =
     (o.out c.args.out.now) (o.out c.run_opened.new.out) c.run_opened.new.history c.in-Ok.ensures.reads c.run_opened.ensures.left
 
 pub returns-in-Err-clause-has_history : goal.returns-in-Err-clause-has_history
-returns-in-Err-clause-has_history g c = unopened_history c.in-Err.error c.unopened.result (g.O.Sink.out c.args.out.now) c.args.history.now c.unopened.ensures c.requires.none
+returns-in-Err-clause-has_history g c = unopened_history c.args.job.now.input c.in-Err.error c.unopened.result (g.F.Files.outside c.open.new.files).last (g.O.Sink.out c.args.out.now) c.args.history.now c.unopened.ensures c.requires.none c.in-Err.ensures.refused

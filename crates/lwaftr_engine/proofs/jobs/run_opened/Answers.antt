@@ -31,5 +31,7 @@ returns-clause-failed_read g c =
 
 pub returns-clause-has_history : goal.returns-clause-has_history
 returns-clause-has_history g c =
+    let f = g.F.Files in
     let o = g.O.Sink in
-    has_history c.run_capture-ended.result c.has_refused-refused.result c.ended_status.result (o.out c.args.out.now) (o.out c.run_capture-ended.new.out) c.run_capture-ended.new.history c.ended_status.ensures c.run_capture-ended.ensures.history c.run_capture-ended.ensures.summary
+    has_history c.args.job.now.input c.run_capture-ended.result c.has_refused-refused.result c.ended_status.result (f.outside c.args.files.now) (f.outside c.run_capture-ended.new.files) (o.out c.args.out.now) (o.out c.run_capture-ended.new.out) c.run_capture-ended.new.history
+    c.ended_status.ensures c.run_capture-ended.ensures.history c.run_capture-ended.ensures.in_records c.run_capture-ended.ensures.reads

@@ -1,6 +1,7 @@
 use Rattle.std.proofs.Common.{ℕ, Option, Some, refl, sym, ◌∙◌, [], append-nil, arith, subst}
 use Rattle.aftr_base.specs.Contents.{Contents, Moves, Told, content}
 use Rattle.aftr_base.specs.Outside.{Rises}
+use Rattle.capture_io.specs.Refusals.{EndsInRecords}
 use Rattle.capture_io.specs.Rounds.{is_cut}
 use Rattle.capture_io.specs.declared.rounds.Ending.{Ending}
 use Rattle.lwaftr_engine.specs.Progress.{ReadsOf, mark, seats_of, setup_of, spot}
@@ -121,6 +122,9 @@ returns-in-Some-clause-reads g c =
     let name = (setup_of c.args.task).run.input in
     let R : Option Ending → Type 0 = λ e. ReadsOf (is_cut e) name (f.outside c.args.files.now) (f.outside c.last_steps.new.files) in
     subst R c.in-Some.is (reads_before (is_cut c.rounds.round.ending) name (f.outside c.args.files.now) (f.outside c.rounds.files) (f.outside c.last_steps.new.files) c.rounds.invariant.reads c.in_ok-last_steps.ensures.writes)
+
+pub returns-in-Some-clause-in_records : goal.returns-in-Some-clause-in_records
+returns-in-Some-clause-in_records g c = let E : Option Ending → Type 0 = λ e. EndsInRecords e in subst E c.in-Some.is c.rounds.invariant.in_hand.in_records
 
 pub rounds-preserved : goal.rounds-preserved
 rounds-preserved g c =

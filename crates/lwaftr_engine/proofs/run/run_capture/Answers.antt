@@ -12,6 +12,7 @@ use Rattle.lwaftr_engine.proofs.Capturing.{closed_plan, ended_err, finish_broken
 use Rattle.lwaftr_engine.proofs.Closing.{all_sent}
 use Rattle.lwaftr_engine.proofs.EndLemmas.{at_end, ends}
 use Rattle.lwaftr_engine.proofs.Exits.{rises_by}
+use Rattle.lwaftr_engine.proofs.SummaryLemmas.{summed_up}
 use Rattle.lwaftr_engine.proofs.run.run_capture.Goals as goal
 
 pub returns-clause-ended : goal.returns-clause-ended
@@ -49,6 +50,12 @@ returns-clause-ended g c =
     c.in_ok-open_outputs.ensures.opened
     (as_planned x c.args.plan s.areas.plan c.in_ok-shift.ensures.duty.its_plan u.seat.known.actor.draws c.in_ok-progress.progress q (seats_of s) (seats_of u) first reader (Some c.in_ok-ending.ending) last h1 h2 c.in_ok-ending.ensures.went)
     (finished_at x q c.points.result.now u.desk.known.points (c.points.ensures.points ∙ c.end_shift-closed.ensures.points) said now h2 h3 c.in_ok-finish.ensures.finished)
+
+pub returns-clause-history : goal.returns-clause-history
+returns-clause-history g c =
+    let o = g.O.Sink in
+    summed_up c.run_records-taken.new.progress c.points.result.now c.run_records-taken.new.shift.seat.known.actor.draws c.end_shift-closed.result (o.out c.args.out.now) (o.out c.finish.new.out)
+    c.end_shift-closed.ensures.history c.end_shift-closed.ensures.drawn c.in_ok-ending.ensures.drawn c.in_ok-ending.ensures.bounded.totals c.points.ensures.points c.in_ok-finish.ensures.summary
 
 pub returns-in_err-open_outputs-clause-ended : goal.returns-in_err-open_outputs-clause-ended
 returns-in_err-open_outputs-clause-ended g c =
