@@ -31,6 +31,7 @@ mod PlanLemmas
 mod Prepared
 mod PromptLemmas
 mod QueryLemmas
+mod ReadLemmas
 mod RoundLemmas
 mod RunLemmas
 mod ShowLemmas

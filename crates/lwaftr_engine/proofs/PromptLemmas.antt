@@ -88,6 +88,7 @@ no_run run s a said puts history short none =
       due = answered_so run a.held;
       cause = record { spoiled = refl; puts = refl };
       failed_read = tt;
+      capture_read = inl (refl, refl);
       has_history = refl;
     }))
 

@@ -10,7 +10,7 @@ use Rattle.aftr_text.specs.declared.jobs.RunJob.{RunJob}
 use Rattle.area_swap.specs.Histories.{HistoryValue}
 use Rattle.binding_file.specs.Files.{TableOf}
 use Rattle.binding_rules.specs.Tables.{BindingTable}
-use Rattle.lwaftr_engine.specs.Causes.{FailsIn, HasCause, IsReadOf}
+use Rattle.lwaftr_engine.specs.Causes.{FailsIn, HasCause, IsReadOf, MayFailIn}
 use Rattle.lwaftr_engine.specs.Endings.{IsBehindTable, table_names}
 use Rattle.lwaftr_engine.specs.Loads.{AreFitFor, AreLoadsOf, OnlyReadsAmong}
 use Rattle.lwaftr_engine.specs.Planned.{IsMade, LeavesMade}
@@ -24,6 +24,7 @@ use Rattle.reload_plan.specs.declared.loads.Made.{Made}
 use Rattle.lwaftr_engine.proofs.DueLemmas.{AreSingle, due_told}
 use Rattle.lwaftr_engine.proofs.LeaveLemmas.{among_all, leaves_told, load_read, table_read, unread_tables}
 use Rattle.lwaftr_engine.proofs.LoadLemmas.{read_well}
+use Rattle.lwaftr_engine.proofs.ReadLemmas.{fails_behind}
 use Rattle.lwaftr_engine.proofs.UnopenedLemmas.{others_same}
 
 -- reads of many files that went well change nothing that is known
@@ -40,15 +41,16 @@ module _ (one : AreSingle) (run : RunJob) (t : BindingTable) (ls : List Load) (m
       OnlyReads false k (λ _. Unit {0}) a b → OnlyReadsAmong false (map (λ (load : LoadWords). load.name) ws) b d →
       Told a.held (λ m. TableOf (content m k) (Ok t)) → Told b.held (λ m. AreLoadsOf m ws ls) → AreFitFor ws ls →
       Moves d.held e.held (λ m n. LeavesMade run made.plan made.slots result m n said now d e history) → Moves d.held e.held (OthersKept run) →
-      HasCause result (world d said puts) (world e now puts_now) → FailsIn (run.input ∷ []) result d.last e.last → HasHistory run.input result e.last said now history →
+      HasCause result (world d said puts) (world e now puts_now) → FailsIn (run.input ∷ []) result d.last e.last → MayFailIn run.input d e → HasHistory run.input result e.last said now history →
       KeepsRun run result (world a said puts) (world e now puts_now) history
-  keeps_run k ws k_is ws_is a b d e said now puts puts_now result history read reads table loads fit left others cause failed has =
+  keeps_run k ws k_is ws_is a b d e said now puts puts_now result history read reads table loads fit left others cause failed may has =
       let first : b ≡ a = read_well a a b k refl read in
       let all : d ≡ a = read_all a b d (map (λ (load : LoadWords). load.name) ws) first reads in
       let L : List LoadWords → Type 0 = λ l. Told b.held (λ m. AreLoadsOf m l ls) in
       let F : List LoadWords → Type 0 = λ l. AreFitFor l ls in
       let O : Outside → Type 0 = λ o. Moves o.held e.held (OthersKept run) in
       let C : Outside → Type 0 = λ o. HasCause result (world o said puts) (world e now puts_now) in
+      let B : Outside → Type 0 = λ o. MayFailIn run.input o e in
       let R : Outside → Type 0 = λ o. FailsIn (run.input ∷ []) result o.last e.last in
       let M : Outside → Type 0 = λ o. Moves o.held e.held (λ m n. LeavesMade run made.plan made.slots result m n said now o e history) in
       let files : Moves a.held e.held (λ m n. Leaves run result m n said now a e history) =
@@ -60,6 +62,7 @@ module _ (one : AreSingle) (run : RunJob) (t : BindingTable) (ls : List Load) (m
         due = due_told one run result a.held e.held said now a e history files;
         cause = subst C all cause;
         failed_read = among_all run result a.last e.last (subst R all failed);
+        capture_read = fails_behind run.input result a e (subst B all may);
         has_history = has;
       }
 
@@ -93,5 +96,6 @@ keeps_unread {T} run t r r_is k k_is ws ws_is a b d said puts history none read 
       due = no_due _ a.held (λ m s asked. inr tt);
       cause = record { lost = only.lost; spoiled = only.spoiled; puts = refl };
       failed_read = table_read run d.last failed;
+      capture_read = tt;
       has_history = let N : Option HistoryValue → Type 0 = λ x. GoesWithRead run.input d.last said said x in subst N (sym none) refl;
     }

@@ -65,6 +65,17 @@ FailsIn names status.WriteFault old new = Unit {0}
 FailsIn names status.OutOfMemory old new = Unit {0}
 FailsIn names _ old new = new ≡ old
 
+-- no read failed, or one did, and it is one of this file
+abbrev pub MayFailIn : List ℕ → Outside → Outside → Type 0
+MayFailIn name before now =
+    ((now.lost ≡ before.lost) × (now.last ≡ before.last)) ⊎ (Rose before.lost now.lost × ((place : ℕ) × (now.last ≡ Some (name, place))))
+
+-- where writing failed or memory was short in a run, no read of a table failed before, and of the capture one at most
+abbrev pub FailsBehind : List ℕ → Status → Outside → Outside → Type 0
+FailsBehind input status.WriteFault before now = MayFailIn input before now
+FailsBehind input status.OutOfMemory before now = MayFailIn input before now
+FailsBehind input _ before now = Unit {0}
+
 -- the job ended by a fault of the outside or for want of memory
 abbrev pub IsFault : Status → Type 0
 IsFault status.ReadFault = Unit {0}

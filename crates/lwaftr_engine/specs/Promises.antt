@@ -13,7 +13,7 @@ use Rattle.binding_rules.specs.Tables.{BindingTable}
 use Rattle.capture_io.specs.Refusals.{IsOfHeader, IsOfRecord}
 use Rattle.capture_io.specs.declared.forms.CaptureBad.{CaptureBad}
 use Rattle.capture_io.specs.declared.forms.Rec.{Rec}
-use Rattle.lwaftr_engine.specs.Causes.{FailsIn, HasCause, IsFault, NoneOfFilesRose}
+use Rattle.lwaftr_engine.specs.Causes.{FailsBehind, FailsIn, HasCause, IsFault, NoneOfFilesRose}
 use Rattle.lwaftr_engine.specs.Endings.{AreTables, IsBadHeader, IsCutRun, IsUnread, IsUntouched, IsWholeRun, table_names}
 use Rattle.lwaftr_engine.specs.Fronts.{IsBrokenRun, stop_by}
 use Rattle.lwaftr_engine.specs.Inputs.{Header, IsInput, header_of}
@@ -109,4 +109,5 @@ pub record KeepsRun (run : RunJob) (result : Status) (before now : World) (histo
   pub due : Told before.files.held (λ m. (s : Status) → IsAskedFor run m s → (result ≡ s) ⊎ IsFault result)
   pub cause : HasCause result before now
   pub failed_read : FailsIn (table_names run ++ run.input ∷ []) result before.files.last now.files.last
+  pub capture_read : FailsBehind run.input result before.files now.files
   pub has_history : HasHistory run.input result now.files.last before.said now.said history

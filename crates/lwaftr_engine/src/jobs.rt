@@ -1,7 +1,7 @@
 // The run that the command words ask for.
 ghost use Rattle.std.specs.Prelude.{◌≡◌, [], ◌∷◌, All, IfOk, None, length};
 ghost use Rattle.aftr_base.specs.Contents.{Moves, Told, content};
-ghost use Rattle.lwaftr_engine.specs.Causes.{FailsIn, HasCause};
+ghost use Rattle.lwaftr_engine.specs.Causes.{FailsIn, HasCause, MayFailIn};
 ghost use Rattle.lwaftr_engine.specs.Loads.{AreFitFor};
 ghost use Rattle.lwaftr_engine.specs.Planned.{IsAtFirst, IsMade, IsRunJob, LeavesMade, done_status, ended_status, some_slot_refused, unopened_status};
 ghost use Rattle.lwaftr_engine.specs.Progress.{spot};
@@ -119,6 +119,7 @@ fn run_opened<R: Threads + Wait + Sync, F: Files, O: Sink, C: CaptureReader, G: 
     ensures cause { HasCause result (world (F.outside files.old) (O.out out.old) (O.faults out.old))
         (world (F.outside files.new) (O.out out.new) (O.faults out.new)) }
     ensures failed_read { FailsIn (job.now.input ∷ []) result (F.outside files.old).last (F.outside files.new).last }
+    ensures capture_read { MayFailIn job.now.input (F.outside files.old) (F.outside files.new) }
     ensures has_history { HasHistory job.now.input result (F.outside files.new).last (O.out out.old) (O.out out.new) history.new }
 {
     let Made { plan, slots } = made;
@@ -154,6 +155,7 @@ pub fn run_made<R: Threads + Wait + Sync, F: Files, O: Sink, G: Gate + Sync>(
     ensures cause { HasCause result (world (F.outside files.old) (O.out out.old) (O.faults out.old))
         (world (F.outside files.new) (O.out out.new) (O.faults out.new)) }
     ensures failed_read { FailsIn (job.now.input ∷ []) result (F.outside files.old).last (F.outside files.new).last }
+    ensures capture_read { MayFailIn job.now.input (F.outside files.old) (F.outside files.new) }
     ensures has_history { HasHistory job.now.input result (F.outside files.new).last (O.out out.old) (O.out out.new) history.new }
 {
     match Reader::open(alloc, files, job.input.as_str()) {

@@ -8,6 +8,7 @@ ghost use Rattle.aftr_text.specs.Jobs.{AreApart};
 ghost use Rattle.capture_io.specs.Refusals.{EndsInRecords};
 ghost use Rattle.capture_io.specs.Rounds.{is_cut};
 ghost use Rattle.lwaftr_engine.specs.Broken.{Breaks};
+ghost use Rattle.lwaftr_engine.specs.Causes.{MayFailIn};
 ghost use Rattle.lwaftr_engine.specs.Progress.{AddsTo, Goes, IsInRange, IsOnDuty, IsUpToDate, ReadsOf, mark, seats_of, setup_of, spot};
 ghost use Rattle.lwaftr_engine.specs.Runs.{OthersKept};
 ghost use Rattle.lwaftr_engine.specs.Underway.{BreaksLast, CanJudge, HasDrawn, HasRead, IsInHand, IsNothing, Puts, PutsBoth, PutsPart, ReadsPast, StaysOnDuty, WentWell, unwritten};
@@ -175,6 +176,7 @@ fn read_next<F: Files, C: CaptureReader>(
     ensures held { (F.outside files.new).held ≡ (F.outside files.old).held }
     ensures spoiled { (F.outside files.new).spoiled ≡ (F.outside files.old).spoiled }
     ensures lost { IfErr result (λ _. (F.outside files.new).lost ≡ (F.outside files.old).lost) }
+    ensures last { IfErr result (λ _. (F.outside files.new).last ≡ (F.outside files.old).last) }
     ensures reads { IfOk result (λ round. ReadsOf (is_cut round.ending) (setup_of task.entry).run.input (F.outside files.old) (F.outside files.new)) }
 {
     let name = task.job.input.as_str();
@@ -206,6 +208,7 @@ fn put_and_read<F: Files, C: CaptureReader>(
         number (content m (setup_of task.entry).run.input) (F.outside files.old).lost (F.outside files.new).lost (F.outside files.new).last) }
     ensures ready { IfOk result (λ round. C.ready reader.new round.number) }
     ensures reads { IfOk result (λ round. ReadsOf (is_cut round.ending) (setup_of task.entry).run.input (F.outside files.old) (F.outside files.new)) }
+    ensures capture_read { MayFailIn (setup_of task.entry).run.input (F.outside files.old) (F.outside files.new) }
     ensures others { Moves (F.outside files.old).held (F.outside files.new).held (OthersKept (setup_of task.entry).run) }
     ensures spoiled { Rises (has_failed result) (F.outside files.old).spoiled (F.outside files.new).spoiled }
 {
@@ -265,6 +268,7 @@ fn step<R: Threads + Wait + Sync, F: Files, C: CaptureReader, G: Gate + Sync>(
         round.now.number (content m (setup_of task.entry).run.input) (F.outside files.old).lost (F.outside files.new).lost (F.outside files.new).last)) }
     ensures ready { IfOk result (λ next. C.ready reader.new next.number) }
     ensures reads { IfOk result (λ next. ReadsOf (is_cut next.ending) (setup_of task.entry).run.input (F.outside files.old) (F.outside files.new)) }
+    ensures capture_read { MayFailIn (setup_of task.entry).run.input (F.outside files.old) (F.outside files.new) }
     ensures others { Moves (F.outside files.old).held (F.outside files.new).held (OthersKept (setup_of task.entry).run) }
     ensures spoiled { Rises (has_failed result) (F.outside files.old).spoiled (F.outside files.new).spoiled }
 {
@@ -285,8 +289,9 @@ fn step<R: Threads + Wait + Sync, F: Files, C: CaptureReader, G: Gate + Sync>(
             number (content m (setup_of task.entry).run.input) (F.outside files.entry.now).lost (F.outside files.exit.now).lost (F.outside files.exit.now).last)
             × (IfOk result (λ next. C.ready reader.exit.now next.number)
             × (IfOk result (λ next. ReadsOf (is_cut next.ending) (setup_of task.entry).run.input (F.outside files.entry.now) (F.outside files.exit.now))
+            × (MayFailIn (setup_of task.entry).run.input (F.outside files.entry.now) (F.outside files.exit.now)
             × (Moves (F.outside files.entry.now).held (F.outside files.exit.now).held (OthersKept (setup_of task.entry).run)
-            × Rises (has_failed result) (F.outside files.entry.now).spoiled (F.outside files.exit.now).spoiled)))))) }
+            × Rises (has_failed result) (F.outside files.entry.now).spoiled (F.outside files.exit.now).spoiled))))))) }
     { put_and_read(alloc, files, task, reader, pending, number, spare) };
     let beside = task.job.workers > 1;
     let (judged, next) = call_both(rt, beside, &mut judging, &mut outside);
@@ -365,6 +370,7 @@ pub fn run_records<R: Threads + Wait + Sync, F: Files, C: CaptureReader, G: Gate
         (F.outside files.old).lost (F.outside files.new).lost (F.outside files.new).last)) }
 
     // Whatever came.
+    ensures capture_read { MayFailIn (setup_of task.entry).run.input (F.outside files.old) (F.outside files.new) }
     ensures areas { shift.new.areas ≡ shift.old.areas }
     ensures duty { IsOnDuty shift.new.areas.plan shift.new }
     ensures adds { AddsTo shift.old shift.new }

@@ -5,6 +5,7 @@ ghost use Rattle.aftr_base.specs.Outside.{has_failed};
 ghost use Rattle.aftr_text.specs.Jobs.{AreApart, IsRate, IsWorkers};
 ghost use Rattle.capture_io.specs.Refusals.{EndsInRecords};
 ghost use Rattle.capture_io.specs.Rounds.{is_cut};
+ghost use Rattle.lwaftr_engine.specs.Causes.{MayFailIn};
 ghost use Rattle.lwaftr_engine.specs.Ended.{Ends};
 ghost use Rattle.lwaftr_engine.specs.Finishing.{HasHistoryBy, IsFirst};
 ghost use Rattle.lwaftr_engine.specs.Progress.{OneRises, ReadsOf, setup_of, spot};
@@ -113,6 +114,7 @@ pub fn run_capture<R: Threads + Wait + Sync, F: Files, O: Sink, C: CaptureReader
     ensures in_records { IfOk result (λ ending. EndsInRecords (Some ending)) }
     ensures others { Moves (F.outside files.old).held (F.outside files.new).held (OthersKept (setup_of task.entry).run) }
     ensures reads { IfOk result (λ ending. ReadsOf (is_cut (Some ending)) (setup_of task.entry).run.input (F.outside files.old) (F.outside files.new)) }
+    ensures capture_read { MayFailIn (setup_of task.entry).run.input (F.outside files.old) (F.outside files.new) }
     ensures writing { OneRises (has_failed result) (F.outside files.old).spoiled (F.outside files.new).spoiled (O.faults out.old) (O.faults out.new) }
 {
     // Laws, and no steps: whatever is left has some ending, and what holds of every verdict, run and plan.

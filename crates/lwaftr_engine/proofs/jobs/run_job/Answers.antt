@@ -16,4 +16,4 @@ returns g c =
     c.as_str.result.now c.as_slice.result.now c.as_str.ensures c.as_slice.ensures (f.outside c.args.files.now) (f.outside c.table_in.new.files) (f.outside c.loads_in.new.files) (f.outside c.run_made.new.files)
     (o.out c.args.out.now) (o.out c.run_made.new.out) (o.faults c.args.out.now) (o.faults c.run_made.new.out) c.run_made.result c.run_made.new.history
     c.in-Ok.ensures.reads c.in-Ok-loads_in.ensures.reads c.in-Ok.ensures.table c.in-Ok-loads_in.ensures.loads c.in-Ok-loads_in.ensures.fit
-    c.run_made.ensures.left c.run_made.ensures.others c.run_made.ensures.cause c.run_made.ensures.failed_read c.run_made.ensures.has_history
+    c.run_made.ensures.left c.run_made.ensures.others c.run_made.ensures.cause c.run_made.ensures.failed_read c.run_made.ensures.capture_read c.run_made.ensures.has_history

@@ -3,6 +3,7 @@ use Rattle.aftr_base.specs.Outside.{Rises}
 use Rattle.capture_io.specs.Rounds.{is_cut}
 use Rattle.lwaftr_engine.specs.Progress.{setup_of, spot}
 use Rattle.lwaftr_engine.specs.Underway.{unwritten}
+use Rattle.lwaftr_engine.proofs.ReadLemmas.{failed_by, fails_after, none_failed}
 use Rattle.lwaftr_engine.proofs.RoundLemmas.{read_held}
 use Rattle.lwaftr_engine.proofs.UnderwayLemmas.{parts_of, read_none, read_past}
 use Rattle.lwaftr_engine.proofs.rounds.put_and_read.Goals as goal
@@ -16,6 +17,23 @@ pub returns-clause-part : goal.returns-clause-part
 returns-clause-part g c =
     let f = g.F.Files in
     parts_of (setup_of c.args.task) (unwritten c.args.pending.now) (f.outside c.args.files.now).held (f.outside c.put.new.files).held (f.outside c.read_next.new.files).held c.in_ok-round.ensures.held c.in_ok-put.ensures.wrote
+
+pub returns-in_err-put-clause-capture_read : goal.returns-in_err-put-clause-capture_read
+returns-in_err-put-clause-capture_read g c =
+    let f = g.F.Files in
+    none_failed (setup_of c.args.task).run.input (f.outside c.args.files.now) (f.outside c.put.new.files) c.in_err-put.ensures.writes.lost c.in_err-put.ensures.writes.last
+
+pub returns-in_err-round-clause-capture_read : goal.returns-in_err-round-clause-capture_read
+returns-in_err-round-clause-capture_read g c =
+    let f = g.F.Files in
+    none_failed (setup_of c.args.task).run.input (f.outside c.args.files.now) (f.outside c.read_next.new.files) (c.in_err-round.ensures.lost ∙ c.in_ok-put.ensures.writes.lost) (c.in_err-round.ensures.last ∙ c.in_ok-put.ensures.writes.last)
+
+pub returns-clause-capture_read : goal.returns-clause-capture_read
+returns-clause-capture_read g c =
+    let f = g.F.Files in
+    let name = (setup_of c.args.task).run.input in
+    fails_after name (f.outside c.args.files.now) (f.outside c.put.new.files) (f.outside c.read_next.new.files) c.in_ok-put.ensures.writes.lost c.in_ok-put.ensures.writes.last
+    (failed_by (is_cut c.in_ok-round.round.ending) name (λ _. Unit {0}) (f.outside c.put.new.files) (f.outside c.read_next.new.files) c.in_ok-round.ensures.reads.lost c.in_ok-round.ensures.reads.last)
 
 pub returns-in_err-put-clause-past : goal.returns-in_err-put-clause-past
 returns-in_err-put-clause-past g c =

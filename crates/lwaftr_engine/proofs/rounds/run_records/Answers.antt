@@ -14,6 +14,7 @@ use Rattle.lwaftr_engine.proofs.Apart.{apart}
 use Rattle.lwaftr_engine.proofs.BrokenLemmas.{not_begun}
 use Rattle.lwaftr_engine.proofs.Exits.{if_err}
 use Rattle.lwaftr_engine.proofs.Going.{Joins}
+use Rattle.lwaftr_engine.proofs.ReadLemmas.{failed_by, fails_after, fails_before, none_failed}
 use Rattle.lwaftr_engine.proofs.RoundLemmas.{reads_after, reads_before}
 use Rattle.lwaftr_engine.proofs.Steps.{told_by}
 use Rattle.lwaftr_engine.proofs.UnderwayLemmas.{begin_rounds, breaks_off, ends_well, judged_planned, last_broken, steps_on}
@@ -29,6 +30,11 @@ returns-in_err-round-clause-broken g c =
     (spot (r.stands c.args.reader.now) (r.left c.args.reader.now) (r.at c.args.reader.now)) (λ bytes number. c.some_left.ensures c.args.reader.now bytes number) (sym (append-nil s.desk.known.points)) (omega (arith, c.requires.drawn)) c.requires.up_to_date
     (f.outside c.args.files.now).lost (f.outside c.read_next.new.files).lost (f.outside c.read_next.new.files).last c.in_err-round.ensures.lost
     (f.outside c.args.files.now).held (f.outside c.read_next.new.files).held c.in_err-round.ensures.held)
+
+pub returns-in_err-round-clause-capture_read : goal.returns-in_err-round-clause-capture_read
+returns-in_err-round-clause-capture_read g c =
+    let f = g.F.Files in
+    none_failed (setup_of c.args.task).run.input (f.outside c.args.files.now) (f.outside c.read_next.new.files) c.in_err-round.ensures.lost c.in_err-round.ensures.last
 
 pub returns-in_err-round-clause-adds : goal.returns-in_err-round-clause-adds
 returns-in_err-round-clause-adds g c = adds_none c.args.shift.now
@@ -125,6 +131,27 @@ returns-in-Some-clause-reads g c =
 
 pub returns-in-Some-clause-in_records : goal.returns-in-Some-clause-in_records
 returns-in-Some-clause-in_records g c = let E : Option Ending → Type 0 = λ e. EndsInRecords e in subst E c.in-Some.is c.rounds.invariant.in_hand.in_records
+
+pub returns-in_err-next-clause-capture_read : goal.returns-in_err-next-clause-capture_read
+returns-in_err-next-clause-capture_read g c =
+    let f = g.F.Files in
+    let name = (setup_of c.args.task).run.input in
+    let before = reads_on c.rounds.round.ending c.in_default.is name (f.outside c.args.files.now) (f.outside c.rounds.files) c.rounds.invariant.reads in
+    fails_after name (f.outside c.args.files.now) (f.outside c.rounds.files) (f.outside c.step.new.files) before.1 before.2 c.in_err-next.ensures.capture_read
+
+pub returns-in_err-last_steps-clause-capture_read : goal.returns-in_err-last_steps-clause-capture_read
+returns-in_err-last_steps-clause-capture_read g c =
+    let f = g.F.Files in
+    let name = (setup_of c.args.task).run.input in
+    fails_before name (f.outside c.args.files.now) (f.outside c.rounds.files) (f.outside c.last_steps.new.files) c.in_err-last_steps.ensures.writes.lost c.in_err-last_steps.ensures.writes.last
+    (failed_by (is_cut c.rounds.round.ending) name (λ _. Unit {0}) (f.outside c.args.files.now) (f.outside c.rounds.files) c.rounds.invariant.reads.lost c.rounds.invariant.reads.last)
+
+pub returns-in-Some-clause-capture_read : goal.returns-in-Some-clause-capture_read
+returns-in-Some-clause-capture_read g c =
+    let f = g.F.Files in
+    let name = (setup_of c.args.task).run.input in
+    fails_before name (f.outside c.args.files.now) (f.outside c.rounds.files) (f.outside c.last_steps.new.files) c.in_ok-last_steps.ensures.writes.lost c.in_ok-last_steps.ensures.writes.last
+    (failed_by (is_cut c.rounds.round.ending) name (λ _. Unit {0}) (f.outside c.args.files.now) (f.outside c.rounds.files) c.rounds.invariant.reads.lost c.rounds.invariant.reads.last)
 
 pub rounds-preserved : goal.rounds-preserved
 rounds-preserved g c =

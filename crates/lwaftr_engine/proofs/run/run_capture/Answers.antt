@@ -12,6 +12,7 @@ use Rattle.lwaftr_engine.proofs.Capturing.{closed_plan, ended_err, finish_broken
 use Rattle.lwaftr_engine.proofs.Closing.{all_sent}
 use Rattle.lwaftr_engine.proofs.EndLemmas.{at_end, ends}
 use Rattle.lwaftr_engine.proofs.Exits.{rises_by}
+use Rattle.lwaftr_engine.proofs.ReadLemmas.{fails_after, fails_before, none_failed}
 use Rattle.lwaftr_engine.proofs.SummaryLemmas.{summed_up}
 use Rattle.lwaftr_engine.proofs.run.run_capture.Goals as goal
 
@@ -56,6 +57,30 @@ returns-clause-history g c =
     let o = g.O.Sink in
     summed_up c.run_records-taken.new.progress c.points.result.now c.run_records-taken.new.shift.seat.known.actor.draws c.end_shift-closed.result (o.out c.args.out.now) (o.out c.finish.new.out)
     c.end_shift-closed.ensures.history c.end_shift-closed.ensures.drawn c.in_ok-ending.ensures.drawn c.in_ok-ending.ensures.bounded.totals c.points.ensures.points c.in_ok-finish.ensures.summary
+
+pub returns-in_err-open_outputs-clause-capture_read : goal.returns-in_err-open_outputs-clause-capture_read
+returns-in_err-open_outputs-clause-capture_read g c =
+    let f = g.F.Files in
+    none_failed (setup_of c.args.task).run.input (f.outside c.args.files.now) (f.outside c.open_outputs.new.files) c.in_err-open_outputs.ensures.writes.lost c.in_err-open_outputs.ensures.writes.last
+
+pub returns-in_err-ending-clause-capture_read : goal.returns-in_err-ending-clause-capture_read
+returns-in_err-ending-clause-capture_read g c =
+    let f = g.F.Files in
+    fails_after (setup_of c.args.task).run.input (f.outside c.args.files.now) (f.outside c.open_outputs.new.files) (f.outside c.run_records-taken.new.files) c.in_ok-open_outputs.ensures.writes.lost c.in_ok-open_outputs.ensures.writes.last c.in_err-ending.ensures.capture_read
+
+pub returns-in_err-finish-clause-capture_read : goal.returns-in_err-finish-clause-capture_read
+returns-in_err-finish-clause-capture_read g c =
+    let f = g.F.Files in
+    let name = (setup_of c.args.task).run.input in
+    fails_after name (f.outside c.args.files.now) (f.outside c.open_outputs.new.files) (f.outside c.finish.new.files) c.in_ok-open_outputs.ensures.writes.lost c.in_ok-open_outputs.ensures.writes.last
+    (fails_before name (f.outside c.open_outputs.new.files) (f.outside c.run_records-taken.new.files) (f.outside c.finish.new.files) c.in_err-finish.ensures.lost c.in_err-finish.ensures.last c.in_ok-ending.ensures.capture_read)
+
+pub returns-clause-capture_read : goal.returns-clause-capture_read
+returns-clause-capture_read g c =
+    let f = g.F.Files in
+    let name = (setup_of c.args.task).run.input in
+    fails_after name (f.outside c.args.files.now) (f.outside c.open_outputs.new.files) (f.outside c.finish.new.files) c.in_ok-open_outputs.ensures.writes.lost c.in_ok-open_outputs.ensures.writes.last
+    (fails_before name (f.outside c.open_outputs.new.files) (f.outside c.run_records-taken.new.files) (f.outside c.finish.new.files) c.in_ok-finish.ensures.lost c.in_ok-finish.ensures.last c.in_ok-ending.ensures.capture_read)
 
 pub returns-in_err-open_outputs-clause-ended : goal.returns-in_err-open_outputs-clause-ended
 returns-in_err-open_outputs-clause-ended g c =
