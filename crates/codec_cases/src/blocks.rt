@@ -99,7 +99,8 @@ fn front(bytes: &[u8], count: usize) -> &[u8] {
     bytes.get(..count).unwrap_or(bytes)
 }
 
-fn reads_as(alloc: Global, parts: &[&[u8]], wanted: &str) -> Result<bool, Fail> {
+/// Whether a file of these parts reads as this, packet by packet.
+pub(crate) fn reads_as(alloc: Global, parts: &[&[u8]], wanted: &str) -> Result<bool, Fail> {
     let bytes = joined(alloc, parts)?;
     Ok(reading(alloc, &bytes, 0)?.as_str() == wanted)
 }

@@ -17,6 +17,8 @@ mod headers;
 #[cfg(test)]
 mod lists;
 #[cfg(test)]
+mod long_blocks;
+#[cfg(test)]
 mod numbers;
 #[cfg(test)]
 mod outside;

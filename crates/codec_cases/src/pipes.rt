@@ -75,8 +75,8 @@ fn told_of(alloc: Global, pipe: &mut Pipe) -> Result<String, Fail> {
     }
 }
 
-// What is told of such a pipe, or that a byte was asked for twice.
-fn piped(alloc: Global, bytes: &[u8], most: usize, call: u64) -> Result<String, Fail> {
+/// What is told of such a pipe, or that a byte was asked for twice.
+pub(crate) fn piped(alloc: Global, bytes: &[u8], most: usize, call: u64) -> Result<String, Fail> {
     let mut pipe = pipe_of(alloc, bytes, most, call)?;
     let told = told_of(alloc, &mut pipe)?;
     if pipe.strays > 0 {
@@ -94,8 +94,8 @@ fn joined_rounds(alloc: Global, text: &str) -> Result<String, Fail> {
     Ok(joined)
 }
 
-// Whether this is told of a pipe that gives at most so many bytes a read.
-fn gives(alloc: Global, bytes: &[u8], most: usize, text: &str) -> Result<bool, Fail> {
+/// Whether this is told of a pipe that gives at most so many bytes a read.
+pub(crate) fn gives(alloc: Global, bytes: &[u8], most: usize, text: &str) -> Result<bool, Fail> {
     let told = piped(alloc, bytes, most, NO_CALL)?;
     let joined = joined_rounds(alloc, &told)?;
     Ok(joined.as_str() == text)

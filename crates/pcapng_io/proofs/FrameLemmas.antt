@@ -9,6 +9,7 @@ use Rattle.capture_io.specs.declared.ng_bad.NgBad.TheVariants as ng
 use Rattle.pcapng_io.specs.declared.frame.Frame.{Frame}
 use Rattle.pcapng_io.specs.Results.{unless}
 use Rattle.pcapng_io.specs.Frames.{begins_section, enhanced_packet_type, frame_at, frame_in, has_no_order, head_in, interface_type, is_no_total, least_total, section_type, simple_packet_type}
+use Rattle.pcapng_io.specs.Long.{tail_in, tail_of}
 use Rattle.pcapng_io.proofs.FrontLemmas.{span_front, short_front}
 
 -- the answers, by what the tests gave
@@ -17,11 +18,6 @@ head_by cut order size at frame = unless (first_true ((cut, ng.Cut at) ∷ (orde
 
 abbrev tail_by : Bool → Bool → ℕ → Frame → Result Frame CaptureBad
 tail_by less differs at frame = unless (first_true ((less, ng.Cut at) ∷ (differs, ng.Length at) ∷ [])) (Ok frame)
-
--- a frame by its last four bytes alone, of which so many are there
-abbrev pub tail_in : Frame → List ℕ → ℕ → Result Frame CaptureBad
-tail_in frame last at =
-    unless (first_true ((nat_lt (length last) 4, ng.Cut at) ∷ (not (word_at frame.big last 0 == frame.total), ng.Length at) ∷ [])) (Ok frame)
 
 abbrev frame_by : Bool → Bool → Bool → Bool → Bool → ℕ → Frame → Result Frame CaptureBad
 frame_by cut order size less differs at frame =
@@ -158,3 +154,7 @@ tail_tests big left at frame e =
     let P : Frame → Type 0 = λ f. frame_in big left at ≡ tail_by (nat_lt (length left) f.total) (not (word_at f.big left (f.total - 4) == f.total)) at f in
     subst P (head_is big left at frame e) (tail_is_by (nat_lt (length left) 12) (begins_section left && has_no_order left) (is_no_total (frame_at big left)) (nat_lt (length left) (frame_at big left).total)
     (not (word_at (frame_at big left).big left ((frame_at big left).total - 4) == (frame_at big left).total)) at (frame_at big left) frame e)
+
+pub tail_of_is : (big : Bool) (left : List ℕ) (at : ℕ) (frame : Frame) → head_in big left at ≡ Ok frame → 12 ≤ frame.total → frame_in big left at ≡ tail_of frame left at
+tail_of_is big left at frame e some =
+    tail_is big left at frame e some ∙ rw (short_front (drop (frame.total - 4) left) 4, span_front (drop (frame.total - 4) left) 4 0 4 (omega arith)) refl

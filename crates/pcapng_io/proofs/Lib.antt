@@ -6,6 +6,9 @@ pub mod FrameLemmas
 pub mod FrontLemmas
 pub mod InterfaceLemmas
 pub mod KindLemmas
+pub mod LongBlockLemmas
+pub mod LongLemmas
+pub mod LongRoundLemmas
 pub mod OpenLemmas
 pub mod OptionLemmas
 pub mod PieceLemmas

@@ -11,6 +11,7 @@ use Rattle.capture_io.specs.declared.forms.CaptureBad.TheVariants as bad
 use Rattle.capture_io.specs.declared.ng_bad.NgBad.TheVariants as ng
 use Rattle.pcapng_io.specs.declared.interface.OptionHead.{OptionHead}
 use Rattle.pcapng_io.specs.Interfaces.{BlockOption, first_of, first_resolution, is_bad_resolution, option_at, options_in, options_within, padded, resolution_of, rest_from, value_in, with_first}
+use Rattle.pcapng_io.specs.Long.{all_from, with_found}
 use Rattle.pcapng_io.proofs.FrontLemmas.{span_front}
 
 abbrev half_of : Bool → List ℕ → ℕ
@@ -67,15 +68,6 @@ options_step big left inside more =
     let rest : options_within (length left) big (behind_option big left) ≡ options_in big (behind_option big left) =
     same_options (length left) (suc (length (behind_option big left))) big (behind_option big left) (omega (arith, length-drop (4 + padded (half_at big left 2)) left)) (omega arith) in
     rw (long, next, within) (ap (with_first (front_option big left)) rest)
-
--- what was found in front goes before what is found behind
-abbrev pub or_later : Option ℕ → Option ℕ → Option ℕ
-or_later None later = later
-or_later (Some byte) later = Some byte
-
-abbrev pub with_found : Option ℕ → Result (Option ℕ) CaptureBad → Result (Option ℕ) CaptureBad
-with_found found (Err refusal) = Err refusal
-with_found found (Ok later) = Ok (or_later found later)
 
 abbrev with_option : BlockOption → Option ℕ
 with_option o = if o.code == 9 then Some (slice_index o.value 0) else None
@@ -178,10 +170,6 @@ value_same : (bytes : List ℕ) (place end count : ℕ) → place + 4 + count �
 value_same bytes place end count within =
     ap (λ l. take count l) (sym (drop-drop 4 place bytes)) ∙ sym (span_front (drop place bytes) (end - place) 4 count (omega arith))
 
--- all options, by what was found in front of a place and what stands from there on
-abbrev pub all_from : Bool → List ℕ → ℕ → ℕ → ℕ → Option ℕ → Result (Option ℕ) CaptureBad
-all_from big bytes at place end found = with_found found (resolution_of at (options_in big (rest_from bytes place end)))
-
 pub at_end : (big : Bool) (bytes : List ℕ) (at place end : ℕ) (found : Option ℕ) → end < place + 4 → all_from big bytes at place end found ≡ Ok found
 at_end big bytes at place end found short =
     ap (λ o. with_found found (resolution_of at o)) (no_options_short big (rest_from bytes place end) (omega (arith, length-take (end - place) (drop place bytes)))) ∙ none_behind found
@@ -254,3 +242,7 @@ value_cut at found o bytes place behind read said is e s =
     let size : o.count ≡ behind - place = omega (arith, is) in
     let cut : ℕ → BlockOption = λ n. record { code = o.code; value = take n (drop place bytes) } in
     ap (λ n. value_in at found (cut n)) size ∙ (sym e ∙ s)
+
+pub self_start : (l : List ℕ) → take (length l) l ≡ l
+self_start [] = refl
+self_start (x ∷ l) = ap (λ t. x ∷ t) (self_start l)

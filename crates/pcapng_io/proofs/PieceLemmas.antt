@@ -117,6 +117,7 @@ module _ (old now : Seen) (piece : List ℕ) (last : Bool) (number most : ℕ) (
   is_open e less =
       let short = open_short now (drop used piece) last nth e in
       record {
+        said = e;
         more = short.more;
         near = short.near_by;
         short = less;

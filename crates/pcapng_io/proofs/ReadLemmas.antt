@@ -16,8 +16,9 @@ use Rattle.pcapng_io.specs.declared.block.Passed.{Passed}
 use Rattle.pcapng_io.specs.declared.fronts.Front.{Front}
 use Rattle.pcapng_io.specs.declared.fronts.Front.TheVariants as front
 use Rattle.pcapng_io.specs.Seen.{Seen}
-use Rattle.pcapng_io.specs.Blocks.{block_in, known_after, len_of, record_of, size_of}
-use Rattle.pcapng_io.specs.Files.{IsBefore, IsInBlock, left_at}
+use Rattle.pcapng_io.specs.Blocks.{block_in, known_after, record_of, size_of}
+use Rattle.pcapng_io.specs.Files.{IsBefore, IsInBlock, IsSoundPacket, left_at}
+use Rattle.pcapng_io.specs.Long.{IsInLong, StandsBy, WithFront}
 use Rattle.pcapng_io.specs.Fronts.{front_in}
 use Rattle.pcapng_io.specs.Windows.{Ahead, IsAtFront, IsMore}
 use Rattle.pcapng_io.proofs.StartLemmas.{IsShort, Tells, at_start, front_said, front_told, open_block, open_short}
@@ -87,7 +88,7 @@ more_read held after name at before now same stands read = by_held held stands (
     by_held (Some m) s r = r s.start
 
 -- the bytes behind a block are the first of what is left behind it
-pub behind_block : (held : Option Contents) (name : List ℕ) (known now : Known) (p : Passed) (window rest : Ahead) → IsAtFront held name known.at window → size_of p ≤ length window.bytes →
+behind_block : (held : Option Contents) (name : List ℕ) (known now : Known) (p : Passed) (window rest : Ahead) → IsAtFront held name known.at window → size_of p ≤ length window.bytes →
     rest.bytes ≡ drop (size_of p) window.bytes → rest.last ≡ window.last → now ≡ known_after known p → IsAtFront held name now.at rest
 behind_block None name known now p window rest stands there bytes last is = tt
 behind_block (Some m) name known now p window rest stands there bytes last is =
@@ -124,9 +125,51 @@ read_smaller seen window number now e few longer least = by_last now.last refl (
 pub front_moved : (before after : Option Contents) (name : List ℕ) (at : ℕ) (window : Ahead) → before ≡ after → IsAtFront before name at window → IsAtFront after name at window
 front_moved before after name at window same stands = subst (λ (h : Option Contents). IsAtFront h name at window) same stands
 
--- a block's length, by what it is
-pub block_there : (b other : Block) (bytes : List ℕ) → b ≡ other → len_of b ≤ length bytes → len_of other ≤ length bytes
-block_there b other bytes is there = subst (λ (x : Block). len_of x ≤ length bytes) is there
+-- where the window stands behind a block, by what that is
+pub behind_packet : (after held : Option Contents) (name : List ℕ) (at : ℕ) (window : Ahead) (b : Block) (p : Packet) → after ≡ held → b ≡ block.Packet p → StandsBy after name at window b →
+    IsAtFront held name at window × (p.start + p.count ≤ length window.bytes)
+behind_packet after held name at window b p same is stands =
+    let S : Block → Type 0 = λ x. StandsBy after name at window x in
+    let given : S (block.Packet p) = subst S is stands in
+    (subst (λ (h : Option Contents). IsAtFront h name at window) same given.0, given.1)
+
+pub behind_end : (after held : Option Contents) (name : List ℕ) (at : ℕ) (window : Ahead) (b : Block) → after ≡ held → b ≡ block.End → StandsBy after name at window b → IsAtFront held name at window
+behind_end after held name at window b same is stands =
+    let S : Block → Type 0 = λ x. StandsBy after name at window x in
+    let given : S block.End = subst S is stands in
+    subst (λ (h : Option Contents). IsAtFront h name at window) same given.0
+
+pub behind_passed : (after held : Option Contents) (name : List ℕ) (known now : Known) (window : Ahead) (b : Block) (p : Passed) → after ≡ held → b ≡ block.Passed p → now ≡ known_after known p → StandsBy after name known.at window b →
+    IsAtFront held name now.at window
+behind_passed after held name known now window b p same is k stands =
+    let S : Block → Type 0 = λ x. StandsBy after name known.at window x in
+    let given : S (block.Passed p) = subst S is stands in
+    let at : known.at + size_of p ≡ now.at = sym (ap (λ (x : Known). x.at) k ∙ after_at known p) in
+    subst (λ (h : Option Contents). IsAtFront h name now.at window) same (subst (λ n. IsAtFront after name n window) at given.0)
+
+-- what is told where the window's bytes stand at a place, and they do
+pub at_front : (P : List ℕ → Type 0) (after held : Option Contents) (name : List ℕ) (at : ℕ) (window : Ahead) → after ≡ held → IsAtFront held name at window → WithFront after name at window P → Told held (λ m. P (content m name))
+at_front P after held name at window same stands told = by_held held stands (subst (λ (h : Option Contents). WithFront h name at window P) same told)
+  where
+    by_held : (h : Option Contents) → IsAtFront h name at window → WithFront h name at window P → Told h (λ m. P (content m name))
+    by_held None s t = tt
+    by_held (Some m) s t = t s
+
+pub long_inside : (after held : Option Contents) (name : List ℕ) (seen : Seen) (number place : ℕ) (window : Ahead) → after ≡ held → IsAtFront held name seen.known.at window → IsInLong after name seen number window place → IsInBlock held name seen number place
+long_inside after held name seen number place window same stands within =
+    (within.0, at_front (λ all. (b : Block) → block_in seen (drop seen.known.at all) number ≡ Ok b → IsBefore place seen.known.at b) after held name seen.known.at window same stands within.1)
+
+-- what the front says, and where the window then stands
+pub packet_stands : (held : Option Contents) (name : List ℕ) (seen : Seen) (window : Ahead) (number : ℕ) (p : Packet) → IsSoundPacket number p → front_in seen window.bytes window.last number ≡ front.Packet p → IsAtFront held name seen.known.at window →
+    StandsBy held name seen.known.at window (block.Packet p)
+packet_stands held name seen window number p sound e stands = (stands, omega (arith, (packet_near seen window number p e).1, sound.inside))
+
+pub passed_stands : (held : Option Contents) (name : List ℕ) (seen : Seen) (window rest : Ahead) (number : ℕ) (p : Passed) → front_in seen window.bytes window.last number ≡ front.Passed p → IsAtFront held name seen.known.at window →
+    rest.bytes ≡ drop (size_of p) window.bytes → rest.last ≡ window.last → StandsBy held name seen.known.at rest (block.Passed p)
+passed_stands held name seen window rest number p e stands bytes last =
+    let behind : IsAtFront held name (known_after seen.known p).at rest =
+    behind_block held name seen.known (known_after seen.known p) p window rest stands (passed_near seen window number p e).1 bytes last refl in
+    (subst (λ n. IsAtFront held name n rest) (after_at seen.known p) behind, tt)
 
 pub record_told : (held : Option Contents) (name : List ℕ) (known : Known) (p : Packet) (window : Ahead) (slice : List ℕ) (r : Rec) → IsAtFront held name known.at window → p.start + p.count ≤ length window.bytes →
     slice ≡ window.bytes → r ≡ record_of known slice p → Told held (λ m. r ≡ record_of known (left_at m name known.at) p)

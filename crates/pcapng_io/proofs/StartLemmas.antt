@@ -19,9 +19,10 @@ use Rattle.pcapng_io.specs.Packets.{enhanced_in, section_in, simple_in}
 use Rattle.pcapng_io.specs.Blocks.{block_in, body_in}
 use Rattle.pcapng_io.specs.Captures.{Gives, next_in}
 use Rattle.pcapng_io.specs.Files.{IsBefore}
+use Rattle.pcapng_io.specs.Long.{tail_in}
 use Rattle.pcapng_io.specs.Fronts.{front_by, front_in, is_short, needed, needed_by}
 use Rattle.pcapng_io.proofs.FrontLemmas.{span_front}
-use Rattle.pcapng_io.proofs.FrameLemmas.{frame_head, frame_is, head_front, head_refused, head_sound, tail_in, tail_is}
+use Rattle.pcapng_io.proofs.FrameLemmas.{frame_head, frame_is, head_front, head_refused, head_sound, tail_is}
 use Rattle.pcapng_io.proofs.KindLemmas.{enhanced_front, section_front, simple_front, start_front}
 use Rattle.pcapng_io.proofs.BlockLemmas.{block_frame}
 use Rattle.pcapng_io.proofs.WalkLemmas.{block_before}
@@ -35,13 +36,13 @@ at_start first left at count s within =
     sym (span_front left (length first) at count within) ∙ ap (λ l. span l at count) s
 
 -- what is read of so many first bytes is read of the start
-by_front : {A : Type 0} (read : List ℕ → A) (n : ℕ) (first left : List ℕ) → ((l : List ℕ) → read (take n l) ≡ read l) →
+pub by_front : {A : Type 0} (read : List ℕ → A) (n : ℕ) (first left : List ℕ) → ((l : List ℕ) → read (take n l) ≡ read l) →
     IsStart first left → n ≤ length first → read left ≡ read first
 by_front read n first left same s within =
     let front : take n first ≡ take n left = ap (take n) (sym s) ∙ take-take n (length first) left within in
     sym (same left) ∙ (ap read (sym front) ∙ same first)
 
-head_same : (big : Bool) (first left : List ℕ) (at : ℕ) → IsStart first left → 12 ≤ length first → head_in big left at ≡ head_in big first at
+pub head_same : (big : Bool) (first left : List ℕ) (at : ℕ) → IsStart first left → 12 ≤ length first → head_in big left at ≡ head_in big first at
 head_same big first left at s within = by_front (λ l. head_in big l at) 12 first left (λ l. head_front big l at) s within
 
 frame_same : (big : Bool) (first left : List ℕ) (at : ℕ) (frame : Frame) → IsStart first left → head_in big first at ≡ Ok frame → frame.total ≤ length first →
@@ -52,7 +53,7 @@ frame_same big first left at frame s e whole =
     let tail : span left (frame.total - 4) 4 ≡ span first (frame.total - 4) 4 = at_start first left (frame.total - 4) 4 s (omega (arith, head.some, whole)) in
     tail_is big left at frame there head.some ∙ (ap (λ l. tail_in frame l at) tail ∙ sym (tail_is big first at frame e head.some))
 
-both_by : {A : Type 0} (test : Bool) (a b c d : A) → (test ≡ true → a ≡ b) → (test ≡ false → c ≡ d) → (if test then a else c) ≡ (if test then b else d)
+pub both_by : {A : Type 0} (test : Bool) (a b c d : A) → (test ≡ true → a ≡ b) → (test ≡ false → c ≡ d) → (if test then a else c) ≡ (if test then b else d)
 both_by true a b c d same other = same refl
 both_by false a b c d same other = other refl
 
@@ -90,6 +91,18 @@ body_same seen first left number frame s least whole =
     (λ no_enhanced. both_by (frame.kind == simple_packet_type) _ _ _ _
     (λ is. by_front (λ l. simple_in seen l number frame) 12 first left (λ l. simple_front seen number frame l) s
     (omega (arith, least_simple frame.kind frame.total no_section no_interface no_enhanced is least, whole)))
+    (λ other. refl)))))
+
+-- of a block that is no interface its first fields are enough
+pub fields_same : (seen : Seen) (first left : List ℕ) (number : ℕ) (frame : Frame) → IsStart first left → (frame.kind ≡ 1 → ⊥) → 28 ≤ length first → body_in seen left number frame ≡ body_in seen first number frame
+fields_same seen first left number frame s kind there =
+    both_by (frame.kind == section_type) _ _ _ _ (λ is. by_front (λ l. section_in seen.known.at l frame) 14 first left (λ l. section_front seen.known.at frame l) s (omega (arith, there)))
+    (λ no_section. both_by (frame.kind == old_packet_type) _ _ _ _ (λ is. refl)
+    (λ no_old. both_by (frame.kind == interface_type) _ _ _ _ (λ is. absurd (kind (grind (arith, nat_tests))))
+    (λ no_interface. both_by (frame.kind == enhanced_packet_type) _ _ _ _
+    (λ is. by_front (λ l. enhanced_in seen l number frame) 24 first left (λ l. enhanced_front seen number frame l) s (omega (arith, there)))
+    (λ no_enhanced. both_by (frame.kind == simple_packet_type) _ _ _ _
+    (λ is. by_front (λ l. simple_in seen l number frame) 12 first left (λ l. simple_front seen number frame l) s (omega (arith, there)))
     (λ other. refl)))))
 
 pub to_body : (seen : Seen) (left : List ℕ) (number : ℕ) → nat_lt (2 ^ 62) seen.known.at ≡ false → (length left == 0) ≡ false →

@@ -18,7 +18,7 @@ use Rattle.capture_io.specs.Rounds.{IsCount, IsEnding, IsInNext, IsPlaced, Prece
 use Rattle.capture_io.proofs.LawLemmas.{start_more, whole_start}
 use Rattle.pcapng_io.specs.declared.pieces.Taken.{Taken}
 use Rattle.pcapng_io.specs.Seen.{IsSoundSeen, Seen}
-use Rattle.pcapng_io.specs.Pieces.{AreBlocks, Ended, IsFound, IsOpen, round_of}
+use Rattle.pcapng_io.specs.Pieces.{AreBlocks, Ended, IsFound, IsOpen, IsSearch, round_of}
 use Rattle.pcapng_io.specs.Rounds.{left_of}
 use Rattle.pcapng_io.specs.Windows.{Ahead, IsBehind, IsMore}
 use Rattle.pcapng_io.proofs.PieceLemmas.{rest_front}
@@ -57,14 +57,6 @@ pub start_of_start : (first more left : List ℕ) → IsStart first more → IsS
 start_of_start first more left s t =
     let within : length first ≤ length more = omega (arith, ap length s, length-take (length first) more) in
     sym (take-take (length first) (length more) left within) ∙ (ap (take (length first)) t ∙ s)
-
--- what the search knows when it begins to look at the bytes that are there
-pub record IsSearch (held : Option Contents) (name : List ℕ) (old now : Seen) (ahead : List ℕ) (window : Ahead) (number : ℕ) : Type 0 where
-  pub passes : Told held (λ m. IsStart ahead (drop old.known.at (content m name)) → IsFront window.bytes window.last (drop now.known.at (content m name)))
-  pub follows : Told held (λ m. IsStart ahead (drop old.known.at (content m name)) → Precedes (left_of old) (left_of now) (content m name) number [] number)
-  pub forward : old.known.at ≤ now.known.at
-  pub link : now.known.link ≡ old.known.link
-  pub sound : IsSoundSeen now
 
 pub search_begins : (held : Option Contents) (name : List ℕ) (old : Seen) (window : Ahead) (number : ℕ) → window.last ≡ false → IsSoundSeen old → IsSearch held name old old window.bytes window number
 search_begins held name old window number more sound = record {
@@ -195,7 +187,7 @@ cut_inside (Some m) name old now ahead window number place search unsaid is = (
 
 -- what was taken off the bytes that are there
 pub record IsTaken (now later : Seen) (window : Ahead) (number most : ℕ) (places : List Place) (taken : Taken) : Type 0 where
-  pub blocks : AreBlocks now later window.bytes window.last number most (map (placed window.bytes) places) taken.used taken.number (bytes_captured (map (placed window.bytes) places))
+  pub are : AreBlocks now later window.bytes window.last number most (map (placed window.bytes) places) taken.used taken.number (bytes_captured (map (placed window.bytes) places))
   pub ended : Ended now later window.bytes window.last taken.number taken.ending
   pub unsaid : taken.ending ≡ None → places ≡ [] → IsOpen later (drop taken.used window.bytes) window.last taken.number
   pub within : All (IsWithin window.bytes) places
@@ -208,24 +200,24 @@ pub taken_of : (now later : Seen) (window : Ahead) (number most : ℕ) (places :
     IsTaken now later window number most places taken
 taken_of now later window number most places taken piece last bytes_is last_is blocks ended unsaid within =
     let P : Ahead → Type 0 = λ w. IsTaken now later w number most places taken in
-    let given : P (record { bytes = piece; last = last }) = record { blocks = blocks; ended = ended; unsaid = unsaid; within = within } in
+    let given : P (record { bytes = piece; last = last }) = record { are = blocks; ended = ended; unsaid = unsaid; within = within } in
     subst P (λ i. record { bytes = bytes_is i; last = last_is i }) given
 
 -- the search ends with what was taken
 pub found_of : (held : Option Contents) (name : List ℕ) (old now later : Seen) (ahead : List ℕ) (window : Ahead) (number most : ℕ) (places : List Place) (taken : Taken) →
     IsSearch held name old now ahead window number → IsTaken now later window number most places taken → IsFound held name old later ahead window.bytes places number taken
 found_of held name old now later ahead window number most places taken search t =
-    search_found held name old now later ahead window number most places taken (bytes_captured (map (placed window.bytes) places)) search t.blocks t.ended
+    search_found held name old now later ahead window number most places taken (bytes_captured (map (placed window.bytes) places)) search t.are t.ended
 
 pub count_of : (held : Option Contents) (name : List ℕ) (old now later : Seen) (ahead : List ℕ) (window : Ahead) (number most : ℕ) (places : List Place) (taken : Taken) →
     IsSearch held name old now ahead window number → IsTaken now later window number most places taken → (taken.ending ≡ None → 0 < length places) → IsCount number most (round_of window.bytes places taken)
 count_of held name old now later ahead window number most places taken search t some =
-    search_count held name old now later ahead window number most places taken (bytes_captured (map (placed window.bytes) places)) search t.blocks some
+    search_count held name old now later ahead window number most places taken (bytes_captured (map (placed window.bytes) places)) search t.are some
 
 pub placed_of : (held : Option Contents) (name : List ℕ) (old now later : Seen) (ahead : List ℕ) (window : Ahead) (number most : ℕ) (places : List Place) (taken : Taken) →
     IsSearch held name old now ahead window number → IsTaken now later window number most places taken → IsPlaced old.known.at later.known.at (round_of window.bytes places taken)
 placed_of held name old now later ahead window number most places taken search t =
-    search_placed held name old now later ahead window number most places taken (bytes_captured (map (placed window.bytes) places)) search t.blocks
+    search_placed held name old now later ahead window number most places taken (bytes_captured (map (placed window.bytes) places)) search t.are
 
 -- the search after a pass and a read
 pub goes_on : (held after : Option Contents) (name : List ℕ) (old now later : Seen) (ahead : List ℕ) (window rest more : Ahead) (number most : ℕ) (places : List Place) (taken : Taken) →
@@ -233,21 +225,21 @@ pub goes_on : (held after : Option Contents) (name : List ℕ) (old now later : 
     IsMore after name later.known.at rest more → IsSearch held name old later ahead more number
 goes_on held after name old now later ahead window rest more number most places taken same search t none bytes last read =
     search_more held after name old later ahead rest more number same
-    (search_passes held name old now later ahead window number most places taken (bytes_captured (map (placed window.bytes) places)) search t.blocks rest none bytes last).1 read
+    (search_passes held name old now later ahead window number most places taken (bytes_captured (map (placed window.bytes) places)) search t.are rest none bytes last).1 read
 
 -- the search after a pass and a read that failed
 module _ (held : Option Contents) (name : List ℕ) (old now later : Seen) (ahead : List ℕ) (window rest : Ahead) (number most : ℕ) (places : List Place) (taken cut : Taken)
     (search : IsSearch held name old now ahead window number) (t : IsTaken now later window number most places taken) (none : places ≡ []) (bytes : rest.bytes ≡ drop taken.used window.bytes)
     (last : rest.last ≡ window.last) where
-  passed : (taken.number ≡ number) × IsSearch held name old later ahead rest number
-  passed = search_passes held name old now later ahead window number most places taken (bytes_captured (map (placed window.bytes) places)) search t.blocks rest none bytes last
+  pub passed : (taken.number ≡ number) × IsSearch held name old later ahead rest number
+  passed = search_passes held name old now later ahead window number most places taken (bytes_captured (map (placed window.bytes) places)) search t.are rest none bytes last
 
   pub failed_found : (more : Ahead) → more ≡ rest → cut.used ≡ 0 → cut.number ≡ number → cut.ending ≡ Some end.ReadFault → IsFound held name old later ahead more.bytes places number cut
   failed_found more same used nth ending =
       let found : IsFound held name old later ahead rest.bytes [] number cut = cut_found held name old later ahead rest number cut passed.1 used nth ending in
       subst (λ (a : Ahead). IsFound held name old later ahead a.bytes places number cut) (sym same) (subst (λ (l : List Place). IsFound held name old later ahead rest.bytes l number cut) (sym none) found)
 
-  unsaid_rest : taken.ending ≡ None → IsOpen later rest.bytes rest.last number
+  pub unsaid_rest : taken.ending ≡ None → IsOpen later rest.bytes rest.last number
   unsaid_rest ending =
       let given : IsOpen later (drop taken.used window.bytes) window.last taken.number = t.unsaid ending none in
       subst (λ (l : List ℕ). IsOpen later l rest.last number) (sym bytes)

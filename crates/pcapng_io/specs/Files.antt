@@ -35,6 +35,7 @@ pub record IsSoundPacket (number : ℕ) (p : Packet) : Type 0 where
   pub in_count : number < 2 ^ 31
   pub size : p.count ≤ 262144
   pub time : p.nanos < 1000000000
+  pub front : p.start ≤ 28
   pub inside : p.start + p.count < p.total
   pub long : p.total < 2 ^ 32
 

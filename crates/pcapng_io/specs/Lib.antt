@@ -6,6 +6,7 @@ pub mod Files
 pub mod Frames
 pub mod Fronts
 pub mod Interfaces
+pub mod Long
 pub mod Packets
 pub mod Pieces
 pub mod Results

@@ -1,5 +1,5 @@
 -- The whole blocks at the front of a piece of a file, and the packets in them.
-use Rattle.std.specs.Prelude.{◌≡◌, ℕ, ◌+◌, ◌^◌, ◌<◌, ◌≤◌, Bool, false, List, length, drop, map, All, Option, Result, Ok, Err}
+use Rattle.std.specs.Prelude.{◌≡◌, ℕ, ◌+◌, ◌^◌, ◌<◌, ◌≤◌, Bool, false, List, [], length, drop, map, All, Option, Result, Ok, Err}
 use Rattle.aftr_base.specs.declared.lists.OutOfMemory.{OutOfMemory}
 use Rattle.aftr_base.specs.Contents.{Contents, content, Told}
 use Rattle.aftr_base.specs.Outside.{OnlyReads, Outside}
@@ -8,13 +8,18 @@ use Rattle.capture_io.specs.declared.records.Place.{Place}
 use Rattle.capture_io.specs.declared.rounds.Ending.{Ending}
 use Rattle.capture_io.specs.declared.rounds.Round.{Round}
 use Rattle.capture_io.specs.Fronts.{IsFront, IsStart}
-use Rattle.capture_io.specs.Records.{placed}
-use Rattle.capture_io.specs.Rounds.{GoesOn, IsEnding, IsInNext, Precedes, all_but_last, bytes_captured, is_cut}
+use Rattle.capture_io.specs.Records.{IsWithin, placed}
+use Rattle.capture_io.specs.Rounds.{GoesOn, IsCount, IsEnding, IsInNext, IsPlaced, Precedes, all_but_last, bytes_captured, is_cut}
 use Rattle.pcapng_io.specs.declared.block.Packet.{Packet}
 use Rattle.pcapng_io.specs.declared.interface.Interface.{Interface}
 use Rattle.pcapng_io.specs.declared.pieces.Taken.{Taken}
 use Rattle.pcapng_io.specs.Seen.{IsSoundSeen, Seen, seen_by}
 use Rattle.pcapng_io.specs.Captures.{Gives, next_in}
+use Rattle.pcapng_io.specs.declared.fronts.Front.TheVariants as front
+use Rattle.pcapng_io.specs.declared.long_packets.Long.{Long}
+use Rattle.pcapng_io.specs.declared.long_packets.Long.TheVariants as long
+use Rattle.pcapng_io.specs.Fronts.{front_in}
+use Rattle.pcapng_io.specs.Windows.{Ahead}
 use Rattle.pcapng_io.specs.Rounds.{left_of}
 
 -- the place in a buffer of a packet whose block begins at `from` of it
@@ -43,6 +48,7 @@ Ended old now piece last next ending = (bytes : List ℕ) → IsFront piece last
 
 -- more has to be read before the front says what stands there, and the next packet ends behind the front
 pub record IsOpen (seen : Seen) (first : List ℕ) (last : Bool) (number : ℕ) : Type 0 where
+  pub said : front_in seen first last number ≡ front.More
   pub more : last ≡ false
   pub near : seen.known.at ≤ 2 ^ 62
   pub short : length first < 2 ^ 32
@@ -62,3 +68,34 @@ abbrev pub FindReads : Result Taken OutOfMemory → List ℕ → Seen → List I
 FindReads (Ok taken) name old interfaces ahead before after = OnlyReads (is_cut taken.ending) name
     (IsInNext name (λ all. IsStart ahead (drop old.known.at all)) (left_of (seen_by taken.known interfaces)) taken.known.at before.held taken.number) before after
 FindReads (Err _) name old interfaces ahead before after = OnlyReads false name (λ _. Unit {0}) before after
+
+-- What is known when the packets behind `ahead` are looked for, which stands where `old` is seen: the window is the front of what is left, and
+-- only blocks without packets were passed.
+pub record IsSearch (held : Option Contents) (name : List ℕ) (old now : Seen) (ahead : List ℕ) (window : Ahead) (number : ℕ) : Type 0 where
+  pub passes : Told held (λ m. IsStart ahead (drop old.known.at (content m name)) → IsFront window.bytes window.last (drop now.known.at (content m name)))
+  pub follows : Told held (λ m. IsStart ahead (drop old.known.at (content m name)) → Precedes (left_of old) (left_of now) (content m name) number [] number)
+  pub forward : old.known.at ≤ now.known.at
+  pub link : now.known.link ≡ old.known.link
+  pub sound : IsSoundSeen now
+
+-- packets that were found, or how they ended, told or not
+pub record IsRound (old now : Seen) (bytes : List ℕ) (places : List Place) (number most : ℕ) (taken : Taken) : Type 0 where
+  pub count : IsCount number most (round_of bytes places taken)
+  pub placed : IsPlaced old.known.at now.known.at (round_of bytes places taken)
+  pub within : All (IsWithin bytes) places
+  pub used : taken.used ≤ length bytes
+  pub link : now.known.link ≡ old.known.link
+  pub sound : IsSoundSeen now
+
+-- what a long block came to, whose front these bytes were
+abbrev pub IsLongTaken : Option Contents → List ℕ → Seen → List Interface → List ℕ → Ahead → List Place → ℕ → ℕ → Long → Type 0
+IsLongTaken held name old interfaces ahead window places number most (long.Passed known) =
+    IsSearch held name old (seen_by known interfaces) ahead window number × (places ≡ []) × (old.known.at + length ahead < known.at)
+IsLongTaken held name old interfaces ahead window places number most (long.Taken taken) =
+    IsFound held name old (seen_by taken.known interfaces) ahead window.bytes places number taken
+    × IsRound old (seen_by taken.known interfaces) window.bytes places number most taken
+
+abbrev pub LongReads : Result Long OutOfMemory → List ℕ → Seen → List Interface → List ℕ → Outside → Outside → Type 0
+LongReads (Ok (long.Passed known)) name old interfaces ahead before after = OnlyReads false name (λ _. Unit {0}) before after
+LongReads (Ok (long.Taken taken)) name old interfaces ahead before after = FindReads (Ok taken) name old interfaces ahead before after
+LongReads (Err e) name old interfaces ahead before after = OnlyReads false name (λ _. Unit {0}) before after

@@ -4,13 +4,16 @@ ghost use Rattle.aftr_base.specs.Contents.{Told};
 ghost use Rattle.aftr_base.specs.Outside.{OnlyReads};
 ghost use Rattle.capture_io.specs.Answers.{Agrees, is_read_fault};
 ghost use Rattle.pcapng_io.specs.Answers.{RefusesBlock};
-ghost use Rattle.pcapng_io.specs.Blocks.{block_in, len_of};
+ghost use Rattle.pcapng_io.specs.Blocks.{block_in};
 ghost use Rattle.pcapng_io.specs.Files.{IsInBlock, IsSound, left_at};
+ghost use Rattle.pcapng_io.specs.Long.{StandsBy};
 ghost use Rattle.pcapng_io.specs.Seen.{seen_by};
 ghost use Rattle.pcapng_io.specs.Windows.{IsAtFront};
 
 use crate::fronts::{Front, bytes_missing, front_of};
 use crate::interface::Interface;
+use crate::long::{MOST_KEPT, read_long};
+use crate::walk::len_of;
 use crate::window::Window;
 use aftr_base::Files;
 use capture_io::{CaptureBad, CaptureError};
@@ -71,7 +74,8 @@ pub enum Passed {
 }
 
 /// What stands at the place that is known, for a packet of this number. The window has the bytes from there on, as far as they
-/// were read, and behind them those are read that are missing.
+/// were read, and behind them those are read that are missing. Then it stands behind the block; where that is a packet's, it has still
+/// the front of it, up to the packet's last byte.
 pub fn read_block<F: Files>(
     alloc: Global,
     files: &mut F,
@@ -90,8 +94,7 @@ pub fn read_block<F: Files>(
     ensures refused { IfErr result (RefusesBlock (seen_by known interfaces.now) number) }
     ensures sound { IfOk result (λ block. IsSound number block) }
     ensures near { IfOk result (λ _. known.at ≤ 2 ^ 62) }
-    ensures stands { IfOk result (λ _. IsAtFront (F.outside files.old).held name.now known.at window.new) }
-    ensures there { IfOk result (λ block. len_of block ≤ length window.new.bytes) }
+    ensures stands { IfOk result (λ block. StandsBy (F.outside files.old).held name.now known.at window.new block) }
     ensures reads { OnlyReads (is_read_fault result) name.now
         (IsInBlock (F.outside files.old).held name.now (seen_by known interfaces.now) number)
         (F.outside files.old) (F.outside files.new) }
@@ -105,10 +108,17 @@ pub fn read_block<F: Files>(
             number,
         ) {
             Front::Packet(packet) => return Ok(Block::Packet(packet)),
-            Front::Passed(passed) => return Ok(Block::Passed(passed)),
+            Front::Passed(passed) => {
+                window.pass(len_of(passed));
+                return Ok(Block::Passed(passed));
+            }
             Front::End => return Ok(Block::End),
             Front::Bad(refusal) => return Err(CaptureError::Bad(refusal)),
             Front::More => {
+                if window.as_slice().len() >= MOST_KEPT {
+                    let block = read_long(alloc, files, name, known, interfaces, number, window)?;
+                    return Ok(block);
+                }
                 let missing = bytes_missing(known, window.as_slice());
                 window.read_more(alloc, files, name, known.at, missing)?;
             }

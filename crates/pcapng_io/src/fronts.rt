@@ -12,6 +12,7 @@ use crate::frame::{
     ENHANCED_PACKET, Frame, HEAD_LEN, INTERFACE, OLD_PACKET, SECTION, SIMPLE_PACKET, head_of,
 };
 use crate::interface::{Interface, interface_of_front};
+use crate::long::MOST_KEPT;
 use crate::packets::{enhanced_of, section_of, simple_of};
 use capture_io::{CaptureBad, NgBad, word};
 
@@ -66,11 +67,12 @@ fn is_short(known: Known, interfaces: &[Interface], first: &[u8]) -> bool
     known.at <= FARTHEST && first.len() < bytes_needed(known.big, first, known.at)
 }
 
-/// How many bytes are missing of those that say what stands at the front; at least one.
+/// How many bytes are missing of those that say what stands at the front, or that are kept of it; at least one.
 pub fn bytes_missing(known: Known, first: &[u8]) -> usize
     ensures { 1 ≤ result }
 {
     bytes_needed(known.big, first, known.at)
+        .min(MOST_KEPT)
         .saturating_sub(first.len())
         .max(1)
 }
@@ -149,10 +151,33 @@ fn body_of_front(
     ensures says { result ≡ body_in (seen_by known interfaces.now) first.now number frame }
     ensures sound { IfOk result (λ block. IsSound number block) }
 {
+    if frame.kind == INTERFACE {
+        return interface_of_front(known, interfaces, first, frame);
+    }
+    body_of_fields(known, interfaces, first, frame, number)
+}
+
+/// The block of a frame that is no interface, by the fields that it begins with.
+pub fn body_of_fields(
+    known: Known,
+    interfaces: &[Interface],
+    first: &[u8],
+    frame: Frame,
+    number: u32,
+) -> Result<Block, CaptureBad>
+    requires number { number ≤ 2 ^ 31 }
+    requires time { known.nanos < 1000000000 }
+    requires counted { All (λ interface. 0 < interface.ticks) interfaces.now }
+    requires kind { frame.kind ≡ 1 → ⊥ }
+    requires least { least_total frame.kind ≤ frame.total }
+    requires some { 12 ≤ length first.now }
+    requires fields { 28 ≤ frame.total → 28 ≤ length first.now }
+    ensures says { result ≡ body_in (seen_by known interfaces.now) first.now number frame }
+    ensures sound { IfOk result (λ block. IsSound number block) }
+{
     match frame.kind {
         SECTION => section_of(known.at, first, frame),
         OLD_PACKET => Err(CaptureBad::Ng(NgBad::Old { at: known.at })),
-        INTERFACE => interface_of_front(known, interfaces, first, frame),
         ENHANCED_PACKET => enhanced_of(known, interfaces, first, frame, number),
         SIMPLE_PACKET => simple_of(known, interfaces, first, frame, number),
         _ => Ok(Block::Passed(Passed::Other { total: frame.total })),

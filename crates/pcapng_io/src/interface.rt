@@ -1,7 +1,9 @@
 // Interfaces of a section.
-ghost use Rattle.std.specs.Prelude.{◌≡◌, ℕ, ◌+◌, ◌-◌, ◌*◌, ◌/◌, ◌^◌, ◌<◌, ◌≤◌, IfOk, length};
+ghost use Rattle.std.specs.Prelude.{◌≡◌, ℕ, ◌+◌, ◌-◌, ◌*◌, ◌/◌, ◌^◌, ◌<◌, ◌≤◌, List, IfOk, length};
+ghost use Rattle.capture_io.specs.Fronts.{IsStart};
 ghost use Rattle.pcapng_io.specs.Files.{IsSound};
 ghost use Rattle.pcapng_io.specs.Interfaces.{block_by, interface_in, interface_of, is_other_link, option_at, options_in, padded, resolution_of, rest_from, resolution_or_default, start_in, value_in};
+ghost use Rattle.pcapng_io.specs.Long.{IsPassed, StopsIn, Walks};
 ghost use Rattle.pcapng_io.specs.Seen.{seen_by};
 
 use crate::block::{Block, Known, Passed};
@@ -55,12 +57,12 @@ pub struct Interface {
 
 /// The fixed fields of an interface.
 #[derive(Clone, Copy)]
-struct Start {
+pub struct Start {
     link: u32,
     most: u32,
 }
 
-fn start_of(
+pub fn start_of(
     known: Known,
     interfaces: &[Interface],
     front: &[u8],
@@ -100,10 +102,11 @@ fn is_other(first: Option<u32>, link: u32) -> bool
 }
 
 /// The interface, by the resolution that its options gave, if they gave one.
-fn block_of(at: u64, start: Start, found: Option<u8>, frame: Frame) -> Result<Block, CaptureBad>
+pub fn block_of(at: u64, start: Start, found: Option<u8>, frame: Frame) -> Result<Block, CaptureBad>
     requires { 20 ≤ frame.total }
     ensures says { result ≡ block_by at start found frame }
     ensures sound { IfOk result (λ block. (number : ℕ) → IsSound number block) }
+    ensures passed { IfOk result (IsPassed frame.total) }
 {
     let byte = match found {
         Some(byte) => byte,
@@ -173,25 +176,65 @@ fn resolution_in(first: &[u8], end: usize, at: u64, big: bool) -> Result<Option<
     requires most { end < 2 ^ 32 }
     ensures { result ≡ resolution_of at (options_in big (rest_from first.now 16 end)) }
 {
-    let mut place = 16;
-    let mut found = None;
+    match walk_options(first, 16, end, at, big, None) {
+        Walked::Over(found) => Ok(found),
+        Walked::Bad(refusal) => Err(refusal),
+        // All options are there.
+        Walked::More { found, .. } => Ok(found),
+    }
+}
+
+/// What a walk over options came to.
+#[derive(Clone, Copy)]
+pub enum Walked {
+    /// There are no more; they gave this resolution, if they gave one.
+    Over(Option<u8>),
+    Bad(CaptureBad),
+    /// The option at this place is not all there; those before it gave this resolution.
+    More { place: usize, found: Option<u8> },
+}
+
+/// Walks over options of a block, of which the first bytes are there, from a place on; they end at another one. Those before
+/// gave the resolution `given`.
+pub fn walk_options(
+    first: &[u8],
+    from: usize,
+    end: usize,
+    at: u64,
+    big: bool,
+    given: Option<u8>,
+) -> Walked
+    requires most { end < 2 ^ 32 }
+    requires within { from ≤ end }
+    ensures says { (bytes : List ℕ) → IsStart first.now bytes → end ≤ length bytes →
+        Walks big bytes at from end given result }
+    ensures stops { StopsIn from (length first.now) end result }
+{
+    let mut place = from;
+    let mut found = given;
     'options: while place + 4 <= end {
+        if first.len() < place + 4 {
+            return Walked::More { place, found };
+        }
         let option = option_of_front(&first[place..place + 4], big);
         if option.code == END_OF_OPTIONS {
-            return Ok(found);
+            return Walked::Over(found);
         }
         let value = place + 4;
         let behind = value + usize::from(option.count);
         if behind > end {
-            return Err(CaptureBad::Ng(NgBad::Options { at }));
+            return Walked::Bad(CaptureBad::Ng(NgBad::Options { at }));
+        }
+        if first.len() < behind {
+            return Walked::More { place, found };
         }
         found = match value_of(at, option.code, &first[value..behind], found) {
             Ok(found) => found,
-            Err(refusal) => return Err(refusal),
+            Err(refusal) => return Walked::Bad(refusal),
         };
         place += 4 + padded_len(option.count) as usize;
     }
-    Ok(found)
+    Walked::Over(found)
 }
 
 fn option_of_front(four: &[u8], big: bool) -> OptionHead

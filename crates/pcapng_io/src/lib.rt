@@ -9,6 +9,8 @@ mod frame;
 mod fronts;
 mod interface;
 mod laws;
+mod long;
+mod long_packets;
 mod packets;
 mod pieces;
 mod reader;

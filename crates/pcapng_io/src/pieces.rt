@@ -170,7 +170,7 @@ fn take_plain(
     run
 }
 
-fn place_of(packet: Packet, from: usize, at: u64) -> Place
+pub fn place_of(packet: Packet, from: usize, at: u64) -> Place
     requires from { from ≤ 2 ^ 63 }
     requires at { at + packet.total < 2 ^ 64 }
     ensures { result ≡ place_of packet from at }
@@ -184,8 +184,8 @@ fn place_of(packet: Packet, from: usize, at: u64) -> Place
     }
 }
 
-// The section's interfaces behind a block that is no packet.
-fn pass(interfaces: &mut Vec<Interface>, passed: Passed) -> Result<(), OutOfMemory>
+/// The section's interfaces behind a block that is no packet.
+pub fn pass(interfaces: &mut Vec<Interface>, passed: Passed) -> Result<(), OutOfMemory>
     ensures after { IfOk result (λ _. interfaces.new.items ≡ interfaces_after interfaces.old.items passed) }
     ensures kept { IsErr result → interfaces.new.items ≡ interfaces.old.items }
 {

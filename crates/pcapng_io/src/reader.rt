@@ -16,7 +16,7 @@ use crate::block::{Block, Known, Passed, read_block};
 use crate::frame::SECTION;
 use crate::interface::Interface;
 use crate::record::find_record;
-use crate::walk::{behind_passed, len_of};
+use crate::walk::behind_passed;
 use crate::window::Window;
 use aftr_base::{Files, fill};
 use capture_io::{CaptureError, Form, Next, word};
@@ -110,7 +110,6 @@ impl NgReader {
                 // No packet is found without an interface.
                 Block::Packet(_) => return Ok(NgReader::without_interfaces(alloc, known, window)),
                 Block::Passed(passed) => {
-                    window.pass(len_of(passed));
                     known = behind_passed(known, passed);
                     if let Passed::Interface { interface, .. } = passed {
                         return NgReader::with_interface(alloc, known, interface, window);

@@ -13,6 +13,8 @@ ghost use Rattle.pcapng_io.specs.Standing.{stands_in};
 use crate::NgReader;
 use crate::block::Known;
 use crate::interface::Interface;
+use crate::long::MOST_KEPT;
+use crate::long_packets::{Long, take_long};
 use crate::pieces::{MOST_RECORDS, Taken, take_blocks};
 use crate::window::Window;
 use aftr_base::{Fault, Files, OutOfMemory};
@@ -126,6 +128,15 @@ fn find_packets<F: Files>(
         }
         window.pass(taken.used);
         here = taken.known;
+        if window.as_slice().len() >= MOST_KEPT {
+            match take_long(
+                alloc, files, name, here, interfaces, number, most_bytes, window, places,
+            )? {
+                Long::Taken(taken) => return Ok(taken),
+                Long::Passed(known) => here = known,
+            }
+            continue;
+        }
         match window.read_more(alloc, files, name, here.at, piece_of(most_bytes)) {
             Ok(()) => {}
             Err(Fault::Failed) => return Ok(Taken {

@@ -25,7 +25,7 @@ pub struct Sighted {
     pub first: usize,
 }
 
-/// The next packet, which has this number, from what is known on; its block is then at the front of the window. The interfaces of
+/// The next packet, which has this number, from what is known on; the front of its block is then in the window. The interfaces of
 /// blocks that are passed are put behind those that are kept.
 pub fn find_packet<F: Files>(
     alloc: Global,
@@ -43,7 +43,7 @@ pub fn find_packet<F: Files>(
     ensures told { Told (F.outside files.old).held
         (λ m. IsSighted result interfaces.new.items (content m name.now) (next_in (seen_by known interfaces.old.items) (left_at m name.now known.at) number)) }
     ensures stands { IfOk result (λ found. IfSome found (λ s. IsAtFront (F.outside files.old).held name.now s.known.at window.new)) }
-    ensures there { IfOk result (λ found. IfSome found (λ s. s.packet.total ≤ length window.new.bytes)) }
+    ensures there { IfOk result (λ found. IfSome found (λ s. s.packet.start + s.packet.count ≤ length window.new.bytes)) }
     ensures sound { IfOk result (λ found. IfSome found (λ s. IsSoundSight s known number interfaces.new.items)) }
     ensures reads { OnlyReads (is_read_fault result) name.now
         (IsBeforePacket (F.outside files.old).held name.now (seen_by known interfaces.old.items) number)
@@ -74,7 +74,6 @@ pub fn find_packet<F: Files>(
                     Ok(first) => first,
                     Err(_) => return Err(CaptureError::OutOfMemory),
                 };
-                window.pass(len_of(passed));
                 here = behind_passed(here, passed);
             }
         }

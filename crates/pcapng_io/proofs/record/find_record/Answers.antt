@@ -1,4 +1,4 @@
-use Rattle.std.proofs.Common.{◌≤◌, length, Option, Err, IfSome, refl, sym, ◌∙◌, ap, subst, arith}
+use Rattle.std.proofs.Common.{◌+◌, ◌≤◌, length, Option, Err, IfSome, refl, sym, ◌∙◌, ap, subst}
 use Rattle.std.proofs.lemmas.Result.{err_from_is_err_and}
 use Rattle.pcapng_io.specs.declared.record.Found.{Found}
 use Rattle.pcapng_io.specs.declared.walk.Sighted.{Sighted}
@@ -34,8 +34,8 @@ returns-in-Ok-clause-told g c =
     let window = c.find_packet.new.window in
     let sound : IsSoundSight s c.args.known c.args.number now = subst (λ (o : Option Sighted). IfSome o (λ x. IsSoundSight x c.args.known c.args.number now)) c.in-Some.is c.in_ok-sighted.ensures.sound in
     let stands : IsAtFront held c.args.name.now s.known.at window = subst (λ (o : Option Sighted). IfSome o (λ x. IsAtFront held c.args.name.now x.known.at window)) c.in-Some.is c.in_ok-sighted.ensures.stands in
-    let there : s.packet.total ≤ length window.bytes = subst (λ (o : Option Sighted). IfSome o (λ x. x.packet.total ≤ length window.bytes)) c.in-Some.is c.in_ok-sighted.ensures.there in
+    let there : s.packet.start + s.packet.count ≤ length window.bytes = subst (λ (o : Option Sighted). IfSome o (λ x. x.packet.start + x.packet.count ≤ length window.bytes)) c.in-Some.is c.in_ok-sighted.ensures.there in
     found_told held c.args.name.now seen c.args.number now s c.in-Ok.record c.behind_packet.result
     (sighted_at held c.args.name.now seen c.args.number now c.in_ok-sighted.field-0 s c.in-Some.is c.in_ok-sighted.ensures.told)
-    (record_told held c.args.name.now s.known s.packet window c.as_slice.result.now c.in-Ok.record stands (omega (arith, there, sound.packet.inside)) c.as_slice.ensures c.in-Ok.ensures)
+    (record_told held c.args.name.now s.known s.packet window c.as_slice.result.now c.in-Ok.record stands there c.as_slice.ensures c.in-Ok.ensures)
     c.behind_packet.ensures

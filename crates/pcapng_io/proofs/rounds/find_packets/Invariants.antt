@@ -1,7 +1,7 @@
 -- What was passed, and what was read ahead.
 use Rattle.std.proofs.Common.{◌≡◌, ◌+◌, ◌-◌, ◌^◌, ◌≤◌, [], length, if◌then◌else◌, vec_capacity}
 use Rattle.pcapng_io.specs.Seen.{seen_by}
-use Rattle.pcapng_io.proofs.WindowLemmas.{IsSearch}
+use Rattle.pcapng_io.specs.Pieces.{IsSearch}
 use Rattle.pcapng_io.proofs.rounds.find_packets.Given as goal
 
 abbrev pub invariant-reads : goal.invariant-reads

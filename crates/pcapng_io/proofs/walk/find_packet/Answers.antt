@@ -8,7 +8,7 @@ use Rattle.pcapng_io.specs.declared.interface.Interface.{Interface}
 use Rattle.pcapng_io.specs.declared.walk.Sighted.{Sighted}
 use Rattle.pcapng_io.specs.Files.{IsSound}
 use Rattle.pcapng_io.proofs.FileLemmas.{passed_inside}
-use Rattle.pcapng_io.proofs.ReadLemmas.{behind_block, block_there, front_moved}
+use Rattle.pcapng_io.proofs.ReadLemmas.{behind_packet, behind_passed, front_moved}
 use Rattle.pcapng_io.proofs.WalkLemmas.{block_moved, front_kept, inside_moved, quiet, walk_begins, walk_ends, walk_failed, walk_found, walk_inside, walk_passes}
 use Rattle.pcapng_io.proofs.walk.find_packet.Goals as goal
 
@@ -64,11 +64,13 @@ returns-in-Packet-clause-told g c = walk_found (g.F.Files.outside c.args.files.n
 
 pub returns-in-Packet-clause-stands : goal.returns-in-Packet-clause-stands
 returns-in-Packet-clause-stands g c =
-    front_moved (g.F.Files.outside c.passing.files).held (g.F.Files.outside c.args.files.now).held c.args.name.now c.passing.here.at c.read_block.new.window (ap (λ (o : Outside). o.held) c.passing.invariant.0) c.in_ok-read_block.ensures.stands
+    (behind_packet (g.F.Files.outside c.passing.files).held (g.F.Files.outside c.args.files.now).held c.args.name.now c.passing.here.at c.read_block.new.window c.in_ok-read_block.field-0 c.in-Packet.packet (ap (λ (o : Outside). o.held) c.passing.invariant.0) c.in-Packet.is
+    c.in_ok-read_block.ensures.stands).0
 
 pub returns-in-Packet-clause-there : goal.returns-in-Packet-clause-there
 returns-in-Packet-clause-there g c =
-    block_there c.in_ok-read_block.field-0 (block.Packet c.in-Packet.packet) c.read_block.new.window.bytes c.in-Packet.is c.in_ok-read_block.ensures.there
+    (behind_packet (g.F.Files.outside c.passing.files).held (g.F.Files.outside c.args.files.now).held c.args.name.now c.passing.here.at c.read_block.new.window c.in_ok-read_block.field-0 c.in-Packet.packet (ap (λ (o : Outside). o.held) c.passing.invariant.0) c.in-Packet.is
+    c.in_ok-read_block.ensures.stands).1
 
 pub returns-in-Packet-clause-sound : goal.returns-in-Packet-clause-sound
 returns-in-Packet-clause-sound g c = record {
@@ -98,8 +100,6 @@ passing-preserved g c =
       (read_well c.args.name.now _ _ _ c.in_ok-read_block.ensures.reads ∙ c.passing.invariant.0),
       walk_passes (g.F.Files.outside c.args.files.now).held c.args.name.now c.args.known c.passing.here c.behind_passed-here.result c.args.interfaces.now.items c.passing.interfaces.items c.keep.new.interfaces.items c.args.number c.passing.first c.in-Ok.first c.in-Passed.passed
           c.passing.invariant.1 c.in_ok-read_block.field-0 c.in-Passed.is (block_moved (g.F.Files.outside c.passing.files).held (g.F.Files.outside c.args.files.now).held c.args.name.now c.passing.here c.args.number c.behind.result.now (drop c.passing.first c.passing.interfaces.items) (Ok c.in_ok-read_block.field-0) (ap (λ (o : Outside). o.held) c.passing.invariant.0) (c.behind.ensures ∙ ap (drop c.passing.first) c.deref.ensures.value) c.in_ok-read_block.ensures.told) sound.2 c.behind_passed-here.ensures c.in-Ok.ensures.first c.keep.ensures.front c.in-Ok.ensures.section,
-      behind_block (g.F.Files.outside c.args.files.now).held c.args.name.now c.passing.here c.behind_passed-here.result c.in-Passed.passed c.read_block.new.window c.pass.new.self
-          (front_moved (g.F.Files.outside c.passing.files).held (g.F.Files.outside c.args.files.now).held c.args.name.now c.passing.here.at c.read_block.new.window (ap (λ (o : Outside). o.held) c.passing.invariant.0) c.in_ok-read_block.ensures.stands)
-          (block_there c.in_ok-read_block.field-0 (block.Passed c.in-Passed.passed) c.read_block.new.window.bytes c.in-Passed.is c.in_ok-read_block.ensures.there)
-          (c.pass.ensures.bytes ∙ ap (λ n. drop n c.read_block.new.window.bytes) c.len_of.ensures) c.pass.ensures.last c.behind_passed-here.ensures,
+      behind_passed (g.F.Files.outside c.passing.files).held (g.F.Files.outside c.args.files.now).held c.args.name.now c.passing.here c.behind_passed-here.result c.read_block.new.window c.in_ok-read_block.field-0 c.in-Passed.passed
+          (ap (λ (o : Outside). o.held) c.passing.invariant.0) c.in-Passed.is c.behind_passed-here.ensures c.in_ok-read_block.ensures.stands,
     )

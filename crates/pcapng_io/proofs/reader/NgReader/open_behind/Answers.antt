@@ -1,4 +1,4 @@
-use Rattle.std.proofs.Common.{drop, [], ◌∷◌, Ok, Err, refl, ◌∙◌, ap, arith}
+use Rattle.std.proofs.Common.{[], ◌∷◌, Ok, Err, refl, ◌∙◌, ap, arith}
 use Rattle.std.proofs.lemmas.Result.{err_from_is_err_and}
 use Rattle.aftr_base.specs.Outside.{Outside}
 use Rattle.aftr_base.proofs.OutsideLemmas.{read_well}
@@ -9,7 +9,7 @@ use Rattle.pcapng_io.specs.Seen.{seen_by}
 use Rattle.pcapng_io.proofs.FileLemmas.{passed_inside}
 use Rattle.pcapng_io.proofs.WalkLemmas.{block_moved, inside_moved}
 use Rattle.pcapng_io.proofs.OpenLemmas.{open_inside, opened_interface, opened_told, opens_on, plain_by, plain_keeps, plain_links}
-use Rattle.pcapng_io.proofs.ReadLemmas.{behind_block, block_there, front_moved}
+use Rattle.pcapng_io.proofs.ReadLemmas.{behind_passed}
 use Rattle.pcapng_io.proofs.RefusalLemmas.{opening_refused, refused_by}
 use Rattle.pcapng_io.specs.Standing.{Standing}
 use Rattle.pcapng_io.proofs.reader.NgReader.open_behind.Goals as goal
@@ -37,10 +37,8 @@ opening-preserved g c =
           (block_moved (g.F.Files.outside c.opening.files).held (g.F.Files.outside c.args.files.now).held c.args.name.now c.opening.known 0 [] [] (Ok c.in_ok-read_block.field-0) (ap (λ (o : Outside). o.held) c.opening.invariant.0) refl c.in_ok-read_block.ensures.told)
           c.behind_passed-known.ensures,
       omega (arith, kept, c.opening.invariant.2),
-      behind_block (g.F.Files.outside c.args.files.now).held c.args.name.now c.opening.known c.behind_passed-known.result c.in-Passed.passed c.read_block.new.window c.pass.new.self
-          (front_moved (g.F.Files.outside c.opening.files).held (g.F.Files.outside c.args.files.now).held c.args.name.now c.opening.known.at c.read_block.new.window (ap (λ (o : Outside). o.held) c.opening.invariant.0) c.in_ok-read_block.ensures.stands)
-          (block_there c.in_ok-read_block.field-0 (block.Passed c.in-Passed.passed) c.read_block.new.window.bytes c.in-Passed.is c.in_ok-read_block.ensures.there)
-          (c.pass.ensures.bytes ∙ ap (λ n. drop n c.read_block.new.window.bytes) c.len_of.ensures) c.pass.ensures.last c.behind_passed-known.ensures,
+      behind_passed (g.F.Files.outside c.opening.files).held (g.F.Files.outside c.args.files.now).held c.args.name.now c.opening.known c.behind_passed-known.result c.read_block.new.window c.in_ok-read_block.field-0 c.in-Passed.passed
+          (ap (λ (o : Outside). o.held) c.opening.invariant.0) c.in-Passed.is c.behind_passed-known.ensures c.in_ok-read_block.ensures.stands,
       plain_links c.opening.known c.behind_passed-known.result c.in-Passed.passed plain c.behind_passed-known.ensures ∙ c.opening.invariant.4,
     )
 
@@ -56,8 +54,5 @@ returns-in-Interface-clause-told g c =
     let header = opened_interface held name known c.in_ok-read_block.field-0 i c.in-Interface.link c.in-Interface.total now (i ∷ []) (c.in-Passed.is ∙ ap block.Passed c.in-Interface.is) c.opening.invariant.1
     (block_moved (g.F.Files.outside c.opening.files).held held name known 0 [] [] (Ok c.in_ok-read_block.field-0) same refl c.in_ok-read_block.ensures.told)
     (c.behind_passed-known.ensures ∙ ap (known_after known) c.in-Interface.is) refl in
-    let stands = behind_block held name known now p c.read_block.new.window c.pass.new.self
-    (front_moved (g.F.Files.outside c.opening.files).held held name known.at c.read_block.new.window same c.in_ok-read_block.ensures.stands)
-    (block_there c.in_ok-read_block.field-0 (block.Passed p) c.read_block.new.window.bytes c.in-Passed.is c.in_ok-read_block.ensures.there)
-    (c.pass.ensures.bytes ∙ ap (λ n. drop n c.read_block.new.window.bytes) c.len_of.ensures) c.pass.ensures.last c.behind_passed-known.ensures in
-    opened_told held name c.with_interface.result (seen_by now (i ∷ [])) c.pass.new.self header stands c.with_interface.ensures.is c.with_interface.ensures.memory
+    let stands = behind_passed (g.F.Files.outside c.opening.files).held held name known now c.read_block.new.window c.in_ok-read_block.field-0 p same c.in-Passed.is c.behind_passed-known.ensures c.in_ok-read_block.ensures.stands in
+    opened_told held name c.with_interface.result (seen_by now (i ∷ [])) c.read_block.new.window header stands c.with_interface.ensures.is c.with_interface.ensures.memory

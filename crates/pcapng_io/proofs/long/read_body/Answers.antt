@@ -1,0 +1,51 @@
+-- The fields in front and the end say what all bytes say.
+use Rattle.std.proofs.Common.{drop, Ok, Err, arith}
+use Rattle.std.proofs.lemmas.Bool.Decides.{nat_tests}
+use Rattle.pcapng_io.specs.Long.{StandsAt}
+use Rattle.pcapng_io.specs.Seen.{seen_by}
+use Rattle.pcapng_io.proofs.LongLemmas.{with_begins, with_both}
+use Rattle.pcapng_io.proofs.LongBlockLemmas.{fields_told, never_end, passed_size, with_size}
+use Rattle.pcapng_io.proofs.long.read_body.Goals as goal
+
+pub returns-then-frame-eq-INTERFACE-clause-sound : goal.returns-then-frame-eq-INTERFACE-clause-sound
+returns-then-frame-eq-INTERFACE-clause-sound g c = c.in_ok-block.ensures.sound c.args.number
+
+pub returns-in_ok-read_options-in-Packet-clause-told : goal.returns-in_ok-read_options-in-Packet-clause-told
+returns-in_ok-read_options-in-Packet-clause-told g c =
+    let held = (g.F.Files.outside c.args.files.now).held in
+    let at = c.args.known.at in
+    let first = c.args.window.now in
+    with_both held c.args.name.now at first
+    (λ all (s : StandsAt at first all) t. fields_told (seen_by c.args.known c.args.interfaces.now) first c.as_slice.result.now (drop at all) c.args.number c.args.frame c.in_ok-read_options-in-Packet.field-0 c.body_of_fields.result (Ok c.in-Ok.block)
+    (λ k. grind (arith, nat_tests)) c.requires.kept c.as_slice.ensures c.body_of_fields.ensures.says c.in-Ok.is s.start t)
+    (with_begins held c.args.name.now at first) c.in_ok-read_options-in-Packet.ensures.told
+
+pub returns-in_ok-read_end-in-Passed-clause-told : goal.returns-in_ok-read_end-in-Passed-clause-told
+returns-in_ok-read_end-in-Passed-clause-told g c =
+    let held = (g.F.Files.outside c.args.files.now).held in
+    let at = c.args.known.at in
+    let first = c.args.window.now in
+    with_both held c.args.name.now at first
+    (λ all (s : StandsAt at first all) t. fields_told (seen_by c.args.known c.args.interfaces.now) first c.as_slice.result.now (drop at all) c.args.number c.args.frame c.in_ok-read_end-in-Passed.field-0 c.body_of_fields.result (Ok c.in-Ok.block)
+    (λ k. grind (arith, nat_tests)) c.requires.kept c.as_slice.ensures c.body_of_fields.ensures.says c.in-Ok.is s.start t)
+    (with_begins held c.args.name.now at first) c.in_ok-read_end-in-Passed.ensures.told
+
+pub returns-in_ok-read_end-in-Passed-clause-stands : goal.returns-in_ok-read_end-in-Passed-clause-stands
+returns-in_ok-read_end-in-Passed-clause-stands g c =
+    with_size (g.F.Files.outside c.args.files.now).held c.args.name.now c.args.known.at c.args.frame.total c.args.window.now c.read_end-in-Passed.new.window c.in-Ok.block c.in-Passed.field-0 c.in-Passed.is
+    (passed_size (seen_by c.args.known c.args.interfaces.now) c.as_slice.result.now c.args.number c.args.frame c.body_of_fields.result c.in-Ok.block c.in-Passed.field-0 c.body_of_fields.ensures.says c.in-Ok.is c.in-Passed.is)
+    c.in_ok-read_end-in-Passed.ensures.stands
+
+pub returns-in-End-clause-told : goal.returns-in-End-clause-told
+returns-in-End-clause-told g c =
+    absurd (never_end (seen_by c.args.known c.args.interfaces.now) c.as_slice.result.now c.args.number c.args.frame c.body_of_fields.result c.in-Ok.block c.body_of_fields.ensures.says c.in-Ok.is c.in-End.is)
+
+pub returns-in-Err-clause-told : goal.returns-in-Err-clause-told
+returns-in-Err-clause-told g c =
+    let held = (g.F.Files.outside c.args.files.now).held in
+    let at = c.args.known.at in
+    let first = c.args.window.now in
+    with_both held c.args.name.now at first
+    (λ all (s : StandsAt at first all) t. fields_told (seen_by c.args.known c.args.interfaces.now) first c.as_slice.result.now (drop at all) c.args.number c.args.frame c.in_ok-read_end-in-Err.field-0 c.body_of_fields.result (Err c.in-Err.refusal)
+    (λ k. grind (arith, nat_tests)) c.requires.kept c.as_slice.ensures c.body_of_fields.ensures.says c.in-Err.is s.start t)
+    (with_begins held c.args.name.now at first) c.in_ok-read_end-in-Err.ensures.told
