@@ -24,6 +24,9 @@ const ROOM: usize = 524_288;
 // file that it was copied from.
 const PIECE: usize = 262_144;
 
+// The most bytes that are read at once.
+pub const MOST_PIECE: usize = 1_048_576;
+
 const FIRST_RECORD: u64 = 24;
 
 /// A reader of a pcap file, version 2.4.
@@ -33,6 +36,8 @@ pub struct ClassicReader {
     at: u64,
     // what was read already of the bytes from `at` on
     ahead: Vec<u8>,
+    // the most bytes of which a round takes nearly all
+    fits: usize,
 }
 
 impl ClassicReader {
@@ -54,6 +59,7 @@ impl ClassicReader {
             form,
             at: FIRST_RECORD,
             ahead: Vec::new(alloc),
+            fits: MOST_PIECE,
         })
     }
 
@@ -78,6 +84,7 @@ impl ClassicReader {
             form,
             at: FIRST_RECORD,
             ahead: Vec::new(alloc),
+            fits: MOST_PIECE,
         })
     }
 }
@@ -94,11 +101,28 @@ struct Fetched {
 }
 
 /// How many bytes a reader asks for at once, where a round may have so many captured bytes: a piece that stays in a processor's
-/// second-level cache, or, where they are more than one processor's share, as many as they are.
+/// second-level cache, or, where they are more than one processor's share, as many as they are, up to 1,048,576.
 pub fn piece_of(most_bytes: usize) -> usize
-    ensures { 1 ≤ result }
+    ensures some { 1 ≤ result }
+    ensures few { result ≤ 1048576 }
 {
-    if most_bytes > ROOM { most_bytes } else { PIECE }
+    if most_bytes > ROOM {
+        most_bytes.min(MOST_PIECE)
+    } else {
+        PIECE
+    }
+}
+
+/// How many bytes fit a round, behind a round of so many records, which took so many bytes: no more than are taken of small records,
+/// since what is left of a read is copied for the next round.
+pub fn fitting(fits: usize, records: usize, bytes: usize) -> usize
+    ensures full { records ≡ 16384 → result ≡ bytes }
+    ensures more { (records ≡ 16384 → ⊥) → fits ≤ result }
+{
+    if records == MOST_TAKEN {
+        return bytes;
+    }
+    fits.saturating_add(fits / 8)
 }
 
 // Reads pieces behind the first bytes of a buffer until its front says what the next record is.
@@ -264,7 +288,8 @@ impl CaptureReader for ClassicReader {
     ) -> Result<Round, OutOfMemory> {
         let (mut buffer, mut places) = room.into_parts();
         let ahead = self.ahead.len();
-        make_room(&mut buffer, &mut places, most_bytes.max(ahead))?;
+        let piece = piece_of(most_bytes).min(self.fits).max(1);
+        make_room(&mut buffer, &mut places, piece.max(ahead))?;
         self.ahead.reserve(buffer.len())?;
         put_front(&mut buffer, &self.ahead);
         let fetched = fetch_into(
@@ -276,7 +301,7 @@ impl CaptureReader for ClassicReader {
             number,
             &mut buffer,
             ahead,
-            piece_of(most_bytes),
+            piece,
         )?;
         let taken = take_fetched(
             fetched,
@@ -291,6 +316,7 @@ impl CaptureReader for ClassicReader {
         self.ahead
             .extend_from_slice(&buffer[taken.used..fetched.filled])?;
         self.at += taken.used as u64;
+        self.fits = fitting(self.fits, places.len(), taken.used);
         Ok(Round {
             records: Records::of(buffer, places),
             number: taken.number,

@@ -16,7 +16,7 @@ mod rounds;
 mod words;
 mod written;
 
-pub use classic::{ClassicReader, piece_of};
+pub use classic::{ClassicReader, MOST_PIECE, fitting, piece_of};
 pub use forms::{CaptureBad, CaptureError, Form, Next, Rec};
 pub use frames::{Frame, frame_of};
 pub use header::{put_header, read_header};

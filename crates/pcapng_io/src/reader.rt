@@ -19,7 +19,7 @@ use crate::record::find_record;
 use crate::walk::behind_passed;
 use crate::window::Window;
 use aftr_base::{Files, fill};
-use capture_io::{CaptureError, Form, Next, word};
+use capture_io::{CaptureError, Form, MOST_PIECE, Next, word};
 use std::alloc::Global;
 use std::marker::Model;
 
@@ -61,6 +61,8 @@ pub struct NgReader {
     pub(crate) interfaces: Vec<Interface>,
     // what was read already of the bytes from the place on
     pub(crate) ahead: Vec<u8>,
+    // the most bytes of which a round takes nearly all
+    pub(crate) fits: usize,
 }
 
 impl Model for NgReader {
@@ -130,6 +132,7 @@ impl NgReader {
             },
             interfaces: Vec::new(alloc),
             ahead: window.into_bytes(),
+            fits: MOST_PIECE,
         }
     }
 
@@ -151,6 +154,7 @@ impl NgReader {
                 known,
                 interfaces,
                 ahead: window.into_bytes(),
+                fits: MOST_PIECE,
             }),
             Err(_) => Err(CaptureError::OutOfMemory),
         }

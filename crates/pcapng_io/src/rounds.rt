@@ -18,7 +18,7 @@ use crate::long_packets::{Long, take_long};
 use crate::pieces::{MOST_RECORDS, Taken, take_blocks};
 use crate::window::Window;
 use aftr_base::{Fault, Files, OutOfMemory};
-use capture_io::{CaptureReader, Ending, Form, Place, Records, Round, piece_of};
+use capture_io::{CaptureReader, Ending, Form, Place, Records, Round, fitting, piece_of};
 use std::alloc::Global;
 
 /// The reader reads the file in order and each place once, and a block that is longer than a piece into a longer buffer.
@@ -49,7 +49,8 @@ impl CaptureReader for NgReader {
         let (buffer, mut places) = room.into_parts();
         places.clear();
         places.reserve(MOST_RECORDS)?;
-        let mut window = Window::of(buffer, &self.ahead)?;
+        let piece = piece_of(most_bytes).min(self.fits).max(1);
+        let mut window = Window::of(buffer, &self.ahead, piece)?;
         let taken = find_packets(
             alloc,
             files,
@@ -58,6 +59,7 @@ impl CaptureReader for NgReader {
             &mut self.interfaces,
             number,
             most_bytes,
+            piece,
             &mut window,
             &mut places,
         )?;
@@ -67,6 +69,7 @@ impl CaptureReader for NgReader {
             taken.ending,
         )?;
         self.known = taken.known;
+        self.fits = fitting(self.fits, places.len(), taken.used);
         Ok(Round {
             records: window.into_records(places),
             number: taken.number,
@@ -89,6 +92,7 @@ fn find_packets<F: Files>(
     interfaces: &mut Vec<Interface>,
     number: u32,
     most_bytes: usize,
+    piece: usize,
     window: &mut Window,
     places: &mut Vec<Place>,
 ) -> Result<Taken, OutOfMemory>
@@ -97,6 +101,7 @@ fn find_packets<F: Files>(
     requires number { number ≤ 2 ^ 31 }
     requires some { 1 ≤ most_bytes }
     requires most { most_bytes ≤ 67108864 }
+    requires piece { 1 ≤ piece }
     requires sound { IsSoundSeen (seen_by known interfaces.old.items) }
     requires begins { IsFalse window.old.last }
     ensures told { IfOk result (λ taken. IsFound (F.outside files.old).held name.now (seen_by known interfaces.old.items)
@@ -137,7 +142,7 @@ fn find_packets<F: Files>(
             }
             continue;
         }
-        match window.read_more(alloc, files, name, here.at, piece_of(most_bytes)) {
+        match window.read_more(alloc, files, name, here.at, piece) {
             Ok(()) => {}
             Err(Fault::Failed) => return Ok(Taken {
                 used: 0,

@@ -10,7 +10,7 @@ use capture_io::{Place, Records};
 use std::alloc::Global;
 use std::marker::Model;
 
-// The least room of a buffer, and the most bytes that are read at once.
+// The least room of a buffer.
 const ROOM: usize = 524_288;
 
 /// The bytes of a file from a place on that were read and are not used yet, and whether nothing stands behind them. They stand at
@@ -58,11 +58,11 @@ impl Window {
         })
     }
 
-    /// These bytes, in the room of a buffer.
-    pub fn of(mut buffer: Vec<u8>, ahead: &[u8]) -> Result<Window, OutOfMemory>
+    /// These bytes, in the room of a buffer that has room for so many.
+    pub fn of(mut buffer: Vec<u8>, ahead: &[u8], room: usize) -> Result<Window, OutOfMemory>
         ensures { IfOk result (λ window. window ≡ record { bytes = ahead.now; last = false }) }
     {
-        let size = ahead.len().max(ROOM);
+        let size = ahead.len().max(ROOM).max(room);
         if buffer.len() < size {
             buffer.resize(size, 0)?;
         }
@@ -99,8 +99,7 @@ impl Window {
     }
 
     /// Reads a piece of so many bytes at most behind the bytes, of which the first stands at the place `at`. The buffer grows where
-    /// it is full, by the piece or to twice its length. However long it is, no more than its least room is read at once, so that little is kept for
-    /// the next round.
+    /// it is full, by the piece (no more than its least room) or to twice its length.
     pub fn read_more<F: Files>(
         &mut self,
         alloc: Global,
@@ -230,7 +229,7 @@ fn read_into<F: Files>(
         (λ m. count ≡ 0 → drop place (content m name.now) ≡ [])) }
     ensures reads { OnlyReads (has_failed result) name.now (λ at. at ≡ place) (F.outside files.old) (F.outside files.new) }
 {
-    let end = filled + piece.min(ROOM).min(buffer.len() - filled);
+    let end = filled + piece.min(buffer.len() - filled);
     let count = files.read(alloc, name, place, &mut buffer[filled..end])?;
     Ok(count)
 }
