@@ -122,6 +122,10 @@ pub fn fitting(fits: usize, records: usize, bytes: usize) -> usize
     if records == MOST_TAKEN {
         return bytes;
     }
+    // A round of what was left brought no piece.
+    if bytes < fits / 2 {
+        return fits;
+    }
     fits.saturating_add(fits / 8)
 }
 

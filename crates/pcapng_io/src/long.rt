@@ -135,7 +135,8 @@ fn read_options<F: Files>(
     ensures reads { OnlyReads (is_read_fault result) name.now (λ place. (at ≤ place) × (place < at + frame.total))
         (F.outside files.old) (F.outside files.new) }
 {
-    let mut rest = match Window::with(alloc, &window.as_slice()[PACKET_END..]) {
+    let buffer = Vec::new(alloc);
+    let mut rest = match Window::of(buffer, &window.as_slice()[PACKET_END..], MOST_KEPT) {
         Ok(rest) => rest,
         Err(_) => return Err(CaptureError::OutOfMemory),
     };
