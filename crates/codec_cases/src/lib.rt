@@ -13,6 +13,8 @@ mod captures;
 #[cfg(test)]
 mod fast_readers;
 #[cfg(test)]
+mod full_rounds;
+#[cfg(test)]
 mod headers;
 #[cfg(test)]
 mod lists;

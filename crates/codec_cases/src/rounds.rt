@@ -74,7 +74,7 @@ fn push_records(alloc: Global, told: &mut String, records: &Records) -> Result<(
     Ok(())
 }
 
-fn text_of_ending(alloc: Global, ending: Ending) -> Result<String, Fail> {
+pub(crate) fn text_of_ending(alloc: Global, ending: Ending) -> Result<String, Fail> {
     match ending {
         Ending::End => Ok(format!(in alloc; "end")?),
         Ending::Bad(refusal) => Ok(format!(in alloc; "{refusal}")?),

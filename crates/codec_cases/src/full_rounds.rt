@@ -1,0 +1,139 @@
+// Rounds that are full, and the pieces that readers ask for.
+ghost use Rattle.std.specs.Prelude.{◌≤◌};
+
+use crate::block_rounds::two_sections;
+use crate::blocks::{INTERFACE, SECTION, joined};
+use crate::pipes::piped;
+use crate::rounds::text_of_ending;
+use aftr_base::{Files, MemFiles};
+use capture_io::{CaptureReader, Records, piece_of};
+use case_data::CAPTURE;
+use pcapng_io::Reader;
+use std::alloc::Global;
+use std::test::Fail;
+
+const NO_CALL: u64 = 1_000_000;
+
+#[test]
+fn pieces_stay_in_a_cache_or_have_what_a_round_has(rt: HostRuntime) -> Result<(), Fail> {
+    assert_eq!(rt; piece_of(1), 262_144);
+    assert_eq!(rt; piece_of(524_288), 262_144);
+    assert_eq!(rt; piece_of(524_289), 524_289);
+    assert_eq!(rt; piece_of(1_048_576), 1_048_576);
+    assert_eq!(rt; piece_of(67_108_864), 1_048_576);
+    Ok(())
+}
+
+// How many records each of nine rounds has, and the ending.
+fn counts<R: CaptureReader, F: Files>(
+    alloc: Global,
+    reader: &mut R,
+    files: &mut F,
+    most_bytes: usize,
+) -> Result<String, Fail>
+    requires ready { R.ready reader.old 0 }
+    requires some { 1 ≤ most_bytes }
+    requires most { most_bytes ≤ 67108864 }
+{
+    let mut told = String::new(alloc);
+    let mut records = Records::new(alloc);
+    let mut number = 0u32;
+    'rounds: for _ in 0..9 {
+        let round = reader.read_round(alloc, files, "in", number, most_bytes, records)?;
+        number = round.number;
+        records = round.records;
+        told.push_str(&format!(in alloc; "{} ", records.len())?)?;
+        if let Some(ending) = round.ending {
+            told.push_str(text_of_ending(alloc, ending)?.as_str())?;
+            return Ok(told);
+        }
+    }
+    Ok(told)
+}
+
+fn counted(alloc: Global, bytes: &[u8], most_bytes: usize) -> Result<String, Fail>
+    requires some { 1 ≤ most_bytes }
+    requires most { most_bytes ≤ 67108864 }
+{
+    let mut files = MemFiles::new(alloc);
+    files.set(alloc, "in", bytes)?;
+    match Reader::open(alloc, &mut files, "in") {
+        Ok(reader) => {
+            let mut reader = reader;
+            counts(alloc, &mut reader, &mut files, most_bytes)
+        }
+        Err(error) => Ok(format!(in alloc; "{error}")?),
+    }
+}
+
+#[test]
+fn a_round_has_16384_records_at_most(rt: HostRuntime) -> Result<(), Fail> {
+    let alloc = rt.alloc();
+    // 20,000 records of no bytes, and as many blocks.
+    let zeros = vec![in alloc; 0; 320_000]?;
+    let classic = joined(alloc, &[CAPTURE.get(..24).unwrap_or(CAPTURE), &zeros])?;
+    let mut blocks = joined(alloc, &[SECTION, INTERFACE])?;
+    'blocks: for _ in 0..20_000 {
+        blocks.extend_from_slice(
+            b"\x06\0\0\0\x20\0\0\0\0\0\0\0\0\0\0\0\0\0\0\0\0\0\0\0\0\0\0\0\x20\0\0\0",
+        )?;
+    }
+    assert_eq!(rt;
+        counted(alloc, &classic, 1_048_576)?.as_str(),
+        "16384 3616 0 end"
+    );
+    assert_eq!(rt;
+        counted(alloc, &classic, 262_144)?.as_str(),
+        "16384 3616 0 end"
+    );
+    assert_eq!(rt;
+        counted(alloc, &blocks, 1_048_576)?.as_str(),
+        "16384 3616 0 end"
+    );
+    assert_eq!(rt;
+        counted(alloc, &blocks, 262_144)?.as_str(),
+        "8192 8192 3616 0 end"
+    );
+    Ok(())
+}
+
+// Whether what is told of a pipe, of which one read fails, is the front of what is told of all, and then the fault.
+fn fails_behind_a_front(
+    alloc: Global,
+    bytes: &[u8],
+    most: usize,
+    call: u64,
+    all: &str,
+) -> Result<bool, Fail> {
+    let told = piped(alloc, bytes, most, call)?;
+    if told.as_str() == "a read failed" || told.as_str() == all {
+        return Ok(true);
+    }
+    match told.as_str().strip_suffix("fault") {
+        Some(front) => Ok(all.starts_with(front)),
+        None => Ok(false),
+    }
+}
+
+fn fails_at_each_read(alloc: Global, bytes: &[u8], most: usize) -> Result<bool, Fail> {
+    let all = piped(alloc, bytes, most, NO_CALL)?;
+    let calls = (bytes.len() / most.max(1)) as u64;
+    'calls: for call in 0..calls.saturating_add(3) {
+        if !fails_behind_a_front(alloc, bytes, most, call, all.as_str())? {
+            return Ok(false);
+        }
+    }
+    Ok(true)
+}
+
+// Single bytes are tried in `pipes`.
+#[test]
+fn each_read_of_each_size_may_fail(rt: HostRuntime) -> Result<(), Fail> {
+    let alloc = rt.alloc();
+    let blocks = two_sections(alloc)?;
+    for most in 2..=64 {
+        assert!(rt; fails_at_each_read(alloc, CAPTURE, most)?, "{most}");
+        assert!(rt; fails_at_each_read(alloc, &blocks, most)?, "{most}");
+    }
+    Ok(())
+}
