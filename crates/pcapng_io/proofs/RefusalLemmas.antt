@@ -18,11 +18,12 @@ use Rattle.pcapng_io.specs.declared.block.Known.{Known}
 use Rattle.pcapng_io.specs.declared.block.Passed.TheVariants as passed
 use Rattle.pcapng_io.specs.declared.frame.Frame.{Frame}
 use Rattle.pcapng_io.specs.declared.fronts.Front.TheVariants as front
-use Rattle.pcapng_io.specs.Answers.{RefusesBlock}
+use Rattle.pcapng_io.specs.declared.interface.Start.{Start}
+use Rattle.pcapng_io.specs.Answers.{IsOfBlock, RefusesBlock}
 use Rattle.pcapng_io.specs.Blocks.{block_in, body_in}
-use Rattle.pcapng_io.specs.Frames.{begins_section, enhanced_packet_type, frame_at, frame_in, has_no_order, interface_type, is_no_total, old_packet_type, section_type, simple_packet_type}
+use Rattle.pcapng_io.specs.Frames.{begins_section, enhanced_packet_type, frame_at, frame_in, has_no_order, head_in, interface_type, is_no_total, old_packet_type, section_type, simple_packet_type}
 use Rattle.pcapng_io.specs.Fronts.{front_by, front_in, is_short}
-use Rattle.pcapng_io.specs.Interfaces.{BlockOption, interface_in, interface_of, is_bad_resolution, is_other_link, is_too_fine, first_resolution, link_at, option_bytes, options_in, resolution_of, resolution_or_default, start_in, ticks_per_second}
+use Rattle.pcapng_io.specs.Interfaces.{BlockOption, block_by, interface_in, interface_of, is_bad_resolution, is_other_link, is_too_fine, first_resolution, link_at, option_bytes, options_in, resolution_of, resolution_or_default, start_in, ticks_per_second}
 use Rattle.pcapng_io.specs.Packets.{captured_in, enhanced_in, enhanced_packet, seconds_of, section_in, sender_in, simple_captured_in, simple_in, simple_packet, ticks_in}
 use Rattle.pcapng_io.specs.Results.{unless, ◌>>=◌}
 use Rattle.pcapng_io.specs.Seen.{Seen, seen_by}
@@ -128,19 +129,85 @@ module _ (P : CaptureBad → Type 0) (seen : Seen) (plain : (r : NgBad) → IsOf
   pub only_refused : (refusal : CaptureBad) → block_in seen left number ≡ Err refusal → P refusal
   only_refused refusal is = let B : Result Block CaptureBad → Type 0 = λ r. Only P r in subst B is block_only
 
--- a block is refused
+module _ (seen : Seen) where
+  abbrev K : CaptureBad → Type 0
+  K = IsOfBlock seen
+
+  no_interface : (P : ℕ → Bool) (b : Bool) → P (length seen.interfaces) ≡ b → length seen.interfaces ≡ 0 → P 0 ≡ b
+  no_interface P b is none = let T : ℕ → Type 0 = λ n. P n ≡ b in subst T none is
+
+  first_ones : (r : NgBad) → IsOfFirstBlocks r → K (bad.Ng r)
+  first_ones r first = λ none no_link. first
+
+  many_ones : nat_lt 65535 (length seen.interfaces) ≡ true → K (bad.Ng (ng.Interfaces seen.known.at))
+  many_ones many = λ none no_link. absurd (let is : nat_lt 65535 0 ≡ true = no_interface (λ n. nat_lt 65535 n) true many none in cc)
+
+  mixed_ones : (link : ℕ) → is_other_link seen.known.link link ≡ true → K (bad.Ng (ng.MixedLinks seen.known.at))
+  mixed_ones link other = λ none no_link. absurd (let L : Option ℕ → Type 0 = λ l. is_other_link l link ≡ true in let is : is_other_link None link ≡ true = subst L no_link other in cc)
+
+  packet_ones : (length seen.interfaces == 0) ≡ false → (r : NgBad) → K (bad.Ng r)
+  packet_ones some r = λ none no_link. absurd (let is : (0 == 0) ≡ false = no_interface (λ n. n == 0) false some none in cc)
+
+  only_err : {A : Type 0} (r : Result A CaptureBad) (refusal : CaptureBad) → Only K r → r ≡ Err refusal → K refusal
+  only_err {A} r refusal only is = let T : Result A CaptureBad → Type 0 = λ q. Only K q in subst T is only
+
+  pub block_kind : (left : List ℕ) (number : ℕ) (refusal : CaptureBad) → block_in seen left number ≡ Err refusal → IsOfBlock seen refusal
+  block_kind left number refusal is = only_refused K seen first_ones many_ones mixed_ones packet_ones left number refusal is
+
+  pub body_kind : (left : List ℕ) (number : ℕ) (frame : Frame) (refusal : CaptureBad) → body_in seen left number frame ≡ Err refusal → IsOfBlock seen refusal
+  body_kind left number frame refusal is =
+      only_err (body_in seen left number frame) refusal (body_only K seen first_ones many_ones mixed_ones packet_ones left number frame) is
+
+  pub start_kind : (left : List ℕ) (frame : Frame) (refusal : CaptureBad) → start_in seen left frame ≡ Err refusal → IsOfBlock seen refusal
+  start_kind left frame refusal is =
+      only_err (start_in seen left frame) refusal (start_only K seen first_ones many_ones mixed_ones packet_ones left 0 frame) is
+
+  pub made_kind : (start : Start) (byte : Option ℕ) (frame : Frame) (refusal : CaptureBad) → block_by seen.known.at start byte frame ≡ Err refusal → IsOfBlock seen refusal
+  made_kind start byte frame refusal is =
+      only_err (block_by seen.known.at start byte frame) refusal
+      (only_then K (interface_of seen.known.at start.most (resolution_or_default byte)) _
+      (interface_only K seen first_ones many_ones mixed_ones packet_ones [] 0 start.most (resolution_or_default byte)) (λ interface. tt)) is
+
+  pub head_kind : (left : List ℕ) (refusal : CaptureBad) → head_in seen.known.big left seen.known.at ≡ Err refusal → IsOfBlock seen refusal
+  head_kind left refusal is =
+      let at = seen.known.at in
+      let frame = frame_at seen.known.big left in
+      let Q : NgBad → Type 0 = λ r. K (bad.Ng r) in
+      only_err (head_in seen.known.big left at) refusal
+      (only_unless K _ (Ok frame)
+      (only_test Q (nat_lt (length left) 12) (ng.Cut at) _ (λ is. first_ones (ng.Cut at) tt) (λ no.
+      only_test Q (begins_section left && has_no_order left) (ng.Order at) _ (λ is. first_ones (ng.Order at) tt) (λ no.
+      only_test Q (is_no_total frame) (ng.Length at) None (λ is. first_ones (ng.Length at) tt) (λ no. tt)))) tt) is
+
+-- a refusal of a block is one of a record
+pub of_record : (seen : Seen) (refusal : CaptureBad) → IsOfBlock seen refusal → IsOfRecord refusal
+of_record seen (bad.Ng r) is = tt
+of_record seen bad.Magic is = absurd is
+of_record seen bad.Version is = absurd is
+of_record seen (bad.Link number) is = absurd is
+of_record seen (bad.CutHeader at) is = absurd is
+of_record seen (bad.CutRecord at) is = absurd is
+of_record seen (bad.TooLong at) is = absurd is
+of_record seen (bad.TooMany at) is = absurd is
+
 pub block_refused : (seen : Seen) (left : List ℕ) (number : ℕ) (refusal : CaptureBad) → block_in seen left number ≡ Err refusal → IsOfRecord refusal
-block_refused seen left number refusal is = only_refused IsOfRecord seen (λ r first. tt) (λ is. tt) (λ link is. tt) (λ is r. tt) left number refusal is
+block_refused seen left number refusal is = of_record seen refusal (block_kind seen left number refusal is)
 
 -- a block of the file header is refused
-first_refused : (known : Known) (left : List ℕ) (number : ℕ) (refusal : CaptureBad) → known.link ≡ None → block_in (seen_by known []) left number ≡ Err refusal → IsOfHeader refusal
-first_refused known left number refusal no_link is =
-    only_refused IsOfHeader (seen_by known []) (λ r first. first) (λ many. absurd (cc many)) (λ link other. let L : Option ℕ → Type 0 = λ l. is_other_link l link ≡ true in absurd (cc (subst L no_link other))) (λ some r. absurd (cc some)) left number refusal is
+pub opening_refused : (known : Known) (e : CaptureError) → known.link ≡ None → RefusesBlock (seen_by known []) e → RefusesHeader e
+opening_refused known (error.Bad (bad.Ng r)) no_link is = is refl no_link
+opening_refused known (error.Bad bad.Magic) no_link is = absurd is
+opening_refused known (error.Bad bad.Version) no_link is = absurd is
+opening_refused known (error.Bad (bad.Link number)) no_link is = absurd is
+opening_refused known (error.Bad (bad.CutHeader at)) no_link is = absurd is
+opening_refused known (error.Bad (bad.CutRecord at)) no_link is = absurd is
+opening_refused known (error.Bad (bad.TooLong at)) no_link is = absurd is
+opening_refused known (error.Bad (bad.TooMany at)) no_link is = absurd is
+opening_refused known error.ReadFault no_link is = tt
+opening_refused known error.OutOfMemory no_link is = tt
 
-pub opening_refused : (known : Known) (number : ℕ) (e : CaptureError) → known.link ≡ None → RefusesBlock (seen_by known []) number e → RefusesHeader e
-opening_refused known number (error.Bad refusal) no_link refuses = first_refused known refuses.0 number refusal no_link refuses.1
-opening_refused known number error.ReadFault no_link refuses = tt
-opening_refused known number error.OutOfMemory no_link refuses = tt
+pub passed_on : {T : Type 0} (seen : Seen) (r : Result T CaptureError) (e : CaptureError) → r ≡ Err e → RefusesBlock seen e → IfErr r (RefusesBlock seen)
+passed_on {T} seen r e is refuses = let R : Result T CaptureError → Type 0 = λ q. IfErr q (RefusesBlock seen) in subst R (sym is) refuses
 
 pub refused_by : (T : Type 0) (r : Result T CaptureError) (e : CaptureError) → r ≡ Err e → RefusesHeader e → IfErr r RefusesHeader
 refused_by T r e is refuses = let R : Result T CaptureError → Type 0 = λ q. IfErr q RefusesHeader in subst R (sym is) refuses

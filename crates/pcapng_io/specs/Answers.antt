@@ -5,6 +5,8 @@ use Rattle.capture_io.specs.declared.forms.Rec.{Rec}
 use Rattle.capture_io.specs.declared.forms.Next.{Next}
 use Rattle.capture_io.specs.declared.forms.Next.TheVariants as next
 use Rattle.capture_io.specs.declared.forms.CaptureBad.{CaptureBad}
+use Rattle.capture_io.specs.declared.forms.CaptureBad.TheVariants as bad
+use Rattle.capture_io.specs.Refusals.{IsOfFirstBlocks}
 use Rattle.capture_io.specs.declared.forms.CaptureError.{CaptureError}
 use Rattle.capture_io.specs.declared.forms.CaptureError.TheVariants as error
 use Rattle.pcapng_io.specs.declared.block.Known.{Known}
@@ -12,7 +14,7 @@ use Rattle.pcapng_io.specs.declared.interface.Interface.{Interface}
 use Rattle.pcapng_io.specs.declared.record.Found.{Found}
 use Rattle.pcapng_io.specs.declared.walk.Sighted.{Sighted}
 use Rattle.pcapng_io.specs.Seen.{IsSoundSeen, Seen, seen_by}
-use Rattle.pcapng_io.specs.Blocks.{block_in, record_of, seen_behind}
+use Rattle.pcapng_io.specs.Blocks.{record_of, seen_behind}
 use Rattle.pcapng_io.specs.Captures.{Ends, Gives, header_in, next_in, Splits, Step}
 use Rattle.pcapng_io.specs.Files.{IsSoundPacket, left_at}
 
@@ -24,11 +26,15 @@ IsNext (Err (error.Bad refusal)) now step = step ≡ Err refusal
 IsNext (Err error.ReadFault) now step = Unit {0}
 IsNext (Err error.OutOfMemory) now step = Unit {0}
 
--- a refusal is one that some bytes have, where this is seen
-abbrev pub RefusesBlock : Seen → ℕ → CaptureError → Type 0
-RefusesBlock seen number (error.Bad refusal) = (left : List ℕ) × (block_in seen left number ≡ Err refusal)
-RefusesBlock seen number error.ReadFault = Unit {0}
-RefusesBlock seen number error.OutOfMemory = Unit {0}
+-- A refusal of a block; and where no interface stands in front of it, one of the first blocks.
+abbrev pub IsOfBlock : Seen → CaptureBad → Type 0
+IsOfBlock seen (bad.Ng refusal) = length seen.interfaces ≡ 0 → seen.known.link ≡ None → IsOfFirstBlocks refusal
+IsOfBlock seen _ = ⊥
+
+abbrev pub RefusesBlock : Seen → CaptureError → Type 0
+RefusesBlock seen (error.Bad refusal) = IsOfBlock seen refusal
+RefusesBlock seen error.ReadFault = Unit {0}
+RefusesBlock seen error.OutOfMemory = Unit {0}
 
 -- where no packet was found the reader is as before
 abbrev pub IsKept : Result Next CaptureError → Seen → Seen → Type 0

@@ -6,6 +6,7 @@ use Rattle.aftr_base.specs.Contents.{Contents, content, Told}
 use Rattle.capture_io.specs.Fronts.{IsFront}
 use Rattle.capture_io.specs.Words.{word_at}
 use Rattle.capture_io.specs.declared.forms.CaptureBad.{CaptureBad}
+use Rattle.capture_io.specs.declared.forms.CaptureBad.TheVariants as bad
 use Rattle.capture_io.specs.declared.ng_bad.NgBad.TheVariants as ng
 use Rattle.pcapng_io.specs.declared.block.Block.{Block}
 use Rattle.pcapng_io.specs.declared.block.Block.TheVariants as block
@@ -37,6 +38,12 @@ abbrev pub Walks : Bool → List ℕ → ℕ → ℕ → ℕ → Option ℕ → 
 Walks big bytes at place end found (walked.Over now) = all_from big bytes at place end found ≡ Ok now
 Walks big bytes at place end found (walked.Bad refusal) = all_from big bytes at place end found ≡ Err refusal
 Walks big bytes at place end found (walked.More next now) = all_from big bytes at place end found ≡ all_from big bytes at next end now
+
+-- what it refuses is options, of the block at a place
+abbrev pub IsBadWalk : ℕ → Walked → Type 0
+IsBadWalk at (walked.Over now) = Unit {0}
+IsBadWalk at (walked.Bad refusal) = refusal ≡ bad.Ng (ng.Options at)
+IsBadWalk at (walked.More next now) = Unit {0}
 
 -- it stops only where so many bytes are not all
 abbrev pub StopsIn : ℕ → ℕ → ℕ → Walked → Type 0

@@ -9,6 +9,7 @@ use Rattle.capture_io.specs.declared.rounds.Ending.{Ending}
 use Rattle.capture_io.specs.declared.rounds.Round.{Round}
 use Rattle.capture_io.specs.Fronts.{IsFront, IsStart}
 use Rattle.capture_io.specs.Records.{IsWithin, placed}
+use Rattle.capture_io.specs.Refusals.{EndsInRecords}
 use Rattle.capture_io.specs.Rounds.{GoesOn, IsCount, IsEnding, IsInNext, IsPlaced, Precedes, all_but_last, bytes_captured, is_cut}
 use Rattle.pcapng_io.specs.declared.block.Packet.{Packet}
 use Rattle.pcapng_io.specs.declared.interface.Interface.{Interface}
@@ -94,6 +95,11 @@ IsLongTaken held name old interfaces ahead window places number most (long.Passe
 IsLongTaken held name old interfaces ahead window places number most (long.Taken taken) =
     IsFound held name old (seen_by taken.known interfaces) ahead window.bytes places number taken
     × IsRound old (seen_by taken.known interfaces) window.bytes places number most taken
+
+-- where it ends the packets, a refusal is one of a record
+abbrev pub EndsLong : Long → Type 0
+EndsLong (long.Passed known) = Unit {0}
+EndsLong (long.Taken taken) = EndsInRecords taken.ending
 
 abbrev pub LongReads : Result Long OutOfMemory → List ℕ → Seen → List Interface → List ℕ → Outside → Outside → Type 0
 LongReads (Ok (long.Passed known)) name old interfaces ahead before after = OnlyReads false name (λ _. Unit {0}) before after

@@ -91,7 +91,7 @@ pub fn read_block<F: Files>(
     requires stands { IsAtFront (F.outside files.old).held name.now known.at window.old }
     ensures told { Told (F.outside files.old).held
         (λ m. Agrees result (block_in (seen_by known interfaces.now) (left_at m name.now known.at) number)) }
-    ensures refused { IfErr result (RefusesBlock (seen_by known interfaces.now) number) }
+    ensures refused { IfErr result (RefusesBlock (seen_by known interfaces.now)) }
     ensures sound { IfOk result (λ block. IsSound number block) }
     ensures near { IfOk result (λ _. known.at ≤ 2 ^ 62) }
     ensures stands { IfOk result (λ block. StandsBy (F.outside files.old).held name.now known.at window.new block) }

@@ -3,7 +3,7 @@ ghost use Rattle.std.specs.Prelude.{◌≡◌, ℕ, ◌+◌, ◌-◌, ◌*◌, �
 ghost use Rattle.capture_io.specs.Fronts.{IsStart};
 ghost use Rattle.pcapng_io.specs.Files.{IsSound};
 ghost use Rattle.pcapng_io.specs.Interfaces.{block_by, interface_in, interface_of, is_other_link, option_at, options_in, padded, resolution_of, rest_from, resolution_or_default, start_in, value_in};
-ghost use Rattle.pcapng_io.specs.Long.{IsPassed, StopsIn, Walks};
+ghost use Rattle.pcapng_io.specs.Long.{IsBadWalk, IsPassed, StopsIn, Walks};
 ghost use Rattle.pcapng_io.specs.Seen.{seen_by};
 
 use crate::block::{Block, Known, Passed};
@@ -208,6 +208,7 @@ pub fn walk_options(
     requires within { from ≤ end }
     ensures says { (bytes : List ℕ) → IsStart first.now bytes → end ≤ length bytes →
         Walks big bytes at from end given result }
+    ensures bad { IsBadWalk at result }
     ensures stops { StopsIn from (length first.now) end result }
 {
     let mut place = from;

@@ -1,16 +1,17 @@
 // Blocks that are longer than what is kept of one: their rest is read and let go.
-ghost use Rattle.std.specs.Prelude.{◌≡◌, ℕ, ◌+◌, ◌-◌, ◌^◌, ◌<◌, ◌≤◌, All, IfOk, IsFalse, Ok, drop, length};
+ghost use Rattle.std.specs.Prelude.{◌≡◌, ℕ, ◌+◌, ◌-◌, ◌^◌, ◌<◌, ◌≤◌, All, IfErr, IfOk, IsFalse, Ok, drop, length};
 ghost use Rattle.aftr_base.specs.Contents.{Told};
 ghost use Rattle.aftr_base.specs.Outside.{OnlyReads, has_failed};
 ghost use Rattle.capture_io.specs.Answers.{Agrees, is_read_fault};
 ghost use Rattle.pcapng_io.specs.declared.fronts.Front.TheVariants as front;
+ghost use Rattle.pcapng_io.specs.Answers.{IsOfBlock, RefusesBlock};
 ghost use Rattle.pcapng_io.specs.Blocks.{block_in, body_in};
 ghost use Rattle.pcapng_io.specs.Files.{IsSound};
 ghost use Rattle.pcapng_io.specs.Frames.{head_in, least_total};
 ghost use Rattle.pcapng_io.specs.Fronts.{front_in};
 ghost use Rattle.pcapng_io.specs.Interfaces.{interface_in, option_bytes, options_in, resolution_of};
 ghost use Rattle.pcapng_io.specs.Long.{HasBytes, IsEnd, IsInLong, IsLonger, IsPassed, StandsAt, StandsIn, WithFront, ended, tail_in, tail_of};
-ghost use Rattle.pcapng_io.specs.Seen.{seen_by};
+ghost use Rattle.pcapng_io.specs.Seen.{Seen, seen_by};
 
 use crate::block::{Block, Known};
 use crate::frame::{Frame, INTERFACE, head_of};
@@ -54,6 +55,7 @@ pub fn read_long<F: Files>(
         (λ all. StandsIn all known.at window.new block)) }
     ensures there { IfOk result (λ block. HasBytes block window.new) }
     ensures longer { IfOk result (IsLonger (length window.old.bytes)) }
+    ensures refused { IfErr result (RefusesBlock (seen_by known interfaces.now)) }
     ensures reads { OnlyReads (is_read_fault result) name.now
         (IsInLong (F.outside files.old).held name.now (seen_by known interfaces.now) number window.old)
         (F.outside files.old) (F.outside files.new) }
@@ -91,6 +93,7 @@ fn read_body<F: Files>(
         (λ all. StandsIn all known.at window.new block)) }
     ensures there { IfOk result (λ block. HasBytes block window.new) }
     ensures longer { IfOk result (IsLonger (length window.old.bytes)) }
+    ensures refused { IfErr result (RefusesBlock (seen_by known interfaces.now)) }
     ensures reads { OnlyReads (is_read_fault result) name.now (λ place. (known.at ≤ place) × (place < known.at + frame.total))
         (F.outside files.old) (F.outside files.new) }
 {
@@ -132,6 +135,7 @@ fn read_options<F: Files>(
     requires less { length window.now.bytes < frame.total }
     ensures told { WithFront (F.outside files.old).held name.now at window.now
         (λ all. Agrees result (tail_of frame (drop at all) at)) }
+    ensures refused { IfErr result (λ e. (seen : Seen) → RefusesBlock seen e) }
     ensures reads { OnlyReads (is_read_fault result) name.now (λ place. (at ≤ place) × (place < at + frame.total))
         (F.outside files.old) (F.outside files.new) }
 {
@@ -164,6 +168,7 @@ fn read_interface<F: Files>(
     ensures passed { IfOk result (IsPassed frame.total) }
     ensures stands { IfOk result (λ block. WithFront (F.outside files.old).held name.now known.at window.old
         (StandsAt (known.at + frame.total) window.new)) }
+    ensures refused { IfErr result (RefusesBlock (seen_by known interfaces.now)) }
     ensures reads { OnlyReads (is_read_fault result) name.now (λ place. (known.at ≤ place) × (place < known.at + frame.total))
         (F.outside files.old) (F.outside files.new) }
 {
@@ -198,6 +203,7 @@ fn read_resolution<F: Files>(
         (λ all. Agrees result (ended frame (drop at all) at (resolution_of at (options_in frame.big (option_bytes frame (drop at all)))))) }
     ensures stands { IfOk result (λ _. WithFront (F.outside files.old).held name.now (at + 16) window.old
         (StandsAt (at + frame.total) window.new)) }
+    ensures refused { IfErr result (λ e. (seen : Seen) → RefusesBlock seen e) }
     ensures reads { OnlyReads (is_read_fault result) name.now (λ place. (at ≤ place) × (place < at + frame.total))
         (F.outside files.old) (F.outside files.new) }
 {
@@ -253,6 +259,7 @@ fn read_end<F: Files>(
         (λ all. Agrees result (tail_of frame (drop at all) at)) }
     ensures stands { IfOk result (λ _. WithFront (F.outside files.old).held name.now from window.old
         (StandsAt (at + frame.total) window.new)) }
+    ensures refused { IfErr result (λ e. (seen : Seen) → RefusesBlock seen e) }
     ensures reads { OnlyReads (is_read_fault result) name.now (λ place. (at ≤ place) × (place < at + frame.total))
         (F.outside files.old) (F.outside files.new) }
 {
@@ -328,6 +335,7 @@ fn missing_of(end: u64, here: u64, count: usize) -> usize
 // The frame, by the bytes from its last four on.
 fn end_of(frame: Frame, last: &[u8], at: u64) -> Result<Frame, CaptureBad>
     ensures says { result ≡ tail_in frame last.now at }
+    ensures refused { IfErr result (λ refusal. (seen : Seen) → IsOfBlock seen refusal) }
     ensures there { IfOk result (λ _. 4 ≤ length last.now) }
 {
     if last.len() < 4 {

@@ -2,7 +2,7 @@
 ghost use Rattle.std.specs.Prelude.{◌≡◌, ◌+◌, ◌^◌, ◌<◌, ◌≤◌, [], Some, All, IfOk, length, vec_capacity};
 ghost use Rattle.pcapng_io.specs.declared.fronts.Front.TheVariants as front;
 ghost use Rattle.pcapng_io.specs.Fronts.{front_in};
-ghost use Rattle.pcapng_io.specs.Pieces.{IsLongTaken, LongReads};
+ghost use Rattle.pcapng_io.specs.Pieces.{EndsLong, IsLongTaken, LongReads};
 ghost use Rattle.pcapng_io.specs.Seen.{IsSoundSeen, seen_by};
 
 use crate::block::{Block, Known};
@@ -45,6 +45,7 @@ pub fn take_long<F: Files>(
     requires kept { 262176 ≤ length window.old.bytes }
     ensures taken { IfOk result (λ long. IsLongTaken (F.outside files.old).held name.now (seen_by known interfaces.old.items)
         interfaces.new.items window.old.bytes window.new places.new.items number most_bytes long) }
+    ensures in_records { IfOk result EndsLong }
     ensures counted { All (λ interface. 0 < interface.ticks) interfaces.new.items }
     ensures room { 16384 ≤ vec_capacity places.new }
     ensures reads { LongReads result name.now (seen_by known interfaces.old.items) interfaces.new.items window.old.bytes

@@ -7,7 +7,7 @@ use Rattle.pcapng_io.specs.declared.fronts.Front.TheVariants as front
 use Rattle.pcapng_io.specs.Seen.{seen_by}
 use Rattle.pcapng_io.proofs.FileLemmas.{failed_inside, passed_inside}
 use Rattle.pcapng_io.proofs.ReadLemmas.{long_inside, more_inside, packet_stands, passed_near, passed_stands, read_smaller, said_of, told_at}
-use Rattle.pcapng_io.proofs.RefusalLemmas.{front_refused}
+use Rattle.pcapng_io.proofs.RefusalLemmas.{block_kind, front_refused}
 use Rattle.pcapng_io.proofs.block.read_block.Goals as goal
 
 pub returns-in-Packet-clause-told : goal.returns-in-Packet-clause-told
@@ -50,11 +50,10 @@ returns-in-Bad-clause-told g c =
 
 pub returns-in-Bad-clause-refused : goal.returns-in-Bad-clause-refused
 returns-in-Bad-clause-refused g c =
-    let seen = seen_by c.args.known c.args.interfaces.now in (
-      c.reading.window.bytes,
-      front_refused seen c.reading.window.bytes c.reading.window.last c.args.number c.in-Bad.refusal
-          (said_of seen c.reading.window c.args.number c.as_slice.result.now c.is_last.result c.front_of.result (front.Bad c.in-Bad.refusal) c.as_slice.ensures c.is_last.ensures c.front_of.ensures.says c.in-Bad.is),
-    )
+    let seen = seen_by c.args.known c.args.interfaces.now in
+    block_kind seen c.reading.window.bytes c.args.number c.in-Bad.refusal
+    (front_refused seen c.reading.window.bytes c.reading.window.last c.args.number c.in-Bad.refusal
+    (said_of seen c.reading.window c.args.number c.as_slice.result.now c.is_last.result c.front_of.result (front.Bad c.in-Bad.refusal) c.as_slice.ensures c.is_last.ensures c.front_of.ensures.says c.in-Bad.is))
 
 pub reading-smaller : goal.reading-smaller
 reading-smaller g c =

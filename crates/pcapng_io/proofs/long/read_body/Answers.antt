@@ -1,10 +1,13 @@
 -- The fields in front and the end say what all bytes say.
-use Rattle.std.proofs.Common.{drop, Ok, Err, arith}
+use Rattle.std.proofs.Common.{◌<◌, ◌∙◌, ap, drop, length, subst, sym, Ok, Err, arith}
+use Rattle.std.proofs.lemmas.Result.{err_from_is_err_and}
+use Rattle.pcapng_io.specs.declared.block.Block.{Block}
 use Rattle.std.proofs.lemmas.Bool.Decides.{nat_tests}
-use Rattle.pcapng_io.specs.Long.{StandsAt}
+use Rattle.pcapng_io.specs.Long.{IsLonger, StandsAt}
 use Rattle.pcapng_io.specs.Seen.{seen_by}
 use Rattle.pcapng_io.proofs.LongLemmas.{with_begins, with_both}
 use Rattle.pcapng_io.proofs.LongBlockLemmas.{fields_told, never_end, passed_size, with_size}
+use Rattle.pcapng_io.proofs.RefusalLemmas.{body_kind, passed_on}
 use Rattle.pcapng_io.proofs.long.read_body.Goals as goal
 
 pub returns-then-frame-eq-INTERFACE-clause-sound : goal.returns-then-frame-eq-INTERFACE-clause-sound
@@ -49,3 +52,32 @@ returns-in-Err-clause-told g c =
     (λ all (s : StandsAt at first all) t. fields_told (seen_by c.args.known c.args.interfaces.now) first c.as_slice.result.now (drop at all) c.args.number c.args.frame c.in_ok-read_end-in-Err.field-0 c.body_of_fields.result (Err c.in-Err.refusal)
     (λ k. grind (arith, nat_tests)) c.requires.kept c.as_slice.ensures c.body_of_fields.ensures.says c.in-Err.is s.start t)
     (with_begins held c.args.name.now at first) c.in_ok-read_end-in-Err.ensures.told
+
+pub returns-in_err-read_end-in-Err-clause-refused : goal.returns-in_err-read_end-in-Err-clause-refused
+returns-in_err-read_end-in-Err-clause-refused g c =
+    let seen = seen_by c.args.known c.args.interfaces.now in
+    let e = err_from_is_err_and c.from_residual-in_err-read_end-in-Err.result c.from_residual-in_err-read_end-in-Err.ensures.1 in
+    passed_on seen c.from_residual-in_err-read_end-in-Err.result c.in_err-read_end-in-Err.field-0.0 (e.1 ∙ ap Err e.2) (c.in_err-read_end-in-Err.ensures.refused seen)
+
+pub returns-in_err-read_options-in-Packet-clause-refused : goal.returns-in_err-read_options-in-Packet-clause-refused
+returns-in_err-read_options-in-Packet-clause-refused g c =
+    let seen = seen_by c.args.known c.args.interfaces.now in
+    let e = err_from_is_err_and c.from_residual-in_err-read_options-in-Packet.result c.from_residual-in_err-read_options-in-Packet.ensures.1 in
+    passed_on seen c.from_residual-in_err-read_options-in-Packet.result c.in_err-read_options-in-Packet.field-0.0 (e.1 ∙ ap Err e.2) (c.in_err-read_options-in-Packet.ensures.refused seen)
+
+pub returns-in_err-read_end-in-Passed-clause-refused : goal.returns-in_err-read_end-in-Passed-clause-refused
+returns-in_err-read_end-in-Passed-clause-refused g c =
+    let seen = seen_by c.args.known c.args.interfaces.now in
+    let e = err_from_is_err_and c.from_residual-in_err-read_end-in-Passed.result c.from_residual-in_err-read_end-in-Passed.ensures.1 in
+    passed_on seen c.from_residual-in_err-read_end-in-Passed.result c.in_err-read_end-in-Passed.field-0.0 (e.1 ∙ ap Err e.2) (c.in_err-read_end-in-Passed.ensures.refused seen)
+
+pub returns-in-Err-clause-refused : goal.returns-in-Err-clause-refused
+returns-in-Err-clause-refused g c =
+    body_kind (seen_by c.args.known c.args.interfaces.now) c.as_slice.result.now c.args.number c.args.frame c.in-Err.refusal
+    (sym c.body_of_fields.ensures.says ∙ c.in-Err.is)
+
+pub returns-in_ok-read_end-in-Passed-clause-longer : goal.returns-in_ok-read_end-in-Passed-clause-longer
+returns-in_ok-read_end-in-Passed-clause-longer g c =
+    let size = passed_size (seen_by c.args.known c.args.interfaces.now) c.as_slice.result.now c.args.number c.args.frame c.body_of_fields.result c.in-Ok.block c.in-Passed.field-0 c.body_of_fields.ensures.says c.in-Ok.is c.in-Passed.is in
+    let L : Block → Type 0 = IsLonger (length c.args.window.now.bytes) in
+    subst L (sym c.in-Passed.is) (omega (arith, size, c.requires.less))

@@ -6,6 +6,7 @@ use Rattle.pcapng_io.specs.Interfaces.{interface_in, option_bytes, options_in, r
 use Rattle.pcapng_io.specs.Long.{StandsAt, ended}
 use Rattle.pcapng_io.specs.Seen.{seen_by}
 use Rattle.pcapng_io.proofs.LongLemmas.{agrees_failed, fields_there, interface_failed, interface_refused, interface_told, with_begins, with_both, with_joined, with_passed}
+use Rattle.pcapng_io.proofs.RefusalLemmas.{passed_on}
 use Rattle.pcapng_io.proofs.long.read_interface.Goals as goal
 
 pub returns-in-Err-clause-told : goal.returns-in-Err-clause-told
@@ -80,3 +81,15 @@ returns-in-Ok-block_of-clause-stands g c =
     let first = c.args.window.now in
     let passed = with_passed held name at first at first (with_begins held name at first) c.pass.new.self 16 (at + 16) c.requires.fields c.pass.ensures.bytes c.pass.ensures.last refl in
     with_joined (StandsAt (at + c.args.frame.total) c.read_resolution.new.window) held held name at first (at + 16) c.pass.new.self refl passed c.in_ok-found.ensures.stands
+
+pub returns-in_err-read_end-in-Err-clause-refused : goal.returns-in_err-read_end-in-Err-clause-refused
+returns-in_err-read_end-in-Err-clause-refused g c =
+    let seen = seen_by c.args.known c.args.interfaces.now in
+    let e = err_from_is_err_and c.from_residual.result c.from_residual.ensures.1 in
+    passed_on seen c.from_residual.result c.in_err-read_end-in-Err.field-0.0 (e.1 ∙ ap Err e.2) (c.in_err-read_end-in-Err.ensures.refused seen)
+
+pub returns-in_err-found-clause-refused : goal.returns-in_err-found-clause-refused
+returns-in_err-found-clause-refused g c =
+    let seen = seen_by c.args.known c.args.interfaces.now in
+    let e = err_from_is_err_and c.from_residual-in_err-found.result c.from_residual-in_err-found.ensures.1 in
+    passed_on seen c.from_residual-in_err-found.result c.in_err-found.field-0.0 (e.1 ∙ ap Err e.2) (c.in_err-found.ensures.refused seen)

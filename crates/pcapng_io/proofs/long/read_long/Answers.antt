@@ -1,5 +1,5 @@
 -- The head says how long the block is; the rest is that of its body.
-use Rattle.std.proofs.Common.{Ok, Err, refl, ◌∙◌, ap, drop}
+use Rattle.std.proofs.Common.{Ok, Err, refl, sym, ◌∙◌, ap, drop}
 use Rattle.std.proofs.lemmas.Result.{err_from_is_err_and}
 use Rattle.pcapng_io.specs.declared.block.Block.{Block}
 use Rattle.pcapng_io.specs.Blocks.{block_in}
@@ -7,6 +7,7 @@ use Rattle.pcapng_io.specs.Seen.{seen_by}
 use Rattle.pcapng_io.proofs.FileLemmas.{passed_inside}
 use Rattle.pcapng_io.proofs.LongLemmas.{agrees_failed}
 use Rattle.pcapng_io.proofs.LongBlockLemmas.{head_told, in_long, is_long, is_near, long_failed, long_told}
+use Rattle.pcapng_io.proofs.RefusalLemmas.{head_kind, passed_on}
 use Rattle.pcapng_io.proofs.long.read_long.Goals as goal
 
 pub returns-in-Err-clause-told : goal.returns-in-Err-clause-told
@@ -52,3 +53,13 @@ returns-clause-told g c =
 
 pub returns-clause-near : goal.returns-clause-near
 returns-clause-near g c = is_near (seen_by c.args.known c.args.interfaces.now) c.args.window.now c.args.number c.requires.is_open
+
+pub returns-in_err-block-clause-refused : goal.returns-in_err-block-clause-refused
+returns-in_err-block-clause-refused g c =
+    let seen = seen_by c.args.known c.args.interfaces.now in
+    let e = err_from_is_err_and c.from_residual.result c.from_residual.ensures.1 in
+    passed_on seen c.from_residual.result c.in_err-block.field-0.0 (e.1 ∙ ap Err e.2) c.in_err-block.ensures.refused
+
+pub returns-in-Err-clause-refused : goal.returns-in-Err-clause-refused
+returns-in-Err-clause-refused g c =
+    head_kind (seen_by c.args.known c.args.interfaces.now) c.as_slice.result.now c.in-Err.refusal (sym c.head_of.ensures.says ∙ c.in-Err.is)

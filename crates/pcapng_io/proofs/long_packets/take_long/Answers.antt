@@ -1,6 +1,10 @@
 -- What the block is, as what a round takes of it.
-use Rattle.std.proofs.Common.{◌+◌, ◌<◌, ◌≤◌, length, Ok, Err, refl, ap, subst, arith}
+use Rattle.std.proofs.Common.{◌+◌, ◌<◌, ◌≤◌, length, Ok, Err, refl, sym, ap, subst, arith}
+use Rattle.capture_io.specs.Refusals.{EndsInRecords}
+use Rattle.capture_io.specs.declared.forms.CaptureError.{CaptureError}
 use Rattle.pcapng_io.specs.declared.block.Block.{Block}
+use Rattle.pcapng_io.specs.declared.pieces.Taken.{Taken}
+use Rattle.pcapng_io.specs.Answers.{RefusesBlock}
 use Rattle.pcapng_io.specs.declared.block.Block.TheVariants as block
 use Rattle.capture_io.specs.declared.rounds.Ending.TheVariants as end
 use Rattle.pcapng_io.specs.Blocks.{size_of}
@@ -9,6 +13,7 @@ use Rattle.pcapng_io.specs.Long.{HasBytes, IsLonger}
 use Rattle.pcapng_io.specs.Seen.{seen_by}
 use Rattle.pcapng_io.proofs.LongRoundLemmas.{block_is, ending_end, ending_refused, long_ended, long_packet, long_passed, long_reads, reads_by, stands_is, told_by, with_unit}
 use Rattle.pcapng_io.proofs.WalkLemmas.{after_at}
+use Rattle.pcapng_io.proofs.RefusalLemmas.{of_record}
 use Rattle.pcapng_io.proofs.long_packets.take_long.Goals as goal
 
 pub returns-in-Err-Bad-clause-taken : goal.returns-in-Err-Bad-clause-taken
@@ -86,3 +91,10 @@ returns-in_ok-pass-in-Passed-clause-counted g c =
     (long_passed held name old first window c.args.number c.args.most_bytes c.requires.is_open c.requires.sound c.requires.number c.requires.some p c.behind_passed.result c.pass.new.interfaces.items sound.2 c.behind_passed.ensures c.in_ok-pass-in-Passed.ensures.after
     (block_is held name old first c.args.number c.in-Ok.block (block.Passed p) c.in-Passed.is (told_by held c.args.name.now c.args.window.now c.args.known c.deref.result.now c.args.interfaces.now.items c.args.number (Ok c.in-Ok.block) c.deref.ensures.value c.in-Ok.ensures.told))
     (stands_is held name c.args.known.at first window c.in-Ok.block (block.Passed p) c.in-Passed.is c.in-Ok.ensures.stands)).sound.counted
+
+pub returns-in-Err-Bad-clause-in_records : goal.returns-in-Err-Bad-clause-in_records
+returns-in-Err-Bad-clause-in_records g c =
+    let seen = seen_by c.args.known c.deref.result.now in
+    let R : CaptureError → Type 0 = RefusesBlock seen in
+    let E : Taken → Type 0 = λ t. EndsInRecords t.ending in
+    subst E (sym c.ended.ensures) (of_record seen c.in-Err-Bad.refusal (subst R c.in-Err-Bad.field-0-is c.in-Err-Bad.ensures.refused))

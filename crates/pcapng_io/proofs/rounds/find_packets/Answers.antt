@@ -1,5 +1,5 @@
 -- What was taken ends the search, or it goes on with more bytes.
-use Rattle.std.proofs.Common.{◌≡◌, ◌+◌, [], true, length, Some, refl, sym, ◌∙◌, ap, arith}
+use Rattle.std.proofs.Common.{◌≡◌, ◌+◌, [], true, length, Some, refl, sym, subst, ◌∙◌, ap, arith}
 use Rattle.aftr_base.specs.Outside.{Outside}
 use Rattle.aftr_base.proofs.OutsideLemmas.{read_well, reads_then}
 use Rattle.capture_io.specs.declared.rounds.Ending.TheVariants as end
@@ -8,7 +8,9 @@ use Rattle.pcapng_io.specs.Seen.{seen_by}
 use Rattle.pcapng_io.proofs.WindowLemmas.{closer, failed_found, failed_inside, failed_reads, found_of, goes_on, IsTaken, passed, search_begins, taken_of, unsaid_rest}
 use Rattle.std.proofs.lemmas.List.{length-drop}
 use Rattle.capture_io.specs.Rounds.{is_cut}
+use Rattle.pcapng_io.specs.declared.long_packets.Long.{Long}
 use Rattle.pcapng_io.specs.declared.long_packets.Long.TheVariants as long
+use Rattle.pcapng_io.specs.Pieces.{EndsLong}
 use Rattle.pcapng_io.proofs.LongRoundLemmas.{found_then, long_is, long_read, next_then, search_then}
 use Rattle.pcapng_io.proofs.rounds.find_packets.Goals as goal
 
@@ -198,3 +200,6 @@ reads-smaller g c =
     (omega (arith, t.are.at, t.are.inside, is_open.near, is_open.short, ap length c.pass.ensures.bytes, length-drop taken.used c.reads.window.bytes)) (sym c.pass.ensures.last ∙ is_open.more)
     (omega (arith, c.in-Ok.ensures.least, ap length c.pass.ensures.bytes, length-drop taken.used c.reads.window.bytes))
     (λ e. omega (arith, c.in-Ok.ensures.longer e, ap length c.pass.ensures.bytes, length-drop taken.used c.reads.window.bytes))
+
+pub returns-in-Taken-clause-in_records : goal.returns-in-Taken-clause-in_records
+returns-in-Taken-clause-in_records g c = let E : Long → Type 0 = EndsLong in subst E c.in-Taken.is c.in_ok-taken-2.ensures.in_records

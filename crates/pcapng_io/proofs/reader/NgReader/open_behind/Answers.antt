@@ -26,7 +26,7 @@ returns-in_err-read_block-clause-reads g c =
 pub returns-in_err-read_block-clause-refused : goal.returns-in_err-read_block-clause-refused
 returns-in_err-read_block-clause-refused g c =
     let e = err_from_is_err_and c.from_residual.result c.from_residual.ensures.1 in
-    refused_by Standing c.from_residual.result c.in_err-read_block.field-0.0 (e.1 ∙ ap Err e.2) (opening_refused c.opening.known 0 c.in_err-read_block.field-0.0 c.opening.invariant.4 c.in_err-read_block.ensures.refused)
+    refused_by Standing c.from_residual.result c.in_err-read_block.field-0.0 (e.1 ∙ ap Err e.2) (opening_refused c.opening.known c.in_err-read_block.field-0.0 c.opening.invariant.4 c.in_err-read_block.ensures.refused)
 
 pub opening-preserved : goal.opening-preserved
 opening-preserved g c =
