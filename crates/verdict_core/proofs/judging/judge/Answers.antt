@@ -89,3 +89,6 @@ pub returns-clause-one_shape : goal.returns-clause-one_shape
 returns-clause-one_shape g c = λ t h one.
     let here = subst (λ (ws : List ℕ). IsCompiled t ws) (sym c.softwire-settings.ensures.list) h in
     omega (arith, c.judge_into.ensures.one_shape t here one, c.softwire-settings.ensures.steps)
+
+pub returns-clause-goes : goal.returns-clause-goes
+returns-clause-goes g c = g.met.W.Words.goes_on _ _ _ c.softwire-settings.ensures.goes c.judge_into.ensures.goes
