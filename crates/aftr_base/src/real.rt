@@ -1,9 +1,11 @@
 // Files by the calls of a system.
-ghost use Rattle.std.specs.Prelude.{◌≡◌, ◌↔◌, IsNone, IsTrue, string_bytes};
-ghost use Rattle.std.specs.Option.{option_copied, ForSome};
-ghost use Rattle.aftr_base.specs.Contents.{content};
-ghost use Rattle.aftr_base.specs.Outside.{has_failed, nothing_known};
-ghost use Rattle.aftr_base.specs.System.{StandsIn, WriteAtEnds, told_if};
+ghost use Rattle.std.specs.Prelude.{◌≡◌, ◌↔◌, IsNone, [], ◌≤◌, ◌<◌, IfOk, length, take, drop};
+ghost use Rattle.std.specs.Option.{option_copied};
+ghost use Rattle.aftr_base.specs.Contents.{content, Told, Created, Appended};
+ghost use Rattle.aftr_base.specs.Outside.{OnlyReads, OnlyWrites, has_failed};
+ghost use Rattle.aftr_base.specs.Known.{Keeps, not_used};
+ghost use Rattle.aftr_base.specs.System.{told_if};
+ghost use Rattle.aftr_base.specs.declared.last_error.Call.TheVariants as call;
 
 use crate::failure::Failure;
 use crate::last_error::{Call, Counts, LastError};
@@ -12,6 +14,7 @@ use crate::system::System;
 use crate::writers::Writer;
 use crate::{Fault, Files, writers};
 use std::alloc::Global;
+use std::marker::Model;
 
 /// The files of a system, by their names. It reads ahead in the file that was read last, and keeps each file open that it wrote: where
 /// the system opens no file more, a call answers `Failed`. A `create` or an `append` gives up what was read ahead of that name.
@@ -21,14 +24,31 @@ pub struct SystemFiles<S: System + Drop> {
     reader: Option<Reader<S>>,
     writers: Vec<Writer<S>>,
     counts: Counts,
-    ghost stands: { IsTrue S.tells → ForSome reader (λ r. StandsIn r.window (content (S.held system) (string_bytes r.name))) },
-    ghost ends: { IsTrue S.tells → WriteAtEnds (λ w. S.writes w.file) (S.held system) writers.items },
+}
+
+impl<S: System + Drop> Model for SystemFiles<S> {
+    ghost use Rattle.std.specs.Prelude.{IsTrue, string_bytes};
+    ghost use Rattle.std.specs.Option.{ForSome};
+    ghost use Rattle.std.specs.Coded.{codes};
+    ghost use Rattle.aftr_base.specs.Contents.{content, contents_code};
+    ghost use Rattle.aftr_base.specs.System.{StandsIn, WriteAtEnds};
+    ghost use Rattle.aftr_base.specs.Known.{FilesOfSystem, known};
+
+    ghost Value = { FilesOfSystem };
+
+    ghost coded = { Prim.hlevel (codes, contents_code) };
+
+    ghost view = { λ files. known S.tells (S.held files.system) files.counts };
+
+    ghost invariant = { λ files.
+        (IsTrue S.tells → ForSome files.reader (λ r. StandsIn r.window (content (S.held files.system) (string_bytes r.name))))
+        × (IsTrue S.tells → WriteAtEnds (λ w. S.writes w.file) (S.held files.system) files.writers.items) };
 }
 
 impl<S: System + Drop> SystemFiles<S> {
     /// No file is open, and nothing has failed.
     pub fn over(system: S, alloc: Global) -> SystemFiles<S>
-        ensures { ⟦<SystemFiles<S> as Files>⟧.outside result ≡ record nothing_known { held = told_if S.tells (S.held system) } }
+        ensures { result ≡ not_used S.tells (S.held system) }
     {
         SystemFiles {
             system,
@@ -40,38 +60,31 @@ impl<S: System + Drop> SystemFiles<S> {
 
     /// The system, with what it holds.
     pub fn system(&self) -> &S
-        ensures { (⟦<SystemFiles<S> as Files>⟧.outside self.now).held ≡ told_if S.tells (S.held result.now) }
+        ensures { self.now.outside.held ≡ told_if S.tells (S.held result.now) }
     {
         &self.system
     }
 
     /// What the system said of the last call that failed.
     pub fn last_error(&self) -> Option<&LastError>
-        ensures none { IsNone result ↔ ((⟦<SystemFiles<S> as Files>⟧.outside self.now).faults ≡ 0) }
-        ensures error { option_copied result ≡ self.now.counts.last_error }
+        ensures none { IsNone result ↔ (self.now.outside.faults ≡ 0) }
+        ensures error { option_copied result ≡ self.now.failed }
     {
         self.counts.last_error.as_ref()
     }
 }
 
 impl<S: System + Drop> Files for SystemFiles<S> {
-    ghost use Rattle.std.specs.Prelude.{[], ◌≤◌, ◌<◌, IfOk, length, take, drop};
-    ghost use Rattle.aftr_base.specs.Contents.{Told, Created, Appended};
-    ghost use Rattle.aftr_base.specs.Outside.{OnlyReads, OnlyWrites};
-    ghost use Rattle.aftr_base.specs.Known.{known, Keeps};
-    ghost use Rattle.aftr_base.specs.declared.last_error.Call.TheVariants as call;
-
-    ghost outside = { λ files. known S.tells (S.held files.system) files.counts };
+    ghost outside = { λ files. files.outside };
 
     fn read(&mut self, alloc: Global, name: &str, at: u64, into: &mut [u8]) -> Result<usize, Fault>
         ensures within { IfOk result (λ n. n ≤ length into.old) }
-        ensures bytes { IfOk result (λ n. Told (told_if S.tells (S.held self.old.system))
+        ensures bytes { IfOk result (λ n. Told self.old.outside.held
             (λ m. take n into.new ≡ take n (drop at (content m name.now)))) }
-        ensures nothing { IfOk result (λ n. Told (told_if S.tells (S.held self.old.system))
+        ensures nothing { IfOk result (λ n. Told self.old.outside.held
             (λ m. n ≡ 0 → 0 < length into.old → drop at (content m name.now) ≡ [])) }
-        ensures reads { OnlyReads (has_failed result) name.now (λ place. place ≡ at)
-            (known S.tells (S.held self.old.system) self.old.counts) (known S.tells (S.held self.new.system) self.new.counts) }
-        ensures error { Keeps (has_failed result) (call.Read at) name.now self.old.counts self.new.counts }
+        ensures reads { OnlyReads (has_failed result) name.now (λ place. place ≡ at) self.old.outside self.new.outside }
+        ensures error { Keeps (has_failed result) (call.Read at) name.now self.old self.new }
     {
         match read_file(&mut self.system, &mut self.reader, alloc, name, at, into) {
             Ok(count) => Ok(count),
@@ -81,11 +94,9 @@ impl<S: System + Drop> Files for SystemFiles<S> {
     }
 
     fn create(&mut self, alloc: Global, name: &str) -> Result<(), Fault>
-        ensures held { Created result (told_if S.tells (S.held self.old.system))
-            (told_if S.tells (S.held self.new.system)) name.now }
-        ensures writes { OnlyWrites (has_failed result)
-            (known S.tells (S.held self.old.system) self.old.counts) (known S.tells (S.held self.new.system) self.new.counts) }
-        ensures error { Keeps (has_failed result) call.Create name.now self.old.counts self.new.counts }
+        ensures held { Created result self.old.outside.held self.new.outside.held name.now }
+        ensures writes { OnlyWrites (has_failed result) self.old.outside self.new.outside }
+        ensures error { Keeps (has_failed result) call.Create name.now self.old self.new }
     {
         forget(&mut self.reader, name);
         match writers::create(&mut self.system, &mut self.writers, alloc, name) {
@@ -98,11 +109,9 @@ impl<S: System + Drop> Files for SystemFiles<S> {
     fn append(&mut self, alloc: Global, name: &str, bytes: &[u8]) -> Result<usize, Fault>
         ensures within { IfOk result (λ n. n ≤ length bytes.now) }
         ensures some { IfOk result (λ n. n ≡ 0 → bytes.now ≡ []) }
-        ensures held { Appended result (told_if S.tells (S.held self.old.system))
-            (told_if S.tells (S.held self.new.system)) name.now bytes.now }
-        ensures writes { OnlyWrites (has_failed result)
-            (known S.tells (S.held self.old.system) self.old.counts) (known S.tells (S.held self.new.system) self.new.counts) }
-        ensures error { Keeps (has_failed result) call.Append name.now self.old.counts self.new.counts }
+        ensures held { Appended result self.old.outside.held self.new.outside.held name.now bytes.now }
+        ensures writes { OnlyWrites (has_failed result) self.old.outside self.new.outside }
+        ensures error { Keeps (has_failed result) call.Append name.now self.old self.new }
     {
         forget(&mut self.reader, name);
         match writers::append(&mut self.system, &mut self.writers, alloc, name, bytes) {

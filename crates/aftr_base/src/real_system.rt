@@ -1,5 +1,4 @@
 // The calls of the system that the program runs on.
-use crate::Files;
 use crate::real::SystemFiles;
 use crate::system::System;
 use std::alloc::Global;
@@ -71,11 +70,13 @@ pub type RealFiles<R> = SystemFiles<RealSystem<R>>;
 
 impl<R: FileSystem + Drop> SystemFiles<RealSystem<R>> {
     ghost use Rattle.std.specs.Prelude.{◌≡◌};
-    ghost use Rattle.aftr_base.specs.Outside.{nothing_known};
+    ghost use Rattle.std.specs.Prelude.{false};
+    ghost use Rattle.std.specs.FinMap.{empty};
+    ghost use Rattle.aftr_base.specs.Known.{not_used};
 
     /// No file is open, and nothing has failed.
     pub fn new(rt: R, alloc: Global) -> RealFiles<R>
-        ensures { ⟦<SystemFiles<RealSystem<R>> as Files>⟧.outside result ≡ nothing_known }
+        ensures { result ≡ not_used false empty }
     {
         SystemFiles::over(RealSystem { runtime: rt }, alloc)
     }

@@ -4,8 +4,9 @@ use aftr_base::{
 };
 use std::alloc::Global;
 use std::io::ErrorKind;
+use std::process;
+use std::rt::Files as FileSystem;
 use std::test::Fail;
-use std::{fs, process};
 
 // An answer as one letter: a digit, or `f` where the call failed.
 fn letter(answer: Result<usize, Fault>) -> &'static str {
@@ -110,7 +111,7 @@ fn a_write_is_read_by_who_read_ahead_of_it(rt: HostRuntime) -> Result<(), Fail> 
     ];
     let wanted = [3, 2, 3, 4, 1, 3, 0, 0, 1, 0, 2, 2].map(Ok);
     assert_eq!(rt; answers, wanted);
-    assert_eq!(rt; &into[..2], b"23".as_slice());
+    assert_eq!(rt; into, *b"23zz\0\0\0\0");
     let system = files.system();
     assert!(rt; holds(system, "in", b"abcdef") && holds(system, "other", b"23"));
     Ok(())
@@ -131,24 +132,45 @@ fn last_kind(last: Option<&LastError>) -> Option<ErrorKind> {
     }
 }
 
+// What is kept before a call has failed, and behind each of five calls that do; and the last of them.
+fn kinds_of<R: FileSystem + Drop>(
+    alloc: Global,
+    system: R,
+    missing: &str,
+) -> Result<([Option<ErrorKind>; 6], String), Fail> {
+    let below = format!(in alloc; "{missing}/out")?;
+    let mut files = RealFiles::new(system, alloc);
+    let mut into = [0; 4];
+    let first = last_kind(files.last_error());
+    let _ = files.read(alloc, missing, 7, &mut into);
+    let none_there = last_kind(files.last_error());
+    let _ = files.read(alloc, "/tmp", 0, &mut into);
+    let a_folder = last_kind(files.last_error());
+    let _ = files.create(alloc, below.as_str());
+    let no_folder = last_kind(files.last_error());
+    let _ = files.create(alloc, "/tmp");
+    let over_a_folder = last_kind(files.last_error());
+    let _ = files.append(alloc, "/dev/full", b"x");
+    let no_room = last_kind(files.last_error());
+    let last = last_call(alloc, files.last_error())?;
+    Ok((
+        [
+            first,
+            none_there,
+            a_folder,
+            no_folder,
+            over_a_folder,
+            no_room,
+        ],
+        last,
+    ))
+}
+
 #[test]
 fn what_the_system_said_is_kept(rt: HostRuntime) -> Result<(), Fail> {
     let alloc = rt.alloc();
     let missing = format!(in alloc; "/tmp/aftr_base_missing_{}", process::id(rt.process()))?;
-    let below = format!(in alloc; "{missing}/out")?;
-    let mut files = RealFiles::new(&rt, alloc);
-    let mut into = [0; 4];
-    let mut kinds = [last_kind(files.last_error()); 6];
-    let _ = files.read(alloc, missing.as_str(), 7, &mut into);
-    kinds[1] = last_kind(files.last_error());
-    let _ = files.read(alloc, "/tmp", 0, &mut into);
-    kinds[2] = last_kind(files.last_error());
-    let _ = files.create(alloc, below.as_str());
-    kinds[3] = last_kind(files.last_error());
-    let _ = files.create(alloc, "/tmp");
-    kinds[4] = last_kind(files.last_error());
-    let _ = files.append(alloc, "/dev/full", b"x");
-    kinds[5] = last_kind(files.last_error());
+    let (kinds, last) = kinds_of(alloc, &rt, missing.as_str())?;
     let wanted = [
         None,
         Some(ErrorKind::NotFound),
@@ -158,8 +180,6 @@ fn what_the_system_said_is_kept(rt: HostRuntime) -> Result<(), Fail> {
         Some(ErrorKind::StorageFull),
     ];
     assert_eq!(rt; kinds, wanted);
-    let last = last_call(alloc, files.last_error())?;
     assert_eq!(rt; last.as_str(), "append /dev/full");
-    assert!(rt; fs::metadata(&rt, missing.as_str()).is_err());
     Ok(())
 }
