@@ -32,7 +32,8 @@ const OPTIONS: u64 = 16;
 
 /// What stands at the place that is known, where the window has as much of it as is kept and not all of it. The rest is read to the
 /// block's last byte and let go; so no block takes more memory than another. Behind a packet the window is as it was, and behind another block
-/// it stands behind that.
+/// it stands behind that. It is rare, and stands apart from the ways of short blocks.
+#[inline(never)]
 pub fn read_long<F: Files>(
     alloc: Global,
     files: &mut F,

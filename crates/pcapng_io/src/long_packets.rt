@@ -25,6 +25,7 @@ pub enum Long {
 }
 
 /// Takes the block at the place that is known, of which the window has as much as is kept and not all. Nothing behind it is read.
+#[inline(never)]
 pub fn take_long<F: Files>(
     alloc: Global,
     files: &mut F,
