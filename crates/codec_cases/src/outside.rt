@@ -5,6 +5,7 @@ use aftr_base::{
     Fault, Files, MemFiles, MemSink, QuietFiles, RealFiles, append_all, fill, put_all,
 };
 use std::alloc::Global;
+use std::rt::Files as FileSystem;
 use std::test::Fail;
 use std::{fs, process};
 
@@ -119,6 +120,16 @@ fn row() -> [u8; 251] {
     row
 }
 
+// Makes a file of 4,800 such rows.
+fn put_rows<F: Files>(alloc: Global, files: &mut F, name: &str) -> Result<(), Fault> {
+    files.create(alloc, name)?;
+    let row = row();
+    for _ in 0..4_800 {
+        append_all(alloc, files, name, &row)?;
+    }
+    Ok(())
+}
+
 // Reads a file of such rows in pieces, and counts its bytes up to the first that is wrong.
 fn count_back<F: Files>(
     alloc: Global,
@@ -151,25 +162,28 @@ fn temporary(rt: &HostRuntime, name: &str) -> Result<String, Fail> {
     Ok(format!(in rt.alloc(); "/tmp/aftr_base_{name}_{}", process::id(rt.process()))?)
 }
 
-#[test]
-fn real_files_give_back_what_was_appended(rt: HostRuntime) -> Result<(), Fail> {
-    let alloc = rt.alloc();
-    let path = temporary(&rt, "rows")?;
-    let name = path.as_str();
-    let mut files = RealFiles::new(&rt, alloc);
-    files.create(alloc, name)?;
-    let row = row();
-    for _ in 0..4_800 {
-        append_all(alloc, &mut files, name, &row)?;
-    }
+// Makes a file of rows, and counts them back by long and by short reads.
+fn rows_of<R: FileSystem + Drop>(
+    alloc: Global,
+    system: R,
+    name: &str,
+) -> Result<[Result<u64, Fault>; 2], Fail> {
+    let mut files = RealFiles::new(system, alloc);
+    put_rows(alloc, &mut files, name)?;
     let mut odd = vec![in alloc; 0; 350_001]?;
     let mut few = [0; 1_000];
-    let answers = [
+    Ok([
         count_back(alloc, &mut files, name, &mut odd),
         count_back(alloc, &mut files, name, &mut few),
-    ];
-    fs::remove_file(&rt, name)?;
-    assert_eq!(rt; answers, [Ok(1_204_800); 2]);
+    ])
+}
+
+#[test]
+fn real_files_give_back_what_was_appended(rt: HostRuntime) -> Result<(), Fail> {
+    let path = temporary(&rt, "rows")?;
+    let answers = rows_of(rt.alloc(), &rt, path.as_str());
+    fs::remove_file(&rt, path.as_str())?;
+    assert_eq!(rt; answers?, [Ok(1_204_800); 2]);
     Ok(())
 }
 

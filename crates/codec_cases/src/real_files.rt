@@ -210,26 +210,43 @@ fn a_seek_or_a_read_that_fails_spoils_no_later_read(rt: HostRuntime) -> Result<(
     Ok(())
 }
 
-#[test]
-fn a_file_cut_while_it_is_read_ends_there(rt: HostRuntime) -> Result<(), Fail> {
-    let alloc = rt.alloc();
-    let path = temporary(&rt, "cut")?;
-    let name = path.as_str();
-    let mut writing = RealFiles::new(&rt, alloc);
-    let mut reading = RealFiles::new(&rt, alloc);
+// Reads a long file at three places, and makes it anew by another handle behind the first of them.
+fn cut_while_read<W: Files, R: Files>(
+    alloc: Global,
+    writing: &mut W,
+    reading: &mut R,
+    name: &str,
+) -> Result<[Result<usize, Fault>; 3], Fail> {
     let bytes = vec![in alloc; 7; 1_100_000]?;
     let mut into = [0; 4];
     writing.create(alloc, name)?;
-    append_all(alloc, &mut writing, name, &bytes)?;
-    let whole = fill(alloc, &mut reading, name, 0, &mut into);
+    append_all(alloc, writing, name, &bytes)?;
+    let whole = fill(alloc, reading, name, 0, &mut into);
     writing.create(alloc, name)?;
-    let answers = [
+    Ok([
         whole,
-        fill(alloc, &mut reading, name, 1_050_000, &mut into),
-        fill(alloc, &mut reading, name, 8, &mut into),
-    ];
-    fs::remove_file(&rt, name)?;
-    assert_eq!(rt; answers, [Ok(4), Ok(0), Ok(0)]);
+        fill(alloc, reading, name, 1_050_000, &mut into),
+        fill(alloc, reading, name, 8, &mut into),
+    ])
+}
+
+fn cut_of<R: FileSystem + Drop>(
+    alloc: Global,
+    system: R,
+    other: R,
+    name: &str,
+) -> Result<[Result<usize, Fault>; 3], Fail> {
+    let mut writing = RealFiles::new(system, alloc);
+    let mut reading = RealFiles::new(other, alloc);
+    cut_while_read(alloc, &mut writing, &mut reading, name)
+}
+
+#[test]
+fn a_file_cut_while_it_is_read_ends_there(rt: HostRuntime) -> Result<(), Fail> {
+    let path = temporary(&rt, "cut")?;
+    let answers = cut_of(rt.alloc(), &rt, &rt, path.as_str());
+    fs::remove_file(&rt, path.as_str())?;
+    assert_eq!(rt; answers?, [Ok(4), Ok(0), Ok(0)]);
     Ok(())
 }
 
