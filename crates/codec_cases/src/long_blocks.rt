@@ -53,7 +53,9 @@ fn comments(alloc: Global) -> Result<Vec<u8>, Fail> {
 fn block(alloc: Global, kind: [u8; 4], front: &[u8], rest: &[u8]) -> Result<Vec<u8>, Fail> {
     let options = comments(alloc)?;
     let body = joined(alloc, &[front, &options, rest])?;
-    let total = (body.len() as u32).saturating_add(12).to_le_bytes();
+    let total = u32::try_from(body.len().saturating_add(12))
+        .unwrap_or(0)
+        .to_le_bytes();
     joined(alloc, &[&kind, &total, &body, &total])
 }
 
