@@ -167,7 +167,7 @@ fn rows_of<R: FileSystem + Drop>(
     alloc: Global,
     system: R,
     name: &str,
-) -> Result<[Result<u64, Fault>; 2], Fail> {
+) -> Result<[Result<u64, Fault>; 2], Fault> {
     let mut files = RealFiles::new(system, alloc);
     put_rows(alloc, &mut files, name)?;
     let mut odd = vec![in alloc; 0; 350_001]?;

@@ -216,7 +216,7 @@ fn cut_while_read<W: Files, R: Files>(
     writing: &mut W,
     reading: &mut R,
     name: &str,
-) -> Result<[Result<usize, Fault>; 3], Fail> {
+) -> Result<[Result<usize, Fault>; 3], Fault> {
     let bytes = vec![in alloc; 7; 1_100_000]?;
     let mut into = [0; 4];
     writing.create(alloc, name)?;
@@ -235,7 +235,7 @@ fn cut_of<R: FileSystem + Drop>(
     system: R,
     other: R,
     name: &str,
-) -> Result<[Result<usize, Fault>; 3], Fail> {
+) -> Result<[Result<usize, Fault>; 3], Fault> {
     let mut writing = RealFiles::new(system, alloc);
     let mut reading = RealFiles::new(other, alloc);
     cut_while_read(alloc, &mut writing, &mut reading, name)
