@@ -140,8 +140,8 @@ pub(crate) fn push_inward(
     Ok(count)
 }
 
-// Puts this packet there as it goes to a subscriber. It stands apart from packets that go out, whose way keeps its words in registers.
-#[inline(never)]
+// Puts this packet there as it goes to a subscriber.
+#[inline(always)]
 pub(crate) fn push_packet_inward(
     out: &mut Vec<u8>,
     stamp: Stamp,
