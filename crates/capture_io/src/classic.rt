@@ -17,14 +17,14 @@ use crate::{CaptureError, CaptureReader, Ending, Form, Place, Records, Round, re
 use aftr_base::{Fault, Files, OutOfMemory};
 use std::alloc::Global;
 
-// The least room of a round.
-const ROOM: usize = 524_288;
+/// The least room of a round.
+pub const ROOM: usize = 524_288;
 
 // A piece of so many bytes is still in a processor's second-level cache when its records are looked for, beside the bytes of the
 // file that it was copied from.
 const PIECE: usize = 262_144;
 
-// The most bytes that are read at once.
+/// The most bytes that are read at once.
 pub const MOST_PIECE: usize = 1_048_576;
 
 const FIRST_RECORD: u64 = 24;

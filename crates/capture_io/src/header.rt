@@ -20,7 +20,8 @@ const MAGIC_NANO: u32 = 0xa1b23c4d;
 
 const ETHERNET: u32 = 1;
 
-const PLAIN_IP: u32 = 101;
+/// The link type of plain IP.
+pub const PLAIN_IP: u32 = 101;
 
 /// Reads the file header: what it says, or the first of these that is true: `CutHeader` at 0 for fewer than 24 bytes,
 /// `Magic`, `Version`, `Link`. `ReadFault` comes only where a read of this file failed in this call, at a place below

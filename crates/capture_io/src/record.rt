@@ -14,8 +14,10 @@ use std::alloc::Global;
 
 pub const HEADER_LEN: usize = 16;
 
+/// The most captured bytes of a record.
 pub const MOST_BYTES: u32 = 262_144;
 
+/// The most records of a capture.
 pub const MOST_RECORDS: u32 = 0x8000_0000;
 
 /// Reads the record of a number, counted from 0, which stands at the place `at`: the first at 24, each other at the

@@ -58,8 +58,9 @@ impl Written {
     }
 }
 
-// A section header, and the description of an interface.
-fn section() -> [u8; 60]
+/// A section header, and the description of an interface of plain IP (link type 101), with a snapshot length of 262,144 and times in
+/// nanoseconds; little-endian.
+pub fn section() -> [u8; 60]
     ensures { result ≡ section_bytes }
 {
     [

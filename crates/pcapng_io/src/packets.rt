@@ -7,11 +7,7 @@ ghost use Rattle.pcapng_io.specs.Seen.{seen_by};
 use crate::block::{Block, Known, Packet, Passed};
 use crate::frame::Frame;
 use crate::interface::Interface;
-use capture_io::{CaptureBad, NgBad, half, word};
-
-const MOST_BYTES: u32 = 262_144;
-
-const MOST_PACKETS: u32 = 0x8000_0000;
+use capture_io::{CaptureBad, MOST_BYTES, MOST_RECORDS, NgBad, half, word};
 
 const BILLION: u64 = 1_000_000_000;
 
@@ -54,7 +50,7 @@ pub fn enhanced_of(
         return Err(CaptureBad::Ng(NgBad::Interface { at }));
     }
     let interface = interfaces[sender];
-    if number == MOST_PACKETS {
+    if number == MOST_RECORDS {
         return Err(CaptureBad::Ng(NgBad::TooMany { at }));
     }
     let count = word(frame.big, front, 20);
@@ -167,7 +163,7 @@ pub fn simple_of(
     if interfaces.is_empty() {
         return Err(CaptureBad::Ng(NgBad::Interface { at }));
     }
-    if number == MOST_PACKETS {
+    if number == MOST_RECORDS {
         return Err(CaptureBad::Ng(NgBad::TooMany { at }));
     }
     let count = captured_of(interfaces[0], word(frame.big, front, 8));

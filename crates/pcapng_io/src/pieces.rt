@@ -12,10 +12,7 @@ use crate::fronts::{Front, front_of, plain_packet};
 use crate::interface::Interface;
 use crate::walk::{behind_packet, behind_passed, len_of};
 use aftr_base::OutOfMemory;
-use capture_io::{Ending, Place};
-
-/// The most records of a round.
-pub const MOST_RECORDS: usize = 16_384;
+use capture_io::{Ending, MOST_TAKEN, Place};
 
 /// How far blocks were taken off the front of a piece.
 #[derive(Clone, Copy)]
@@ -67,7 +64,7 @@ pub fn take_blocks(
     let mut used = 0;
     let mut next = number;
     let mut bytes = 0;
-    'blocks: while places.len() < MOST_RECORDS && bytes < most_bytes {
+    'blocks: while places.len() < MOST_TAKEN && bytes < most_bytes {
         match front_of(here, interfaces, &piece[used..], last, next) {
             Front::Packet(packet) => {
                 places.push_reserved(place_of(packet, used, here.at));
@@ -154,7 +151,7 @@ fn take_plain(
     ensures room { 16384 ≤ vec_capacity places.new }
 {
     let mut run = before;
-    'packets: while places.len() < MOST_RECORDS && run.bytes < most_bytes {
+    'packets: while places.len() < MOST_TAKEN && run.bytes < most_bytes {
         let packet = match plain_packet(run.known, interfaces, &piece[run.used..], run.number) {
             Some(packet) => packet,
             None => return run,

@@ -19,11 +19,9 @@ use crate::record::find_record;
 use crate::walk::behind_passed;
 use crate::window::Window;
 use aftr_base::{Files, fill};
-use capture_io::{CaptureError, Form, MOST_PIECE, Next, word};
+use capture_io::{CaptureError, Form, MOST_PIECE, Next, PLAIN_IP, word};
 use std::alloc::Global;
 use std::marker::Model;
-
-const PLAIN_IP: u32 = 101;
 
 const NO_INTERFACES: [Interface; 0] = [];
 

@@ -15,10 +15,12 @@ use crate::block::Known;
 use crate::interface::Interface;
 use crate::long::MOST_KEPT;
 use crate::long_packets::{Long, take_long};
-use crate::pieces::{MOST_RECORDS, Taken, take_blocks};
+use crate::pieces::{Taken, take_blocks};
 use crate::window::Window;
 use aftr_base::{Fault, Files, OutOfMemory};
-use capture_io::{CaptureReader, Ending, Form, Place, Records, Round, fitting, piece_of};
+use capture_io::{
+    CaptureReader, Ending, Form, MOST_TAKEN, Place, Records, Round, fitting, piece_of,
+};
 use std::alloc::Global;
 
 /// The reader reads the file in order and each place once, and a block that is longer than a piece into a longer buffer.
@@ -48,7 +50,7 @@ impl CaptureReader for NgReader {
     ) -> Result<Round, OutOfMemory> {
         let (buffer, mut places) = room.into_parts();
         places.clear();
-        places.reserve(MOST_RECORDS)?;
+        places.reserve(MOST_TAKEN)?;
         let piece = piece_of(most_bytes).min(self.fits).max(1);
         let mut window = Window::of(buffer, &self.ahead, piece)?;
         let taken = find_packets(

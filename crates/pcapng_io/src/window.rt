@@ -6,12 +6,9 @@ ghost use Rattle.capture_io.specs.Records.{IsWithin, placed};
 ghost use Rattle.pcapng_io.specs.Windows.{Ahead, IsBehind, IsMore};
 
 use aftr_base::{Fault, Files, OutOfMemory};
-use capture_io::{Place, Records};
+use capture_io::{Place, ROOM, Records};
 use std::alloc::Global;
 use std::marker::Model;
-
-// The least room of a buffer.
-const ROOM: usize = 524_288;
 
 /// The bytes of a file from a place on that were read and are not used yet, and whether nothing stands behind them. They stand at
 /// the front of one buffer.

@@ -4,7 +4,7 @@ ghost use Rattle.capture_io.specs.Packets.{packet_bytes, section_bytes};
 ghost use Rattle.capture_io.specs.declared.written.Written.TheVariants as written;
 
 use aftr_base::{Bytes, OutOfMemory};
-use capture_io::Written;
+use capture_io::{Written, section};
 use std::alloc::Global;
 
 /// A section header and an interface of plain IP (link type 101), with a snapshot length of 262,144 and times in nanoseconds;
@@ -12,11 +12,7 @@ use std::alloc::Global;
 pub fn put_section() -> [u8; 60]
     ensures { result ≡ section_bytes }
 {
-    [
-        0x0a, 0x0d, 0x0d, 0x0a, 28, 0, 0, 0, 0x4d, 0x3c, 0x2b, 0x1a, 1, 0, 0, 0, 255, 255, 255,
-        255, 255, 255, 255, 255, 28, 0, 0, 0, 1, 0, 0, 0, 32, 0, 0, 0, 101, 0, 0, 0, 0, 0, 4, 0, 9,
-        0, 1, 0, 9, 0, 0, 0, 0, 0, 0, 0, 32, 0, 0, 0,
-    ]
+    section()
 }
 
 /// An enhanced packet block of that interface: the packet's length both as the captured and as the original one, padded with
