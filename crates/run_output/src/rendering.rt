@@ -272,8 +272,12 @@ fn push_sent(
     if limited {
         return Ok(0);
     }
-    if is_forwarded(verdict) {
+    if let Verdict::Outward { .. } = verdict {
         let count = push_packet(packets, round, number, index, rec, verdict)?;
+        return Ok(count);
+    }
+    if let Verdict::Inward { .. } = verdict {
+        let count = push_packet_apart(packets, round, number, index, rec, verdict)?;
         return Ok(count);
     }
     push_item(
@@ -320,14 +324,31 @@ fn push_item(
     Ok(count)
 }
 
-// Whether the record's own packet goes on.
-fn is_forwarded(verdict: &Verdict) -> bool
-    ensures { result ≡ is_forwarded verdict.now }
+// The same as `push_packet`, out of the way of packets that go out: what is made for the tunnel would take their registers.
+#[inline(never)]
+fn push_packet_apart(
+    packets: &mut Vec<u8>,
+    round: &Round<'_>,
+    number: u32,
+    index: usize,
+    rec: &RecordView<'_>,
+    verdict: &Verdict,
+) -> Result<u32, OutOfMemory>
+    requires inside { index < length round.now.records.now }
+    requires fits { FitsAt round.now.items.now index verdict.now }
+    requires room { HasRoom verdict.now }
+    requires forwarded { is_forwarded verdict.now ≡ true }
+    ensures bytes { IfOk result (λ _. (i : Item) → slice_get (items_in round.now.items.now) index ≡ Some i → packets.new.items ≡ packets.old.items
+        ++ flat_map (packet_bytes round.now.written rec.now.seconds rec.now.fraction) (sent i verdict.now number)) }
+    ensures count { IfOk result (λ count. (i : Item) → slice_get (items_in round.now.items.now) index ≡ Some i → count ≡ length (sent i verdict.now number)) }
+    ensures few { IfOk result (λ count. count ≤ 128) }
 {
-    matches!(verdict, Verdict::Outward { .. } | Verdict::Inward { .. })
+    let count = push_packet(packets, round, number, index, rec, verdict)?;
+    Ok(count)
 }
 
 // Puts the packets of a record there whose own packet goes on.
+#[inline(always)]
 fn push_packet(
     packets: &mut Vec<u8>,
     round: &Round<'_>,
