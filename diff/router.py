@@ -2,6 +2,7 @@
 held beside the program. It has nothing of the program's code and none of its speed."""
 import functools
 import ipaddress
+import re
 import struct
 import tomllib
 
@@ -66,7 +67,7 @@ class Table:
             raise Refused("too-big")
         try:
             text = data.decode("utf-8")
-            tree = tomllib.loads(text.removeprefix("\ufeff"))
+            tree = tomllib.loads(on_one_line(text.removeprefix("\ufeff")))
             if any(not -(2**63) <= it < 2**63 for it in numbers(tree)):
                 raise ValueError
         except (UnicodeDecodeError, tomllib.TOMLDecodeError, ValueError, RecursionError):
@@ -131,6 +132,24 @@ class Table:
             if (offset == 0 and length == 0) if want is WHOLE else owns(offset, length, psid, want):
                 return b4
         return None
+
+
+TOKEN = re.compile(
+    r'"""(?:\\.|[^\\])*?"{3,5}|\'\'\'.*?\'{3,5}|"(?:\\.|[^"\\\n])*"|\'[^\'\n]*\'|#[^\n]*|[{}]|\r?\n', re.S
+)
+
+
+def on_one_line(text):
+    """The same with each inline table on one line: TOML 1.1 lets one stand on several lines, which tomllib (1.0) does not read."""
+    depth = 0
+
+    def other(found):
+        nonlocal depth
+        it = found.group()
+        depth += (it == "{") - (it == "}")
+        return " " if depth > 0 and it[0] in "#\r\n" else it
+
+    return TOKEN.sub(other, text) if "{" in text else text
 
 
 @functools.lru_cache(8)
