@@ -138,7 +138,7 @@ fn tells_nothing_of_a_file_that_was_changed(rt: HostRuntime) -> Result<(), Fail>
 
 // What is told of a file whose second line is wrong, and that has so many marks.
 fn told_of_marks(alloc: Global, marks: usize) -> Result<String, Fail> {
-    let run = ".".repeat(alloc, marks - 2)?;
+    let run = ".".repeat(alloc, marks.saturating_sub(2))?;
     let file = format!(in alloc; "a = 1\n= 2\n{run}")?;
     told(alloc, file.as_bytes())
 }
