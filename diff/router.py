@@ -135,19 +135,24 @@ class Table:
 
 
 TOKEN = re.compile(
-    r'"""(?:\\.|[^\\])*?"{3,5}|\'\'\'.*?\'{3,5}|"(?:\\.|[^"\\\n])*"|\'[^\'\n]*\'|#[^\n]*|[{}]|\r?\n', re.S
+    r'"""(?:\\.|[^\\])*?"{3,5}|\'\'\'.*?\'{3,5}|"(?:\\.|[^"\\\n])*"|\'[^\'\n]*\'|[{}]|[ \t]*(?:(?:#[^\n]*)?\r?\n[ \t]*)+|#[^\n]*', re.S
 )
+CONTROL = re.compile(r"[\x00-\x08\x0b\x0c\x0e-\x1f\x7f]|\r(?!\n)")
 
 
 def on_one_line(text):
-    """The same with each inline table on one line: TOML 1.1 lets one stand on several lines, which tomllib (1.0) does not read."""
+    """The same with each inline table on one line: TOML 1.1 lets a line end in one, but not inside a key or around its equals sign;
+    tomllib (1.0) lets none."""
     depth = 0
 
     def other(found):
         nonlocal depth
         it = found.group()
         depth += (it == "{") - (it == "}")
-        return " " if depth > 0 and it[0] in "#\r\n" else it
+        if depth <= 0 or "\n" not in it or it[0] in "'\"" or CONTROL.search(it):
+            return it
+        beside = text[found.start() - 1 : found.start()] + text[found.end() : found.end() + 1]
+        return it if set(beside) & set("=.") else " "
 
     return TOKEN.sub(other, text) if "{" in text else text
 
