@@ -89,7 +89,6 @@ impl<'a> Items<'a> {
     }
 
     /// The IPv4 packet of the item at this index, which is known to have one. It is found without reading the item anew.
-    #[inline(always)]
     pub fn packet(&self, index: usize) -> ReadPacket<'_>
         requires inside { index < length self.now }
         requires known { is_some (packet_at self.now index) ≡ true }
