@@ -135,7 +135,7 @@ class Table:
 
 
 TOKEN = re.compile(
-    r'"""(?:\\.|[^\\])*?"{3,5}|\'\'\'.*?\'{3,5}|"(?:\\.|[^"\\\n])*"|\'[^\'\n]*\'|[{}]|[ \t]*(?:(?:#[^\n]*)?\r?\n[ \t]*)+|#[^\n]*', re.S
+    r'"""(?:\\.|[^\\])*?"{3,5}|\'\'\'.*?\'{3,5}|"(?:\\.|[^"\\\n])*"|\'[^\'\n]*\'|["\'{}]|[ \t]*(?:(?:#[^\n]*)?\r?\n[ \t]*)+|#[^\n]*', re.S
 )
 CONTROL = re.compile(r"[\x00-\x08\x0b\x0c\x0e-\x1f\x7f]|\r(?!\n)")
 
@@ -149,6 +149,9 @@ def on_one_line(text):
         nonlocal depth
         it = found.group()
         depth += (it == "{") - (it == "}")
+        if it in ("'", '"'):
+            # (a text that does not end on its line, nor does anything behind it count)
+            depth = float("-inf")
         if depth <= 0 or "\n" not in it or it[0] in "'\"" or CONTROL.search(it):
             return it
         beside = text[found.start() - 1 : found.start()] + text[found.end() : found.end() + 1]
