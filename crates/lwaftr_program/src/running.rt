@@ -48,12 +48,7 @@ pub fn run_program<
 fn do_job<
     F: Files + Drop,
     R: Alloc<A = Global> + Files + Print + Eprint + Threads + Wait + Sync + Drop,
->(
-    system: F,
-    rt: &R,
-    alloc: Global,
-    words: &[&str],
-) -> u8
+>(system: F, rt: &R, alloc: Global, words: &[&str]) -> u8
     ensures code { result ≤ 7 }
 {
     let mut files = RealFiles::new(system, alloc);
