@@ -1,6 +1,7 @@
 /* Makes one call of the program fail; faults.py compiles it and has it loaded before the C library.
    FAULT is KIND:N:HOW; KIND is of the list below, HOW is an errno, or 0 for a read or write that moves one byte; with FAULT_ON all later
-   calls of the kind fail too. FAULT_FILE is shared memory: the calls of each kind, whether one failed, and the place in its file. */
+   calls of the kind fail too. FAULT_FILE is shared memory: the calls of each kind, whether one failed, the place in
+   its file, and whether something was written to standard error before it. */
 #define _GNU_SOURCE
 #include <dlfcn.h>
 #include <errno.h>
@@ -14,7 +15,7 @@
 
 enum { OPEN, CREATE, READ, APPEND, PUT, GROW, THREAD, KINDS };
 static const char *const names[KINDS] = { "open", "create", "read", "append", "put", "grow", "thread" };
-static volatile long own[16], *shared = own; /* counts, then hit, then place */
+static volatile long own[16], *shared = own; /* counts, then hit, place, whether the status line was said, and was when it hit */
 static int wanted = -1, how, goes_on;
 static long number;
 
@@ -43,7 +44,7 @@ __attribute__((constructor)) static void begin(void) {
 static int fails(int kind, int fd) {
     long count = __sync_add_and_fetch(&shared[kind], 1);
     if (kind != wanted || (goes_on ? count < number : count != number)) return 0;
-    if (!shared[KINDS]) shared[KINDS + 1] = fd < 0 ? 0 : lseek(fd, 0, SEEK_CUR);
+    if (!shared[KINDS]) shared[KINDS + 1] = fd < 0 ? 0 : lseek(fd, 0, SEEK_CUR), shared[KINDS + 3] = shared[KINDS + 2];
     shared[KINDS] = 1;
     return 1;
 }
@@ -68,6 +69,7 @@ ssize_t read(int fd, void *to, size_t size) {
 
 static ssize_t put(int fd, const void *from, size_t size) {
     REAL(ssize_t, "write", int, const void *, size_t);
+    if (fd == 2) shared[KINDS + 2] = 1;
     if (fd != 2 && size && fails(fd == 1 ? PUT : APPEND, fd)) { if (how) { errno = how; return -1; } size = 1; }
     return real(fd, from, size);
 }

@@ -260,7 +260,7 @@ def each_call(table, due, title, words, files, library, kind, how, goes_on, most
             told.truncate(128)
             env = {"FAULT": f"{kind}:{number}:{how}", "FAULT_FILE": told.name, "LD_PRELOAD": library, **({"FAULT_ON": "1"} if goes_on else {})}
             seen = seen_of(start(words, folder, files, env), folder)
-            numbers = struct.unpack("9q", told.read(72))
+            numbers = struct.unpack("11q", told.read(88))
         if not numbers[7]:
             return
         if count is None:
@@ -269,7 +269,8 @@ def each_call(table, due, title, words, files, library, kind, how, goes_on, most
         bad = due.judge(seen, KINDS[kind], place, silent=kind == "grow")
         if not bad and how == 0 and seen.code not in (0, 1, 6):
             bad = f"ended {seen.code} where one byte moved"
-        if not bad and how == EIO and seen.code in (0, 1, 6):
+        # (below the status line a refused table is read again for its lines, of which nothing is said where that fails)
+        if not bad and how == EIO and seen.code in (0, 1, 6) and not numbers[10]:
             bad = "the fault was not told"
         table.add(what, f"{title}, call {number}", seen, bad)
 
