@@ -31,6 +31,7 @@ import expect  # noqa: E402
 import jobs  # noqa: E402
 import router  # noqa: E402
 import run as beside  # noqa: E402
+import tables  # noqa: E402
 
 JOB = None
 OUTPUTS = ("out", "verdicts", "versions")
@@ -46,7 +47,7 @@ HOW = {"open": [EIO], "create": [EACCES], "read": [EIO, EINTR, 0], "append": [EN
 def tables(r):
     """Tables without a fault."""
     while True:
-        found = jobs.good_table(r).encode()
+        found = tables.good_table(r).encode()
         if len(router.table_of(found).bindings) > 2:
             return found
 

@@ -26,6 +26,7 @@ sys.path.insert(0, HERE)
 import jobs  # noqa: E402
 import router  # noqa: E402
 import run as beside  # noqa: E402
+import tables  # noqa: E402
 
 ENDINGS = (".pcap", ".pcapng", ".cap", ".ntar", ".dmp", ".dump", ".trc", ".snoop", ".erf")
 BEGINS = (*router.MAGICS, b"\x0a\x0d\x0d\x0a", b"\x34\xcd\xb2\xa1", b"\xa1\xb2\xcd\x34", b"snoo")
@@ -90,7 +91,7 @@ def addresses(data):
     return [it for it, _ in v4.most_common(40)], [it for it, _ in v6.most_common(10)], [it for it, _ in pairs.most_common(20)]
 
 
-def tables(r, data):
+def own_tables(r, data):
     """Three tables of a capture's own addresses, in files."""
     v4, v6, pairs = addresses(data)
     v6 = v6 or [jobs.AFTR]
@@ -111,11 +112,11 @@ def tables(r, data):
             for psid in range(1 << length) if length < 3 else [0, 4]:
                 rows.append((v6[(at + psid) % len(v6)], address, offset, length, psid))
         keys = {"mtu6": r.choice([1280, 1500]), "mtu4": r.choice([576, 1500]), "errors_up": True, "errors_down": True, "hairpin": kind != 1}
-        yield jobs.table_text(r, 2, rows, aftr=aftr, own=own, **keys).encode()
+        yield tables.table_text(r, 2, rows, aftr=aftr, own=own, **keys).encode()
 
 
 def one(r, data):
-    made = list(tables(r, data))
+    made = list(own_tables(r, data))
     files = {"in": data, "t.toml": made[0], "a": made[1], "b": made[2]}
     low, high = sorted(r.randrange(60) for _ in range(2))
     words = ["run", "in", "out", "verdicts", "versions", "t.toml", f"{low}-{low}:a", f"{low}-{high + 1}:b"]

@@ -1,14 +1,26 @@
 """Jobs from seeds: words and files, of every rule, refusal and shape that docs/FORMATS.md names."""
-import ipaddress
 import random
 import struct
 
 import router
+import tables
+from tables import AFTR, OWN
 
-AFTR, OWN = ipaddress.IPv6Address("2001:db8::1").packed, bytes([192, 0, 2, 1])
 FAR = [bytes([198, 51, 100, 7]), bytes([198, 51, 100, 8]), bytes([8, 8, 8, 8])]
 GROUPS = [bytes([224, 0, 0, 1]), b"\xff" * 4, bytes([0, 1, 2, 3]), bytes([127, 0, 0, 1]), bytes([240, 0, 0, 1])]
-SHAPES = [(0, 0), (6, 8), (6, 8), (0, 16), (6, 0), (4, 12), (0, 8), (15, 1), (10, 6), (1, 15)]
+
+
+# Fields by which fragments belong together: a byte, the bits of it that are turned, and where the IPv4 header begins.
+IP4_KEY = [(4, 1, 0), (9, 23, 0), (15, 1, 0), (19, 1, 0)]
+IP6_ENDS = [(23, 1, None), (39, 1, None)]
+
+
+def some_port(r, binding):
+    """A port that a binding owns."""
+    _, _, offset, length, psid = binding
+    low = 16 - offset - length
+    high = r.randrange(1, 1 << offset) if offset else 0
+    return high << (16 - offset) | psid << low | r.randrange(1 << low)
 
 
 class Packets:
@@ -23,12 +35,6 @@ class Packets:
     def binding(self):
         return self.r.choice(self.table.bindings)
 
-    def port(self, binding):
-        _, _, offset, length, psid = binding
-        low = 16 - offset - length
-        high = self.r.randrange(1, 1 << offset) if offset else 0
-        return high << (16 - offset) | psid << low | self.r.randrange(1 << low)
-
     def bytes(self, most):
         return self.r.randbytes(self.r.randrange(most + 1))
 
@@ -40,7 +46,7 @@ class Packets:
         if word is None:
             word = (0x4000 if (self.r.random() < 0.3 if df is None else df) else 0) | (0x8000 if self.r.random() < 0.05 else 0)
         if options is None:
-            options = self.options() if self.r.random() < 0.1 else b""
+            options = self.options() if self.r.random() < (0.1 if len(payload) < 500 else 0.3) else b""
         number = self.r.randrange(65536) if number is None else number
         size = 20 + len(options)
         head = struct.pack("!BBHHHBBH", 0x40 | size // 4, self.r.choice([0, 0, 184, 3]), size + len(payload), number, word, ttl, protocol, 0) + src + dst + options
@@ -90,15 +96,15 @@ class Packets:
     def inner(self, src, dst, sport, dport):
         """A packet between two ends, of some protocol."""
         kind = self.r.random()
-        if kind < 0.6:
+        if kind < 0.55:
             data = struct.pack("!HH", sport, dport) + self.r.randbytes(self.size())
             return self.ip4(src, dst, self.r.choice([6, 17, 17, 33, 132, 136]), data)
         if kind < 0.7:
-            return self.ip4(src, dst, 1, self.icmp(self.pick(0, 8), 0, struct.pack("!HH", sport, 1) + self.bytes(30)))
+            return self.ip4(src, dst, 1, self.icmp(self.pick(0, 8), 0, struct.pack("!HH", self.pick(sport, dport), 1) + self.bytes(30)))
         if kind < 0.85:
             back = self.ip4(dst, src, self.pick(6, 17), struct.pack("!HH", dport, sport) + self.bytes(30), number=7)
             if self.r.random() < 0.2:
-                back = self.ip4(dst, src, 1, self.icmp(self.pick(8, 3), 0, struct.pack("!HH", sport, 1) + self.bytes(30)))
+                back = self.ip4(dst, src, 1, self.icmp(self.pick(8, 3), 0, struct.pack("!HH", self.pick(sport, dport), 1) + self.bytes(30)))
             if self.r.random() < 0.1:
                 back = self.ip4(dst, src, self.pick(47, 17), self.bytes(10), word=self.pick(0, 0, 5))
             message = self.icmp(self.pick(3, 11, 4, 5, 12, 13), self.pick(0, 1, 4), bytes(4) + back[: self.r.choice([28, 48, 1000, 1000, 19])])
@@ -120,7 +126,7 @@ class Packets:
     def ends(self):
         """A subscriber's address and port, mostly owned; and its tunnel's end."""
         it = self.binding()
-        b4, address, port = it[0], it[1], self.port(it)
+        b4, address, port = it[0], it[1], some_port(self.r, it)
         if self.r.random() < 0.15:
             port = self.r.randrange(65536)
         if self.r.random() < 0.03:
@@ -152,7 +158,7 @@ class Packets:
     def message(self):
         """An ICMPv6 message, mostly an error about a tunnel packet."""
         b4, address, port = self.ends()
-        src = self.far()
+        src = self.far() if self.r.random() < 0.8 else self.r.choice(GROUPS)
         sport = self.r.randrange(65536)
         if self.r.random() < 0.3:
             _, src, sport = self.ends()
@@ -183,22 +189,25 @@ class Packets:
                 change(made)
         return [make(*it) for it in made]
 
+    def put(self, made, piece):
+        made.insert(self.r.randrange(len(made) + 1), piece)
+
     def twice(self, made):
-        made.append(self.r.choice(made))
+        self.put(made, self.r.choice(made))
 
     def overlapping(self, made):
         at, more, body = self.r.choice(made)
-        made.append((max(0, at - 8), True, self.r.randbytes(24)))
+        self.put(made, (max(0, at - 8), True, self.r.randbytes(24)))
 
     def other(self, made):
         at, more, body = self.r.choice(made)
-        made.append((at, not more, body if self.r.random() < 0.5 else self.r.randbytes(8)))
+        self.put(made, (at, not more, body if self.r.random() < 0.5 else self.r.randbytes(8)))
 
     def lost(self, made):
         made.remove(self.r.choice(made))
 
     def odd(self, made):
-        made.append((self.pick(0, 65528, 65504), True, self.r.randbytes(self.pick(0, 7, 64, 9))))
+        self.put(made, (self.pick(0, 65528, 65504), True, self.r.randbytes(self.pick(0, 7, 64, 9))))
 
     def cut_packet(self, data, number):
         """The fragments of an IPv4 packet."""
@@ -226,6 +235,21 @@ class Packets:
 
         return self.pieces(body, self.piece_size(body), make)
 
+    def crossed(self, pieces, fields):
+        """The pieces of a datagram and of another one whose key differs in one field: a piece of the one, of the other, or of both. A field
+        is where a byte of it stands, which bits differ, and where its IPv4 header begins, if it stands in one."""
+        at, bits, header = self.r.choice(fields)
+
+        def other(piece):
+            piece = piece[:at] + bytes([piece[at] ^ bits]) + piece[at + 1 :]
+            if header is None:
+                return piece
+            end = header + 4 * (piece[header] & 15)
+            head = piece[header : header + 10] + b"\0\0" + piece[header + 12 : end]
+            return piece[:header] + router.with_checksum(head, 10) + piece[end:]
+
+        return [it for piece in pieces for it in self.r.choice([[piece], [other(piece)], [piece, other(piece)]])]
+
     def flood(self):
         """More datagrams than a lane takes, or more pieces than a datagram may have."""
         src, dst = self.far(), self.binding()[1]
@@ -244,14 +268,22 @@ class Packets:
             return [self.message()]
         if kind < 0.95:
             number = self.r.randrange(65536) if self.r.random() < 0.7 else self.r.choice([16, 32, 48])
-            if self.r.random() < 0.35:
-                return self.cut_packet(self.down(), number)
-            data = self.up()
-            if data[6] != 4 or self.r.random() < 0.5:
-                return self.cut_tunnel(data, number)
-            inside = self.cut_packet(data[40:], number) if len(data) >= 60 and data[40] >> 4 == 4 and 5 <= data[40] & 15 and len(data) >= 40 + 4 * (data[40] & 15) else [data[40:]]
-            return [data[:4] + struct.pack("!H", len(it)) + data[6:40] + it for it in inside]
+            made, fields = self.fragments(number)
+            return self.crossed(made, fields) if self.r.random() < 0.15 else made
         return [self.bytes(60)]
+
+    def fragments(self, number):
+        """The pieces of a packet from outside, of a tunnel packet or of a packet in the tunnel, and the fields of their key."""
+        if self.r.random() < 0.35:
+            return self.cut_packet(self.down(), number), IP4_KEY
+        data = self.up()
+        if data[6] != 4 or self.r.random() < 0.5:
+            return self.cut_tunnel(data, number), IP6_ENDS + [(44, 1, None), (47, 16, None), (40, 62, None)]
+        if len(data) < 60 or data[40] >> 4 != 4 or not 20 <= 4 * (data[40] & 15) <= len(data) - 40:
+            return [data], IP6_ENDS
+        inside = self.cut_packet(data[40:], number)
+        made = [data[:4] + struct.pack("!H", len(it)) + data[6:40] + it for it in inside]
+        return made, IP6_ENDS + [(40 + at, bits, 40) for at, bits, _ in IP4_KEY]
 
     def records(self, count):
         made, waiting = [], []
@@ -264,130 +296,8 @@ class Packets:
         return made[:count]
 
 
-def table_text(r, edition, rows, **keys):
-    """A table file, in one of several spellings."""
-    settings = {"mtu6": 1500, "mtu4": 1500, "hop_limit": 64, "hairpin": True, "icmp_in": True, "errors_up": False, "errors_down": False, **keys}
-    lines = [f"version = {edition}"]
-    front = [f'aftr = "{ipaddress.IPv6Address(settings.pop("aftr", AFTR))}"', f'own = "{ipaddress.IPv4Address(settings.pop("own", OWN))}"']
-    front += [f"{name} = {str(it).lower()}" for name, it in settings.items() if r.random() < 0.9 or it != {"mtu6": 1500, "mtu4": 1500, "hop_limit": 64, "hairpin": True, "icmp_in": True}.get(name, False)]
-    style = r.random()
-    bodies = [[f'b4 = "{ipaddress.IPv6Address(b4)}"', f'ipv4 = "{ipaddress.IPv4Address(v4)}"', f"offset = {offset}", f"length = {length}", f"psid = {psid}"] for b4, v4, offset, length, psid in rows]
-    for it in bodies:
-        if r.random() < 0.3:
-            r.shuffle(it)
-    if style < 0.6:
-        lines += ["[softwire]", *front]
-        for it in bodies:
-            lines += ["[[binding]]", *it]
-    elif style < 0.8:
-        lines += [f"softwire.{it}" for it in front] + ["binding = ["] + [f"  {{ {', '.join(it)} }}," for it in bodies] + ["]"]
-    else:
-        lines += ["softwire = { " + ", ".join(front) + " }"]
-        for it in bodies:
-            lines += ["[[ binding ]]  # a subscriber", *it]
-    end = "\r\n" if r.random() < 0.1 else "\n"
-    return end.join(lines) + (end if r.random() < 0.9 else "")
-
-
-def rows_of(r, shapes_of):
-    """Bindings that no rule refuses."""
-    rows, taken = [], {}
-    for at in range(r.choice([1, 2, 3, 5, 9, 20])):
-        v4 = bytes([203, 0, 113, r.randrange(1, 6)])
-        offset, length = shapes_of(v4)
-        it = (offset, length, r.randrange(1 << length))
-        mine = router.ports_of(*it)
-        if mine & taken.get(v4, 0) == 0:
-            taken[v4] = taken.get(v4, 0) | mine
-            rows.append(((0x20010DB80001 << 80 | r.randrange(6) if r.random() < 0.3 else 0x20010DB80002 << 80 | at).to_bytes(16, "big"), v4, *it))
-    return rows
-
-
-def good_table(r):
-    edition = r.choice([1, 2])
-    chosen = {}
-
-    def shape(v4):
-        if edition == 2:
-            return r.choice(SHAPES)
-        return chosen.setdefault(v4, r.choice(SHAPES))
-
-    keys = {
-        "mtu6": r.choice([1500, 1500, 1280, 1281, 1283, 9000, 65535]), "mtu4": r.choice([1500, 1500, 576, 577, 600, 65535]),
-        "hop_limit": r.choice([64, 1, 255]), "hairpin": r.random() < 0.8, "icmp_in": r.random() < 0.8,
-        "errors_up": r.random() < 0.5, "errors_down": r.random() < 0.5,
-    }
-    return table_text(r, edition, rows_of(r, shape), **keys)
-
-
-def bad_table(r):
-    """A table file with one fault or two."""
-    text = good_table(r)
-    for _ in range(r.choice([1, 1, 2])):
-        lines = text.splitlines()
-        at = r.randrange(len(lines))
-        kind = r.randrange(14)
-        if kind == 0:
-            del lines[at]
-        elif kind == 1:
-            lines.insert(at, lines[at])
-        elif kind == 2:
-            lines.insert(at, r.choice(["hop-limit = 3", "psid = 1", "x = 1", "version = 1", 'b4 = "::1"', "[other]", "a.b = 2"]))
-        elif kind == 3:
-            name, sign, _ = lines[at].partition(" = ")
-            lines[at] = name + sign + r.choice(["1.5", '"x"', "true", "1979-05-27", "[]", "{}", "0x10", "1_0", "-1", "70000", "256", "0", "9223372036854775808", '"::1"', '"1.2.3.4"', '"2001:db8::g"', '"203.0.113.01"', '"2001:db8::1%eth0"', "'''::2'''", '"\\u0031.2.3.4"'])
-        elif kind == 4:
-            text = text.replace("version = 1", r.choice(["version = 3", "version = '1'", "", "version = 2", "version = 1.0"])).replace("version = 2", r.choice(["version = 0", "version = 1", "version = 2"]))
-            continue
-        elif kind == 5:
-            text = text.replace("mtu6 = ", r.choice(["mtu6 = 1", "mtu6 = 12", "mtu = ", "mtu6 = -"]), 1)
-            continue
-        elif kind == 6:
-            text = text.replace("hop_limit = ", r.choice(["hop_limit = 0 #", "hop_limit = 256 #", "hoplimit = "]), 1)
-            continue
-        elif kind == 7:
-            text = text.replace("psid = ", r.choice(["psid = 9", "psid = 6553", "psids = "]), 1)
-            continue
-        elif kind == 8:
-            text = text.replace("length = ", r.choice(["length = 1", "length = 3", "length = 25"]), 1)
-            continue
-        elif kind == 9:
-            text = text.replace("offset = ", r.choice(["offset = 1", "offset = 30", "offset = 2"]), 1)
-            continue
-        elif kind == 10:
-            text = text.replace("203.0.113.", r.choice(["192.0.2.1 #", "203.0.114.", "203.0.113.2"]), 1) if r.random() < 0.3 else text.replace("own = \"192.0.2.1\"", "own = \"203.0.113.1\"")
-            continue
-        elif kind == 11:
-            data = text.encode()
-            place = r.randrange(len(data))
-            return data[:place] + r.choice([b"\xff", b"\0", b"\"", b"[", b"\n", b"=", b"'''", b"\xc3\xa9"]) + data[place + r.randrange(3) :]
-        elif kind == 12:
-            text = text.replace("[[binding]]", r.choice(["[binding]", "[[bindings]]", "[binding.x]"]), 1).replace("binding = [", r.choice(["binding = [ 1, ", "binding = ["]), 1)
-            continue
-        else:
-            # a copy of what is there, so that ports are owned twice
-            if "[[" in text:
-                piece = text[text.index("[[") :]
-                second = piece.find("[[", 2)
-                text += "\n" + (piece if second < 0 else piece[:second])
-            continue
-        text = "\n".join(lines) + "\n"
-    return text.encode()
-
-
-def large_table(r):
-    """A table with one binding too many, or a file with one byte too many."""
-    front = f'version = 1\nsoftwire = {{ aftr = "{ipaddress.IPv6Address(AFTR)}", own = "{ipaddress.IPv4Address(OWN)}" }}\n'
-    if r.random() < 0.5:
-        size = r.choice([2**24, 2**24 + 1, 2**24 + 1, 2**25])
-        return (front + "#").encode().ljust(size - 1, b"x") + b"\n"
-    rows = "".join(f'{{b4="::{at + 1:x}",ipv4="10.{at >> 16}.{at >> 8 & 255}.{at & 255}"}},' for at in range(65537 + r.choice([0, 0, 5])))
-    return (front + f"binding = [{rows}]\n").encode()
-
-
-def no_table(r):
-    """What is given in place of a table by mistake."""
-    return r.choice([b"", b"\n", b"{}", b"[1, 2]", b"a,b,c\n1,2,3\n", b"\x7fELF\2\1\1" + r.randbytes(60), b"\xff\xd8\xff\xe0" + r.randbytes(60), b"---\na: 1\n", bytes.fromhex("d4c3b2a102000400") + r.randbytes(40), b"\xef\xbb\xbfversion = 1"])
+# What lies between two records at times: just as long as a fragment waits, and longer by the least of a resolution; a second, also back.
+STEPS = [60 * 10**9, 60 * 10**9 + 1, 60 * 10**9 + 1000, 10**9, -(10**9)]
 
 
 class Times:
@@ -398,7 +308,7 @@ class Times:
 
     def next(self):
         step = self.r.random()
-        self.now += self.r.randrange(10**7) if step < 0.95 else 61 * 10**9 if step < 0.97 else self.r.choice([60 * 10**9, 10**9, -(10**9) if self.now >= 10**9 else 0])
+        self.now += self.r.randrange(10**7) if step < 0.95 else 61 * 10**9 if step < 0.97 else self.r.choice(STEPS if self.now >= 10**9 else STEPS[:-1])
         return self.now
 
 
@@ -516,7 +426,7 @@ def block_fault(r, parts, link):
         lambda: [block(order, 5, bytes(8))[:-4] + struct.pack(order + "I", r.choice([16, 24, 0]))],
         lambda: [struct.pack(order + "III", r.choice([1, 6, 3, 0x0A0D0D0A]), 12, 12)],
         lambda: [struct.pack(order + "II", 5, 400) + bytes(r.choice([0, 3, 8]))],
-        lambda: many() if r.random() < 0.05 else [section(order)],
+        lambda: many() if r.random() < 0.7 else [section(order)],
     ])
     parts[at:at] = made()
 
@@ -536,19 +446,27 @@ def framed(r, records, link):
     return made
 
 
+def padded(r, records):
+    """Bytes behind some packets, so many that a run takes several rounds."""
+    for _ in range(r.randrange(1, 12)):
+        at = r.randrange(len(records))
+        records[at] = records[at].ljust(r.choice([262126, 262126, 200000, 70000]), b"\0")
+
+
 def capture(r, table, count):
-    """A capture of packets that suit a table, sound or cut or damaged; one of several hundred records has large ones, so that a run takes
-    several rounds."""
+    """A capture of packets that suit a table, sound or cut or damaged; one of several hundred records has large ones."""
     maker = Packets(r, table)
     maker.large = count > 200
     records = maker.records(count)
     if r.random() < 0.02:
         at = r.randrange(len(records) + 1)
         records[at:at] = maker.flood()
+    if r.random() < 0.1:
+        padded(r, records)
     link = r.choice([101, 101, 1])
     write, fault = r.choice([(blocks, block_fault), (blocks, block_fault), (classic, classic_fault), (classic, classic_fault), (classic, classic_fault)])
     parts = write(r, framed(r, records, link), link)
-    if r.random() < 0.08:
+    if r.random() < 0.1:
         fault(r, parts, link)
     kind = r.random()
     if kind < 0.85:
@@ -583,7 +501,7 @@ def windows(r, count, most):
 
 
 def run_job(r):
-    files = {"t.toml": good_table(r).encode()}
+    files = {"t.toml": tables.good_table(r).encode()}
     table = router.table_of(files["t.toml"])
     count = r.choice([0, 1, 2, 5, 20, 60, 60, 150]) if r.random() < 0.99 else r.choice([500, 700, 1800])
     files["in"] = capture(r, table, max(count, 1)) if count else b"".join(classic(r, [], 101))
@@ -591,16 +509,14 @@ def run_job(r):
     if r.random() < 0.4:
         for at, (low, high) in enumerate(windows(r, count, r.choice([1, 1, 2, 3, 6]))):
             kind = r.random()
-            files[f"l{at}"] = good_table(r).encode() if kind < 0.75 else bad_table(r) if kind < 0.9 else no_table(r) if kind < 0.96 else files["in"]
+            files[f"l{at}"] = tables.good_table(r).encode() if kind < 0.75 else tables.wrong_table(r) if kind < 0.96 else files["in"]
             words.append(f"{low}-{high}:l{at}")
     if r.random() < 0.5:
         words += ["--workers", str(r.choice([1, 2, 3, 4, 8, 16]))] if r.random() < 0.7 else [f"--workers={r.randrange(1, 17)}"]
-    if r.random() < 0.3:
-        words += ["--errors", str(r.choice([1, 2, 5, 100, 1000000]))]
-    if fault < 0.03:
-        files["t.toml"] = bad_table(r)
-    elif fault < 0.04:
-        files["t.toml"] = no_table(r)
+    if r.random() < 0.4:
+        words += ["--errors", str(r.choice([1, 1, 2, 2, 5, 100, 1000000]))]
+    if fault < 0.04:
+        files["t.toml"] = tables.wrong_table(r)
     elif fault < 0.05:
         files["t.toml"] = files["in"]
     elif fault < 0.06:
@@ -637,15 +553,19 @@ def words_job(r):
 
 def table_job(r):
     """A question about a table, good or bad."""
-    kind = r.random()
-    if kind < 0.003:
-        return Job(["check", "t.toml"], {"t.toml": large_table(r)})
-    data = good_table(r).encode() if kind < 0.3 else bad_table(r) if kind < 0.93 else no_table(r)
-    command = r.random()
-    if command < 0.6:
+    kind, command = r.random(), r.random()
+    if kind < 0.008:
+        return Job(["check", "t.toml"], {"t.toml": tables.large_table(r)})
+    is_good = kind < (0.75 if 0.5 <= command < 0.8 else 0.3)
+    data = tables.good_table(r).encode() if is_good else tables.wrong_table(r)
+    if command < 0.5:
         return Job(["check", "t.toml"], {"t.toml": data})
     if command < 0.8:
-        return Job(["who", "t.toml", f"203.0.113.{r.randrange(7)}", str(r.randrange(65536))], {"t.toml": data})
+        v4, port = f"203.0.113.{r.randrange(7)}", r.randrange(65536)
+        if is_good and r.random() < 0.7:
+            it = r.choice(router.table_of(data).bindings)
+            v4, port = ".".join(map(str, it[1])), some_port(r, it)
+        return Job(["who", "t.toml", v4, str(port)], {"t.toml": data})
     return Job(["migrate", "t.toml", "new.toml"], {"t.toml": data})
 
 

@@ -160,13 +160,20 @@ def on_one_line(text):
     return TOKEN.sub(other, text) if "{" in text else text
 
 
-@functools.lru_cache(8)
 def table_of(data):
     """The table of a file, or its refusal."""
+    return (large_table if len(data) > 2**20 else small_table)(data)
+
+
+def read_table(data):
     try:
         return Table(data)
     except Refused as why:
         return why
+
+
+# What was read lately: a large table takes seconds.
+small_table, large_table = functools.lru_cache(8)(read_table), functools.lru_cache(8)(read_table)
 
 
 def numbers(tree):
