@@ -526,10 +526,31 @@ def run_job(r):
     return Job(words, files)
 
 
+def nearly(r, words):
+    """The words of a run with one that is just not allowed, or just allowed."""
+    loads = [at for at, it in enumerate(words) if at > 5 and ":" in it]
+    kind, most = r.randrange(6), 2**31
+    if kind == 0 and len(loads) > 1:
+        one, other = r.sample(loads, 2)
+        words[one], words[other] = words[other], words[one]
+    elif kind == 1:
+        words += r.choice([["--workers=1"], ["--workers", "2"], ["--errors=3"], ["--errors", "4"]]) * r.choice([1, 2])
+    elif kind == 2:
+        words[6:] = [f"--workers={r.choice(['0', '16', '17', '01', '+1', '1 ', '4294967297', ''])}"]
+    elif kind == 3:
+        words[6:] = [f"--errors={r.choice(['0', '1000000', '1000001', '01', '1e3', '-1', '4294967297', ''])}"]
+    elif kind == 4:
+        low, high = r.choice([(0, most), (most, most), (0, most + 1), (most + 1, most + 1), (5, 4), ("00", 1), (1, "01"), (2**64, 2**64), ("", 1), (0, "")])
+        words[6:] = [f"{low}-{high}:{r.choice(['t.toml', 'in', 'out', ''])}"]
+    else:
+        words[r.randrange(1, 6)] = r.choice([*words[1:6], ""])
+    return words
+
+
 def words_job(r):
     """Words that mostly ask for nothing."""
     job = run_job(r)
-    words, kind = job.words, r.randrange(9)
+    words, kind = job.words, r.randrange(13)
     if kind == 0:
         del words[r.randrange(len(words))]
     elif kind == 1:
@@ -546,8 +567,10 @@ def words_job(r):
         words = ["demo", r.choice(["7", "-7", "18446744073709551615", "18446744073709551616"]), r.choice(["0", "1", "30", "1000001"]), r.choice(["0", "1", "16", "17"])]
     elif kind == 7:
         words = ["migrate", "t.toml", r.choice(["t.toml", "new", ""])]
-    else:
+    elif kind == 8:
         words = []
+    else:
+        words = nearly(r, words)
     return Job(words, job.files)
 
 
