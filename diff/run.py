@@ -86,18 +86,27 @@ def difference(job):
     written = {name: data for name, data in found.items() if job.files.get(name) != data}
     wanted = expect.expected(job.words, job.files, written)
     came = counted(job.words, code, status, written)
-    if wanted.code != code or wanted.said != said or wanted.status != status:
-        return f"wanted {wanted.code} {wanted.said!r} {wanted.status!r}, got {code} {said!r} {status!r}", came
-    for name in sorted({*wanted.files, *written}):
-        if wanted.files.get(name) != written.get(name):
-            one, other = wanted.files.get(name, b""), written.get(name, b"")
-            at = next((at for at, (x, y) in enumerate(zip(one, other)) if x != y), min(len(one), len(other)))
-            said = f"{name} differs at byte {at}"
-            if name == "verdicts":
-                line = one[:at].count(b"\n")
-                said += f": wanted {one.splitlines()[line : line + 1]}, got {other.splitlines()[line : line + 1]}"
-            return said, came
+    if wanted.code != code or wanted.status != status:
+        return f"wanted {wanted.code} {wanted.status!r}, got {code} {status!r}", came
+    # The lines of VERDICTS say most, a byte of OUT least.
+    for name in sorted({*wanted.files, *written}, reverse=True):
+        one, other = wanted.files.get(name, b""), written.get(name, b"")
+        if one != other:
+            return f"{name} differs at {first_of(one, other)}", came
+    if wanted.said != said:
+        return f"wanted {wanted.said!r}, got {said!r}", came
     return None, came
+
+
+def first_of(one, other):
+    """Where the first byte stands that two files have not alike, and of texts the two lines."""
+    at = next((at for at, (x, y) in enumerate(zip(one, other)) if x != y), min(len(one), len(other)))
+    line = one[:at].count(b"\n")
+    try:
+        wanted, got = (it.decode("ascii").splitlines()[line : line + 1] for it in (one, other))
+    except UnicodeDecodeError:
+        return f"byte {at}"
+    return f"byte {at}: wanted {wanted}, got {got}"
 
 
 # ------------------------------------------------------------------------------------------------------------------ smaller jobs
