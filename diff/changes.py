@@ -1,12 +1,13 @@
 #!/usr/bin/env python3
-"""Programs with one line changed: how many jobs it takes to find each.
+"""A program with one line changed: how many jobs it takes to find each change.
 
-    diff/changes.sh [--jobs N] [--seed SEED] [CRATE/EDIT..]
+    diff/changes.sh [--jobs N] [--seed SEED] [--program FILE] [CRATE/EDIT..]
 
-Each edit is one that the prover refuses (crates/CRATE/must-fail/EDIT.edit or strength/CRATE/EDIT.edit). It is put into a copy of the
-crates, the program of that copy is built without a proof, as `rt try` does, and held beside the second router over N jobs (2,000) from
-SEED (1) on. Prints a row for each: how many jobs it took, and what differed. `unchanged` is the program without an edit, built in the same
-way, in which nothing may differ. Exit code 1 where one is not found, or differs unchanged."""
+Each change is an edit that the prover refuses (crates/CRATE/must-fail/EDIT.edit or strength/CRATE/EDIT.edit). A copy of the crates gets
+all of them, each beside what stood there, and the number in the variable CHANGE picks one, or none. Its program is built without a proof,
+as `rt try` builds it but for the sanitizer, with which a job takes a hundred times as long, and held beside the second router over N jobs
+(2,000) from SEED (1) on. Prints a row for each: how many jobs it took, and what differed. `unchanged` picks none, and nothing may
+differ. Exit code 1 where a change is not found, or `unchanged` differs. With --program the program is kept in FILE, or taken from there."""
 import argparse
 import contextlib
 import os
@@ -36,42 +37,113 @@ CHANGES = (
 )
 
 
+# What stands around the part of a line that differs.
+LINES = (r"(\s*if )(.*)( \{)", r"(\s*match )(.*)( \{)", r"(\s*let \w+ = )(.*)(;)", r"(\s*\w+: )(.*)(,)", r"(.* => )(.*)(,)")
+
+# The crate that all others stand on gets this, and asks it of the environment.
+PICKED = """
+unsafe extern "C" {
+    pub safe fn picked_change() -> u32;
+}
+
+pub fn picked(number: u32) -> bool {
+    picked_change() == number
+}
+"""
+ASKED = """#include <stdlib.h>
+unsigned picked_change(void) {
+    static unsigned number = ~0u;
+    if (number == ~0u)
+        number = getenv("CHANGE") ? atoi(getenv("CHANGE")) : 0;
+    return number;
+}
+"""
+
+# The compiler, but that it leaves out the sanitizer. (It tells by its own name which tool it is.)
+CLANG = """#include <string.h>
+#include <unistd.h>
+int main(int count, char **words) {
+    int to = 0;
+    for (int i = 0; i < count; i++)
+        if (strcmp(words[i], "-fsanitize=address"))
+            words[to++] = words[i];
+    words[to] = 0;
+    execv("{clang}", words);
+    return 1;
+}
+"""
+
+
 def edit_of(change):
     """The file that an edit changes, and what it puts in place of what."""
     crate, name = change.split("/")
     places = (os.path.join(TOP, "crates", crate, "must-fail", f"{name}.edit"), os.path.join(TOP, "strength", crate, f"{name}.edit"))
     with open(next(filter(os.path.exists, places)), encoding="utf-8") as it:
-        text = it.read()
-    file, *_ = re.findall(r"^file: (.*)$", text, re.M)
-    return os.path.join("crates", crate, file), re.findall(r"^old: (.*)\nnew: (.*)$", text, re.M)
+        (file,), (old,), (new,) = (re.findall(rf"^{word}: (.*)$", text, re.M) for text in [it.read()] for word in ("file", "old", "new"))
+    return os.path.join("crates", crate, file), old, new
 
 
-def changed(change, folder):
-    """A copy of what the program is made of, with one line changed: where."""
+def both(text, old, new, pick):
+    """The text with a line as it was and as it is changed: which of them holds is picked as it runs."""
+    const = re.fullmatch(r"const (\w+): \w+ = (.*);", old)
+    if const:
+        other = re.fullmatch(r"const \w+: \w+ = (.*);", new)[1]
+        front, rest = text.split(old)
+        return front + old + re.sub(rf"\b{const[1]}\b", f"(if {pick} {{ {other} }} else {{ {const[2]} }})", rest)
+    if new.startswith(old) and old.endswith(";"):
+        return text.replace(old, f"{old} if {pick} {{ {new.removeprefix(old)} }}")
+    new = re.sub(r"^(\s*)(\w+),$", r"\1\2: \2,", new)
+    for line in LINES:
+        one, other = re.fullmatch(line, old), re.fullmatch(line, new)
+        if one and other and one[1] == other[1]:
+            return text.replace(old, f"{one[1]}(if {pick} {{ {other[2]} }} else {{ {one[2]} }}){one[3]}")
+    made = f"if {pick} {{ {new} }} else {{ {old} }}"
+    return text.replace(old, made if old.endswith(";") else f"({made})")
+
+
+def copied(folder):
+    """A copy of what the program is made of, with all changes in it, and where each stands."""
     shutil.copytree(os.path.join(TOP, "crates"), os.path.join(folder, "crates"), ignore=shutil.ignore_patterns("out", "must-fail", "proofs"))
-    for file in ("crates.txt", "HANDLES"):
-        shutil.copy(os.path.join(TOP, file), folder)
-    if change == UNCHANGED:
-        return ""
-    path, pairs = edit_of(change)
-    with open(os.path.join(folder, path), encoding="utf-8") as file:
-        text = file.read()
-    line = text[: text.index(pairs[0][0])].count("\n") + 1
-    for old, new in pairs:
+    shutil.copy(os.path.join(TOP, "HANDLES"), folder)
+    with open(os.path.join(TOP, "crates.txt"), encoding="utf-8") as file, open(os.path.join(folder, "crates.txt"), "w", encoding="utf-8") as to:
+        to.write(re.sub(r"(?m)^(\w+):$", r"\1: aftr_base", file.read()).replace("aftr_base: aftr_base", "aftr_base:"))
+    base = os.path.join(folder, "crates", "aftr_base")
+    with open(os.path.join(base, "src", "lib.rt"), "a", encoding="utf-8") as file:
+        file.write(PICKED)
+    os.mkdir(os.path.join(base, "c"))
+    with open(os.path.join(base, "c", "asked.c"), "w", encoding="utf-8") as file:
+        file.write(ASKED)
+    for number, change in list(enumerate(CHANGES))[1:]:
+        path, old, new = edit_of(change)
+        with open(os.path.join(folder, path), encoding="utf-8") as file:
+            text = file.read()
         assert text.count(old) == 1, change
-        text = text.replace(old, new)
-    with open(os.path.join(folder, path), "w", encoding="utf-8") as file:
-        file.write(text)
-    return f"{path.split('/', 2)[2]}, {line}"
+        pick = f"{'crate' if change.startswith('aftr_base/') else 'aftr_base'}::picked({number})"
+        with open(os.path.join(folder, path), "w", encoding="utf-8") as file:
+            file.write(both(text, old, new, pick))
 
 
-def taken(line, to):
-    """The program that runs by these words, copied, and a script that runs it by the same ones."""
-    shutil.copy(line[-1], f"{to}.made")
-    with open(to, "w", encoding="utf-8") as script:
-        script.write(f'#!/bin/sh\nexec {shlex.join([*line[:-1], f"{to}.made"])} "$@"\n')
-    os.chmod(to, 0o755)
-    return True
+# What is not taken from the toolchain as it is.
+OWN = ("bin", "bin/rattle", "bin/rt", "bin/rtlib.py", "toolchain", "toolchain/bin", "toolchain/bin/clang")
+
+
+def kit_in(folder):
+    """The toolchain, but that its compiler leaves out the sanitizer, and that nothing is checked."""
+    kit = os.path.dirname(os.path.dirname(os.path.realpath(shutil.which("rt"))))
+    for below in ("", "bin", "toolchain", "toolchain/bin"):
+        os.makedirs(os.path.join(folder, below), exist_ok=True)
+        for name in os.listdir(os.path.join(kit, below)):
+            if os.path.join(below, name) not in OWN:
+                os.symlink(os.path.join(kit, below, name), os.path.join(folder, below, name))
+    for name in ("rt", "rtlib.py"):
+        shutil.copy(os.path.join(kit, "bin", name), os.path.join(folder, "bin", name))
+    rattle, clang = (os.path.join(folder, it) for it in ("bin/rattle", "toolchain/bin/clang"))
+    with open(rattle, "w", encoding="utf-8") as file:
+        file.write("#!/bin/sh\n")
+    os.chmod(rattle, 0o755)
+    code = CLANG.replace("{clang}", os.path.join(kit, "toolchain", "bin", "clang"))
+    subprocess.run(["cc", "-o", clang, "-xc", "-"], input=code, text=True, check=True)
+    return os.path.join(folder, "bin", "rt"), os.path.join(kit, "toolchain", "lib")
 
 
 def running(made):
@@ -82,40 +154,55 @@ def running(made):
                 line = file.read().split("\0")
             at = next((at for at, it in enumerate(line) if it.startswith(made) and it.endswith("/program")), None)
             if at is not None and line[at + 1 : at + 2] == ["demo"]:
-                return line[: at + 1]
+                return line[at]
     return None
 
 
 def build(folder, to):
-    """The program of a copy, unproved: `rt try` keeps none, so it is copied as it runs."""
+    """The program, unproved: `rt try` keeps none, so it is copied as it runs."""
     made = os.path.join(folder, "made")
     os.mkdir(made)
-    words = ["rt", "try", "--steps", "1", "--seconds", "30", "--", "demo", "1", "1000000", "1"]
-    how = {"cwd": os.path.join(folder, "crates", "lwaftr_main"), "env": {**os.environ, "TMPDIR": made}, "start_new_session": True}
+    copied(folder)
+    rt, libraries = kit_in(os.path.join(folder, "kit"))
+    words = [rt, "try", "--steps", "1", "--seconds", "30", "--", "demo", "1", "1000000", "1"]
+    how = {"cwd": os.path.join(folder, "crates", "lwaftr_main"), "env": {**os.environ, "TMPDIR": made, "RT_ALLOW_C": "aftr_base"}}
     with open(os.path.join(folder, "log"), "w", encoding="utf-8") as log:
-        it = subprocess.Popen(words, stdin=subprocess.DEVNULL, stdout=log, stderr=log, **how)
+        it = subprocess.Popen(words, stdin=subprocess.DEVNULL, stdout=log, stderr=log, start_new_session=True, **how)
         try:
             while it.poll() is None:
-                line = running(made)
-                if line:
-                    return taken(line, to)
+                found = running(made)
+                if found:
+                    shutil.copy(found, f"{to}.made")
+                    loader = [os.path.join(libraries, "ld-linux-x86-64.so.2"), "--inhibit-cache", "--library-path", libraries]
+                    with open(to, "w", encoding="utf-8") as script:
+                        script.write(f'#!/bin/sh\nexec {shlex.join([*loader, f"{to}.made"])} "$@"\n')
+                    os.chmod(to, 0o755)
+                    return
                 time.sleep(0.2)
         finally:
             if it.poll() is None:
                 os.killpg(it.pid, signal.SIGTERM)
                 it.wait()
     with open(os.path.join(folder, "log"), encoding="utf-8") as log:
-        print(log.read()[-2000:])
-    return False
+        sys.exit(f"the program was not built:\n{log.read()[-3000:]}")
 
 
-def found(program, words, folder):
+def found(program, number, words):
     """How many jobs it took, and what differed, or None."""
-    beside = [sys.executable, os.path.join(HERE, "run.py"), str(words.seed), str(words.jobs), "-j", "1"]
-    beside += ["--program", program, "--stop-at", "1", "--keep", folder]
-    said = subprocess.run(beside, capture_output=True, text=True).stdout
+    with tempfile.TemporaryDirectory() as folder:
+        beside = [sys.executable, os.path.join(HERE, "run.py"), str(words.seed), str(words.jobs), "-j", "1"]
+        beside += ["--program", program, "--stop-at", "1", "--keep", folder]
+        said = subprocess.run(beside, capture_output=True, text=True, env={**os.environ, "CHANGE": str(number)}).stdout
     it = re.search(r"^job (\d+): (.*)$", said, re.M)
-    return (int(it[1]) - words.seed + 1, it[2]) if it else None
+    return (int(it[1]) - words.seed + 1, it[2]) if it else (None, "")
+
+
+def place_of(change):
+    """File and line of a change."""
+    path, old, _ = edit_of(change)
+    with open(os.path.join(TOP, path), encoding="utf-8") as file:
+        text = file.read()
+    return f"{path.split('/', 2)[2]}, {text[: text.index(old)].count(chr(10)) + 1}"
 
 
 def main():
@@ -123,20 +210,20 @@ def main():
     it.add_argument("changes", nargs="*", default=CHANGES)
     it.add_argument("--jobs", type=int, default=2000)
     it.add_argument("--seed", type=int, default=1)
+    it.add_argument("--program")
     words = it.parse_args()
-    missed = 0
-    print("| crate | change | file, line | jobs | what differed |\n|---|---|---|---|---|", flush=True)
-    for change in words.changes:
-        with tempfile.TemporaryDirectory(prefix="changes-") as folder:
-            program, place = os.path.join(folder, "lwaftr"), changed(change, folder)
+    with tempfile.TemporaryDirectory(prefix="changes-") as folder:
+        program = os.path.abspath(words.program or os.path.join(folder, "lwaftr"))
+        if not os.path.exists(program):
+            build(folder, program)
+        missed = 0
+        print("| crate | change | file, line | jobs | what differed |\n|---|---|---|---|---|", flush=True)
+        for change in words.changes:
+            number = CHANGES.index(change)
+            count, what = found(program, number, words)
+            missed += (count is None) == (number > 0)
             crate, _, name = change.rpartition("/")
-            row = f"| {crate} | {name.replace('_', ' ')} | {place} |"
-            if not build(folder, program):
-                print(row, "not built | |", flush=True)
-                missed += 1
-                continue
-            count, what = found(program, words, folder) or (None, "")
-            missed += (count is None) != (change == UNCHANGED)
+            row = f"| {crate} | {name.replace('_', ' ')} | {place_of(change) if number else ''} |"
             print(row, f"{count or f'none of {words.jobs}'} | {what} |", flush=True)
     sys.exit(1 if missed else 0)
 

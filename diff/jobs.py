@@ -592,13 +592,17 @@ def table_job(r):
     return Job(["migrate", "t.toml", "new.toml"], {"t.toml": data})
 
 
-def job(seed):
+# What a job is about, and with what chance it is that or one in front of it.
+KINDS = {"run": 0.70, "words": 0.76, "table": 0.995, "demo": 1}
+
+
+def job(seed, only=None):
+    """The job of a seed; with `only` none where it is about something else."""
     r = random.Random(f"lwaftr {seed}")
-    kind = r.random()
-    if kind < 0.70:
-        return run_job(r)
-    if kind < 0.76:
-        return words_job(r)
-    if kind < 0.995:
-        return table_job(r)
-    return Job(["demo", str(r.randrange(2**64)), str(r.randrange(1, 400)), str(r.randrange(1, 17))], {})
+    drawn = r.random()
+    kind = next(it for it, most in KINDS.items() if drawn < most)
+    if only not in (None, kind):
+        return None
+    if kind == "demo":
+        return Job(["demo", str(r.randrange(2**64)), str(r.randrange(1, 400)), str(r.randrange(1, 17))], {})
+    return {"run": run_job, "words": words_job, "table": table_job}[kind](r)

@@ -1,14 +1,14 @@
 #!/usr/bin/env python3
 """The program beside the second router.
 
-    diff/run.sh SEED COUNT [-j N] [--program FILE] [--keep FOLDER] [--log FILE] [--stop-at N]
+    diff/run.sh SEED COUNT [-j N] [--program FILE] [--keep FOLDER] [--log FILE] [--stop-at N] [--only KIND]
     diff/run.sh --job SEED [--program FILE] [--keep FOLDER]
     diff/run.sh --sum FILE
 
 Runs COUNT jobs from SEED on in N processes, and prints what came, by status, refusal, rule, reply and outcome, and each difference with
 the command that shows it again. A job that differs is made smaller and kept in FOLDER (out/diff). Exit code 1 where there is one.
 With --log each 250 jobs add a line to FILE, so that what ran counts where a run is broken off; --sum prints the totals of such a file.
-With --stop-at N it ends behind the N-th difference."""
+With --stop-at N it ends behind the N-th difference; with --only it runs those of the jobs that are about one thing: run, words, table, demo."""
 import argparse
 import collections
 import json
@@ -28,7 +28,7 @@ import expect  # noqa: E402
 import jobs  # noqa: E402
 import router  # noqa: E402
 
-PROGRAM = None
+PROGRAM = ONLY = None
 MEMORY = "/dev/shm" if os.access("/dev/shm", os.W_OK) else None
 STATUS = {0: "done", 1: "done, a load was refused", 2: "usage", 3: "read fault", 4: "write fault", 5: "table refused", 6: "capture refused", 7: "out of memory"}
 SLICE = 250
@@ -172,7 +172,9 @@ def smaller(job, seconds=60):
 
 
 def one(seed):
-    job = jobs.job(seed)
+    job = jobs.job(seed, ONLY)
+    if job is None:
+        return seed, None, None
     try:
         why, came = difference(job)
     except (subprocess.TimeoutExpired, OSError) as error:
@@ -227,9 +229,12 @@ def run_all(words):
     ran, differ, all_came = 0, [], collections.Counter()
     with multiprocessing.Pool(words.processes) as pool:
         for begin in range(words.seed, words.seed + words.count, SLICE):
-            size, failed, came = min(SLICE, words.seed + words.count - begin), [], collections.Counter()
+            size, of_slice, failed, came = min(SLICE, words.seed + words.count - begin), 0, [], collections.Counter()
             for seed, why, found in pool.imap_unordered(one, range(begin, begin + size), chunksize=4):
+                if found is None:
+                    continue
                 ran += 1
+                of_slice += 1
                 came += found
                 if why:
                     failed.append(seed)
@@ -237,7 +242,7 @@ def run_all(words):
                     if words.stop_at and len(differ) + len(failed) >= words.stop_at:
                         return ran, differ + failed, all_came + came
             if words.log:
-                write_slice(words.log, begin, size, failed, came)
+                write_slice(words.log, begin, of_slice, failed, came)
             differ += failed
             all_came += came
     return ran, differ, all_came
@@ -250,7 +255,7 @@ def program_here():
 
 
 def main():
-    global PROGRAM
+    global PROGRAM, ONLY
     it = argparse.ArgumentParser(description=__doc__, formatter_class=argparse.RawDescriptionHelpFormatter)
     it.add_argument("seed", type=int, nargs="?", default=1)
     it.add_argument("count", type=int, nargs="?", default=500)
@@ -260,6 +265,7 @@ def main():
     it.add_argument("-j", "--processes", type=int, default=os.cpu_count())
     it.add_argument("--log")
     it.add_argument("--stop-at", type=int)
+    it.add_argument("--only", choices=jobs.KINDS)
     it.add_argument("--keep", default=os.path.join(os.path.dirname(HERE), "out", "diff"))
     words = it.parse_args()
     if words.sum:
@@ -275,7 +281,7 @@ def main():
         print(shlex.join(job.words))
         print(why or "no difference")
         sys.exit(1 if why else 0)
-    begun = time.time()
+    begun, ONLY = time.time(), words.only
     ran, failed, came = run_all(words)
     show(came)
     for seed in failed[:5]:

@@ -15,7 +15,7 @@ import time
 import ends
 
 PORTIONS = 5
-EACH = 40  # records in a portion: so few that one read takes them
+EACH = 30  # records in a portion: with the header fewer than 4,096 bytes, which a pipe takes and gives as one
 LONGEST = 20  # seconds at most until what is due is written
 
 
@@ -44,12 +44,13 @@ def verdicts(count):
 
 
 def written(folder, least):
-    """VERDICTS, once it holds what is due, or when time is over."""
+    """VERDICTS, once it is there and holds what is due, or when time is over. It is made when the first portion was read, and lines are
+    written when the next one was."""
     begun = time.monotonic()
     while True:
-        found = ends.held(folder, "verdicts.txt") or b""
-        if len(found) >= least or time.monotonic() - begun > LONGEST:
-            return found
+        found = ends.held(folder, "verdicts.txt")
+        if found is not None and len(found) >= least or time.monotonic() - begun > LONGEST:
+            return found or b""
         time.sleep(0.01)
 
 
@@ -62,7 +63,6 @@ def wrong(folder, program, head, record, workers):
         first = portion * EACH
         run.stdin.write(b"".join(record(number + 1) for number in range(first, first + EACH)))
         run.stdin.flush()
-        time.sleep(0.05)  # so that one read takes no more than this portion
         due = verdicts(first)
         found = written(folder, len(due))
         if found[: len(due)] != due or not verdicts(first + EACH).startswith(found):
