@@ -254,8 +254,8 @@ class Packets:
         """More datagrams than a lane takes, or more pieces than a datagram may have."""
         src, dst = self.far(), self.binding()[1]
         if self.r.random() < 0.5:
-            return [self.ip4(src, dst, 17, self.r.randbytes(8), word=0x2000, number=16 * at + 5, options=b"") for at in range(260)]
-        return [self.ip4(src, dst, 17, self.r.randbytes(8), word=0x2000 | 2 * at, number=9, options=b"") for at in range(259)]
+            return [self.ip4(src, dst, 17, self.r.randbytes(8), word=0x2000, number=16 * at + 5, options=b"") for at in range(300)]
+        return [self.ip4(src, dst, 17, self.r.randbytes(8), word=0x2000 | 2 * at, number=9, options=b"") for at in range(300)]
 
     def some(self):
         """Records: mostly one packet, sometimes the pieces of one."""
@@ -301,20 +301,21 @@ STEPS = [60 * 10**9, 60 * 10**9 + 1, 60 * 10**9 + 1000, 10**9, -(10**9)]
 
 
 class Times:
-    """Times of records: mostly a little later, sometimes a minute, sometimes back."""
+    """Times of records: mostly a little later, sometimes a minute, sometimes back; calm ones always a little later, so that what waits
+    goes on waiting."""
 
-    def __init__(self, r):
-        self.r, self.now = r, r.choice([0, 10**9, 1_700_000_000 * 10**9])
+    def __init__(self, r, calm):
+        self.r, self.calm, self.now = r, calm, r.choice([0, 10**9, 1_700_000_000 * 10**9])
 
     def next(self):
         step = self.r.random()
-        self.now += self.r.randrange(10**7) if step < 0.95 else 61 * 10**9 if step < 0.97 else self.r.choice(STEPS if self.now >= 10**9 else STEPS[:-1])
+        self.now += self.r.randrange(10**7) if self.calm or step < 0.95 else 61 * 10**9 if step < 0.97 else self.r.choice(STEPS if self.now >= 10**9 else STEPS[:-1])
         return self.now
 
 
-def classic(r, records, link):
+def classic(r, records, link, calm=False):
     order, scale = r.choice("<>"), r.choice([1, 1000])
-    times = Times(r)
+    times = Times(r, calm)
     head = struct.pack(order + "IHHIIII", 0xA1B23C4D if scale == 1 else 0xA1B2C3D4, 2, 4, r.choice([0, 5]), 0, r.choice([0, 65535, 262144]), link)
     parts = [head]
     for it in records:
@@ -351,8 +352,8 @@ def interface(r, order, link):
     return block(order, 1, struct.pack(order + "HHI", link, 0, limit) + options), ticks, limit
 
 
-def blocks(r, records, link):
-    order, times = r.choice("<>"), Times(r)
+def blocks(r, records, link, calm=False):
+    order, times = r.choice("<>"), Times(r, calm)
     made, ticks, limit = interface(r, order, link)
     parts, known = [section(order), made], [ticks]
     for it in records:
@@ -458,14 +459,15 @@ def capture(r, table, count):
     maker = Packets(r, table)
     maker.large = count > 200
     records = maker.records(count)
-    if r.random() < 0.02:
+    floods = r.random() < 0.04
+    if floods:
         at = r.randrange(len(records) + 1)
         records[at:at] = maker.flood()
     if r.random() < 0.1:
         padded(r, records)
     link = r.choice([101, 101, 1])
     write, fault = r.choice([(blocks, block_fault), (blocks, block_fault), (classic, classic_fault), (classic, classic_fault), (classic, classic_fault)])
-    parts = write(r, framed(r, records, link), link)
+    parts = write(r, framed(r, records, link), link, floods)
     if r.random() < 0.1:
         fault(r, parts, link)
     kind = r.random()
