@@ -44,7 +44,7 @@ HOW = {"open": [EIO], "create": [EACCES], "read": [EIO, EINTR, 0], "append": [EN
 # ------------------------------------------------------------------------------------------------------------------ jobs
 
 
-def tables(r):
+def bound_table(r):
     """Tables without a fault."""
     while True:
         found = tables.good_table(r).encode()
@@ -60,9 +60,9 @@ def five():
 def every_job():
     r = random.Random("faults")
     words = ["run", "in", "out", "verdicts", "versions", "t.toml"]
-    first = tables(r)
+    first = bound_table(r)
     maker = jobs.Packets(r, router.table_of(first))
-    second, third = tables(r), tables(r)
+    second, third = bound_table(r), bound_table(r)
     some = maker.records(150)
     whole = [maker.ip4(maker.far(), maker.binding()[1], 17, r.randbytes(300), options=b"") for _ in range(40)]
     pieces = [piece for it in whole for piece in maker.cut_packet(it, r.randrange(65536))]
