@@ -104,21 +104,21 @@ READ_FAULT = (3, "read fault")
 
 
 def points_of(text, loads, count):
-    """The points that VERSIONS names, each held against its window; None where a point is wrong."""
+    """The points that VERSIONS names, each held against its window; or, as a text, the first line that is wrong."""
     lines, points, version = text.splitlines()[1:], [], 0
     if len(lines) != len(loads):
-        return None
+        return f"{len(lines)} lines of loads"
     for line, (earliest, latest, file, why) in zip(lines, loads):
         if why is None and earliest <= count:
             found = re.fullmatch(rf"{version + 1} {re.escape(file)} at (\d+)", line)
             if not found or not max([earliest, *points[-1:]]) <= int(found[1]) <= min(latest, count):
-                return None
+                return line
             points.append(int(found[1]))
             version += 1
         elif why is None and line != f"- {file} not-reached":
-            return None
+            return line
         elif why is not None and line != f"- {file} refused {why}":
-            return None
+            return line
     return points
 
 
@@ -146,9 +146,11 @@ def of_run(job, files, versions):
         capture = router.Capture(files[input])
     except router.Refused as why:
         return Expected(6, status=f"capture refused: {why}")
-    points = points_of(versions, noted, len(capture.records)) if versions is not None else None
-    if points is None or versions.splitlines()[0] != f"0 {table} initial":
-        return Expected(-1, status="VERSIONS is wrong")
+    if versions is None or versions.splitlines()[:1] != [f"0 {table} initial"]:
+        return Expected(-1, status="VERSIONS is wrong from its first line on")
+    points = points_of(versions, noted, len(capture.records))
+    if isinstance(points, str):
+        return Expected(-1, status=f"VERSIONS is wrong: {points}")
     made, lines, summary = router.run(capture, tables, points, errors)
     written = {out: made, verdicts: "".join(f"{it}\n" for it in lines).encode(), versions_name: versions.encode()}
     code, status = 0, None
