@@ -188,13 +188,18 @@ def build(folder, to):
 
 
 def found(program, number, words):
-    """How many jobs it took, and what differed, or None."""
-    with tempfile.TemporaryDirectory() as folder:
-        beside = [sys.executable, os.path.join(HERE, "run.py"), str(words.seed), str(words.jobs), "-j", "1"]
-        beside += ["--program", program, "--stop-at", "1", "--keep", folder]
-        said = subprocess.run(beside, capture_output=True, text=True, env={**os.environ, "CHANGE": str(number)}).stdout
-    it = re.search(r"^job (\d+): (.*)$", said, re.M)
-    return (int(it[1]) - words.seed + 1, it[2]) if it else (None, "")
+    """How many jobs it took, and what differed, or None. A job that did not end in time, as where the machine is busy, is passed over."""
+    first, end = words.seed, words.seed + words.jobs
+    while first < end:
+        with tempfile.TemporaryDirectory() as folder:
+            beside = [sys.executable, os.path.join(HERE, "run.py"), str(first), str(end - first), "-j", "1"]
+            beside += ["--program", program, "--stop-at", "1", "--keep", folder]
+            said = subprocess.run(beside, capture_output=True, text=True, env={**os.environ, "CHANGE": str(number)}).stdout
+        it = re.search(r"^job (\d+): (.*)$", said, re.M)
+        if not it or not it[2].startswith("TimeoutExpired"):
+            return (int(it[1]) - words.seed + 1, it[2]) if it else (None, "")
+        first = int(it[1]) + 1
+    return None, ""
 
 
 def place_of(change):
