@@ -1,5 +1,5 @@
 -- Records that carry a packet that is no fragment.
-use Rattle.std.proofs.Common.{◌≡◌, ◌==◌, ℕ, Bool, true, false, not, List, length, refl, sym, ◌∙◌, ap, Option, Some, is_some, Result, Ok, Err, is_ok, slice_get}
+use Rattle.std.proofs.Common.{◌≡◌, ◌==◌, ℕ, Bool, true, false, not, List, length, refl, sym, ◌∙◌, ap, Option, Some, None, is_some, drop, if◌then◌else◌, Result, Ok, Err, is_ok, slice_get}
 use Rattle.std.specs.Prelude.{option_and_then}
 use Rattle.std.proofs.lemmas.Bool.{and_parts, eqb-true}
 use Rattle.ip_codec.proofs.Packet4Lemmas.{ip4_of-alone}
@@ -11,8 +11,11 @@ use Rattle.ip_codec.specs.declared.items.Outer.{Outer}
 use Rattle.ip_codec.specs.declared.packet4.Ip4Bad.{Ip4Bad}
 use Rattle.ip_codec.specs.declared.packet6.Ip6Bad.{Ip6Bad}
 use Rattle.ipv6_chain.specs.Chains.{chain_of}
+use Rattle.ipv6_chain.specs.declared.headers.Chain.{Chain}
+use Rattle.ipv6_chain.specs.declared.headers.ChainBad.{ChainBad}
 use Rattle.ipv6_chain.specs.declared.headers.Start.TheVariants as start
-use Rattle.item_stage.specs.Alone.{behind_headers, by_chain, from_outside, from_tunnel, in_tunnel, item_alone, outer_of, told_item}
+use Rattle.item_stage.specs.Alone.{at_end, behind_fragment, behind_headers, by_chain, by_inner_chain, from_outside, from_tunnel, in_tunnel, item_alone, outer_of, told_item}
+use Rattle.item_stage.specs.Alone.Inside.{Told}
 use Rattle.item_stage.specs.Items.{items_in}
 use Rattle.item_stage.specs.Looks.{carries_plain, is_extension}
 use Rattle.item_stage.specs.declared.entries.Entry.{Entry}
@@ -61,21 +64,11 @@ tunnel_plain_item outer packet read is carries inner =
     tunnel_at_once outer read is parts.0 ∙ carried_plain (outer_of outer) outer.body packet (four.ip4_of outer.body) inner parts.1
 
 -- ---- an item that is known to have a packet
-abbrev good : four.Packet4 → Result four.Packet4 Ip4Bad
-good packet = Ok packet
-
-pub record IsReadAs (read : Result four.Packet4 Ip4Bad) (found : Option four.Packet4) : Type 0 where
-  pub reads : is_ok read ≡ true
-  pub is : (packet : four.Packet4) → read ≡ Ok packet → found ≡ Some packet
-
-alike : (packet p : four.Packet4) → good packet ≡ good p → Some packet ≡ Some p
-alike packet p same = let also : packet ≡ p = cc in ap (λ (q : four.Packet4). Some q) also
-
 own : (bytes : List ℕ) (packet : four.Packet4) → four.ip4_of bytes ≡ Ok packet → if_packet (four.ip4_of (four.whole4 packet)) ≡ Some packet
 own bytes packet is = ap if_packet (ip4_of-alone bytes packet is)
 
 pub outside_known : (bytes : List ℕ) → is_some (packet_in (item_alone (from_outside (four.ip4_of bytes)))) ≡ true →
-    IsReadAs (four.ip4_of bytes) (packet_in (item_alone (from_outside (four.ip4_of bytes))))
+    packet_in (item_alone (from_outside (four.ip4_of bytes))) ≡ if_packet (four.ip4_of bytes)
 outside_known bytes known = by_reading (four.ip4_of bytes) refl known
   where
     found : Result four.Packet4 Ip4Bad → Option four.Packet4
@@ -86,12 +79,12 @@ outside_known bytes known = by_reading (four.ip4_of bytes) refl known
     by_fragment packet is true cut some = let none : is_some (found (Ok packet)) ≡ false = rw (cut) refl in absurd (cc (none, some))
     by_fragment packet is false cut some = rw (cut) (own bytes packet is)
 
-    by_reading : (read : Result four.Packet4 Ip4Bad) → four.ip4_of bytes ≡ read → is_some (found read) ≡ true → IsReadAs read (found read)
-    by_reading (Ok packet) is some = record { reads = refl; is = λ p same. by_fragment packet is (four.is_fragment packet) refl some ∙ alike packet p same }
+    by_reading : (read : Result four.Packet4 Ip4Bad) → four.ip4_of bytes ≡ read → is_some (found read) ≡ true → found read ≡ if_packet read
+    by_reading (Ok packet) is some = by_fragment packet is (four.is_fragment packet) refl some
     by_reading (Err why) is some = absurd (cc some)
 
 pub tunnel_known : (outer : Outer) (bytes : List ℕ) → is_some (packet_in (told_item (in_tunnel outer bytes (four.ip4_of bytes)))) ≡ true →
-    IsReadAs (four.ip4_of bytes) (packet_in (told_item (in_tunnel outer bytes (four.ip4_of bytes))))
+    packet_in (told_item (in_tunnel outer bytes (four.ip4_of bytes))) ≡ if_packet (four.ip4_of bytes)
 tunnel_known outer bytes known = by_reading (four.ip4_of bytes) refl known
   where
     found : Result four.Packet4 Ip4Bad → Option four.Packet4
@@ -102,10 +95,42 @@ tunnel_known outer bytes known = by_reading (four.ip4_of bytes) refl known
     by_fragment packet is true cut some = let none : is_some (found (Ok packet)) ≡ false = rw (cut) refl in absurd (cc (none, some))
     by_fragment packet is false cut some = rw (cut) (own bytes packet is)
 
-    by_reading : (read : Result four.Packet4 Ip4Bad) → four.ip4_of bytes ≡ read → is_some (found read) ≡ true → IsReadAs read (found read)
-    by_reading (Ok packet) is some = record { reads = refl; is = λ p same. by_fragment packet is (four.is_fragment packet) refl some ∙ alike packet p same }
+    by_reading : (read : Result four.Packet4 Ip4Bad) → four.ip4_of bytes ≡ read → is_some (found read) ≡ true → found read ≡ if_packet read
+    by_reading (Ok packet) is some = by_fragment packet is (four.is_fragment packet) refl some
     by_reading (Err why) is some =
         let none : is_some (found (Err why)) ≡ false = ap (λ (r : Result four.Packet4 Ip4Bad). is_some (if_packet r)) is in absurd (cc (none, some))
+
+-- what stands behind the last header
+headers_known : (outer : Outer) (next : ℕ) (bytes : List ℕ) → is_some (packet_in (told_item (behind_headers outer next bytes))) ≡ true →
+    packet_in (told_item (behind_headers outer next bytes)) ≡ if_packet (four.ip4_of bytes)
+headers_known outer next bytes known = by_number (next == 4) (next == 58) known
+  where
+    found : Bool → Bool → Option four.Packet4
+    found four_in_six icmp =
+        packet_in (told_item (if four_in_six then in_tunnel outer bytes (four.ip4_of bytes) else if icmp then Told (item.Six58 outer.src outer.dst bytes) else Told (item.Six outer.dst)))
+
+    by_number : (four_in_six icmp : Bool) → is_some (found four_in_six icmp) ≡ true → found four_in_six icmp ≡ if_packet (four.ip4_of bytes)
+    by_number true icmp some = tunnel_known outer bytes some
+    by_number false true some = absurd (cc some)
+    by_number false false some = absurd (cc some)
+
+-- what a Fragment header carried, whole
+pub fragment_known : (outer : Outer) (next : ℕ) (body bytes : List ℕ) (end : Chain) → chain_of next body start.AfterFragment ≡ Ok end → bytes ≡ drop end.at body →
+    is_some (packet_in (told_item (behind_fragment outer next body))) ≡ true → packet_in (told_item (behind_fragment outer next body)) ≡ if_packet (four.ip4_of bytes)
+fragment_known outer next body bytes end walked is known =
+    let found : Result Chain ChainBad → Option four.Packet4 = λ chain. packet_in (told_item (by_inner_chain outer body chain)) in
+    ap found walked
+    ∙ headers_known outer end.next (drop end.at body) (sym (ap (λ (chain : Result Chain ChainBad). is_some (found chain)) walked) ∙ known)
+    ∙ ap (λ (l : List ℕ). if_packet (four.ip4_of l)) (sym is)
+
+-- where a packet's own chain ends behind no Fragment header
+pub end_at_once : (outer : Outer) (next : ℕ) (bytes : List ℕ) → is_some (packet_in (item_alone (at_end outer next bytes None))) ≡ true →
+    packet_in (item_alone (at_end outer next bytes None)) ≡ if_packet (four.ip4_of bytes)
+end_at_once outer next bytes known = headers_known outer next bytes known
+
+pub read_known : (read : Result four.Packet4 Ip4Bad) → is_some (if_packet read) ≡ true → is_ok read ≡ true
+read_known (Ok packet) some = refl
+read_known (Err why) some = absurd cc
 
 -- ---- by the index
 pub packet_by : (es : List Entry) (index : ℕ) (i : Item) → slice_get (items_in es) index ≡ Some i → packet_at es index ≡ packet_in i

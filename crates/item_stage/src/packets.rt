@@ -1,101 +1,112 @@
 // The IPv4 packets of items that are known to have one.
-ghost use Rattle.std.specs.Prelude.{◌≡◌, Some, is_some, true};
+ghost use Rattle.std.specs.Prelude.{◌≡◌, drop, is_some, true};
 ghost use Rattle.capture_io.specs.Frames.{said};
-ghost use Rattle.ip_codec.specs.Packet4.{ip4_of, packet4};
+ghost use Rattle.ip_codec.specs.Packet4.{ip4_of};
 ghost use Rattle.ip_codec.specs.Packet6.{ip6_of};
-ghost use Rattle.ip_codec.specs.Seen.{seen};
-ghost use Rattle.item_stage.specs.Alone.{from_outside, from_tunnel, in_frame, item_alone, item_of};
+ghost use Rattle.ip_codec.specs.declared.items.Outer.{Outer as OuterFields};
+ghost use Rattle.item_stage.specs.Alone.{at_end, behind_fragment, from_outside, from_tunnel, in_frame, item_alone, item_of, told_item};
 ghost use Rattle.item_stage.specs.Marks.{item_became};
-ghost use Rattle.item_stage.specs.Packets.{packet_in};
+ghost use Rattle.item_stage.specs.Packets.{if_packet, packet_in};
 
-use crate::alone::{IPV4_IN_IPV6, read_tunnel};
-use crate::marks::Mark;
-use crate::reading::alone_view;
+use crate::alone::IPV4_IN_IPV6;
+use crate::marks::{Became, Mark};
 use capture_io::{Form, Frame, frame_of};
-use ip_codec::{ItemView, ReadPacket, known_ip6, known_packet};
+use ip_codec::known_ip6;
+use ipv6_chain::{Chain, Start, walk};
 
-/// The IPv4 packet of a record's item, where the item is known to have one: whether it reads is not tested again.
-pub(crate) fn read_known(form: Form, bytes: &[u8]) -> ReadPacket<'_>
+/// The bytes that the IPv4 packet of a record's item is read from, where the item is known to have one: whether they read is not
+/// tested again. They are found without a call where the packet stands at once behind the fixed header of its tunnel, or came from outside.
+#[inline(always)]
+pub(crate) fn bytes_known(form: Form, bytes: &[u8]) -> &[u8]
     requires { is_some (packet_in (item_of form bytes.now)) ≡ true }
-    ensures { packet_in (item_of form bytes.now) ≡ Some (packet4 result.view) }
+    ensures { packet_in (item_of form bytes.now) ≡ if_packet (ip4_of result.now) }
 {
-    known_in_frame(frame_of(form.link, bytes))
+    bytes_in_frame(frame_of(form.link, bytes))
 }
 
 #[inline(always)]
-fn known_in_frame<'a>(frame: Frame<'a>) -> ReadPacket<'a>
+fn bytes_in_frame<'a>(frame: Frame<'a>) -> &'a [u8]
     requires { is_some (packet_in (item_alone (in_frame (said frame)))) ≡ true }
-    ensures { packet_in (item_alone (in_frame (said frame.entry))) ≡ Some (packet4 result.view) }
+    ensures { packet_in (item_alone (in_frame (said frame.entry))) ≡ if_packet (ip4_of result.now) }
 {
     match frame {
-        Frame::V4(packet) => known_outside(packet),
-        Frame::V6(packet) => known_in_tunnel(packet),
+        Frame::V4(packet) => bytes_outside(packet),
+        Frame::V6(packet) => bytes_in_tunnel(packet),
         Frame::Short => unreachable!(),
         Frame::Kind => unreachable!(),
     }
 }
 
-// An IPv4 packet from outside.
+// Those of a packet from outside.
 #[inline(always)]
-fn known_outside(bytes: &[u8]) -> ReadPacket<'_>
+fn bytes_outside(bytes: &[u8]) -> &[u8]
     requires { is_some (packet_in (item_alone (from_outside (ip4_of bytes.now)))) ≡ true }
-    ensures { packet_in (item_alone (from_outside (ip4_of bytes.now))) ≡ Some (packet4 result.view) }
+    ensures { packet_in (item_alone (from_outside (ip4_of bytes.now))) ≡ if_packet (ip4_of result.now) }
 {
-    known_packet(bytes)
+    bytes
 }
 
-// An IPv4 packet in the tunnel: mostly at once behind the fixed header.
+// Those of a packet in the tunnel: mostly at once behind the fixed header.
 #[inline(always)]
-fn known_in_tunnel(bytes: &[u8]) -> ReadPacket<'_>
+fn bytes_in_tunnel(bytes: &[u8]) -> &[u8]
     requires { is_some (packet_in (item_alone (from_tunnel (ip6_of bytes.now)))) ≡ true }
-    ensures { packet_in (item_alone (from_tunnel (ip6_of bytes.now))) ≡ Some (packet4 result.view) }
+    ensures { packet_in (item_alone (from_tunnel (ip6_of bytes.now))) ≡ if_packet (ip4_of result.now) }
 {
     let packet = known_ip6(bytes);
     if packet.next == IPV4_IN_IPV6 {
-        return known_packet(packet.body);
+        return packet.body;
     }
-    known_anywhere(bytes)
+    bytes_behind_headers(bytes)
 }
 
-// The same wherever it stands: the place of this call's answer is cleared here, and not where it is found at once.
-#[inline(always)]
-fn known_anywhere(bytes: &[u8]) -> ReadPacket<'_>
-    requires { is_some (packet_in (item_alone (from_tunnel (ip6_of bytes.now)))) ≡ true }
-    ensures { packet_in (item_alone (from_tunnel (ip6_of bytes.now))) ≡ Some (packet4 result.view) }
-{
-    known_behind_headers(bytes)
-}
-
+// The same wherever they stand.
 #[cold]
 #[inline(never)]
-fn known_behind_headers(bytes: &[u8]) -> ReadPacket<'_>
+fn bytes_behind_headers(bytes: &[u8]) -> &[u8]
     requires { is_some (packet_in (item_alone (from_tunnel (ip6_of bytes.now)))) ≡ true }
-    ensures { packet_in (item_alone (from_tunnel (ip6_of bytes.now))) ≡ Some (packet4 result.view) }
+    ensures { packet_in (item_alone (from_tunnel (ip6_of bytes.now))) ≡ if_packet (ip4_of result.now) }
 {
-    packet_of(&alone_view(read_tunnel(bytes)))
+    let packet = known_ip6(bytes);
+    match walk(packet.next, packet.body, Start::Packet) {
+        Ok(chain) => bytes_at_end(chain, &packet.body[chain.at..]),
+        Err(_) => unreachable!(),
+    }
 }
 
-/// The packet of the item of a mark, which is known to have one.
-#[inline(always)]
-pub(crate) fn marked_packet(mark: &Mark) -> ReadPacket<'_>
+// What stands behind all headers of a packet, where its own chain ends so.
+fn bytes_at_end(chain: Chain, bytes: &[u8]) -> &[u8]
+    ensures { (outer : OuterFields) → is_some (packet_in (item_alone (at_end outer chain.next bytes.now chain.fragment))) ≡ true →
+        packet_in (item_alone (at_end outer chain.next bytes.now chain.fragment)) ≡ if_packet (ip4_of result.now) }
+{
+    match chain.fragment {
+        Some(_) => bytes_behind_fragment(chain.next, bytes),
+        None => bytes,
+    }
+}
+
+// What stands behind all headers that a Fragment header carried, whole.
+fn bytes_behind_fragment(next: u8, body: &[u8]) -> &[u8]
+    ensures { (outer : OuterFields) → is_some (packet_in (told_item (behind_fragment outer next body.now))) ≡ true →
+        packet_in (told_item (behind_fragment outer next body.now)) ≡ if_packet (ip4_of result.now) }
+{
+    match walk(next, body, Start::AfterFragment) {
+        Ok(chain) => &body[chain.at..],
+        Err(_) => body,
+    }
+}
+
+/// The bytes that the packet of a mark's item is read from, which is known to have one. Few records have a mark.
+#[cold]
+#[inline(never)]
+pub(crate) fn bytes_marked(mark: &Mark) -> &[u8]
     requires { is_some (packet_in (item_became mark.now.became)) ≡ true }
-    ensures { packet_in (item_became mark.now.became) ≡ Some (packet4 result.view) }
+    ensures { packet_in (item_became mark.now.became) ≡ if_packet (ip4_of result.now) }
 {
-    packet_of(&mark.became.item())
-}
-
-// The packet of an item that is known to have one.
-fn packet_of<'a>(item: &ItemView<'a>) -> ReadPacket<'a>
-    requires { is_some (packet_in (seen item.now)) ≡ true }
-    ensures { packet_in (seen item.now) ≡ Some (packet4 result.view) }
-{
-    match item {
-        ItemView::Down { packet } => *packet,
-        ItemView::Up { inner, .. } => *inner,
-        ItemView::UpUnread { .. } => unreachable!(),
-        ItemView::Six { .. } => unreachable!(),
-        ItemView::Six58 { .. } => unreachable!(),
-        ItemView::Held => unreachable!(),
-        ItemView::Bad(_) => unreachable!(),
+    match &mark.became {
+        Became::Down(datagram) => datagram.bytes.as_slice(),
+        Became::Up { packet, .. } => packet.bytes.as_slice(),
+        Became::Carries { next, body, .. } => bytes_behind_fragment(*next, body.as_slice()),
+        Became::Held => unreachable!(),
+        Became::Bad(_) => unreachable!(),
     }
 }

@@ -4,10 +4,10 @@ ghost use Rattle.ip_codec.specs.Seen.{seen};
 ghost use Rattle.ip_codec.specs.declared.items.Item.{Item as Whole};
 
 use crate::marks::Slot;
-use crate::packets::{marked_packet, read_known};
+use crate::packets::{bytes_known, bytes_marked};
 use crate::reading::read_item_into;
 use capture_io::{Form, Records};
-use ip_codec::{ItemView, ReadPacket};
+use ip_codec::{ItemView, ReadPacket, known_packet};
 use std::marker::Model;
 
 /// The items of a round's records. Asking for one changes nothing, so many threads can ask at once, each for any of them.
@@ -61,9 +61,9 @@ impl<'a> Model for Items<'a> {
 impl<'a> Items<'a> {
     ghost use Rattle.std.specs.Option.{option_map};
     ghost use Rattle.std.specs.Prelude.{is_some, true};
-    ghost use Rattle.ip_codec.specs.Packet4.{packet4};
+    ghost use Rattle.ip_codec.specs.Packet4.{ip4_of, packet4};
     ghost use Rattle.item_stage.specs.Marks.{entries_by};
-    ghost use Rattle.item_stage.specs.Packets.{packet_at};
+    ghost use Rattle.item_stage.specs.Packets.{if_packet, packet_at};
 
     /// The entries of these records, in a capture of this form, by their marks.
     pub(crate) fn of(form: Form, records: &'a Records, marks: Vec<Slot>) -> Self
@@ -88,15 +88,27 @@ impl<'a> Items<'a> {
         }
     }
 
-    /// The IPv4 packet of the item at this index, which is known to have one. It is found without reading the item anew.
+    /// The IPv4 packet of the item at this index, which is known to have one. It is found without reading the item anew, and
+    /// inlined: of its fields those alone are read that are asked for.
+    #[inline(always)]
     pub fn packet(&self, index: usize) -> ReadPacket<'_>
         requires inside { index < length self.now }
         requires known { is_some (packet_at self.now index) ≡ true }
         ensures { packet_at self.now index ≡ Some (packet4 result.view) }
     {
+        known_packet(self.packet_bytes(index))
+    }
+
+    // The bytes that it is read from.
+    #[inline(always)]
+    fn packet_bytes(&self, index: usize) -> &[u8]
+        requires inside { index < length self.now }
+        requires known { is_some (packet_at self.now index) ≡ true }
+        ensures { packet_at self.now index ≡ if_packet (ip4_of result.now) }
+    {
         match self.marks[index].get() {
-            Some(mark) => marked_packet(mark),
-            None => read_known(self.form, self.records.get(index).bytes),
+            Some(mark) => bytes_marked(mark),
+            None => bytes_known(self.form, self.records.get(index).bytes),
         }
     }
 }

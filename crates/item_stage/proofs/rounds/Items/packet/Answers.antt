@@ -1,54 +1,11 @@
-use Rattle.std.proofs.Common.{◌∙◌, ap, arith, refl, sym}
-use Rattle.std.specs.Option.{option_map}
-use Rattle.capture_io.specs.Records as records
-use Rattle.item_stage.specs.Alone.{item_of}
-use Rattle.item_stage.specs.Marks.{item_became}
-use Rattle.item_stage.proofs.MarkLemmas.{item_alone_there, item_by_mark, within_marks, within_records}
-use Rattle.item_stage.proofs.WholeLemmas.{known_by, packet_by}
+use Rattle.std.proofs.Common.{◌∙◌, ap, sym, is_some}
+use Rattle.ip_codec.specs.Packet4.{ip4_of}
+use Rattle.item_stage.specs.Packets.{if_packet}
+use Rattle.item_stage.proofs.WholeLemmas.{read_known}
 use Rattle.item_stage.proofs.rounds.Items.packet.Goals as goal
 
-pub index-requires : goal.index-requires
-index-requires c =
-    let inside = c.self.inside in
-    omega (arith, inside.marks.ok.0, within_marks inside.form inside.records.now inside.marks.items c.args.self.now c.self.view_is c.self.invariant c.args.index c.requires.inside)
+pub known_packet-requires : goal.known_packet-requires
+known_packet-requires c = read_known (ip4_of c.packet_bytes.result.now) (sym (ap (λ o. is_some o) c.packet_bytes.ensures) ∙ c.requires.known)
 
-pub get-requires-in-None : goal.get-requires-in-None
-get-requires-in-None c =
-    let inside = c.self.inside in
-    within_records inside.form inside.records.now inside.marks.items c.args.self.now c.self.view_is c.self.invariant c.args.index c.requires.inside
-
-pub marked_packet-requires : goal.marked_packet-requires
-marked_packet-requires c =
-    let inside = c.self.inside in
-    let told = item_became c.in-Some.mark.now.became in
-    known_by c.args.self.now c.args.index told
-    (item_by_mark inside.form inside.records.now inside.marks.items c.args.self.now c.self.view_is c.self.invariant c.args.index c.index.result.now c.in-Some.mark.now told
-    c.requires.inside c.index.ensures (sym (ap (λ o. option_map (λ mark. mark.now) o) c.in-Some.is) ∙ c.get.ensures) refl)
-    c.requires.known
-
-pub returns-in-Some : goal.returns-in-Some
-returns-in-Some c =
-    let inside = c.self.inside in
-    let told = item_became c.in-Some.mark.now.became in
-    packet_by c.args.self.now c.args.index told
-    (item_by_mark inside.form inside.records.now inside.marks.items c.args.self.now c.self.view_is c.self.invariant c.args.index c.index.result.now c.in-Some.mark.now told
-    c.requires.inside c.index.ensures (sym (ap (λ o. option_map (λ mark. mark.now) o) c.in-Some.is) ∙ c.get.ensures) refl)
-    ∙ c.marked_packet.ensures
-
-pub read_known-requires : goal.read_known-requires
-read_known-requires c =
-    let inside = c.self.inside in
-    let r = records.seen c.get-in-None.result in
-    known_by c.args.self.now c.args.index (item_of inside.form r.bytes)
-    (item_alone_there inside.form inside.records.now inside.marks.items c.args.self.now c.self.view_is c.self.invariant c.args.index c.index.result.now r (item_of inside.form r.bytes)
-    c.requires.inside c.index.ensures (sym (ap (λ o. option_map (λ mark. mark.now) o) c.in-None.is) ∙ c.get.ensures) c.get-in-None.ensures refl)
-    c.requires.known
-
-pub returns-in-None : goal.returns-in-None
-returns-in-None c =
-    let inside = c.self.inside in
-    let r = records.seen c.get-in-None.result in
-    packet_by c.args.self.now c.args.index (item_of inside.form r.bytes)
-    (item_alone_there inside.form inside.records.now inside.marks.items c.args.self.now c.self.view_is c.self.invariant c.args.index c.index.result.now r (item_of inside.form r.bytes)
-    c.requires.inside c.index.ensures (sym (ap (λ o. option_map (λ mark. mark.now) o) c.in-None.is) ∙ c.get.ensures) c.get-in-None.ensures refl)
-    ∙ c.read_known.ensures
+pub returns : goal.returns
+returns c = c.packet_bytes.ensures ∙ ap if_packet c.known_packet.ensures.read
