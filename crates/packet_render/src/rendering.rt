@@ -49,7 +49,7 @@ pub fn push_packets(
         seconds,
         fraction,
     };
-    let count = push_stamped(out, stamp, item, *verdict, number)?;
+    let count = push_stamped(out, stamp, item, verdict, number)?;
     Ok(count)
 }
 
@@ -100,16 +100,16 @@ fn push_stamped(
     out: &mut Vec<u8>,
     stamp: Stamp,
     item: &ItemView<'_>,
-    verdict: Verdict,
+    verdict: &Verdict,
     number: u32,
 ) -> Result<u32, OutOfMemory>
-    requires fits { Fits (seen item.now) verdict }
-    requires room { HasRoom verdict }
+    requires fits { Fits (seen item.now) verdict.now }
+    requires room { HasRoom verdict.now }
     ensures pushed { IfOk result (λ count. ArePushed (packet_bytes stamp.form stamp.seconds stamp.fraction)
-        (sent (seen item.now) verdict number) out.old.items out.new.items count) }
+        (sent (seen item.now) verdict.now number) out.old.items out.new.items count) }
     ensures few { IfOk result (λ count. count ≤ 128) }
 {
-    match verdict {
+    match *verdict {
         Verdict::Held => Ok(0),
         Verdict::Drop { reply, .. } => push_reply(out, stamp, item, reply),
         Verdict::Outward { mtu } => push_outward(out, stamp, item, mtu),
