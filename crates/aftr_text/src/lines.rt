@@ -33,7 +33,7 @@ pub fn verdict_line(
     ensures { IfOk result (λ line. line ≡ verdict_text number version verdict packets) }
 {
     let mut line = Vec::with_capacity(alloc, VERDICT_ROOM)?;
-    push_verdict_line(&mut line, number, version, verdict, packets)?;
+    push_verdict_line(&mut line, number, version, &verdict, packets)?;
     Ok(text_of(line))
 }
 
@@ -42,17 +42,17 @@ pub fn push_verdict_line(
     lines: &mut Vec<u8>,
     number: u32,
     version: u32,
-    verdict: Verdict,
+    verdict: &Verdict,
     packets: u32,
 ) -> Result<(), OutOfMemory>
-    ensures { IfOk result (λ _. lines.new.items ≡ lines.old.items ++ verdict_text number version verdict packets) }
+    ensures { IfOk result (λ _. lines.new.items ≡ lines.old.items ++ verdict_text number version verdict.now packets) }
 {
     if packets == 1 && version < 10 {
-        if let Some((ending, end)) = short_ending(&verdict) {
+        if let Some((ending, end)) = short_ending(verdict) {
             return push_short(lines, number, version, ending, end);
         }
     }
-    push_long_line(lines, number, version, &verdict, packets)
+    push_long_line(lines, number, version, verdict, packets)
 }
 
 // The same of a record that was dropped, or for which none or several packets were written.

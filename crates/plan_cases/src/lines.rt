@@ -57,10 +57,10 @@ fn a_newer_edition(rt: HostRuntime) -> Result<(), Fail> {
 #[test]
 fn lines_of_records_behind_others(rt: HostRuntime) -> Result<(), Fail> {
     let mut lines = Vec::from_slice(rt.alloc(), b"#\n")?;
-    push_verdict_line(&mut lines, 7, 1, Verdict::Held, 0)?;
+    push_verdict_line(&mut lines, 7, 1, &Verdict::Held, 0)?;
     push_limited_line(&mut lines, 8, 1, Rule::TooBig)?;
     push_ended_line(&mut lines, true, 7)?;
-    push_verdict_line(&mut lines, 9, 1, Verdict::Held, 1)?;
+    push_verdict_line(&mut lines, 9, 1, &Verdict::Held, 1)?;
     let expected = b"#\n7 1 held 0\n8 1 drop too-big limited 0\nexpired 7\n9 1 held 1\n";
     assert_eq!(rt; lines.as_slice(), expected.as_slice());
     Ok(())

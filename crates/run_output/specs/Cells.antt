@@ -20,7 +20,9 @@ use Rattle.run_output.specs.Rendering.{AreFitting}
 use Rattle.worker_gate.specs.declared.outcomes.Outcome.{Outcome}
 use Rattle.run_output.specs.declared.parts.Part.{Part}
 use Rattle.run_output.specs.declared.rounds.Round.{Round}
-use Rattle.verdict_core.specs.Fitting.{Fits}
+use Rattle.packet_render.specs.Pushed.{ArePushed}
+use Rattle.packet_render.specs.Sent.{sent}
+use Rattle.verdict_core.specs.Fitting.{Fits, HasRoom}
 use Rattle.verdict_core.specs.declared.verdicts.Verdict.{Verdict}
 
 pub record Cell : Type 0 where
@@ -130,6 +132,17 @@ shown number r e o limited = record {
 -- the verdict fits the item at this index
 abbrev pub FitsAt : List Entry → ℕ → Verdict → Type 0
 FitsAt entries index v = (i : Item) → slice_get (items_in entries) index ≡ Some i → Fits i v
+
+-- what the packets of the record at an index are made by: its verdict, which fits its item and names sizes that every link takes
+pub record CanBeSent (r : Round) (index : ℕ) (v : Verdict) : Type 0 where
+  pub inside : index < length r.records.now
+  pub fits : FitsAt r.items.now index v
+  pub room : HasRoom v
+
+-- what is sent for the record at an index by its verdict stands behind what was there, each packet as it is recorded: so many
+pub record IsSent (r : Round) (number index : ℕ) (recorded : List ℕ → List ℕ) (v : Verdict) (before after : List ℕ) (count : ℕ) : Type 0 where
+  pub pushed : (i : Item) → slice_get (items_in r.items.now) index ≡ Some i → ArePushed recorded (sent i v number) before after count
+  pub few : count ≤ 128
 
 -- a part with what one record more writes
 pub record IsMore (w : Written) (c : Cell) (old new : Part) : Type 0 where

@@ -39,5 +39,5 @@ pub(crate) fn push_record_line(
             return push_limited_line(lines, number, version, why);
         }
     }
-    push_verdict_line(lines, number, version, *verdict, packets)
+    push_verdict_line(lines, number, version, verdict, packets)
 }

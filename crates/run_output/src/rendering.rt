@@ -6,9 +6,9 @@ ghost use Rattle.capture_io.specs.Packets.{packet_bytes};
 ghost use Rattle.ip_codec.specs.declared.items.Item.{Item};
 ghost use Rattle.item_stage.specs.Items.{items_in};
 ghost use Rattle.item_stage.specs.declared.entries.Entry.{Entry};
-ghost use Rattle.packet_render.specs.Sent.{is_forwarded, sent};
+ghost use Rattle.packet_render.specs.Sent.{is_forwarded};
 ghost use Rattle.aftr_text.specs.Lines.{ended_text};
-ghost use Rattle.run_output.specs.Cells.{ArePartsFrom, ArePartsUnless, FitsAt, IsMore, IsPart, IsPartUnless, IsFitting, cells_in, chunk, shown};
+ghost use Rattle.run_output.specs.Cells.{ArePartsFrom, ArePartsUnless, CanBeSent, FitsAt, IsMore, IsPart, IsPartUnless, IsFitting, IsSent, cells_in, chunk, shown};
 ghost use Rattle.run_output.specs.Counting.{IsWithin, with_record};
 ghost use Rattle.run_output.specs.Limiting.{HasAsked, IsLimited, rate_of};
 ghost use Rattle.run_output.specs.Outputs.{Course, record_text, sent_unless};
@@ -260,35 +260,27 @@ fn push_sent(
     verdict: &Verdict,
     limited: bool,
 ) -> Result<u32, OutOfMemory>
-    requires inside { index < length round.now.records.now }
-    requires fits { FitsAt round.now.items.now index verdict.now }
-    requires room { HasRoom verdict.now }
+    requires { CanBeSent round.now index verdict.now }
     ensures bytes { IfOk result (λ _. (i : Item) → slice_get (items_in round.now.items.now) index ≡ Some i → packets.new.items ≡ packets.old.items
         ++ flat_map (packet_bytes round.now.written rec.now.seconds rec.now.fraction) (sent_unless limited i verdict.now number)) }
     ensures count { IfOk result (λ count. (i : Item) → slice_get (items_in round.now.items.now) index ≡ Some i →
         count ≡ length (sent_unless limited i verdict.now number)) }
     ensures few { IfOk result (λ count. count ≤ 128) }
 {
+    let (seconds, fraction) = (rec.seconds, rec.fraction);
     if limited {
         return Ok(0);
     }
     if let Verdict::Outward { .. } = verdict {
-        let count = push_packet(packets, round, number, index, rec, verdict)?;
+        let count = push_packet(packets, round, number, index, seconds, fraction, verdict)?;
         return Ok(count);
     }
     if let Verdict::Inward { .. } = verdict {
-        let count = push_packet_apart(packets, round, number, index, rec, verdict)?;
+        let count = push_apart(packets, round, number, index, seconds, fraction, verdict)?;
         return Ok(count);
     }
-    push_item(
-        packets,
-        round,
-        number,
-        index,
-        rec.seconds,
-        rec.fraction,
-        verdict,
-    )
+    let count = push_item(packets, round, number, index, seconds, fraction, verdict)?;
+    Ok(count)
 }
 
 // Puts the packets of a record there by its item. Nothing of it is made for a packet that goes on, so it stands apart.
@@ -302,14 +294,8 @@ fn push_item(
     fraction: u32,
     verdict: &Verdict,
 ) -> Result<u32, OutOfMemory>
-    requires inside { index < length round.now.records.now }
-    requires fits { FitsAt round.now.items.now index verdict.now }
-    requires room { HasRoom verdict.now }
-    ensures bytes { IfOk result (λ _. (i : Item) → slice_get (items_in round.now.items.now) index ≡ Some i → packets.new.items ≡ packets.old.items
-        ++ flat_map (packet_bytes round.now.written seconds fraction) (sent i verdict.now number)) }
-    ensures count { IfOk result (λ count. (i : Item) → slice_get (items_in round.now.items.now) index ≡ Some i →
-        count ≡ length (sent i verdict.now number)) }
-    ensures few { IfOk result (λ count. count ≤ 128) }
+    requires { CanBeSent round.now index verdict.now }
+    ensures { IfOk result (IsSent round.now number index (packet_bytes round.now.written seconds fraction) verdict.now packets.old.items packets.new.items) }
 {
     let item = round.items.item(index);
     let count = push_packets(
@@ -326,24 +312,20 @@ fn push_item(
 
 // The same as `push_packet`, out of the way of packets that go out: what is made for the tunnel would take their registers.
 #[inline(never)]
-fn push_packet_apart(
+fn push_apart(
     packets: &mut Vec<u8>,
     round: &Round<'_>,
     number: u32,
     index: usize,
-    rec: &RecordView<'_>,
+    seconds: u32,
+    fraction: u32,
     verdict: &Verdict,
 ) -> Result<u32, OutOfMemory>
-    requires inside { index < length round.now.records.now }
-    requires fits { FitsAt round.now.items.now index verdict.now }
-    requires room { HasRoom verdict.now }
+    requires can { CanBeSent round.now index verdict.now }
     requires forwarded { is_forwarded verdict.now ≡ true }
-    ensures bytes { IfOk result (λ _. (i : Item) → slice_get (items_in round.now.items.now) index ≡ Some i → packets.new.items ≡ packets.old.items
-        ++ flat_map (packet_bytes round.now.written rec.now.seconds rec.now.fraction) (sent i verdict.now number)) }
-    ensures count { IfOk result (λ count. (i : Item) → slice_get (items_in round.now.items.now) index ≡ Some i → count ≡ length (sent i verdict.now number)) }
-    ensures few { IfOk result (λ count. count ≤ 128) }
+    ensures { IfOk result (IsSent round.now number index (packet_bytes round.now.written seconds fraction) verdict.now packets.old.items packets.new.items) }
 {
-    let count = push_packet(packets, round, number, index, rec, verdict)?;
+    let count = push_packet(packets, round, number, index, seconds, fraction, verdict)?;
     Ok(count)
 }
 
@@ -354,17 +336,13 @@ fn push_packet(
     round: &Round<'_>,
     number: u32,
     index: usize,
-    rec: &RecordView<'_>,
+    seconds: u32,
+    fraction: u32,
     verdict: &Verdict,
 ) -> Result<u32, OutOfMemory>
-    requires inside { index < length round.now.records.now }
-    requires fits { FitsAt round.now.items.now index verdict.now }
-    requires room { HasRoom verdict.now }
+    requires can { CanBeSent round.now index verdict.now }
     requires forwarded { is_forwarded verdict.now ≡ true }
-    ensures bytes { IfOk result (λ _. (i : Item) → slice_get (items_in round.now.items.now) index ≡ Some i → packets.new.items ≡ packets.old.items
-        ++ flat_map (packet_bytes round.now.written rec.now.seconds rec.now.fraction) (sent i verdict.now number)) }
-    ensures count { IfOk result (λ count. (i : Item) → slice_get (items_in round.now.items.now) index ≡ Some i → count ≡ length (sent i verdict.now number)) }
-    ensures few { IfOk result (λ count. count ≤ 128) }
+    ensures { IfOk result (IsSent round.now number index (packet_bytes round.now.written seconds fraction) verdict.now packets.old.items packets.new.items) }
 {
     let packet = round.items.packet(index);
     let count = push_forwarded(
@@ -373,8 +351,8 @@ fn push_packet(
         &packet,
         verdict,
         number,
-        rec.seconds,
-        rec.fraction,
+        seconds,
+        fraction,
     )?;
     Ok(count)
 }

@@ -10,6 +10,6 @@ returns-in-Some c =
     let judged : List ℕ = judged_text c.args.number c.args.version in
     subst (λ (l : List ℕ). IfOk c.push_short.result (λ _. c.push_short.new.lines.items ≡ c.args.lines.now.items ++ l))
     (ap (λ (l : List ℕ). judged ++ l) c.in-Some.ensures.text
-    ∙ once judged (codes " ") (outcome c.args.verdict) (codes " ") (decimal c.args.packets) (codes "\n") (codes "1\n")
+    ∙ once judged (codes " ") (outcome c.args.verdict.now) (codes " ") (decimal c.args.packets) (codes "\n") (codes "1\n")
     (of_one c.args.packets c.if-packets-eq1.true))
     c.push_short.ensures
