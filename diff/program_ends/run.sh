@@ -1,7 +1,7 @@
 #!/usr/bin/env bash
 # How the program ends for its user: exit codes, standard error, standard output, and what the files hold, where
 # files are missing, cannot be made or are full, and where standard output is full, closed or a pipe that nobody reads;
-# and what is written while a capture comes through a pipe that pauses.
+# what is written while a capture comes through a pipe that pauses; and captures and tables through pipes in pieces.
 #     diff/program_ends/run.sh [PROGRAM]
 # PROGRAM takes the words of `lwaftr`; without it the program of this repository is built. It prints a line for each case that
 # goes otherwise, and the totals; it ends with 1 if there is such a case. messages.txt has what is said to people, word for word.
@@ -17,4 +17,5 @@ status=0
 "$here/messages.py" "$program" || status=1
 python3 "$here/ends.py" "$program" || status=1
 python3 "$here/pauses.py" "$program" || status=1
+python3 "$here/pieces.py" "$program" || status=1
 exit $status
