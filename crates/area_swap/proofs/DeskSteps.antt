@@ -19,7 +19,7 @@ use Rattle.area_swap.specs.declared.answers.Seen.{Seen}
 use Rattle.area_swap.specs.declared.board.View.{View}
 use Rattle.area_swap.specs.Views.{now_of, packed, unpacked, reading, next_of, spare_of, IsUpTo}
 use Rattle.area_swap.specs.Rule.{Ruled, IsLawfulView, ShowsWords}
-use Rattle.area_swap.specs.SeatSteps.{Seated, FoundDue, ReadClaims, Wrote, Published}
+use Rattle.area_swap.specs.SeatSteps.{Seated, FoundDue, FoundWord, ReadClaims, Wrote, Published}
 use Rattle.area_swap.proofs.Packing.{up_to, laid_now, laid_row}
 use Rattle.area_swap.proofs.Keeping.{same_actors, same_words, shows_desk, fits, seat_step, moment_after}
 use Rattle.area_swap.proofs.Learning.{sees_word, sees_claims, unpacks}
@@ -100,6 +100,13 @@ module _ (p : Tables) (s : State (Unit {0}) View) (r : Ruled p s) (id : ℕ) (v 
       (count_sound r.core r.sound (sym shown.0 ∙ ready) count) refl (same_words p s r id v at i)
       (same_actors p s r id v at) refl (λ _. (refl, shown.1)) (λ lacks. not_false lacks) (up_to (now_of r.core)) refl
       (fits_desk (now_of r.core) (record v { counted = n; counts = v.counts + 1; desk = Writing 0 }) (up_to (now_of r.core)) refl refl refl refl refl refl)
+
+  -- another word stands there
+  other_now : (i : ℕ)
+      → Ruled p (record { words = set s.words i (slice_index s.words i); homes = s.homes; views = set s.views id v })
+  other_now i =
+      seat_step p s r id v at i (slice_index s.words i) v r.core r.sound refl (same_words p s r id v at i)
+      (same_actors p s r id v at) refl (λ _. shown) (λ _. (refl, refl)) (up_to (now_of r.core)) refl (fits p s r id v at)
 
   -- one word more of the next table
   write_now : v.plan ≡ p → (j i x : ℕ) → v.desk ≡ Writing j → j < length (next_of v) → i ≡ row_place (width v.plan) (spare_of v) + j
@@ -269,6 +276,43 @@ module _ (p : Tables) (slots id : ℕ) (me : Seated) (same : me.0.plan ≡ p) (h
                 claimed = λ _. refl;
                 sees = sees_claims p s r id me.0 at same i place;
                 now = moment_after p s r id me.0 at i (slice_index s.words i) w same ruled;
+              },
+            )
+      ]
+
+  pub finds_word : (j i : ℕ) → me.0.desk ≡ Writing j → j < length (next_of me.0) → i ≡ row_place (width me.0.plan) (spare_of me.0) + j
+      → Allows (Ruled p) slots id me i (λ n. n) (FoundWord (step slots i 0 0 none) me)
+  finds_word j i writing more place s r deep at range =
+      elim (cases_eq (slice_index s.words i) (slice_index (next_of me.0) j)) [
+        | inl stands ↦
+            let w : View = record me.0 { desk = Writing (j + 1) } in
+            let ruled : Ruled p (record { words = set s.words i (slice_index s.words i); homes = s.homes; views = set s.views id w }) =
+            write_now p s r id me.0 at has same j i (slice_index s.words i) writing more place stands in (
+              w,
+              acts.keeps,
+              tt,
+              ruled,
+              record {
+                words = j;
+                was = writing;
+                stands = λ _. refl;
+                differs = λ other. absurd (other stands);
+                now = moment_after p s r id me.0 at i (slice_index s.words i) w same ruled;
+              },
+            )
+        | inr other ↦
+            let ruled : Ruled p (record { words = set s.words i (slice_index s.words i); homes = s.homes; views = set s.views id me.0 }) =
+            other_now p s r id me.0 at has i in (
+              me.0,
+              acts.keeps,
+              tt,
+              ruled,
+              record {
+                words = j;
+                was = writing;
+                stands = λ stands. absurd (other stands);
+                differs = λ _. refl;
+                now = moment_after p s r id me.0 at i (slice_index s.words i) me.0 same ruled;
               },
             )
       ]

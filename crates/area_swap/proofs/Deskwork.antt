@@ -1,5 +1,5 @@
 -- What the steps of the desk make of its seat, from what each of them told.
-use Rattle.std.proofs.Common.{◌≡◌, ◌⊎◌, ℕ, ◌+◌, ◌<◌, ◌≤◌, true, List, length, slice_index, subst, sym, refl, ap, ◌∙◌, arith, inl, inr}
+use Rattle.std.proofs.Common.{◌≡◌, ◌≢◌, ◌⊎◌, ℕ, ◌+◌, ◌<◌, ◌≤◌, true, List, length, slice_index, subst, sym, refl, ap, ◌∙◌, arith, inl, inr}
 use mathlib.Core.Option.{none}
 use Rattle.atomic_table.specs.Table.{Allows, step}
 use Rattle.swap_core.specs.Plans.{Tables, width, window}
@@ -11,8 +11,8 @@ use Rattle.area_swap.specs.declared.answers.Seen.{Seen}
 use Rattle.area_swap.specs.Views.{unpacked, reading, next_of, spare_of}
 use Rattle.area_swap.specs.Rule.{Ruled, Sees}
 use Rattle.area_swap.specs.Answers.{NoneDue, LaterDue, NowDue, HasPublished}
-use Rattle.area_swap.specs.SeatSteps.{Stepped, Seated, FoundDue, Wrote, Published}
-use Rattle.area_swap.proofs.DeskSteps.{writes_word}
+use Rattle.area_swap.specs.SeatSteps.{Stepped, Seated, FoundDue, FoundWord, Wrote, Published}
+use Rattle.area_swap.proofs.DeskSteps.{finds_word, writes_word}
 
 -- who rests or is ready does not write
 pub not_writing : (d : DeskState) → (d ≡ Resting) ⊎ (d ≡ Ready) → IsWriting d → ⊥
@@ -85,6 +85,14 @@ published_is {st} {m0} {m1} {n} k s es has =
 abbrev pub writing_at : Seated → ℕ → Seated
 writing_at m j = (record m.0 { desk = Writing j }, m.1)
 
+pub may_find : (p : Tables) (slots id : ℕ) (m0 me : Seated) (j row : ℕ) (words : List ℕ) → me ≡ writing_at m0 j → m0.0.plan ≡ p
+    → m0.0.has_desk ≡ true → words ≡ next_of m0.0 → j < length words → row ≡ row_place (width m0.0.plan) (spare_of m0.0)
+    → Allows (Ruled p) slots id me (row + j) (λ n. n) (FoundWord (step slots (row + j) 0 0 none) me)
+may_find p slots id m0 me j row words e plan has next more place =
+    let P : Seated → Type 0 = λ m. Allows (Ruled p) slots id m (row + j) (λ n. n) (FoundWord (step slots (row + j) 0 0 none) m) in
+    let inside : j < length (next_of m0.0) = omega (arith, ap (λ (l : List ℕ). length l) next) in
+    subst P (sym e) (finds_word p slots id (writing_at m0 j) plan has j (row + j) refl inside (ap (λ (k : ℕ). k + j) place))
+
 pub may_write : (p : Tables) (slots id : ℕ) (m0 me : Seated) (j row x : ℕ) (words : List ℕ) → me ≡ writing_at m0 j → m0.0.plan ≡ p
     → m0.0.has_desk ≡ true → words ≡ next_of m0.0 → j < length words → row ≡ row_place (width m0.0.plan) (spare_of m0.0)
     → x ≡ slice_index words j
@@ -105,3 +113,22 @@ written_view {st} {me} {after} m0 j k e =
     let same : k.words ≡ j = same_writing me.0.desk k.words j k.was (ap (λ (m : Seated). m.0.desk) e) in
     k.after ∙ ap (λ (i : ℕ). (record me.0 { desk = Writing (i + 1) }, me.1)) same
     ∙ ap (λ (m : Seated). (record m.0 { desk = Writing (j + 1) }, m.1)) e
+
+module _ {st : Stepped} {me after : Seated} {n : ℕ} (m0 : Seated) (j : ℕ) (words : List ℕ) (k : FoundWord st me n after) (e : me ≡ writing_at m0 j)
+    (next : words ≡ next_of m0.0) where
+  found_at : k.words ≡ j
+  found_at = same_writing me.0.desk k.words j k.was (ap (λ (m : Seated). m.0.desk) e)
+
+  -- the word of the next table at this place
+  next_word : slice_index (next_of me.0) k.words ≡ slice_index words j
+  next_word =
+      ap (λ (i : ℕ). slice_index (next_of me.0) i) found_at ∙ ap (λ (m : Seated). slice_index (next_of m.0) j) e
+      ∙ sym (ap (λ (l : List ℕ). slice_index l j) next)
+
+  pub standing_view : n ≡ slice_index words j → after ≡ writing_at m0 (j + 1)
+  standing_view stands =
+      k.stands (stands ∙ sym next_word) ∙ ap (λ (i : ℕ). (record me.0 { desk = Writing (i + 1) }, me.1)) found_at
+      ∙ ap (λ (m : Seated). (record m.0 { desk = Writing (j + 1) }, m.1)) e
+
+  pub other_view : n ≢ slice_index words j → after ≡ writing_at m0 j
+  other_view differs = k.differs (λ stands. differs (stands ∙ next_word)) ∙ e

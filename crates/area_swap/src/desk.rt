@@ -12,7 +12,7 @@ use crate::answers::{Due, Quiet};
 use crate::areas::Areas;
 use crate::board::{Place, SharedWords};
 use crate::places::{VERSION_PLACE, claims_at, row_at};
-use crate::plays::{CountClaims, FindDue, PublishTable, WriteWord};
+use crate::plays::{CountClaims, FindDue, FindWord, PublishTable, WriteWord};
 use crate::worker::halves;
 use std::marker::Model;
 
@@ -56,7 +56,8 @@ impl Desk {
     }
 }
 
-/// Stores the words of the next table, one after another, in the row of the spare area.
+/// Writes the words of the next table, one after another, into the row of the spare area. A word that stands there already is not
+/// stored again: tables are mostly alike, and a store takes many times as long as a load.
 fn write_words(shared: &SharedWords, place: &mut Place, words: &[u64], row: usize)
     requires table { place.old.table_id ≡ shared.now.table_id }
     requires plan { place.old.me.0.plan ≡ shared.now.key }
@@ -71,7 +72,11 @@ fn write_words(shared: &SharedWords, place: &mut Place, words: &[u64], row: usiz
     ensures rule { 0 < length words.now → Moment place.new.me.0 }
 {
     'words: for j in 0..words.len() {
-        shared.store::<WriteWord>(place, row + j, words[j]);
+        let word = words[j];
+        let stands = shared.load::<FindWord>(place, row + j);
+        if stands != word {
+            shared.store::<WriteWord>(place, row + j, word);
+        }
     }
 }
 

@@ -83,6 +83,15 @@ impl Play<(), View> for CountClaims {
     ghost then = { ReadClaims };
 }
 
+/// The desk's load of a word of the spare area, which may be the next table's already.
+pub struct FindWord;
+
+impl Play<(), View> for FindWord {
+    ghost use Rattle.area_swap.specs.SeatSteps.{FoundWord};
+
+    ghost then = { FoundWord };
+}
+
 /// The desk's store of a word of the next table.
 pub struct WriteWord;
 
