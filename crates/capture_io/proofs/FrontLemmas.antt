@@ -14,7 +14,7 @@ span_front bytes most at count within =
     let front : drop at (take (at + (most - at)) bytes) ≡ take (most - at) (drop at bytes) = drop-take at (most - at) bytes in
     ap (λ n. take count (drop at (take n bytes))) split ∙ ap (λ l. take count l) front ∙ take-take count (most - at) (drop at bytes) (omega arith)
 
-short_front : (bytes : List ℕ) (most : ℕ) → nat_lt (length (take most bytes)) most ≡ nat_lt (length bytes) most
+pub short_front : (bytes : List ℕ) (most : ℕ) → nat_lt (length (take most bytes)) most ≡ nat_lt (length bytes) most
 short_front bytes most = grind (arith, nat_tests, common_steps, length-take most bytes)
 
 pub header_front : (bytes : List ℕ) → header_in (take 24 bytes) ≡ header_in bytes

@@ -31,12 +31,12 @@ all_more P xs x each p = All-append P xs (x ∷ []) each (one_all P x p)
 pub length_more : {X : Type 0} (xs : List X) (x : X) → length (xs ++ x ∷ []) ≡ length xs + 1
 length_more xs x = length-append xs (x ∷ [])
 
-but_last : (rs : List Rec) (r : Rec) → all_but_last (rs ++ r ∷ []) ≡ rs
+pub but_last : (rs : List Rec) (r : Rec) → all_but_last (rs ++ r ∷ []) ≡ rs
 but_last rs r =
     let size : length (rs ++ r ∷ []) - 1 ≡ length rs = omega (arith, length_more rs r) in
     ap (λ n. take n (rs ++ r ∷ [])) size ∙ take-append_seam rs (r ∷ [])
 
-captured_more : (rs : List Rec) (r : Rec) → bytes_captured (rs ++ r ∷ []) ≡ bytes_captured rs + length r.bytes
+pub captured_more : (rs : List Rec) (r : Rec) → bytes_captured (rs ++ r ∷ []) ≡ bytes_captured rs + length r.bytes
 captured_more rs r = sum_by-append (λ (x : Rec). length x.bytes) rs (r ∷ []) ∙ ap (λ n. bytes_captured rs + n) (omega arith)
 
 -- one more record goes behind those before it

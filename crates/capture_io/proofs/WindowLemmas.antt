@@ -1,6 +1,7 @@
 -- What the front of what is left tells of the record that stands there.
 use Rattle.std.proofs.Common.{◌≡◌, ℕ, ◌+◌, ◌^◌, ◌<◌, ◌≤◌, ◌==◌, ◌⊎◌, nat_lt, Bool, true, false, if◌then◌else◌, List, length, take, drop, Ok, refl, sym, ◌∙◌, ap, subst, inl, inr, arith}
 use Rattle.std.proofs.lemmas.List.{drop-drop, drop-take, length-drop, length-take}
+use Rattle.std.proofs.lemmas.Bool.{true≢false}
 use Rattle.std.proofs.lemmas.Bool.Decides.{nat_tests}
 use Rattle.aftr_base.specs.Numbers.{span}
 use Rattle.capture_io.specs.declared.forms.CaptureBad.TheVariants as bad
@@ -11,6 +12,7 @@ use Rattle.capture_io.specs.declared.fronts.Front.{Front}
 use Rattle.capture_io.specs.declared.fronts.Front.TheVariants as front
 use Rattle.capture_io.specs.Fronts.{IsFront, IsStart, Tells, front_in, if_last, is_more, rec_at}
 use Rattle.capture_io.specs.Record.{captured, next_in, record_in}
+use Rattle.capture_io.specs.Windows.{Ahead}
 use Rattle.capture_io.proofs.FrontLemmas.{span_front}
 use Rattle.capture_io.proofs.RecordLemmas.{head_of_left, next_by, record_is}
 
@@ -171,6 +173,20 @@ decided_by false false false false false at head = refl
 pub last_decided : (big : Bool) (first : List ℕ) (at number : ℕ) → is_more (front_in big first true at number) ≡ false
 last_decided big first at number =
     decided_by (length first == 0) (number == 2 ^ 31) (nat_lt (length first) 16) (nat_lt 262144 (captured big first)) (nat_lt (length first) (16 + captured big first)) at (head_of_left big first)
+
+-- what the front says of the bytes of a window, as the code has them
+pub said_of : (big : Bool) (window : Ahead) (at number : ℕ) (slice : List ℕ) (last : Bool) (result : Front) → slice ≡ window.bytes → last ≡ window.last →
+    result ≡ front_in big slice last at number → result ≡ front_in big window.bytes window.last at number
+said_of big window at number slice last result bytes end says = says ∙ (λ i. front_in big (bytes i) (end i) at number)
+
+-- so where nothing is said, more may come
+pub open_last : (big : Bool) (first : List ℕ) (last : Bool) (at number : ℕ) → is_more (front_in big first last at number) ≡ true → last ≡ false
+open_last big first true at number e = absurd (true≢false (sym e ∙ last_decided big first at number))
+open_last big first false at number e = refl
+
+pub open_more : (big : Bool) (first : List ℕ) (last : Bool) (at number : ℕ) → is_more (front_in big first last at number) ≡ true → is_more (front_in big first false at number) ≡ true
+open_more big first true at number e = absurd (true≢false (sym e ∙ last_decided big first at number))
+open_more big first false at number e = e
 
 -- the front of what is left behind some bytes of a piece
 pub front_behind : (piece all : List ℕ) (last : Bool) (at used : ℕ) → used ≤ length piece → IsFront piece last (drop at all) → IsFront (drop used piece) last (drop (at + used) all)

@@ -12,5 +12,6 @@ pub mod Refusals
 pub mod Rounds
 pub mod Taken
 pub mod Texts
+pub mod Windows
 pub mod Words
 pub mod Written

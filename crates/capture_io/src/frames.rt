@@ -2,6 +2,7 @@
 ghost use Rattle.std.specs.Prelude.{◌≡◌, ◌+◌, ◌≤◌, length};
 ghost use Rattle.capture_io.specs.Frames.{behind_type, carried, ethernet, plain, said};
 
+use crate::header::{ETHERNET, PLAIN_IP};
 use aftr_base::be16;
 
 const IPV4: u16 = 0x0800;
@@ -29,8 +30,8 @@ pub fn frame_of(link: u32, bytes: &[u8]) -> Frame
     ensures { said result ≡ carried link bytes.now }
 {
     match link {
-        101 => plain_frame(bytes),
-        1 => ethernet_frame(bytes),
+        PLAIN_IP => plain_frame(bytes),
+        ETHERNET => ethernet_frame(bytes),
         _ => Frame::Kind,
     }
 }

@@ -6,11 +6,10 @@ ghost use Rattle.capture_io.specs.Rounds.{bytes_captured, is_cut};
 ghost use Rattle.capture_io.specs.Taken.{AreTaken, Ended};
 
 use crate::record::{HEADER_LEN, Head, MOST_BYTES, MOST_RECORDS};
+use crate::records::MOST_TAKEN;
+use crate::window::Window;
 use crate::words::word;
 use crate::{CaptureBad, Ending, Place};
-
-/// The most records of a round.
-pub const MOST_TAKEN: usize = 16_384;
 
 /// What the front of what is left says.
 #[derive(Clone, Copy)]
@@ -71,12 +70,27 @@ fn front_by_order(big: bool, first: &[u8], last: bool, at: u64, number: u32) -> 
     })
 }
 
-/// More has to be read before the front says something.
-pub fn is_open(big: bool, first: &[u8], at: u64, number: u32) -> bool
-    ensures open { result ≡ is_more (front_in big first.now false at number) }
-    ensures short { IsTrue result → length first.now < 262160 }
+/// The record that comes next: the order of the file's numbers, its place and its number.
+#[derive(Clone, Copy)]
+pub struct Upcoming {
+    pub big: bool,
+    pub at: u64,
+    pub number: u32,
+}
+
+/// More has to be read before the front of these bytes says something.
+pub fn is_open(window: &Window, next: Upcoming) -> bool
+    ensures open { result ≡ is_more (front_in next.big window.now.bytes window.now.last next.at next.number) }
+    ensures more { IsTrue result → IsFalse window.now.last }
+    ensures short { IsTrue result → length window.now.bytes < 262160 }
 {
-    match front_of(big, first, false, at, number) {
+    match front_of(
+        next.big,
+        window.as_slice(),
+        window.is_last(),
+        next.at,
+        next.number,
+    ) {
         Front::More => true,
         Front::Whole(_) => false,
         Front::End => false,

@@ -18,7 +18,8 @@ const MAGIC_MICRO: u32 = 0xa1b2c3d4;
 
 const MAGIC_NANO: u32 = 0xa1b23c4d;
 
-const ETHERNET: u32 = 1;
+/// The link type of Ethernet.
+pub const ETHERNET: u32 = 1;
 
 /// The link type of plain IP.
 pub const PLAIN_IP: u32 = 101;

@@ -1,9 +1,13 @@
 // The records of a round, in one buffer.
-ghost use Rattle.std.specs.Prelude.{◌≡◌, ◌<◌, ◌↔◌, [], IsTrue, Some, All, length, map, slice_get};
+ghost use Rattle.std.specs.Prelude.{◌≡◌, ◌<◌, ◌≤◌, ◌↔◌, [], IfOk, IsTrue, Some, All, length, map, slice_get, vec_capacity};
 ghost use Rattle.capture_io.specs.Records.{IsWithin, placed, seen};
 
+use aftr_base::OutOfMemory;
 use std::alloc::Global;
 use std::marker::Model;
+
+/// The most records of a round.
+pub const MOST_TAKEN: usize = 16_384;
 
 /// A record whose bytes stand in a buffer.
 #[derive(Clone, Copy, Debug)]
@@ -66,12 +70,15 @@ impl Records {
         Records { buffer, places }
     }
 
-    /// Gives the buffer and the places back, without taking memory.
-    pub fn into_parts(self) -> (Vec<u8>, Vec<Place>)
-        ensures within { All (IsWithin result.0.items) result.1.items }
-        ensures same { map (placed result.0.items) result.1.items ≡ self }
+    /// Gives the buffer back, and the list of places with room for those of a round.
+    pub fn into_room(self) -> Result<(Vec<u8>, Vec<Place>), OutOfMemory>
+        ensures none { IfOk result (λ parts. parts.1.items ≡ []) }
+        ensures room { IfOk result (λ parts. 16384 ≤ vec_capacity parts.1) }
     {
-        (self.buffer, self.places)
+        let mut places = self.places;
+        places.clear();
+        places.reserve(MOST_TAKEN)?;
+        Ok((self.buffer, places))
     }
 
     /// How many records there are.

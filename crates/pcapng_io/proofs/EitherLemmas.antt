@@ -19,7 +19,7 @@ use Rattle.pcapng_io.specs.Rounds.{left_of}
 use Rattle.pcapng_io.specs.Standing.{Standing}
 use Rattle.pcapng_io.proofs.BlockLemmas.{block_frame}
 use Rattle.pcapng_io.proofs.FrameLemmas.{frame_is}
-use Rattle.pcapng_io.proofs.FrontLemmas.{span_front}
+use Rattle.capture_io.proofs.LawLemmas.{span_front}
 use Rattle.pcapng_io.proofs.OpenLemmas.{open_inside, opens_begins}
 
 kind_front : (bytes : List ℕ) → is_pcapng (take 4 bytes) ≡ is_pcapng bytes

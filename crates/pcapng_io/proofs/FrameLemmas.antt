@@ -10,7 +10,7 @@ use Rattle.pcapng_io.specs.declared.frame.Frame.{Frame}
 use Rattle.pcapng_io.specs.Results.{unless}
 use Rattle.pcapng_io.specs.Frames.{begins_section, enhanced_packet_type, frame_at, frame_in, has_no_order, head_in, interface_type, is_no_total, least_total, section_type, simple_packet_type}
 use Rattle.pcapng_io.specs.Long.{tail_in, tail_of}
-use Rattle.pcapng_io.proofs.FrontLemmas.{span_front, short_front}
+use Rattle.capture_io.proofs.LawLemmas.{span_front, short_front}
 
 -- the answers, by what the tests gave
 abbrev head_by : Bool → Bool → Bool → ℕ → Frame → Result Frame CaptureBad

@@ -9,7 +9,7 @@ use Rattle.pcapng_io.specs.declared.block.Block.TheVariants as block
 use Rattle.pcapng_io.specs.declared.interface.Interface.{Interface}
 use Rattle.pcapng_io.specs.declared.packets.Time.{Time}
 use Rattle.pcapng_io.specs.Packets.{enhanced_in, enhanced_packet, interface_at, nanos_of, seconds_of, section_in, sender_in, simple_in, ticks_in}
-use Rattle.pcapng_io.proofs.FrontLemmas.{span_front}
+use Rattle.capture_io.proofs.LawLemmas.{span_front}
 
 pub section_front : (at : ℕ) (frame : Frame) (left : List ℕ) → section_in at (take 14 left) frame ≡ section_in at left frame
 section_front at frame left = rw (span_front left 14 12 2 (omega arith)) refl

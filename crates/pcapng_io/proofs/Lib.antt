@@ -3,7 +3,6 @@ pub mod EitherLemmas
 pub mod FileLemmas
 pub mod FindLemmas
 pub mod FrameLemmas
-pub mod FrontLemmas
 pub mod InterfaceLemmas
 pub mod KindLemmas
 pub mod LongBlockLemmas

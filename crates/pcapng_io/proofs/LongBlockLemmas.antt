@@ -20,7 +20,7 @@ use Rattle.pcapng_io.specs.Files.{IsBefore}
 use Rattle.pcapng_io.specs.Frames.{head_in}
 use Rattle.pcapng_io.specs.Fronts.{front_in, needed_by}
 use Rattle.pcapng_io.specs.Long.{IsInLong, StandsAt, StandsIn, WithFront, ended, tail_of}
-use Rattle.pcapng_io.specs.Windows.{Ahead}
+use Rattle.capture_io.specs.Windows.{Ahead}
 use Rattle.pcapng_io.proofs.BlockLemmas.{block_frame, body_total, HasTotal, near}
 use Rattle.pcapng_io.proofs.FrameLemmas.{frame_head, head_is, head_refused, head_sound, tail_of_is}
 use Rattle.pcapng_io.proofs.StartLemmas.{fields_same, head_same, open_short, start_long, to_body}

@@ -16,7 +16,7 @@ use Rattle.capture_io.specs.declared.ng_bad.NgBad.TheVariants as ng
 use Rattle.capture_io.specs.Answers.{Agrees}
 use Rattle.pcapng_io.specs.Results.{◌>>=◌}
 use Rattle.pcapng_io.specs.Long.{IsEnd, StandsAt, WithFront, all_from, ended, tail_in, tail_of, with_found}
-use Rattle.pcapng_io.specs.Windows.{Ahead, IsMore}
+use Rattle.capture_io.specs.Windows.{Ahead, IsMore}
 use Rattle.pcapng_io.specs.declared.interface.OptionHead.{OptionHead}
 use Rattle.pcapng_io.specs.Interfaces.{block_by, interface_in, option_at, option_bytes, options_in, resolution_of, rest_from, start_in, value_in}
 use Rattle.pcapng_io.specs.declared.interface.Start.{Start}

@@ -35,7 +35,7 @@ use Rattle.pcapng_io.specs.declared.long_packets.Long.{Long}
 use Rattle.pcapng_io.specs.Pieces.{IsFound, IsLongTaken, IsRound, IsSearch, LongReads, place_of, round_of}
 use Rattle.pcapng_io.specs.Rounds.{left_of}
 use Rattle.pcapng_io.specs.Seen.{IsSoundSeen, Seen, seen_by}
-use Rattle.pcapng_io.specs.Windows.{Ahead}
+use Rattle.capture_io.specs.Windows.{Ahead}
 use Rattle.pcapng_io.proofs.PieceLemmas.{passed_left}
 use Rattle.pcapng_io.proofs.SplitLemmas.{split_on}
 use Rattle.pcapng_io.proofs.StartLemmas.{at_start, open_short}

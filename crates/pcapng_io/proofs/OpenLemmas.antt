@@ -19,7 +19,7 @@ use Rattle.pcapng_io.specs.Captures.{as_plain, at_start, header_in, open_by, ope
 use Rattle.pcapng_io.specs.Files.{IsBefore, IsInBlock, left_at}
 use Rattle.pcapng_io.specs.Answers.{EndsBehind, IsInHeader}
 use Rattle.pcapng_io.specs.Standing.{Opens, Standing, stands_in}
-use Rattle.pcapng_io.specs.Windows.{Ahead, IsAtFront}
+use Rattle.capture_io.specs.Windows.{Ahead, IsAtFront}
 use Rattle.pcapng_io.proofs.WalkLemmas.{after_at, sized}
 
 abbrev pub IsPlain : Passed → Type 0

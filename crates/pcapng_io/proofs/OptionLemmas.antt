@@ -12,7 +12,7 @@ use Rattle.capture_io.specs.declared.ng_bad.NgBad.TheVariants as ng
 use Rattle.pcapng_io.specs.declared.interface.OptionHead.{OptionHead}
 use Rattle.pcapng_io.specs.Interfaces.{BlockOption, first_of, first_resolution, is_bad_resolution, option_at, options_in, options_within, padded, resolution_of, rest_from, value_in, with_first}
 use Rattle.pcapng_io.specs.Long.{all_from, with_found}
-use Rattle.pcapng_io.proofs.FrontLemmas.{span_front}
+use Rattle.capture_io.proofs.LawLemmas.{span_front}
 
 abbrev half_of : Bool → List ℕ → ℕ
 half_of big two = if big then from_be_bytes w16 two else from_le_bytes w16 two

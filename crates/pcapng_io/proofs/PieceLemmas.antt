@@ -1,9 +1,7 @@
 -- Blocks that are taken off the front of a piece, one more.
 use Rattle.std.proofs.Common.{◌≡◌, ℕ, ◌+◌, ◌-◌, ◌^◌, ◌<◌, ◌≤◌, Bool, List, [], ◌∷◌, ◌++◌, length, take, drop, map, All, Option, Some, None, Ok, refl, sym, ◌∙◌, ap, subst, append_assoc, arith}
-use Rattle.std.proofs.lemmas.List.{drop-drop, length-append, length-drop, length-map, length-take-le, map-append, take_rest}
+use Rattle.std.proofs.lemmas.List.{drop-drop, length-drop, length-map, length-take-le, map-append, take_rest}
 use Rattle.std.proofs.lemmas.List.Elements.{All-nil}
-use Rattle.std.proofs.lemmas.List.Sums.{sum_by-append}
-use Rattle.std.proofs.Math.Seq.{take-append_seam}
 use Rattle.aftr_base.specs.Numbers.{span}
 use Rattle.capture_io.specs.declared.forms.CaptureBad.{CaptureBad}
 use Rattle.capture_io.specs.declared.forms.Rec.{Rec}
@@ -12,7 +10,7 @@ use Rattle.capture_io.specs.declared.rounds.Ending.TheVariants as end
 use Rattle.capture_io.specs.Fronts.{IsFront}
 use Rattle.capture_io.specs.Records.{IsWithin, placed}
 use Rattle.capture_io.specs.Rounds.{all_but_last, bytes_captured}
-use Rattle.capture_io.proofs.LawLemmas.{all_more, front_behind}
+use Rattle.capture_io.proofs.LawLemmas.{all_more, but_last, captured_more, front_behind, length_more}
 use Rattle.pcapng_io.specs.declared.block.Block.TheVariants as block
 use Rattle.pcapng_io.specs.declared.block.Known.{Known}
 use Rattle.pcapng_io.specs.declared.block.Packet.{Packet}
@@ -30,17 +28,6 @@ use Rattle.pcapng_io.specs.Rounds.{left_of}
 use Rattle.pcapng_io.proofs.StartLemmas.{Tells, at_start, front_said, front_told, open_before, open_short}
 use Rattle.pcapng_io.proofs.SplitLemmas.{record_end, split_on}
 use Rattle.pcapng_io.proofs.WalkLemmas.{after_at, keeps_link, next_behind, next_ends, next_packet, next_refused, pass_at, sized, sound_after}
-
-length_more : (rs : List Rec) (r : Rec) → length (rs ++ r ∷ []) ≡ length rs + 1
-length_more rs r = length-append rs (r ∷ [])
-
-but_last : (rs : List Rec) (r : Rec) → all_but_last (rs ++ r ∷ []) ≡ rs
-but_last rs r =
-    let size : length (rs ++ r ∷ []) - 1 ≡ length rs = omega (arith, length_more rs r) in
-    ap (λ n. take n (rs ++ r ∷ [])) size ∙ take-append_seam rs (r ∷ [])
-
-captured_more : (rs : List Rec) (r : Rec) → bytes_captured (rs ++ r ∷ []) ≡ bytes_captured rs + length r.bytes
-captured_more rs r = sum_by-append (λ (x : Rec). length x.bytes) rs (r ∷ []) ∙ ap (λ n. bytes_captured rs + n) (omega arith)
 
 pub blocks_none : (old : Seen) (piece : List ℕ) (last : Bool) (number most : ℕ) → number ≤ 2 ^ 31 → 1 ≤ most → IsSoundSeen old → AreBlocks old old piece last number most [] 0 number 0
 blocks_none old piece last number most few some sound = record {

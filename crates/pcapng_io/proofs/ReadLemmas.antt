@@ -20,7 +20,7 @@ use Rattle.pcapng_io.specs.Blocks.{block_in, known_after, record_of, size_of}
 use Rattle.pcapng_io.specs.Files.{IsBefore, IsInBlock, IsSoundPacket, left_at}
 use Rattle.pcapng_io.specs.Long.{IsInLong, StandsBy, WithFront}
 use Rattle.pcapng_io.specs.Fronts.{front_in}
-use Rattle.pcapng_io.specs.Windows.{Ahead, IsAtFront, IsMore}
+use Rattle.capture_io.specs.Windows.{Ahead, IsAtFront, IsMore}
 use Rattle.pcapng_io.proofs.StartLemmas.{IsShort, Tells, at_start, front_said, front_told, open_block, open_short}
 use Rattle.pcapng_io.proofs.WalkLemmas.{after_at, sized}
 

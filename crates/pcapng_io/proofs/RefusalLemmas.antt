@@ -4,7 +4,7 @@ use Rattle.std.specs.List.{list_any}
 use Rattle.std.specs.Prelude.{IfErr}
 use Rattle.std.proofs.lemmas.Bool.Decides.{nat_tests}
 use Rattle.capture_io.specs.Header.{is_known_link}
-use Rattle.capture_io.specs.Refusals.{IsOfFirstBlocks, IsOfHeader, IsOfRecord, RefusesHeader}
+use Rattle.capture_io.specs.Refusals.{IsOfFirstBlocks, IsOfRecord, RefusesHeader}
 use Rattle.capture_io.specs.Words.{half_at, word_at}
 use Rattle.capture_io.specs.declared.forms.CaptureBad.{CaptureBad}
 use Rattle.capture_io.specs.declared.forms.CaptureBad.TheVariants as bad

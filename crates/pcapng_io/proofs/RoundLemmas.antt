@@ -1,6 +1,5 @@
 -- A round, from the packets that were found.
-use Rattle.std.proofs.Common.{◌≡◌, ℕ, ◌-◌, ◌<◌, Bool, false, List, drop, length, map, take, All, Option, Some, None, sym, subst}
-use Rattle.std.proofs.lemmas.List.{take_rest}
+use Rattle.std.proofs.Common.{◌≡◌, ℕ, ◌<◌, Bool, false, List, drop, map, All, Option, Some, None, sym, subst}
 use Rattle.aftr_base.specs.Contents.{Contents, content, Told}
 use Rattle.aftr_base.specs.Outside.{OnlyReads, Outside}
 use Rattle.capture_io.specs.declared.forms.Rec.{Rec}
@@ -16,7 +15,7 @@ use Rattle.pcapng_io.specs.Seen.{IsSoundSeen, Seen, seen_by}
 use Rattle.pcapng_io.specs.Pieces.{IsFound, round_of}
 use Rattle.pcapng_io.specs.Rounds.{left_of}
 use Rattle.pcapng_io.specs.Standing.{stands_in, Standing}
-use Rattle.pcapng_io.proofs.WindowLemmas.{start_of_start}
+use Rattle.capture_io.proofs.LawLemmas.{start_of_start}
 
 -- the records of the round are those that were found
 abbrev pub round_with : List Rec → Taken → Round
@@ -73,8 +72,3 @@ pub told_round : (held : Option Contents) (name : List ℕ) (before seen after :
 told_round held name before seen after given bytes number records places taken view g is kept found =
     subst (λ (s : Standing). Told held (λ m. stands_in s (content m name) → GoesOn (stands_in after) (left_of s.seen) (left_of after.seen) (content m name) number (round_with records taken))) view
     (told_with held name seen after given bytes number records places taken g is kept found)
-
--- what is kept is the start of the rest of the bytes, as the code has it
-pub rest_kept : (ahead slice bytes : List ℕ) (used : ℕ) → slice ≡ bytes → IsStart ahead (take (length slice - used) (drop used slice)) → IsStart ahead (drop used bytes)
-rest_kept ahead slice bytes used same kept =
-    subst (λ (l : List ℕ). IsStart ahead (drop used l)) same (subst (λ (l : List ℕ). IsStart ahead l) (take_rest slice used) kept)

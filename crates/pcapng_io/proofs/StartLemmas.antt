@@ -21,7 +21,7 @@ use Rattle.pcapng_io.specs.Captures.{Gives, next_in}
 use Rattle.pcapng_io.specs.Files.{IsBefore}
 use Rattle.pcapng_io.specs.Long.{tail_in}
 use Rattle.pcapng_io.specs.Fronts.{front_by, front_in, is_short, needed, needed_by}
-use Rattle.pcapng_io.proofs.FrontLemmas.{span_front}
+use Rattle.capture_io.proofs.LawLemmas.{span_front}
 use Rattle.pcapng_io.proofs.FrameLemmas.{frame_head, frame_is, head_front, head_refused, head_sound, tail_is}
 use Rattle.pcapng_io.proofs.KindLemmas.{enhanced_front, section_front, simple_front, start_front}
 use Rattle.pcapng_io.proofs.BlockLemmas.{block_frame}

@@ -1,10 +1,7 @@
 -- Bytes that were read ahead, and the search for the next packets in them.
-use Rattle.std.proofs.Common.{◌≡◌, ℕ, ◌+◌, ◌-◌, ◌^◌, ◌<◌, ◌≤◌, Bool, true, false, if◌then◌else◌, List, [], ◌++◌, length, take, drop, map, All, Option, Some, None, Err, refl, sym, ◌∙◌, ap, subst, arith}
-use Rattle.std.proofs.lemmas.List.{drop-drop, drop-take, length-drop, length-map, length-take, length-take-le, take-take}
+use Rattle.std.proofs.Common.{◌≡◌, ℕ, ◌+◌, ◌-◌, ◌^◌, ◌<◌, ◌≤◌, Bool, true, false, if◌then◌else◌, List, [], ◌++◌, length, drop, map, All, Option, Some, None, Err, refl, sym, ◌∙◌, ap, subst, arith}
+use Rattle.std.proofs.lemmas.List.{length-map}
 use Rattle.std.proofs.lemmas.Bool.{true≢false}
-use Rattle.std.proofs.lemmas.List.Edits.{take-paste}
-use Rattle.std.proofs.Math.Seq.{take-add}
-use Rattle.std.specs.List.{copy_within}
 use Rattle.aftr_base.specs.Contents.{Contents, content, Told}
 use Rattle.aftr_base.specs.declared.outside.Fault.{Fault}
 use Rattle.aftr_base.specs.declared.outside.Fault.TheVariants as fault
@@ -15,48 +12,12 @@ use Rattle.capture_io.specs.declared.rounds.Ending.TheVariants as end
 use Rattle.capture_io.specs.Fronts.{IsFront, IsStart}
 use Rattle.capture_io.specs.Records.{IsWithin, placed}
 use Rattle.capture_io.specs.Rounds.{IsCount, IsEnding, IsInNext, IsPlaced, Precedes, bytes_captured}
-use Rattle.capture_io.proofs.LawLemmas.{start_more, whole_start}
 use Rattle.pcapng_io.specs.declared.pieces.Taken.{Taken}
 use Rattle.pcapng_io.specs.Seen.{IsSoundSeen, Seen}
 use Rattle.pcapng_io.specs.Pieces.{AreBlocks, Ended, IsFound, IsOpen, IsSearch, round_of}
 use Rattle.pcapng_io.specs.Rounds.{left_of}
-use Rattle.pcapng_io.specs.Windows.{Ahead, IsBehind, IsMore}
+use Rattle.capture_io.specs.Windows.{Ahead, IsMore}
 use Rattle.pcapng_io.proofs.PieceLemmas.{rest_front}
-
--- the front of a buffer, and what came behind it
-pub more_by : (held : Option Contents) (name : List ℕ) (at : ℕ) (before now : List ℕ) (filled count : ℕ) → filled ≤ length before → filled + count ≤ length now →
-    take filled now ≡ take filled before → IsBehind held name (at + filled) now filled count → Told held (λ m. count ≡ 0 → drop (at + filled) (content m name) ≡ []) →
-    (last : Bool) → (last ≡ true → count ≡ 0) → IsMore held name at (record { bytes = take filled before; last = false }) (record { bytes = take (filled + count) now; last = last })
-more_by None name at before now filled count in_before in_now front behind none last zero = tt
-more_by (Some m) name at before now filled count in_before in_now front behind none last zero = λ s.
-    let bytes = content m name in
-    let joined : take (filled + count) now ≡ take filled before ++ take count (drop filled now) = take-add filled count now ∙ ap (λ l. l ++ take count (drop filled now)) front in
-    let there : take count (drop filled now) ≡ take count (drop filled (drop at bytes)) = behind ∙ ap (λ l. take count l) (sym (drop-drop filled at bytes)) in
-    let start : IsStart (take (filled + count) now) (drop at bytes) =
-    start_more (drop at bytes) before (drop filled now) now filled count in_before (omega (arith, in_now, length-drop filled now)) joined there s in
-    let size : length (take (filled + count) now) ≡ filled + count = length-take-le (filled + count) now in_now in
-    record {
-      start = start;
-      whole = λ h.
-          let place : at + length (take (filled + count) now) ≡ at + filled = omega (arith, size, zero h) in
-          whole_start (take (filled + count) now) (drop at bytes) start (drop-drop (length (take (filled + count) now)) at bytes ∙ (ap (λ n. drop n bytes) place ∙ none (zero h)));
-    }
-
--- bytes that were moved to the front
-pub moved_front : (bytes : List ℕ) (from end : ℕ) → from ≤ end → end ≤ length bytes → take (end - from) (copy_within bytes from end 0) ≡ drop from (take end bytes)
-moved_front bytes from end order within =
-    let count = end - from in
-    let size : count ≡ 0 + count = omega arith in
-    let split : end ≡ from + count = omega arith in
-    let there : take count (copy_within bytes from end 0) ≡ take count (drop from bytes) =
-    ap (λ k. take k (copy_within bytes from end 0)) size ∙ take-paste bytes 0 (drop from bytes) count (omega arith) (omega (arith, length-drop from bytes)) in
-    there ∙ sym (ap (λ k. drop from (take k bytes)) split ∙ drop-take from count bytes)
-
--- a start of a start
-pub start_of_start : (first more left : List ℕ) → IsStart first more → IsStart more left → IsStart first left
-start_of_start first more left s t =
-    let within : length first ≤ length more = omega (arith, ap length s, length-take (length first) more) in
-    sym (take-take (length first) (length more) left within) ∙ (ap (take (length first)) t ∙ s)
 
 pub search_begins : (held : Option Contents) (name : List ℕ) (old : Seen) (window : Ahead) (number : ℕ) → window.last ≡ false → IsSoundSeen old → IsSearch held name old old window.bytes window number
 search_begins held name old window number more sound = record {

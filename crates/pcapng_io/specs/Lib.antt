@@ -14,4 +14,3 @@ pub mod Rounds
 pub mod Seen
 pub mod Spelled
 pub mod Standing
-pub mod Windows

@@ -18,7 +18,7 @@ use Rattle.pcapng_io.specs.Seen.{Seen}
 use Rattle.pcapng_io.specs.Blocks.{block_in, size_of}
 use Rattle.pcapng_io.specs.Files.{IsBefore}
 use Rattle.pcapng_io.specs.Interfaces.{options_in, resolution_of, rest_from}
-use Rattle.pcapng_io.specs.Windows.{Ahead}
+use Rattle.capture_io.specs.Windows.{Ahead}
 
 -- what was found in front goes before what is found behind
 abbrev pub or_later : Option ℕ → Option ℕ → Option ℕ

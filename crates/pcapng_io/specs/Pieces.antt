@@ -20,7 +20,7 @@ use Rattle.pcapng_io.specs.declared.fronts.Front.TheVariants as front
 use Rattle.pcapng_io.specs.declared.long_packets.Long.{Long}
 use Rattle.pcapng_io.specs.declared.long_packets.Long.TheVariants as long
 use Rattle.pcapng_io.specs.Fronts.{front_in}
-use Rattle.pcapng_io.specs.Windows.{Ahead}
+use Rattle.capture_io.specs.Windows.{Ahead}
 use Rattle.pcapng_io.specs.Rounds.{left_of}
 
 -- the place in a buffer of a packet whose block begins at `from` of it

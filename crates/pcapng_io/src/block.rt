@@ -8,15 +8,14 @@ ghost use Rattle.pcapng_io.specs.Blocks.{block_in};
 ghost use Rattle.pcapng_io.specs.Files.{IsInBlock, IsSound, left_at};
 ghost use Rattle.pcapng_io.specs.Long.{StandsBy};
 ghost use Rattle.pcapng_io.specs.Seen.{seen_by};
-ghost use Rattle.pcapng_io.specs.Windows.{IsAtFront};
+ghost use Rattle.capture_io.specs.Windows.{IsAtFront};
 
 use crate::fronts::{Front, bytes_missing, front_of};
 use crate::interface::Interface;
 use crate::long::{MOST_KEPT, read_long};
 use crate::walk::len_of;
-use crate::window::Window;
 use aftr_base::Files;
-use capture_io::{CaptureBad, CaptureError};
+use capture_io::{CaptureBad, CaptureError, Window};
 use std::alloc::Global;
 
 /// The last place of a block that is read, so that the places behind it have a number (ours).

@@ -8,9 +8,10 @@ ghost use Rattle.pcapng_io.specs.Either.{IsFresh, IsInHead, OpensEither, written
 
 use crate::NgReader;
 use crate::reader::begins_section;
-use crate::window::Window;
 use aftr_base::{Files, OutOfMemory, fill};
-use capture_io::{CaptureError, CaptureReader, ClassicReader, Form, Records, Round, Written};
+use capture_io::{
+    CaptureError, CaptureReader, ClassicReader, Form, Records, Round, Window, Written,
+};
 use std::alloc::Global;
 
 /// A reader of a capture: a file that begins as a pcapng file does is read as one, and every other file as a classic one.

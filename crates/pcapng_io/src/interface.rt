@@ -8,11 +8,7 @@ ghost use Rattle.pcapng_io.specs.Seen.{seen_by};
 
 use crate::block::{Block, Known, Passed};
 use crate::frame::Frame;
-use capture_io::{CaptureBad, NgBad, half, word};
-
-const ETHERNET: u16 = 1;
-
-const PLAIN_IP: u16 = 101;
+use capture_io::{CaptureBad, ETHERNET, NgBad, PLAIN_IP, half, word};
 
 const MOST_INTERFACES: usize = 65_536;
 
@@ -75,14 +71,10 @@ pub fn start_of(
     if interfaces.len() >= MOST_INTERFACES {
         return Err(CaptureBad::Ng(NgBad::Interfaces { at }));
     }
-    let link = half(frame.big, front, 8);
+    let link = u32::from(half(frame.big, front, 8));
     if link != ETHERNET && link != PLAIN_IP {
-        return Err(CaptureBad::Ng(NgBad::Link {
-            at,
-            number: u32::from(link),
-        }));
+        return Err(CaptureBad::Ng(NgBad::Link { at, number: link }));
     }
-    let link = u32::from(link);
     if is_other(known.link, link) {
         return Err(CaptureBad::Ng(NgBad::MixedLinks { at }));
     }

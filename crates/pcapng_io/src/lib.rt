@@ -17,7 +17,6 @@ mod reader;
 mod record;
 mod rounds;
 mod walk;
-mod window;
 mod written;
 
 pub use either::Reader;

@@ -1,5 +1,5 @@
 // Blocks that are longer than what is kept of one: their rest is read and let go.
-ghost use Rattle.std.specs.Prelude.{◌≡◌, ℕ, ◌+◌, ◌-◌, ◌^◌, ◌<◌, ◌≤◌, All, IfErr, IfOk, IsFalse, Ok, drop, length};
+ghost use Rattle.std.specs.Prelude.{◌≡◌, ℕ, ◌+◌, ◌-◌, ◌^◌, ◌<◌, ◌≤◌, All, IfErr, IfOk, IsFalse, Ok, drop, false, length};
 ghost use Rattle.aftr_base.specs.Contents.{Told};
 ghost use Rattle.aftr_base.specs.Outside.{OnlyReads, has_failed};
 ghost use Rattle.capture_io.specs.Answers.{Agrees, is_read_fault};
@@ -17,9 +17,8 @@ use crate::block::{Block, Known};
 use crate::frame::{Frame, INTERFACE, head_of};
 use crate::fronts::body_of_fields;
 use crate::interface::{Interface, Walked, block_of, start_of, walk_options};
-use crate::window::Window;
-use aftr_base::{Fault, Files};
-use capture_io::{CaptureBad, CaptureError, NgBad, word};
+use aftr_base::{Fault, Files, OutOfMemory};
+use capture_io::{CaptureBad, CaptureError, NgBad, Window, word};
 use std::alloc::Global;
 
 // Where the captured bytes of the largest packet end in its block.
@@ -140,14 +139,23 @@ fn read_options<F: Files>(
     ensures reads { OnlyReads (is_read_fault result) name.now (λ place. (at ≤ place) × (place < at + frame.total))
         (F.outside files.old) (F.outside files.new) }
 {
-    let buffer = Vec::new(alloc);
-    let mut rest = match Window::of(buffer, &window.as_slice()[PACKET_END..], MOST_KEPT) {
+    let mut rest = match rest_of(alloc, window) {
         Ok(rest) => rest,
         Err(_) => return Err(CaptureError::OutOfMemory),
     };
     let from = at + PACKET_END as u64;
     let frame = read_end(alloc, files, name, frame, at, from, &mut rest)?;
     Ok(frame)
+}
+
+// What the window has behind the largest packet, with room for as much as is kept of a block.
+fn rest_of(alloc: Global, window: &Window) -> Result<Window, OutOfMemory>
+    requires { 262176 ≤ length window.now.bytes }
+    ensures { IfOk result (λ rest. rest ≡ record { bytes = drop 262172 window.now.bytes; last = false }) }
+{
+    let mut rest = Window::with(alloc, &window.as_slice()[PACKET_END..])?;
+    rest.make_ready(MOST_KEPT)?;
+    Ok(rest)
 }
 
 // The interface of such a block. Its options are walked over as they come.

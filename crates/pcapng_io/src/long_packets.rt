@@ -10,9 +10,8 @@ use crate::interface::Interface;
 use crate::long::read_long;
 use crate::pieces::{Taken, pass, place_of};
 use crate::walk::{behind_packet, behind_passed};
-use crate::window::Window;
 use aftr_base::{Files, OutOfMemory};
-use capture_io::{CaptureError, Ending, Place};
+use capture_io::{CaptureError, Ending, Place, Window};
 use std::alloc::Global;
 
 /// What a long block came to.

@@ -10,16 +10,15 @@ ghost use Rattle.pcapng_io.specs.Captures.{as_plain, form_of, is_pcapng, next_in
 ghost use Rattle.pcapng_io.specs.Files.{IsFault, left_at};
 ghost use Rattle.pcapng_io.specs.Seen.{IsSoundSeen, seen_by};
 ghost use Rattle.pcapng_io.specs.Standing.{Opens, stands_in};
-ghost use Rattle.pcapng_io.specs.Windows.{IsAtFront};
+ghost use Rattle.capture_io.specs.Windows.{IsAtFront};
 
 use crate::block::{Block, Known, Passed, read_block};
 use crate::frame::SECTION;
 use crate::interface::Interface;
 use crate::record::find_record;
 use crate::walk::behind_passed;
-use crate::window::Window;
 use aftr_base::{Files, fill};
-use capture_io::{CaptureError, Form, MOST_PIECE, Next, PLAIN_IP, word};
+use capture_io::{CaptureError, Form, MOST_PIECE, Next, PLAIN_IP, Window, word};
 use std::alloc::Global;
 use std::marker::Model;
 
@@ -58,7 +57,7 @@ pub struct NgReader {
     pub(crate) known: Known,
     pub(crate) interfaces: Vec<Interface>,
     // what was read already of the bytes from the place on
-    pub(crate) ahead: Vec<u8>,
+    pub(crate) window: Window,
     // the most bytes of which a round takes nearly all
     pub(crate) fits: usize,
 }
@@ -69,7 +68,7 @@ impl Model for NgReader {
 
     ghost Value = { Standing };
 
-    ghost view = { λ r. record { seen = seen_by r.known r.interfaces.items; ahead = r.ahead.items } };
+    ghost view = { λ r. record { seen = seen_by r.known r.interfaces.items; ahead = r.window.bytes } };
 
     ghost invariant = { λ r. IsSoundSeen (seen_by r.known r.interfaces.items) };
 }
@@ -129,7 +128,7 @@ impl NgReader {
                 ..known
             },
             interfaces: Vec::new(alloc),
-            ahead: window.into_bytes(),
+            window,
             fits: MOST_PIECE,
         }
     }
@@ -151,7 +150,7 @@ impl NgReader {
             Ok(()) => Ok(NgReader {
                 known,
                 interfaces,
-                ahead: window.into_bytes(),
+                window,
                 fits: MOST_PIECE,
             }),
             Err(_) => Err(CaptureError::OutOfMemory),
@@ -192,19 +191,30 @@ impl NgReader {
             (IsBeforePacket (F.outside files.old).held name.now self.old.seen number) (F.outside files.old) (F.outside files.new) }
     {
         let kept = self.interfaces.len();
-        match find_record(alloc, files, name, self.known, &mut self.interfaces, number) {
+        self.window.clear();
+        match find_record(
+            alloc,
+            files,
+            name,
+            self.known,
+            &mut self.interfaces,
+            number,
+            &mut self.window,
+        ) {
             Ok(Some(found)) => {
                 drop_front(&mut self.interfaces, found.first);
                 self.known = found.known;
-                self.ahead.clear();
+                self.window.clear();
                 Ok(Next::Rec(found.record))
             }
             Ok(None) => {
                 self.interfaces.truncate(kept);
+                self.window.clear();
                 Ok(Next::End)
             }
             Err(error) => {
                 self.interfaces.truncate(kept);
+                self.window.clear();
                 Err(error)
             }
         }

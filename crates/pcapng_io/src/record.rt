@@ -8,13 +8,13 @@ ghost use Rattle.pcapng_io.specs.Blocks.{record_of};
 ghost use Rattle.pcapng_io.specs.Captures.{next_in};
 ghost use Rattle.pcapng_io.specs.Files.{left_at};
 ghost use Rattle.pcapng_io.specs.Seen.{IsSoundSeen, seen_by};
+ghost use Rattle.capture_io.specs.Windows.{IsAtFront};
 
 use crate::block::{Known, Packet};
 use crate::interface::Interface;
 use crate::walk::{behind_packet, find_packet};
-use crate::window::Window;
 use aftr_base::{Bytes, Files, OutOfMemory};
-use capture_io::{CaptureError, Rec};
+use capture_io::{CaptureError, Rec, Window};
 use std::alloc::Global;
 
 /// A packet's record, and what is known behind it. Of the interfaces that are kept, those of its section begin at `first`.
@@ -26,7 +26,7 @@ pub struct Found {
 }
 
 /// The record of the next packet, which has this number, from what is known on. The interfaces of blocks that are passed are
-/// put behind those that are kept.
+/// put behind those that are kept. The window has the bytes from there on, as far as they were read.
 pub fn find_record<F: Files>(
     alloc: Global,
     files: &mut F,
@@ -34,9 +34,11 @@ pub fn find_record<F: Files>(
     known: Known,
     interfaces: &mut Vec<Interface>,
     number: u32,
+    window: &mut Window,
 ) -> Result<Option<Found>, CaptureError>
     requires number { number ≤ 2 ^ 31 }
     requires sound { IsSoundSeen (seen_by known interfaces.old.items) }
+    requires stands { IsAtFront (F.outside files.old).held name.now known.at window.old }
     ensures front { take (length interfaces.old.items) interfaces.new.items ≡ interfaces.old.items }
     ensures told { Told (F.outside files.old).held
         (λ m. IsFound result interfaces.new.items (next_in (seen_by known interfaces.old.items) (left_at m name.now known.at) number)) }
@@ -45,9 +47,7 @@ pub fn find_record<F: Files>(
         (IsBeforePacket (F.outside files.old).held name.now (seen_by known interfaces.old.items) number)
         (F.outside files.old) (F.outside files.new) }
 {
-    let mut window = Window::new(alloc);
-    let Some(sighted) = find_packet(alloc, files, name, known, interfaces, number, &mut window)?
-    else {
+    let Some(sighted) = find_packet(alloc, files, name, known, interfaces, number, window)? else {
         return Ok(None);
     };
     match record_of(alloc, sighted.known, window.as_slice(), sighted.packet) {

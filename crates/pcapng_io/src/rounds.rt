@@ -1,9 +1,8 @@
 // A pcapng file, read in rounds.
-ghost use Rattle.std.specs.Prelude.{◌≡◌, ◌+◌, ◌^◌, ◌<◌, ◌≤◌, [], None, All, IfOk, IsErr, IsTrue, IsFalse, drop, length, take, vec_capacity};
-ghost use Rattle.capture_io.specs.Fronts.{IsStart};
+ghost use Rattle.std.specs.Prelude.{◌≡◌, ◌^◌, ◌<◌, ◌≤◌, [], None, All, IfOk, IsTrue, IsFalse, length, vec_capacity};
 ghost use Rattle.capture_io.specs.Records.{IsWithin};
 ghost use Rattle.capture_io.specs.Refusals.{EndsInRecords};
-ghost use Rattle.capture_io.specs.Rounds.{is_cut, IsCount, IsPlaced};
+ghost use Rattle.capture_io.specs.Rounds.{IsCount, IsPlaced};
 ghost use Rattle.pcapng_io.specs.Captures.{form_of};
 ghost use Rattle.pcapng_io.specs.Pieces.{FindReads, IsFound, round_of};
 ghost use Rattle.pcapng_io.specs.Rounds.{left_of};
@@ -16,11 +15,8 @@ use crate::interface::Interface;
 use crate::long::MOST_KEPT;
 use crate::long_packets::{Long, take_long};
 use crate::pieces::{Taken, take_blocks};
-use crate::window::Window;
 use aftr_base::{Fault, Files, OutOfMemory};
-use capture_io::{
-    CaptureReader, Ending, Form, MOST_TAKEN, Place, Records, Round, fitting, piece_of,
-};
+use capture_io::{CaptureReader, Ending, Form, Place, Records, Round, Window, fitting, piece_of};
 use std::alloc::Global;
 
 /// The reader reads the file in order and each place once, and a block that is longer than a piece into a longer buffer.
@@ -48,11 +44,9 @@ impl CaptureReader for NgReader {
         most_bytes: usize,
         room: Records,
     ) -> Result<Round, OutOfMemory> {
-        let (buffer, mut places) = room.into_parts();
-        places.clear();
-        places.reserve(MOST_TAKEN)?;
+        let (buffer, mut places) = room.into_room()?;
         let piece = piece_of(most_bytes).min(self.fits).max(1);
-        let mut window = Window::of(buffer, &self.ahead, piece)?;
+        self.window.make_ready(piece)?;
         let taken = find_packets(
             alloc,
             files,
@@ -62,18 +56,15 @@ impl CaptureReader for NgReader {
             number,
             most_bytes,
             piece,
-            &mut window,
+            &mut self.window,
             &mut places,
-        )?;
-        keep_rest(
-            &mut self.ahead,
-            &window.as_slice()[taken.used..],
-            taken.ending,
         )?;
         self.known = taken.known;
         self.fits = fitting(self.fits, places.len(), taken.used);
+        let ended = taken.ending.is_some();
+        let records = self.window.hand_out(places, buffer, taken.used, ended)?;
         Ok(Round {
-            records: window.into_records(places),
+            records,
             number: taken.number,
             ending: taken.ending,
         })
@@ -163,16 +154,4 @@ fn is_done(ending: Option<Ending>, places: &[Place]) -> bool
     ensures unsaid { IsFalse result → (ending ≡ None) × (places.now ≡ []) }
 {
     ending.is_some() || !places.is_empty()
-}
-
-// Keeps bytes for the next round; where the packets have ended none, so that no memory is asked for.
-fn keep_rest(ahead: &mut Vec<u8>, rest: &[u8], ending: Option<Ending>) -> Result<(), OutOfMemory>
-    ensures kept { IfOk result (λ _. IsStart ahead.new.items rest.now) }
-    ensures well { IsErr result → IsFalse (is_cut ending) }
-{
-    ahead.clear();
-    if ending.is_none() {
-        ahead.extend_from_slice(rest)?;
-    }
-    Ok(())
 }

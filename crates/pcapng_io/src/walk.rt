@@ -8,13 +8,12 @@ ghost use Rattle.pcapng_io.specs.Blocks.{interfaces_after, known_after, known_be
 ghost use Rattle.pcapng_io.specs.Captures.{next_in};
 ghost use Rattle.pcapng_io.specs.Files.{left_at};
 ghost use Rattle.pcapng_io.specs.Seen.{IsSoundSeen, seen_by};
-ghost use Rattle.pcapng_io.specs.Windows.{IsAtFront};
+ghost use Rattle.capture_io.specs.Windows.{IsAtFront};
 
 use crate::block::{Block, Known, Packet, Passed, read_block};
 use crate::interface::Interface;
-use crate::window::Window;
 use aftr_base::{Files, OutOfMemory};
-use capture_io::CaptureError;
+use capture_io::{CaptureError, Window};
 use std::alloc::Global;
 
 /// A packet that stands at a place. Of the interfaces that are kept, those of its section begin at `first`.

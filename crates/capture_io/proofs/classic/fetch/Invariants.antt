@@ -1,14 +1,13 @@
-use Rattle.std.proofs.Common.{◌≡◌, ◌≤◌, ◌-◌, length, take}
-use Rattle.capture_io.proofs.FetchLemmas.{StartsSo}
+-- What was read, and that no read failed.
+use Rattle.std.proofs.Common.{◌≡◌, ◌+◌, ◌-◌, length, if◌then◌else◌}
+use Rattle.capture_io.specs.Windows.{IsMore}
 use Rattle.capture_io.proofs.classic.fetch.Given as goal
 
 abbrev pub invariant-reads : goal.invariant-reads
 invariant-reads g l = let f = g.F.Files in record {
-  within : l.filled ≤ length l.buffer;
-  size : length l.buffer ≡ length l.initial.buffer;
-  start : StartsSo (f.outside l.initial.files).held l.name (take l.ahead l.initial.buffer) l.at (take l.filled l.buffer);
+  told : IsMore (f.outside l.initial.files).held l.name l.next.at l.initial.window l.window;
   outside : f.outside l.files ≡ f.outside l.initial.files;
 }
 
 abbrev pub decreases-reads : goal.decreases-reads
-decreases-reads g l = length l.buffer - l.filled
+decreases-reads g l = 262161 - (length l.window.bytes + (if l.window.last then 1 else 0))

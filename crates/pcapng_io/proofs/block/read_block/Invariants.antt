@@ -1,6 +1,6 @@
 -- The bytes are those that stand at the place that is known.
 use Rattle.std.proofs.Common.{◌≡◌, ◌+◌, ◌-◌, ◌^◌, length, if◌then◌else◌}
-use Rattle.pcapng_io.specs.Windows.{IsAtFront}
+use Rattle.capture_io.specs.Windows.{IsAtFront}
 use Rattle.pcapng_io.proofs.block.read_block.Given as goal
 
 abbrev pub invariant-reading : goal.invariant-reading

@@ -1,5 +1,5 @@
 -- The fields in front and the end say what all bytes say.
-use Rattle.std.proofs.Common.{◌<◌, ◌∙◌, ap, drop, length, subst, sym, Ok, Err, arith}
+use Rattle.std.proofs.Common.{◌∙◌, ap, drop, length, subst, sym, Ok, Err, arith}
 use Rattle.std.proofs.lemmas.Result.{err_from_is_err_and}
 use Rattle.pcapng_io.specs.declared.block.Block.{Block}
 use Rattle.std.proofs.lemmas.Bool.Decides.{nat_tests}

@@ -1,18 +1,14 @@
-use Rattle.std.proofs.Common.{◌+◌, ◌≤◌, length, Option, Err, IfSome, refl, sym, ◌∙◌, ap, subst}
+use Rattle.std.proofs.Common.{◌+◌, ◌≤◌, length, Option, Err, IfSome, refl, ◌∙◌, ap, subst}
 use Rattle.std.proofs.lemmas.Result.{err_from_is_err_and}
 use Rattle.pcapng_io.specs.declared.record.Found.{Found}
 use Rattle.pcapng_io.specs.declared.walk.Sighted.{Sighted}
 use Rattle.pcapng_io.specs.Seen.{seen_by}
 use Rattle.pcapng_io.specs.Answers.{IsSoundSight}
-use Rattle.pcapng_io.specs.Windows.{Ahead, IsAtFront}
+use Rattle.capture_io.specs.Windows.{IsAtFront}
 use Rattle.pcapng_io.proofs.FileLemmas.{passed_inside}
 use Rattle.pcapng_io.proofs.FindLemmas.{found_told, sight_failed, sighted_at}
-use Rattle.pcapng_io.proofs.ReadLemmas.{none_read, record_told}
+use Rattle.pcapng_io.proofs.ReadLemmas.{record_told}
 use Rattle.pcapng_io.proofs.record.find_record.Goals as goal
-
-pub find_packet-requires-clause-stands : goal.find_packet-requires-clause-stands
-find_packet-requires-clause-stands g c =
-    subst (λ (w : Ahead). IsAtFront (g.F.Files.outside c.args.files.now).held c.args.name.now c.args.known.at w) (sym c.new-window.ensures) (none_read (g.F.Files.outside c.args.files.now).held c.args.name.now c.args.known.at)
 
 pub returns-in_err-sighted-clause-told : goal.returns-in_err-sighted-clause-told
 returns-in_err-sighted-clause-told g c =

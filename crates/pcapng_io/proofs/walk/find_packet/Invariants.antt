@@ -1,5 +1,5 @@
 use Rattle.std.proofs.Common.{◌-◌, ◌^◌, ◌≡◌}
-use Rattle.pcapng_io.specs.Windows.{IsAtFront}
+use Rattle.capture_io.specs.Windows.{IsAtFront}
 use Rattle.pcapng_io.proofs.WalkLemmas.{IsWalk}
 use Rattle.pcapng_io.proofs.walk.find_packet.Given as goal
 

@@ -7,8 +7,15 @@ use Rattle.pcapng_io.specs.Standing.{Standing}
 use Rattle.pcapng_io.specs.Captures.{Gives, next_in}
 use Rattle.pcapng_io.specs.Files.{left_at}
 use Rattle.pcapng_io.specs.Answers.{Continues}
+use Rattle.capture_io.specs.Windows.{Ahead, IsAtFront}
+use Rattle.pcapng_io.proofs.ReadLemmas.{none_read}
 use Rattle.pcapng_io.proofs.SplitLemmas.{continued_told}
 use Rattle.pcapng_io.proofs.reader.NgReader.next.Goals as goal
+
+pub find_record-requires-clause-stands : goal.find_record-requires-clause-stands
+find_record-requires-clause-stands g c =
+    let held = (g.F.Files.outside c.args.files.now).held in
+    subst (λ (w : Ahead). IsAtFront held c.args.name.now c.self.inside.known.at w) (sym c.clear.ensures) (none_read held c.args.name.now c.self.inside.known.at)
 
 pub returns-in-Ok-Some-clause-step : goal.returns-in-Ok-Some-clause-step
 returns-in-Ok-Some-clause-step g c =

@@ -1,5 +1,5 @@
 use Rattle.std.proofs.Common.{◌-◌, ◌^◌, ◌≡◌, ◌<◌, None}
-use Rattle.pcapng_io.specs.Windows.{IsAtFront}
+use Rattle.capture_io.specs.Windows.{IsAtFront}
 use Rattle.pcapng_io.proofs.OpenLemmas.{OpensFrom}
 use Rattle.pcapng_io.proofs.reader.NgReader.open_behind.Given as goal
 

@@ -1,9 +1,9 @@
 -- What was read stands behind the bytes.
 use Rattle.std.proofs.Common.{◌≡◌, ◌+◌, ◌==◌, ℕ, List, true, false, take, subst, arith}
 use Rattle.std.proofs.lemmas.Bool.Decides.{nat_tests}
-use Rattle.pcapng_io.specs.Windows.{Ahead, IsMore}
-use Rattle.pcapng_io.proofs.WindowLemmas.{more_by}
-use Rattle.pcapng_io.proofs.window.Window.read_more.Goals as goal
+use Rattle.capture_io.specs.Windows.{Ahead, IsMore}
+use Rattle.capture_io.proofs.FetchLemmas.{more_by}
+use Rattle.capture_io.proofs.window.Window.read_more.Goals as goal
 
 pub returns-clause-told : goal.returns-clause-told
 returns-clause-told g c =

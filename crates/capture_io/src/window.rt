@@ -1,14 +1,18 @@
 // Bytes that were read of a file and are not used yet.
-ghost use Rattle.std.specs.Prelude.{◌≡◌, ◌+◌, ◌-◌, ◌^◌, ◌<◌, ◌≤◌, [], false, IfOk, IsErr, IsFalse, All, List, drop, length, map, take};
+ghost use Rattle.std.specs.Prelude.{◌≡◌, ℕ, ◌+◌, ◌-◌, ◌^◌, ◌<◌, ◌≤◌, [], false, if◌then◌else◌, IfOk, IsErr, IsFalse, All, List, drop, length, map, take};
 ghost use Rattle.aftr_base.specs.Contents.{content, Told};
 ghost use Rattle.aftr_base.specs.Outside.{OnlyReads, has_failed};
 ghost use Rattle.capture_io.specs.Records.{IsWithin, placed};
-ghost use Rattle.pcapng_io.specs.Windows.{Ahead, IsBehind, IsMore};
+ghost use Rattle.capture_io.specs.Windows.{Ahead, IsBehind, IsMore};
 
+use crate::{Place, Records};
 use aftr_base::{Fault, Files, OutOfMemory};
-use capture_io::{Place, ROOM, Records};
 use std::alloc::Global;
 use std::marker::Model;
+use std::mem;
+
+/// The least room of a round.
+pub const ROOM: usize = 524_288;
 
 /// The bytes of a file from a place on that were read and are not used yet, and whether nothing stands behind them. They stand at
 /// the front of one buffer.
@@ -21,7 +25,7 @@ pub struct Window {
 
 impl Model for Window {
     ghost use Rattle.std.specs.Prelude.{◌≤◌, length, take};
-    ghost use Rattle.pcapng_io.specs.Windows.{Ahead};
+    ghost use Rattle.capture_io.specs.Windows.{Ahead};
 
     ghost Value = { Ahead };
 
@@ -55,22 +59,6 @@ impl Window {
         })
     }
 
-    /// These bytes, in the room of a buffer that has room for so many.
-    pub fn of(mut buffer: Vec<u8>, ahead: &[u8], room: usize) -> Result<Window, OutOfMemory>
-        ensures { IfOk result (λ window. window ≡ record { bytes = ahead.now; last = false }) }
-    {
-        let size = ahead.len().max(ROOM).max(room);
-        if buffer.len() < size {
-            buffer.resize(size, 0)?;
-        }
-        put_front(&mut buffer, ahead);
-        Ok(Window {
-            buffer,
-            filled: ahead.len(),
-            last: false,
-        })
-    }
-
     pub fn as_slice(&self) -> &[u8]
         ensures { result.now ≡ self.now.bytes }
     {
@@ -81,6 +69,23 @@ impl Window {
         ensures { result ≡ self.now.last }
     {
         self.last
+    }
+
+    /// Lets all bytes go, and keeps their room.
+    pub fn clear(&mut self)
+        ensures { self.new ≡ record { bytes = []; last = false } }
+    {
+        self.filled = 0;
+        self.last = false;
+    }
+
+    /// Makes ready for a round: there is room for so many bytes, and what stands behind those that are there is asked for.
+    pub fn make_ready(&mut self, room: usize) -> Result<(), OutOfMemory>
+        ensures { IfOk result (λ _. self.new ≡ record { bytes = self.old.bytes; last = false }) }
+    {
+        make_room(&mut self.buffer, room.max(ROOM))?;
+        self.last = false;
+        Ok(())
     }
 
     /// Lets the first bytes go, so many of them.
@@ -130,22 +135,47 @@ impl Window {
         Ok(())
     }
 
-    /// The bytes, without taking memory.
-    pub fn into_bytes(self) -> Vec<u8>
-        ensures { result.items ≡ self.bytes }
+    /// The records that stand at these places of the bytes, with the buffer in which they stand. What stands behind the first `used` bytes
+    /// goes over into another buffer, which is the window's from then on; where the records have ended nothing does, so that no
+    /// memory is asked for.
+    pub fn hand_out(
+        &mut self,
+        places: Vec<Place>,
+        other: Vec<u8>,
+        used: usize,
+        ended: bool,
+    ) -> Result<Records, OutOfMemory>
+        requires within { All (IsWithin self.old.bytes) places.items }
+        requires used { used ≤ length self.old.bytes }
+        ensures records { IfOk result (λ records. records ≡ map (placed self.old.bytes) places.items) }
+        ensures rest { IfOk result (λ _. self.new.bytes ≡ (if ended then [] else drop used self.old.bytes)) }
+        ensures well { IsErr result → IsFalse ended }
     {
-        let mut bytes = self.buffer;
-        bytes.truncate(self.filled);
-        bytes
+        let mut next = other;
+        if ended {
+            self.filled = 0;
+            let buffer = mem::replace(&mut self.buffer, next);
+            return Ok(Records::of(buffer, places));
+        }
+        let rest = &self.buffer[used..self.filled];
+        make_room(&mut next, rest.len().max(ROOM))?;
+        put_front(&mut next, rest);
+        self.filled -= used;
+        let buffer = mem::replace(&mut self.buffer, next);
+        Ok(Records::of(buffer, places))
     }
+}
 
-    /// The records that stand at these places of the bytes, with the room of both lists.
-    pub fn into_records(self, places: Vec<Place>) -> Records
-        requires { All (IsWithin self.bytes) places.items }
-        ensures { result ≡ map (placed self.bytes) places.items }
-    {
-        Records::of(self.buffer, places)
+// Makes a buffer as long as this, where it is shorter.
+fn make_room(buffer: &mut Vec<u8>, size: usize) -> Result<(), OutOfMemory>
+    ensures front { (count : ℕ) → count ≤ length buffer.old.items → take count buffer.new.items ≡ take count buffer.old.items }
+    ensures size { IfOk result (λ _. size ≤ length buffer.new.items) }
+    ensures longer { length buffer.old.items ≤ length buffer.new.items }
+{
+    if buffer.len() < size {
+        buffer.resize(size, 0)?;
     }
+    Ok(())
 }
 
 // Moves the bytes from a place up to an end to the front.

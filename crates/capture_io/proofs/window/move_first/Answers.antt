@@ -1,6 +1,6 @@
 use Rattle.std.proofs.Common.{◌-◌, take, ◌∙◌, ap}
-use Rattle.pcapng_io.proofs.WindowLemmas.{moved_front}
-use Rattle.pcapng_io.proofs.window.move_first.Goals as goal
+use Rattle.capture_io.proofs.FetchLemmas.{moved_front}
+use Rattle.capture_io.proofs.window.move_first.Goals as goal
 
 pub returns-clause-front : goal.returns-clause-front
 returns-clause-front c =
