@@ -1,166 +1,142 @@
 -- What the outputs hold where a round could not be written to its end.
-use Rattle.std.proofs.Common.{◌≡◌, ℕ, List, [], ◌++◌, length, take, drop, refl, sym, ◌∙◌, ap, arith, append-nil, append_assoc, length-append}
-use Rattle.std.proofs.Math.Seq.{take-append_seam, take-length}
-use Rattle.std.proofs.lemmas.List.{take-append-drop}
+use Rattle.std.proofs.Common.{◌≡◌, ℕ, List, [], ◌++◌, length, take, drop, refl, sym, ◌∙◌, ap, subst, arith, append-nil, append_assoc, length-append, take-append-drop}
+use Rattle.std.specs.Prelude.{string_bytes}
+use Rattle.std.proofs.Math.Seq.{take-length}
 use Rattle.std.proofs.lemmas.Grind.{flat_map-append}
 use Rattle.aftr_base.specs.Contents.{Contents, content}
 use Rattle.capture_io.specs.declared.forms.Rec.{Rec}
-use Rattle.item_stage.specs.declared.entries.Entry.{Entry}
 use Rattle.item_stage.specs.Items.{entries_of}
 use Rattle.lwaftr_engine.specs.Broken.{HasBegun}
-use Rattle.lwaftr_engine.specs.Progress.{HasWritten, Seats, Setup, Spot, Wrote, loads_of, mark}
+use Rattle.lwaftr_engine.specs.Fronts.{IsFrontOf}
+use Rattle.lwaftr_engine.specs.Progress.{HasWritten, Past, Seats, Setup, Spot, Wrote, loads_of, mark}
+use Rattle.lwaftr_engine.specs.RunLaws.{RunLaws}
+use Rattle.lwaftr_engine.specs.Underway.{HasJudged}
+use Rattle.lwaftr_engine.specs.declared.rounds.Pending.{Pending}
 use Rattle.lwaftr_engine.specs.declared.rounds.Progress.{Progress}
 use Rattle.run_output.specs.Outputs.{Course, lines_from, packets_from}
-use Rattle.run_output.specs.Rendering.{HasOutcomes, lines_in, packets_in}
+use Rattle.run_output.specs.Rendering.{lines_in, packets_in}
 use Rattle.run_output.specs.Versions.{NamedSlot, load_lines, slot_text}
-use Rattle.run_output.specs.declared.parts.Part.{Part}
-use Rattle.worker_gate.specs.declared.outcomes.Outcome.{Outcome}
-use Rattle.lwaftr_engine.specs.Underway.{IsRoundOf}
-use Rattle.lwaftr_engine.proofs.Going.{Joins, limited_before, lines_are, packets_are, spoken_more, versions_are}
-
--- what stands before something more is a front of both
-pub front_of : (whole part rest : List ℕ) → whole ≡ part ++ rest → part ≡ take (length part) whole
-front_of whole part rest is = sym (take-append_seam part rest) ∙ ap (λ (l : List ℕ). take (length part) l) (sym is)
-
--- with a part of the next list it is a front of both and what follows
-pub front_more : (whole part next rest : List ℕ) (count : ℕ) → whole ≡ (part ++ next) ++ rest → part ++ take count next ≡ take (length (part ++ take count next)) whole
-front_more whole part next rest count is =
-    let cut : part ++ next ≡ (part ++ take count next) ++ drop count next = ap (λ (l : List ℕ). part ++ l) (sym (take-append-drop count next)) ∙ sym (append_assoc part (take count next) (drop count next)) in
-    front_of whole (part ++ take count next) (drop count next ++ rest) (is ∙ (ap (λ (l : List ℕ). l ++ rest) cut ∙ append_assoc (part ++ take count next) (drop count next) rest))
+use Rattle.swap_core.specs.Plans.{Tables}
+use Rattle.lwaftr_engine.proofs.Going.{limited_before, lines_are, packets_are, spoken_more, versions_are}
+use Rattle.lwaftr_engine.proofs.Parts.{front_more, front_of}
 
 pub lines_split : (points : List ℕ) (k : ℕ) (loads : List NamedSlot) → load_lines points loads ≡ load_lines points (take k loads) ++ load_lines points (drop k loads)
 lines_split points k loads =
-    ap (λ (l : List NamedSlot). load_lines points l) (sym (take-append-drop k loads)) ∙ flat_map-append (λ (load : NamedSlot). slot_text points load.name load.slot) (take k loads) (drop k loads)
+    ap (λ (l : List NamedSlot). load_lines points l) (sym (take-append-drop k loads))
+    ∙ flat_map-append (λ (load : NamedSlot). slot_text points load.name load.slot) (take k loads) (drop k loads)
 
--- nothing more was written
-pub still_begun : (x : Setup) (c : Course) (opened a : Contents) (p : Progress) (s t : Seats) (news : List ℕ) (reader : Spot) (taken : List Rec) → t.points ≡ s.points ++ news →
-    HasWritten x c opened (mark a p s reader) taken → HasBegun x c t.points opened a taken
-still_begun x c opened a p s t news reader taken points_are h =
-    let V : List ℕ → List ℕ = λ points. load_lines points (take p.printed (loads_of x)) in
+-- lines of tables are put behind those of what was taken, and lines behind its lines: both are fronts of what is due
+pub begun_by : {x : Setup} {c : Course} {opened a d : Contents} {p : Progress} {s : Seats} {reader : Spot} {taken : List Rec} → HasWritten x c opened (mark a p s reader) taken → (later v l due : List ℕ) →
+    IsFrontOf (load_lines (s.points ++ later) (loads_of x)) (load_lines (s.points ++ later) (take p.printed (loads_of x)) ++ v) → IsFrontOf due (lines_from c 0 (entries_of x.form taken) ++ l) →
+    Wrote x.run v [] l a d → HasBegun x c (s.points ++ later) due opened d taken
+begun_by {x} {c} {opened} {a} {d} {p} {s} {reader} {taken} h later v l due tables lines wrote =
+    let V = load_lines (s.points ++ later) (take p.printed (loads_of x)) in
     let P = packets_from c x.written 0 taken (entries_of x.form taken) in
     let L = lines_from c 0 (entries_of x.form taken) in
-    let here : V (s.points ++ news) ≡ V t.points = ap V (sym points_are) in
-    let front : V t.points ≡ take (length (V t.points)) (load_lines t.points (loads_of x)) = front_of (load_lines t.points (loads_of x)) (V t.points) (load_lines t.points (drop p.printed (loads_of x))) (lines_split t.points p.printed (loads_of x)) in
     record {
       printed = s.points;
-      later = news;
-      all = points_are;
+      later = later;
+      all = refl;
       loads = p.printed;
       none_due = h.none_due;
       spoken = h.spoken;
       wrote = λ limited.
-          let f = h.files news limited in record {
-            versions_count = length (V t.points);
-            versions_is = f.versions_is ∙ ap (λ (l : List ℕ). content opened x.run.versions ++ l) (here ∙ front);
+          let f = h.files later limited in
+          record {
+            versions_count = tables.0;
+            versions_is = wrote.versions_is ∙ (ap (λ (q : List ℕ). q ++ v) f.versions_is ∙ (append_assoc (content opened x.run.versions) V v ∙ ap (λ (q : List ℕ). content opened x.run.versions ++ q) tables.1));
             output_count = length P;
-            output = f.output ∙ ap (λ (l : List ℕ). content opened x.run.output ++ l) (sym (take-length P));
-            verdicts_count = length L;
-            verdicts = f.verdicts ∙ ap (λ (l : List ℕ). content opened x.run.verdicts ++ l) (sym (take-length L));
-            others = f.others;
+            output = wrote.output ∙ (append-nil (content a x.run.output) ∙ (f.output ∙ ap (λ (q : List ℕ). content opened x.run.output ++ q) (sym (take-length P))));
+            verdicts_count = lines.0;
+            verdicts = wrote.verdicts ∙ (ap (λ (q : List ℕ). q ++ l) f.verdicts ∙ (append_assoc (content opened x.run.verdicts) L l ∙ ap (λ (q : List ℕ). content opened x.run.verdicts ++ q) lines.1));
+            others = λ name u z w. wrote.others name u z w ∙ f.others name u z w;
           };
       told = λ limited.
-          let f = h.files news limited in
-          omega (arith, ap (λ (l : List ℕ). length l) f.versions_is, length-append (content opened x.run.versions) (V (s.points ++ news)), ap (λ (l : List ℕ). length l) here);
+          let f = h.files later limited in
+          omega (
+            arith,
+            ap (λ (q : List ℕ). length q) wrote.versions_is,
+            length-append (content a x.run.versions) v,
+            ap (λ (q : List ℕ). length q) f.versions_is,
+            length-append (content opened x.run.versions) V,
+          );
     }
 
-module _ (joins : Joins) (x : Setup) (c : Course) (p q : Progress) (s t : Seats) (news : List ℕ) (records : List Rec) (es : List Entry) (os : List Outcome) (vs : List ℕ) (parts : List Part)
-    (round : IsRoundOf x p q s t news records es os vs parts) (outcomes : HasOutcomes c p.number es os)
-    (opened a : Contents) (here : Spot) (taken : List Rec) (h : HasWritten x c opened (mark a p s here) taken) (d : Contents) (later : List ℕ) where
-  abbrev end : Seats
-  end = record { points = t.points ++ later; reads = t.reads }
+-- nothing was put there
+pub still_begun : {x : Setup} {c : Course} {opened a d : Contents} {p : Progress} {s : Seats} {reader : Spot} {taken : List Rec} → HasWritten x c opened (mark a p s reader) taken → (later : List ℕ) →
+    Wrote x.run [] [] [] a d → HasBegun x c (s.points ++ later) (lines_from c 0 (entries_of x.form taken)) opened d taken
+still_begun {x} {c} {opened} {a} {d} {p} {s} {reader} {taken} h later none =
+    let V = load_lines (s.points ++ later) (take p.printed (loads_of x)) in
+    let L = lines_from c 0 (entries_of x.form taken) in
+    let rest = load_lines (s.points ++ later) (drop p.printed (loads_of x)) in
+    begun_by h later [] [] L
+    (length (V ++ []), front_of (load_lines (s.points ++ later) (loads_of x)) (V ++ []) rest (lines_split (s.points ++ later) p.printed (loads_of x) ∙ ap (λ (q : List ℕ). q ++ rest) (sym (append-nil V))))
+    (length L, append-nil L ∙ sym (take-length L)) none
 
-  points_end : t.points ++ later ≡ s.points ++ (news ++ later)
-  points_end = ap (λ (l : List ℕ). l ++ later) round.new_lines.points_are ∙ append_assoc s.points news later
+module _ (laws : RunLaws) {x : Setup} {plan : Tables} {draws : List (ℕ × ℕ)} {p q : Progress} {s t : Seats} {records : List Rec} {made : Pending} {a : Contents} {here : Spot}
+    (judged : HasJudged x plan draws p q s t records made) (past : Past x plan draws (mark a p s here)) (d : Contents) (later : List ℕ) where
+  points_end : s.points ++ (judged.news ++ later) ≡ t.points ++ later
+  points_end = sym (append_assoc s.points judged.news later) ∙ ap (λ (l : List ℕ). l ++ later) (sym judged.new_lines.points_are)
 
-  abbrev before : List ℕ
-  before = load_lines (s.points ++ (news ++ later)) (take p.printed (loads_of x))
+  -- a front of the new lines of tables is put behind what was there
+  pub begun_tables : (count : ℕ) → Wrote x.run (take count (string_bytes made.versions)) [] [] a d →
+      HasBegun x past.course (t.points ++ later) (lines_from past.course 0 (entries_of x.form past.taken)) past.opened d past.taken
+  begun_tables count wrote =
+      let B : List ℕ → Type 0 = λ points. HasBegun x past.course points (lines_from past.course 0 (entries_of x.form past.taken)) past.opened d past.taken in
+      let points = s.points ++ (judged.news ++ later) in
+      let before = load_lines points (take p.printed (loads_of x)) in
+      let after = load_lines points (drop q.printed (loads_of x)) in
+      let L = lines_from past.course 0 (entries_of x.form past.taken) in
+      let both : load_lines (s.points ++ (judged.news ++ later)) (take q.printed (loads_of x)) ≡ load_lines (s.points ++ (judged.news ++ later)) (take p.printed (loads_of x)) ++ string_bytes made.versions =
+      ap (λ (l : List ℕ). load_lines l (take q.printed (loads_of x))) points_end ∙ sym (versions_are laws judged past later) in
+      let whole : load_lines (s.points ++ (judged.news ++ later)) (loads_of x)
+          ≡ (load_lines (s.points ++ (judged.news ++ later)) (take p.printed (loads_of x)) ++ string_bytes made.versions) ++ load_lines (s.points ++ (judged.news ++ later)) (drop q.printed (loads_of x)) =
+      lines_split points q.printed (loads_of x) ∙ ap (λ (l : List ℕ). l ++ after) both in
+      subst B points_end (begun_by past.written (judged.news ++ later) (take count (string_bytes made.versions)) [] L
+      (length (before ++ take count (string_bytes made.versions)), front_more (load_lines points (loads_of x)) before (string_bytes made.versions) after count whole)
+      (length L, append-nil L ∙ sym (take-length L)) wrote)
 
-  abbrev all : List ℕ
-  all = load_lines (t.points ++ later) (loads_of x)
-
-  both : load_lines (s.points ++ (news ++ later)) (take p.printed (loads_of x)) ++ vs ≡ load_lines (t.points ++ later) (take q.printed (loads_of x))
-  both = versions_are joins x c p q s t news records es os vs parts round outcomes opened a here taken h later
-
-  whole : load_lines (t.points ++ later) (loads_of x) ≡ (load_lines (s.points ++ (news ++ later)) (take p.printed (loads_of x)) ++ vs) ++ load_lines (t.points ++ later) (drop q.printed (loads_of x))
-  whole = lines_split (t.points ++ later) q.printed (loads_of x) ∙ ap (λ (l : List ℕ). l ++ load_lines (t.points ++ later) (drop q.printed (loads_of x))) (sym both)
-
-  abbrev P : List ℕ
-  P = packets_from c x.written 0 taken (entries_of x.form taken)
-
-  abbrev L : List ℕ
-  L = lines_from c 0 (entries_of x.form taken)
-
-  -- a part of the lines of tables
-  pub at_versions : (count : ℕ) → Wrote x.run (take count vs) [] [] a d → HasBegun x c (t.points ++ later) opened d taken
-  at_versions count wrote =
-      let still = still_begun x c opened a p s end (news ++ later) here taken points_end h in
-      let front : before ++ take count vs ≡ take (length (before ++ take count vs)) all = front_more all before vs (load_lines (t.points ++ later) (drop q.printed (loads_of x))) count whole in
-      record {
-        printed = still.printed;
-        later = still.later;
-        all = still.all;
-        loads = still.loads;
-        none_due = still.none_due;
-        spoken = still.spoken;
-        wrote = λ limited.
-            let f = h.files (news ++ later) limited in
-            let g = still.wrote limited in record {
-              versions_count = length (before ++ take count vs);
-              versions_is = wrote.versions_is ∙ (ap (λ (l : List ℕ). l ++ take count vs) f.versions_is ∙ (append_assoc (content opened x.run.versions) before (take count vs) ∙ ap (λ (l : List ℕ). content opened x.run.versions ++ l) front));
-              output_count = g.output_count;
-              output = wrote.output ∙ (append-nil (content a x.run.output) ∙ g.output);
-              verdicts_count = g.verdicts_count;
-              verdicts = wrote.verdicts ∙ (append-nil (content a x.run.verdicts) ∙ g.verdicts);
-              others = λ name u v w. wrote.others name u v w ∙ g.others name u v w;
-            };
-        told = λ limited. omega (arith, still.told limited, ap (λ (l : List ℕ). length l) wrote.versions_is, length-append (content a x.run.versions) (take count vs));
-      }
-
-  -- all lines of tables, and fronts of the packets and of the lines of records
-  behind_versions : (packets lines more_packets more_lines : List ℕ) → packets_in parts ≡ packets ++ more_packets → lines_in parts ≡ lines ++ more_lines → Wrote x.run vs packets lines a d →
-      HasBegun x c (t.points ++ later) opened d (taken ++ records)
-  behind_versions packets lines more_packets more_lines packets_is lines_is wrote =
+  -- all of them, and fronts of the packets and of the lines of records
+  pub begun_more : (n k : ℕ) → Wrote x.run (string_bytes made.versions) (take n (packets_in made.rendered)) (take k (lines_in made.rendered)) a d →
+      HasBegun x past.course (t.points ++ later) (lines_from past.course 0 (entries_of x.form (past.taken ++ records))) past.opened d (past.taken ++ records)
+  begun_more n k wrote =
       let V = load_lines (t.points ++ later) (take q.printed (loads_of x)) in
-      let every_packet = packets_from c x.written 0 (taken ++ records) (entries_of x.form (taken ++ records)) in
-      let every_line = lines_from c 0 (entries_of x.form (taken ++ records)) in
+      let before = load_lines (s.points ++ (judged.news ++ later)) (take p.printed (loads_of x)) in
+      let P = packets_from past.course x.written 0 past.taken (entries_of x.form past.taken) in
+      let L = lines_from past.course 0 (entries_of x.form past.taken) in
+      let every_packet = packets_from past.course x.written 0 (past.taken ++ records) (entries_of x.form (past.taken ++ records)) in
+      let every_line = lines_from past.course 0 (entries_of x.form (past.taken ++ records)) in
       record {
         printed = t.points;
         later = later;
         all = refl;
         loads = q.printed;
-        none_due = round.new_lines.none_due;
-        spoken = spoken_more joins x c p q s t news records es os vs parts round outcomes opened a here taken h;
+        none_due = judged.new_lines.none_due;
+        spoken = spoken_more laws judged past;
         wrote = λ limited.
-            let f = h.files (news ++ later) (limited_before joins x c p q s t news records es os vs parts round outcomes opened a here taken h limited) in
-            let all_packets : every_packet ≡ (P ++ packets) ++ more_packets = sym (packets_are joins x c p q s t news records es os vs parts round outcomes opened a here taken h limited)
-            ∙ (ap (λ (l : List ℕ). P ++ l) packets_is ∙ sym (append_assoc P packets more_packets)) in
-            let all_lines : every_line ≡ (L ++ lines) ++ more_lines = sym (lines_are joins x c p q s t news records es os vs parts round outcomes opened a here taken h limited)
-            ∙ (ap (λ (l : List ℕ). L ++ l) lines_is ∙ sym (append_assoc L lines more_lines)) in
+            let f = past.written.files (judged.news ++ later) (limited_before laws judged past limited) in
             record {
               versions_count = length V;
-              versions_is = wrote.versions_is ∙ (ap (λ (l : List ℕ). l ++ vs) f.versions_is ∙ (append_assoc (content opened x.run.versions) before vs
-                  ∙ ap (λ (l : List ℕ). content opened x.run.versions ++ l) (both ∙ front_of all V (load_lines (t.points ++ later) (drop q.printed (loads_of x))) (lines_split (t.points ++ later) q.printed (loads_of x)))));
-              output_count = length (P ++ packets);
-              output = wrote.output ∙ (ap (λ (l : List ℕ). l ++ packets) f.output ∙ (append_assoc (content opened x.run.output) P packets ∙ ap (λ (l : List ℕ). content opened x.run.output ++ l) (front_of every_packet (P ++ packets) more_packets all_packets)));
-              verdicts_count = length (L ++ lines);
-              verdicts = wrote.verdicts ∙ (ap (λ (l : List ℕ). l ++ lines) f.verdicts ∙ (append_assoc (content opened x.run.verdicts) L lines ∙ ap (λ (l : List ℕ). content opened x.run.verdicts ++ l) (front_of every_line (L ++ lines) more_lines all_lines)));
+              versions_is = wrote.versions_is ∙ (ap (λ (l : List ℕ). l ++ string_bytes made.versions) f.versions_is ∙ (append_assoc (content past.opened x.run.versions) before (string_bytes made.versions)
+                  ∙ ap (λ (l : List ℕ). content past.opened x.run.versions ++ l) (versions_are laws judged past later
+                  ∙ front_of (load_lines (t.points ++ later) (loads_of x)) V (load_lines (t.points ++ later) (drop q.printed (loads_of x))) (lines_split (t.points ++ later) q.printed (loads_of x)))));
+              output_count = length (P ++ take n (packets_in made.rendered));
+              output = wrote.output ∙ (ap (λ (l : List ℕ). l ++ take n (packets_in made.rendered)) f.output ∙ (append_assoc (content past.opened x.run.output) P (take n (packets_in made.rendered))
+                  ∙ ap (λ (l : List ℕ). content past.opened x.run.output ++ l) (front_more every_packet P (packets_in made.rendered) [] n (sym (packets_are laws judged past limited) ∙ sym (append-nil (P ++ packets_in made.rendered))))));
+              verdicts_count = length (L ++ take k (lines_in made.rendered));
+              verdicts = wrote.verdicts ∙ (ap (λ (l : List ℕ). l ++ take k (lines_in made.rendered)) f.verdicts ∙ (append_assoc (content past.opened x.run.verdicts) L (take k (lines_in made.rendered))
+                  ∙ ap (λ (l : List ℕ). content past.opened x.run.verdicts ++ l) (front_more every_line L (lines_in made.rendered) [] k (sym (lines_are laws judged past limited) ∙ sym (append-nil (L ++ lines_in made.rendered))))));
               others = λ name u v w. wrote.others name u v w ∙ f.others name u v w;
             };
         told = λ limited.
-            let f = h.files (news ++ later) (limited_before joins x c p q s t news records es os vs parts round outcomes opened a here taken h limited) in
+            let f = past.written.files (judged.news ++ later) (limited_before laws judged past limited) in
             omega (
               arith,
               ap (λ (l : List ℕ). length l) wrote.versions_is,
-              length-append (content a x.run.versions) vs,
+              length-append (content a x.run.versions) (string_bytes made.versions),
               ap (λ (l : List ℕ). length l) f.versions_is,
-              length-append (content opened x.run.versions) before,
-              length-append before vs,
-              ap (λ (l : List ℕ). length l) both,
+              length-append (content past.opened x.run.versions) before,
+              length-append before (string_bytes made.versions),
+              ap (λ (l : List ℕ). length l) (versions_are laws judged past later),
             );
       }
-
-  pub at_packets : (count : ℕ) → Wrote x.run vs (take count (packets_in parts)) [] a d → HasBegun x c (t.points ++ later) opened d (taken ++ records)
-  at_packets count wrote = behind_versions (take count (packets_in parts)) [] (drop count (packets_in parts)) (lines_in parts) (sym (take-append-drop count (packets_in parts))) refl wrote
-
-  pub at_lines : (count : ℕ) → Wrote x.run vs (packets_in parts) (take count (lines_in parts)) a d → HasBegun x c (t.points ++ later) opened d (taken ++ records)
-  at_lines count wrote = behind_versions (packets_in parts) (take count (lines_in parts)) [] (drop count (lines_in parts)) (sym (append-nil (packets_in parts))) (sym (take-append-drop count (lines_in parts))) wrote

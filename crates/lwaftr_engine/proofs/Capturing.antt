@@ -1,14 +1,14 @@
 -- What a run leaves that was ended by a fault, from the opening of its outputs on.
 use Rattle.std.proofs.Common.{◌≡◌, ℕ, List, [], ◌++◌, length, Option, Some, None, Result, Err, inl, inr, sym, ◌∙◌, subst, arith}
 use Rattle.std.specs.Prelude.{IfSome}
-use Rattle.aftr_text.specs.Jobs.{IsRate}
-use Rattle.capture_io.specs.Rounds.{Precedes, is_cut}
 use Rattle.aftr_base.specs.Contents.{Contents, content, Moves}
 use Rattle.aftr_base.specs.Outside.{Outside, Rises}
 use Rattle.aftr_base.specs.declared.outside.Fault.{Fault}
 use Rattle.aftr_base.specs.declared.outside.Fault.TheVariants as fault
+use Rattle.aftr_text.specs.Jobs.{IsRate}
 use Rattle.area_swap.specs.Histories.{HistoryValue}
 use Rattle.binding_rules.specs.Tables.{BindingTable}
+use Rattle.capture_io.specs.Rounds.{Precedes, is_cut}
 use Rattle.capture_io.specs.declared.forms.Rec.{Rec}
 use Rattle.capture_io.specs.declared.rounds.Ending.{Ending}
 use Rattle.item_stage.specs.Stages.{Stands}
@@ -16,26 +16,32 @@ use Rattle.lwaftr_engine.specs.Broken.{Breaks, IsBrokenFrom, Takes, TakesBehind}
 use Rattle.lwaftr_engine.specs.Ended.{AreSlotsOf, Ends, EndsBroken}
 use Rattle.lwaftr_engine.specs.Finishing.{Finishes, IsFinished, IsFirst, IsHalfFinished}
 use Rattle.lwaftr_engine.specs.Fronts.{Stop, stop_by}
-use Rattle.lwaftr_engine.specs.Opened.{IsHalfOpened, IsOpened}
-use Rattle.lwaftr_engine.specs.Progress.{Goes, HasWritten, IsInRange, Seats, Setup, Spot, Suits, TakesOn, mark}
+use Rattle.lwaftr_engine.specs.Progress.{Goes, Seats, Setup, Spot, TakesOn, mark}
+use Rattle.lwaftr_engine.specs.RunLaws.{RunLaws}
 use Rattle.lwaftr_engine.specs.Runs.{IsPlanOf}
+use Rattle.lwaftr_engine.specs.Writing.{Did, DidFront, opening_steps}
 use Rattle.lwaftr_engine.specs.declared.rounds.Progress.{Progress}
-use Rattle.run_output.specs.Outputs.{Course}
 use Rattle.swap_core.specs.Plans.{IsPlan, Tables}
-use Rattle.swap_core.specs.Points.{AreAllPoints}
 use Rattle.swap_core.specs.declared.plan.Window.{Window}
 use Rattle.lwaftr_engine.proofs.Apart.{AreFilesApart}
-use Rattle.lwaftr_engine.proofs.Closing.{EndLaws, IsClosed, bare, none_written, suits_bare}
-use Rattle.lwaftr_engine.proofs.EndLemmas.{IsAtEnd, IsHalfDone, SomeLeft, same_input}
+use Rattle.lwaftr_engine.proofs.Closing.{AreWritten, IsClosed, suits_bare}
+use Rattle.lwaftr_engine.proofs.Courses.{bare}
+use Rattle.lwaftr_engine.proofs.EndLemmas.{IsAtEnd, IsHalfDone, SomeLeft, are_written, half_done, same_input}
 use Rattle.lwaftr_engine.proofs.Fronting.{at_finish, at_opening, at_rounds}
 use Rattle.lwaftr_engine.proofs.Moving.{moves_by, moves_join}
 use Rattle.lwaftr_engine.proofs.UnderwayLemmas.{takes_by}
+use Rattle.lwaftr_engine.proofs.Writing.{IsOpened, IsOpening, opened, opening_front}
 
--- where a read failed, all outputs were made
-behind_all : (name : List ℕ) (reader : Spot) (bytes : List ℕ) (number : ℕ) (rs : List Rec) (lost lost_now : ℕ) (last : Option (List ℕ × ℕ)) →
-    Takes name reader bytes number rs lost lost_now last → TakesBehind 3 name reader bytes number rs lost lost_now last
-behind_all name reader bytes number rs lost lost_now last (inl all) = inl all
-behind_all name reader bytes number rs lost lost_now last (inr before) = inr (omega arith, before)
+-- where a read failed, all outputs were made; the records are the same by the bytes of the capture before these were opened
+behind_all : (x : Setup) → AreFilesApart x.run → {a b : Contents} → IsOpened x.run x.written a b → {reader : Spot} {number : ℕ} {rs : List Rec} {lost lost_now : ℕ} {last : Option (List ℕ × ℕ)} → number ≡ 0 →
+    Takes x.run.input reader (content b x.run.input) number rs lost lost_now last → TakesBehind 3 x.run.input reader (content a x.run.input) 0 rs lost lost_now last
+behind_all x far {a} {b} opened {reader} {number} {rs} {lost} {lost_now} {last} start takes =
+    let N : ℕ → Type 0 = λ n. Takes x.run.input reader (content b x.run.input) n rs lost lost_now last in
+    let B : List ℕ → Type 0 = λ bytes. Takes x.run.input reader bytes 0 rs lost lost_now last in
+    by_read (subst B (same_input x far opened) (subst N start takes)) where
+      by_read : Takes x.run.input reader (content a x.run.input) 0 rs lost lost_now last → TakesBehind 3 x.run.input reader (content a x.run.input) 0 rs lost lost_now last
+      by_read (inl all) = inl all
+      by_read (inr before) = inr (omega arith, before)
 
 -- a broken run, under every list of tables of which the plan's words are
 abbrev pub Broken : Setup → Tables → Spot → Stop → Option (List ℕ) → Option (List ℕ) → Contents → Contents → Type 0
@@ -53,80 +59,66 @@ ended_err x plan reader r why a b said now before after history is none step =
           moves_by a b (λ m n. Broken x plan reader (stop_by fault.OutOfMemory before after) said now m n) (λ m n. Ends x plan reader (Err fault.OutOfMemory) m n said now before after history)
           (λ m n broken tables windows of stood. (inr (λ slots_of. broken tables windows of slots_of stood), none)) step
 
-pub opening_broken : (laws : EndLaws) (x : Setup) (plan : Tables) → IsPlan plan → IfSome x.run.errors IsRate → (reader : Spot) (stop : Stop) → Rises stop.failed stop.before.spoiled stop.after.spoiled → stop.after.lost ≡ stop.before.lost → (said : Option (List ℕ)) → SomeLeft reader.left → (a b : Option Contents) →
-    Moves a b (IsHalfOpened x.run x.written) → Moves a b (λ m n. Broken x plan reader stop said said m n)
+pub opening_broken : (laws : RunLaws) (x : Setup) (plan : Tables) → IsPlan plan → IfSome x.run.errors IsRate → (reader : Spot) (stop : Stop) → Rises stop.failed stop.before.spoiled stop.after.spoiled → stop.after.lost ≡ stop.before.lost → (said : Option (List ℕ)) → SomeLeft reader.left → (a b : Option Contents) →
+    Moves a b (DidFront x.run (opening_steps x.run x.written)) → Moves a b (λ m n. Broken x plan reader stop said said m n)
 opening_broken laws x plan planned rate reader stop rises same said some a b step =
-    moves_by a b (IsHalfOpened x.run x.written) (λ m n. Broken x plan reader stop said said m n)
-    (λ m n half tables windows of slots_of stood.
+    moves_by a b (DidFront x.run (opening_steps x.run x.written)) (λ m n. Broken x plan reader stop said said m n)
+    (λ m n front tables windows of slots_of stood.
     let rest = some (content m x.run.input) 0 in
+    let half : IsOpening x.run x.written m n = opening_front x.run x.written m n front in
     record {
       records = rest.0;
       made = half.made;
       taken = inl (same, (rest.1, rest.2));
-      front = at_opening laws x tables windows plan planned of rate rest.0 m n said stop rises half;
+      front = at_opening laws x planned of rate rest.0 said stop rises half;
     }) step
 
-module _ (laws : EndLaws) (x : Setup) (far : AreFilesApart x.run) (plan : Tables) (draws : List (ℕ × ℕ)) (s0 s : Seats) (h : HistoryValue) (closed : IsClosed plan draws s h) (p : Progress) (first : Spot)
+module _ (laws : RunLaws) (x : Setup) (far : AreFilesApart x.run) (plan : Tables) (draws : List (ℕ × ℕ)) (s0 s : Seats) (h : HistoryValue) (closed : IsClosed plan draws s h) (p : Progress) (first : Spot)
     (start : IsFirst x.form x.run.errors p) (no_points : s0.points ≡ []) (rate : IfSome x.run.errors IsRate) where
-  -- the same records, by the bytes of the capture before the outputs were opened
-  taken_at_first : (a b : Contents) (rs : List Rec) (lost lost_now : ℕ) (last : Option (List ℕ × ℕ)) → IsOpened x.run x.written a b → Takes x.run.input first (content b x.run.input) p.number rs lost lost_now last → Takes x.run.input first (content a x.run.input) 0 rs lost lost_now last
-  taken_at_first a b rs lost lost_now last opened takes =
-      let N : ℕ → Type 0 = λ n. Takes x.run.input first (content b x.run.input) n rs lost lost_now last in
-      let B : List ℕ → Type 0 = λ bytes. Takes x.run.input first bytes 0 rs lost lost_now last in
-      subst B (same_input x far a b opened) (subst N start.number takes)
-
-  pub rounds_broken : (stop : Stop) → Rises stop.failed stop.before.spoiled stop.after.spoiled → (lost : ℕ) → lost ≡ stop.before.lost → (said : Option (List ℕ)) (h0 h1 h2 : Option Contents) → Moves h0 h1 (IsOpened x.run x.written) →
+  pub rounds_broken : (stop : Stop) → Rises stop.failed stop.before.spoiled stop.after.spoiled → (lost : ℕ) → lost ≡ stop.before.lost → (said : Option (List ℕ)) (h0 h1 h2 : Option Contents) → Moves h0 h1 (Did x.run (opening_steps x.run x.written)) →
       Moves h1 h2 (λ b d. Breaks x plan draws s.points (mark b p s0 first) d lost stop.after.lost stop.after.last) → Moves h0 h2 (λ a d. Broken x plan first stop said said a d)
   rounds_broken stop rises lost lost_is said h0 h1 h2 opening breaking =
-      moves_join h0 h1 h2 (IsOpened x.run x.written) (λ b d. Breaks x plan draws s.points (mark b p s0 first) d lost stop.after.lost stop.after.last) (λ a d. Broken x plan first stop said said a d)
-      (λ a b d opened breaks tables windows of slots_of stood.
+      moves_join h0 h1 h2 (Did x.run (opening_steps x.run x.written)) (λ b d. Breaks x plan draws s.points (mark b p s0 first) d lost stop.after.lost stop.after.last) (λ a d. Broken x plan first stop said said a d)
+      (λ a b d did breaks tables windows of slots_of stood.
       let S : List ℕ → Type 0 = λ bytes. first.stood bytes in
-      let here : first.stood (content b x.run.input) = subst S (sym (same_input x far a b opened)) stood in
+      let open_now : IsOpened x.run x.written a b = opened x.run x.written a b did in
+      let here : first.stood (content b x.run.input) = subst S (sym (same_input x far open_now)) stood in
       let broken : IsBrokenFrom x plan draws s.points (mark b p s0 first) d lost stop.after.lost stop.after.last = breaks here in
-      let L : ℕ → Type 0 = λ n. Takes x.run.input first (content a x.run.input) 0 (broken.records ++ broken.rest) n stop.after.lost stop.after.last in
+      let L : ℕ → Type 0 = λ n. TakesBehind 3 x.run.input first (content a x.run.input) 0 (broken.records ++ broken.rest) n stop.after.lost stop.after.last in
       record {
         records = broken.records ++ broken.rest;
         made = 3;
-        taken = behind_all x.run.input first (content a x.run.input) 0 (broken.records ++ broken.rest) stop.before.lost stop.after.lost stop.after.last (subst L lost_is (taken_at_first a b (broken.records ++ broken.rest) lost stop.after.lost stop.after.last opened (broken.taken here)));
-        front = at_rounds laws x far tables windows plan draws s h of closed slots_of rate a b opened p s0 first start no_points d said stop rises lost stop.after.lost stop.after.last broken;
+        taken = subst L lost_is (behind_all x far open_now start.number (broken.taken here));
+        front = at_rounds laws x of closed slots_of rate open_now start no_points said stop rises broken;
       }) opening breaking
 
-  module _ (q : Progress) (reader : Spot) (some : SomeLeft reader.left) (bounded : IsInRange x q) (end : IsAtEnd plan draws s h q.number) (stop : Ending) (last : Option (List ℕ × ℕ)) (said now : Option (List ℕ)) (before after : Outside) (last_is : after.last ≡ last) (lost : Rises (is_cut (Some stop)) before.lost after.lost) where
+  module _ (q : Progress) (reader : Spot) (some : SomeLeft reader.left) (end : IsAtEnd plan draws s h q.number) (stop : Ending) (last : Option (List ℕ × ℕ)) (said now : Option (List ℕ)) (before after : Outside) (last_is : after.last ≡ last) (lost : Rises (is_cut (Some stop)) before.lost after.lost) where
     at_finish_broken : (why : Fault) (a d e : Contents) → IsHalfDone x plan draws p q s0 s first reader (Some stop) last a d → ((taken : List Rec) → Stands q.stage taken → IsHalfFinished x q s.points taken why before.spoiled after.spoiled d e said now) → Broken x plan first (stop_by why before after) said now a e
     at_finish_broken why a d e half done tables windows of slots_of stood =
-        let b : Contents = half.middle in
-        let input : content half.middle x.run.input ≡ content a x.run.input = same_input x far a half.middle half.opened in
         let S : List ℕ → Type 0 = λ bytes. first.stood bytes in
-        let took : TakesOn x plan draws (mark half.middle p s0 first) (mark d q s reader) (Some stop) last = half.goes (subst S (sym input) stood) in
-        let written : (c : Course) → Suits plan draws c → HasWritten x c half.middle (mark d q s reader) took.records = λ c suits. took.written c suits half.middle [] (none_written x c half.middle p s0 first start no_points) in
-        let c0 : q.number ≡ length took.records = (written (bare tables s.points) (suits_bare tables windows plan draws s h of closed)).number in
-        let W : List Window → Type 0 = λ w. AreAllPoints w s.points q.number in
-        let A : ℕ → Type 0 = λ n. AreAllPoints windows s.points n in
-        let placed : AreAllPoints windows s.points (length took.records) = subst A c0 (subst W of.same_windows end.points) in
-        let N : ℕ → Type 0 = λ n. Precedes first.left reader.left (content half.middle x.run.input) n took.records q.number in
-        let B : List ℕ → Type 0 = λ bytes. Takes x.run.input first bytes 0 took.records before.lost after.lost last in
-        let T : Option (List ℕ × ℕ) → Type 0 = λ l. Takes x.run.input first (content a x.run.input) 0 took.records before.lost after.lost l in
+        let took : TakesOn x plan draws (mark half.middle p s0 first) (mark d q s reader) (Some stop) last = half.goes (subst S (sym (same_input x far half.opened)) stood) in
+        let are : AreWritten x plan windows draws s half.middle (mark d q s reader) took.records = are_written start no_points of end took in
+        let stands = (are.written (bare tables s.points) (suits_bare of closed)).stands in
+        let T : Option (List ℕ × ℕ) → Type 0 = λ l. TakesBehind 3 x.run.input first (content a x.run.input) 0 took.records before.lost after.lost l in
         record {
           records = took.records;
           made = 3;
-          taken = behind_all x.run.input first (content a x.run.input) 0 took.records before.lost after.lost after.last (subst T (sym last_is) (subst B input (takes_by x.run.input first reader (content half.middle x.run.input) 0 q.number took.records stop before.lost after.lost last some took.forward took.within (subst N start.number took.follows) took.stopped lost)));
-          front = at_finish laws x far tables windows plan draws s h of closed slots_of rate a half.middle half.opened q reader d e said now why before after took.records written placed (done took.records (written (bare tables s.points) (suits_bare tables windows plan draws s h of closed)).stands);
+          taken = subst T (sym last_is) (behind_all x far half.opened start.number
+              (takes_by x.run.input first reader (content half.middle x.run.input) p.number q.number took.records stop before.lost after.lost last some took.forward took.within took.follows took.stopped lost));
+          front = at_finish laws x of closed slots_of rate half.opened why before after are (done took.records stands);
         }
 
-    pub finish_broken : (why : Fault) (points : List ℕ) → points ≡ s.points → (k : ℕ) → k ≡ before.spoiled → (h0 h1 h2 h3 : Option Contents) → Moves h0 h1 (IsOpened x.run x.written) →
+    pub finish_broken : (why : Fault) (points : List ℕ) → points ≡ s.points → (k : ℕ) → k ≡ before.spoiled → (h0 h1 h2 h3 : Option Contents) → Moves h0 h1 (Did x.run (opening_steps x.run x.written)) →
         Moves h1 h2 (λ b d. Goes x plan draws (mark b p s0 first) (mark d q s reader) (Some stop) last) →
         Moves h2 h3 (λ d e. (taken : List Rec) → Stands q.stage taken → Finishes x q points taken (Err why) k after.spoiled d e said now) →
         Moves h0 h3 (λ a e. Broken x plan first (stop_by why before after) said now a e)
     finish_broken why points same k k_is h0 h1 h2 h3 opening going finishing =
-        let half : Moves h0 h2 (λ a d. IsHalfDone x plan draws p q s0 s first reader (Some stop) last a d) =
-        moves_join h0 h1 h2 (IsOpened x.run x.written) (λ b d. Goes x plan draws (mark b p s0 first) (mark d q s reader) (Some stop) last)
-        (λ a d. IsHalfDone x plan draws p q s0 s first reader (Some stop) last a d) (λ a b d u w. record { middle = b; opened = u; goes = w }) opening going in
         let F : List ℕ → Type 0 = λ l. Moves h2 h3 (λ d e. (taken : List Rec) → Stands q.stage taken → IsHalfFinished x q l taken why before.spoiled after.spoiled d e said now) in
         let K : ℕ → Type 0 = λ n. Moves h2 h3 (λ d e. (taken : List Rec) → Stands q.stage taken → IsHalfFinished x q points taken why n after.spoiled d e said now) in
         moves_join h0 h2 h3 (λ a d. IsHalfDone x plan draws p q s0 s first reader (Some stop) last a d)
         (λ d e. (taken : List Rec) → Stands q.stage taken → IsHalfFinished x q s.points taken why before.spoiled after.spoiled d e said now)
         (λ a e. Broken x plan first (stop_by why before after) said now a e)
-        (λ a d e u w. at_finish_broken why a d e u w) half (subst F same (subst K k_is finishing))
+        (λ a d e u w. at_finish_broken why a d e u w) (half_done x plan draws p q s0 s first reader (Some stop) last h0 h1 h2 opening going) (subst F same (subst K k_is finishing))
 
 -- the points of the summary are those of the desk
 pub finished_at : (x : Setup) (q : Progress) (points now_points : List ℕ) → points ≡ now_points → (said now : Option (List ℕ)) (a b : Option Contents) →

@@ -15,54 +15,23 @@ use Rattle.capture_io.specs.declared.forms.Rec.{Rec}
 use Rattle.ip_codec.specs.declared.items.Item.{Item}
 use Rattle.item_stage.specs.Items.{entries_of, items_in, unfinished_of}
 use Rattle.lwaftr_engine.specs.Finishing.{IsFinished, IsFirst, last_lines, last_versions}
-use Rattle.lwaftr_engine.specs.Opened.{IsOpened}
-use Rattle.lwaftr_engine.specs.Progress.{HasWritten, IsLimitedRun, Mark, Seats, Setup, Spot, Suits, Wrote, loads_of, mark}
+use Rattle.lwaftr_engine.specs.Fronts.{IsUnder}
+use Rattle.lwaftr_engine.specs.Progress.{HasWritten, IsLimitedRun, Mark, Past, Seats, Setup, Spot, Suits, Wrote, loads_of, mark}
+use Rattle.lwaftr_engine.specs.RunLaws.{RunLaws}
 use Rattle.lwaftr_engine.specs.Runs.{HasAccess, IsCourse, IsHistoryOf, IsPlanOf, IsWritten, all_asking}
 use Rattle.lwaftr_engine.specs.declared.rounds.Progress.{Progress}
-use Rattle.packet_render.specs.Counted.{Sends}
-use Rattle.packet_render.specs.Sent.{sent}
 use Rattle.reload_plan.specs.declared.loads.Slot.{Slot}
 use Rattle.reload_plan.specs.declared.loads.Slot.TheVariants as slot
 use Rattle.run_output.specs.Counting.{no_totals, totals_from, with_version}
-use Rattle.run_output.specs.Laws.{CountsAreTotals, IsLimitedAs, IsSameBut, LimitsAreSome, LimitsBegin, RoundsJoin}
-use Rattle.run_output.specs.Limiting.{IsLimited, rate_of}
+use Rattle.run_output.specs.Laws.{CountsAreTotals, IsSameBut}
 use Rattle.run_output.specs.Outputs.{Course, lines_from, packets_from, totals_of, verdict_at}
 use Rattle.run_output.specs.Versions.{NamedSlot, NoneIsDue, load_lines, slot_text}
 use Rattle.swap_core.specs.Plans.{Tables, table}
 use Rattle.swap_core.specs.Points.{AreAllPoints, in_force}
 use Rattle.swap_core.specs.declared.plan.Window.{Window}
 use Rattle.table_words.specs.Layout.{IsCompiled}
-use Rattle.verdict_core.specs.Access.{BringsIn, Delivers, Forbidden, Forwards, PassesOn, Refused, RelaysAll, RelaysOwn, SendsOn}
-use Rattle.verdict_core.specs.Fitting.{Fits, HasRoom}
-use Rattle.verdict_core.specs.Verdicts.{verdict_of}
-use Rattle.verdict_core.specs.declared.verdicts.Verdict.{Verdict}
-use Rattle.lwaftr_engine.proofs.Apart.{AreFilesApart}
-
--- what holds of every verdict: who may send, who receives, whom errors reach, and why a packet is dropped
-pub record AllAccess : Type 0 where
-  pub forwards : (t : BindingTable) (i : Item) → IsLawful t → Forwards t i (verdict_of t i)
-  pub forbidden : (t : BindingTable) (i : Item) → IsLawful t → Forbidden t i (verdict_of t i)
-  pub refused : (t : BindingTable) (i : Item) → IsLawful t → Refused t i (verdict_of t i)
-  pub sends_on : (t : BindingTable) (i : Item) → IsLawful t → SendsOn t i (verdict_of t i)
-  pub brings_in : (t : BindingTable) (i : Item) → IsLawful t → BringsIn t i (verdict_of t i)
-  pub delivers : (t : BindingTable) (i : Item) → IsLawful t → Delivers t i (verdict_of t i)
-  pub relays_own : (t : BindingTable) (i : Item) → IsLawful t → RelaysOwn t i (verdict_of t i)
-  pub relays_all : (t : BindingTable) (i : Item) → IsLawful t → RelaysAll t i (verdict_of t i)
-  pub passes_on : (t : BindingTable) (i : Item) → IsLawful t → PassesOn t i (verdict_of t i)
-  pub sends : (t : BindingTable) (i : Item) → IsLawful t → (number : ℕ) → Sends (verdict_of t i) (length (sent i (verdict_of t i) number))
-
--- every verdict of a lawful table fits its item, and so it is sent
-pub all_sent : ((t : BindingTable) (i : Item) → IsLawful t → Fits i (verdict_of t i)) → ((t : BindingTable) (i : Item) → IsLawful t → HasRoom (verdict_of t i)) →
-    ((i : Item) (v : Verdict) (number : ℕ) → Fits i v → HasRoom v → Sends v (length (sent i v number))) →
-    (t : BindingTable) (i : Item) → IsLawful t → (number : ℕ) → Sends (verdict_of t i) (length (sent i (verdict_of t i) number))
-all_sent fits room law t i lawful number = law i (verdict_of t i) number (fits t i lawful) (room t i lawful)
-
-pub record EndLaws : Type 0 where
-  pub access : AllAccess
-  pub limits : LimitsAreSome
-  pub totals : CountsAreTotals
-  pub begins : LimitsBegin
-  pub joins : RoundsJoin
+use Rattle.lwaftr_engine.proofs.Courses.{bare}
+use Rattle.lwaftr_engine.proofs.Writing.{IsOpened, did_none, wrote}
 
 -- the areas are closed
 pub record IsClosed (plan : Tables) (draws : List (ℕ × ℕ)) (s : Seats) (h : HistoryValue) : Type 0 where
@@ -72,21 +41,16 @@ pub record IsClosed (plan : Tables) (draws : List (ℕ × ℕ)) (s : Seats) (h :
   pub drawn : AreDrawn h draws
   pub history : IsHistory h
 
--- the course without its limit
-abbrev pub bare : (ℕ → BindingTable) → List ℕ → Course
-bare tables points = record { tables = tables; version = in_force points; limited = λ _. false; loaded = length points }
-
-pub suits_bare : (tables : ℕ → BindingTable) (windows : List Window) (plan : Tables) (draws : List (ℕ × ℕ)) (s : Seats) (h : HistoryValue) → IsPlanOf tables windows plan → IsClosed plan draws s h →
-    Suits plan draws (bare tables s.points)
-suits_bare tables windows plan draws s h of closed = record {
+pub suits_bare : {tables : ℕ → BindingTable} {windows : List Window} {plan : Tables} {draws : List (ℕ × ℕ)} {s : Seats} {h : HistoryValue} → IsPlanOf tables windows plan → IsClosed plan draws s h → Suits plan draws (bare tables s.points)
+suits_bare {tables} {windows} {plan} {draws} {s} {h} of closed = record {
   tables = of.compiled;
   versions = λ k d inside.
       let U : List ℕ → Type 0 = λ points. All (λ (x : ℕ × ℕ). x.1 ≡ in_force points x.0) draws in
       sym (subst U closed.points closed.drawn.under k d inside);
 }
 
-pub suits_same : (plan : Tables) (draws : List (ℕ × ℕ)) (c d : Course) → IsSameBut c d → Suits plan draws c → Suits plan draws d
-suits_same plan draws c d same suits = record {
+pub suits_same : {plan : Tables} {draws : List (ℕ × ℕ)} {c d : Course} → IsSameBut c d → Suits plan draws c → Suits plan draws d
+suits_same {plan} {draws} {c} {d} same suits = record {
   tables = let T : (ℕ → BindingTable) → Type 0 = λ f. (version : ℕ) → version < length plan.tables → IsCompiled (f version) (table plan version) in subst T (sym same.tables) suits.tables;
   versions = let V : (ℕ → ℕ) → Type 0 = λ f. All (λ (x : ℕ × ℕ). f x.0 ≡ x.1) draws in subst V (sym same.version) suits.versions;
 }
@@ -97,8 +61,8 @@ none_due_yet (slot.Version version ∷ rest) = refl
 none_due_yet (slot.Refused cause ∷ rest) = none_due_yet rest
 
 -- before the first record
-pub none_written : (x : Setup) (c : Course) (opened : Contents) (p : Progress) (s : Seats) (reader : Spot) → IsFirst x.form x.run.errors p → s.points ≡ [] → HasWritten x c opened (mark opened p s reader) []
-none_written x c opened p s reader first none = record {
+pub none_written : {x : Setup} (c : Course) (opened : Contents) {p : Progress} {s : Seats} (reader : Spot) → IsFirst x.form x.run.errors p → s.points ≡ [] → HasWritten x c opened (mark opened p s reader) []
+none_written {x} c opened {p} {s} reader first none = record {
   stands = first.stands;
   stage_form = first.stage_form;
   number = first.number;
@@ -107,12 +71,7 @@ none_written x c opened p s reader first none = record {
   totals = λ limited. first.totals;
   files = λ later limited.
       let W : ℕ → Type 0 = λ n. Wrote x.run (load_lines (s.points ++ later) (take n (loads_of x))) [] [] opened opened in
-      subst W (sym first.printed) (record {
-        versions_is = sym (append-nil (content opened x.run.versions));
-        output = sym (append-nil (content opened x.run.output));
-        verdicts = sym (append-nil (content opened x.run.verdicts));
-        others = λ name u v w. refl;
-      });
+      subst W (sym first.printed) (wrote x.run [] [] [] opened opened (did_none x.run opened));
   none_due =
       let N : ℕ → Type 0 = λ n. NoneIsDue s.points (drop n x.slots) in
       let M : List ℕ → Type 0 = λ l. NoneIsDue l x.slots in
@@ -121,6 +80,14 @@ none_written x c opened p s reader first none = record {
   reads = omega arith;
 }
 
+abbrev pub first_past : {x : Setup} {plan : Tables} {draws : List (ℕ × ℕ)} (c : Course) → Suits plan draws c → (opened : Contents) {p : Progress} {s : Seats} (reader : Spot) → IsFirst x.form x.run.errors p → s.points ≡ [] → Past x plan draws (mark opened p s reader)
+first_past {x} {plan} {draws} c suits opened {p} {s} reader first none = record { course = c; suits = suits; opened = opened; taken = []; written = none_written c opened reader first none }
+
+-- what was written of these records, under every course that suits; each window that opened by then has its point
+pub record AreWritten (x : Setup) (plan : Tables) (windows : List Window) (draws : List (ℕ × ℕ)) (s : Seats) (opened : Contents) (m : Mark) (rs : List Rec) : Type 0 where
+  pub written : (c : Course) → Suits plan draws c → HasWritten x c opened m rs
+  pub placed : AreAllPoints windows s.points (length rs)
+
 -- what a run wrote until its records ended, and the course of which that is
 pub record HasCourse (x : Setup) (tables : ℕ → BindingTable) (windows : List Window) (s : Seats) (opened : Contents) (m : Mark) (rs : List Rec) : Type 0 where
   pub course : Course
@@ -128,83 +95,66 @@ pub record HasCourse (x : Setup) (tables : ℕ → BindingTable) (windows : List
   pub written : HasWritten x course opened m rs
   pub limited : IsLimitedRun x course rs
 
-module _ (laws : EndLaws) (x : Setup) (tables : ℕ → BindingTable) (windows : List Window) (plan : Tables) (draws : List (ℕ × ℕ)) (s : Seats) (h : HistoryValue)
+module _ (laws : RunLaws) {tables : ℕ → BindingTable} {windows : List Window} {plan : Tables} {draws : List (ℕ × ℕ)} {s : Seats} {h : HistoryValue}
     (of : IsPlanOf tables windows plan) (closed : IsClosed plan draws s h) (few : length s.points < length plan.tables) where
   pub access_at : (c : Course) → c.tables ≡ tables → c.version ≡ in_force s.points → (number : ℕ) (i : Item) → HasAccess (c.tables (c.version number)) i (verdict_at c number i)
   access_at c tables_are version_are number i =
       let T : (ℕ → BindingTable) → Type 0 = λ f. (n : ℕ) → n < length plan.tables → IsLawful (f n) in
       let lawful : (n : ℕ) → n < length plan.tables → IsLawful (c.tables n) = subst T (sym tables_are) (λ n inside. (of.compiled n inside).lawful) in
       let inside : c.version number < length plan.tables = omega (arith, few, count_by-le-length (λ (p : ℕ). nat_le p number) s.points, ap (λ (f : ℕ → ℕ). f number) version_are) in
-      let good : IsLawful (c.tables (c.version number)) = lawful (c.version number) inside in
-      record {
-        forwards = laws.access.forwards (c.tables (c.version number)) i good;
-        forbidden = laws.access.forbidden (c.tables (c.version number)) i good;
-        refused = laws.access.refused (c.tables (c.version number)) i good;
-        sends_on = laws.access.sends_on (c.tables (c.version number)) i good;
-        brings_in = laws.access.brings_in (c.tables (c.version number)) i good;
-        delivers = laws.access.delivers (c.tables (c.version number)) i good;
-        relays_own = laws.access.relays_own (c.tables (c.version number)) i good;
-        relays_all = laws.access.relays_all (c.tables (c.version number)) i good;
-        passes_on = laws.access.passes_on (c.tables (c.version number)) i good;
-        sends = laws.access.sends (c.tables (c.version number)) i good;
-      }
+      laws.access (c.tables (c.version number)) i (lawful (c.version number) inside)
 
-  pub with_limit : (opened : Contents) (m : Mark) (rs : List Rec) → rate_of m.progress.limit ≡ x.run.errors → ((c : Course) → Suits plan draws c → HasWritten x c opened m rs) →
-      AreAllPoints windows s.points (length rs) → HasCourse x tables windows s opened m rs
-  with_limit opened m rs rate written placed =
-      let c0 : Course = bare tables s.points in
-      let suits0 : Suits plan draws (bare tables s.points) = suits_bare tables windows plan draws s h of closed in
-      let w0 : HasWritten x (bare tables s.points) opened m rs = written (bare tables s.points) suits0 in
-      let some : IsLimitedAs (rate_of m.progress.limit) x.form rs (entries_of x.form rs) (bare tables s.points) = laws.limits x.form rs (entries_of x.form rs) (bare tables s.points) m.progress.limit w0.entries w0.asked in
-      let R : Option ℕ → Type 0 = λ r. IsLimited r x.form rs (entries_of x.form rs) some.course in
-      let limited : IsLimited x.run.errors x.form rs (entries_of x.form rs) some.course = subst R rate some.limited in
-      record {
-        course = some.course;
-        is_course = record {
-          tables_are = some.same.tables;
-          in_force_are = some.same.version;
-          loaded = some.same.loaded;
-          placed = placed;
-          limited = limited;
-          access = λ number i at. access_at some.course some.same.tables some.same.version number i;
-        };
-        written = written some.course (suits_same plan draws (bare tables s.points) some.course some.same suits0);
-        limited = limited;
-      }
+  -- a course of these records under the points of the desk
+  abbrev pub course_with : {x : Setup} {opened : Contents} {m : Mark} {rs : List Rec} → AreWritten x plan windows draws s opened m rs → (c : Course) → IsUnder tables s.points x.run.errors x.form rs c → HasCourse x tables windows s opened m rs
+  course_with {x} {opened} {m} {rs} are c under = record {
+    course = c;
+    is_course = record {
+      tables_are = under.tables_are;
+      in_force_are = under.in_force_are;
+      loaded = under.loaded;
+      placed = are.placed;
+      limited = under.limited;
+      access = λ number i at. access_at c under.tables_are under.in_force_are number i;
+    };
+    written = are.written c (suits_same (record { tables = under.tables_are; version = under.in_force_are; loaded = under.loaded }) (suits_bare of closed));
+    limited = under.limited;
+  }
 
 pub all_lines : (points : List ℕ) (k : ℕ) (loads : List NamedSlot) → load_lines points (take k loads) ++ load_lines points (drop k loads) ≡ load_lines points loads
 all_lines points k loads =
     sym (flat_map-append (λ (load : NamedSlot). slot_text points load.name load.slot) (take k loads) (drop k loads)) ∙ ap (λ (l : List NamedSlot). load_lines points l) (take-append-drop k loads)
 
 -- what was counted are the totals of the run
-pub totals_are : (x : Setup) → CountsAreTotals → (tables : ℕ → BindingTable) (windows : List Window) (s : Seats) (q : Progress) (reader : Spot) (b d : Contents) (rs : List Rec) → (has : HasCourse x tables windows s b (mark d q s reader) rs) →
+pub totals_are : {x : Setup} → CountsAreTotals → {tables : ℕ → BindingTable} {windows : List Window} {s : Seats} {q : Progress} {reader : Spot} {b d : Contents} {rs : List Rec} (has : HasCourse x tables windows s b (mark d q s reader) rs) →
     with_version q.totals (length s.points) ≡ totals_of has.course x.form rs
-totals_are x counts tables windows s q reader b d rs has =
+totals_are {x} counts {tables} {windows} {s} {q} {reader} {b} {d} {rs} has =
     ap (λ (t : Totals). with_version t (length s.points)) (has.written.totals has.limited)
     ∙ (ap (λ (n : ℕ). with_version (totals_from has.course no_totals 0 (entries_of x.form rs)) n) (sym has.is_course.loaded) ∙ sym (counts has.course x.form rs has.written.entries))
 
 -- the files of a run: opened, filled round by round, and finished
-pub is_written : (x : Setup) → AreFilesApart x.run → CountsAreTotals → (tables : ℕ → BindingTable) (windows : List Window) (s : Seats) (q : Progress) (reader : Spot) (a b d e : Contents) (said now : Option (List ℕ)) (rs : List Rec) →
+pub is_written : {x : Setup} → CountsAreTotals → {tables : ℕ → BindingTable} {windows : List Window} {s : Seats} {q : Progress} {reader : Spot} {a b d e : Contents} {said now : Option (List ℕ)} {rs : List Rec} →
     IsOpened x.run x.written a b → (has : HasCourse x tables windows s b (mark d q s reader) rs) → IsFinished x q s.points rs d e said now →
     IsWritten x.run x.slots has.course s.points x.form x.written rs a e said now
-is_written x far counts tables windows s q reader a b d e said now rs opened has done =
-    let c = has.course in
-    let files : Wrote x.run (load_lines (s.points ++ []) (take q.printed (loads_of x))) (packets_from has.course x.written 0 rs (entries_of x.form rs)) (lines_from has.course 0 (entries_of x.form rs)) b d = has.written.files [] has.limited in
-    let totals : with_version q.totals (length s.points) ≡ totals_of has.course x.form rs = totals_are x counts tables windows s q reader b d rs has in
+is_written {x} counts {tables} {windows} {s} {q} {reader} {a} {b} {d} {e} {said} {now} {rs} opened has done =
+    let P = packets_from has.course x.written 0 rs (entries_of x.form rs) in
+    let L = lines_from has.course 0 (entries_of x.form rs) in
+    let V = load_lines s.points (take q.printed (loads_of x)) in
+    let files = has.written.files [] has.limited in
+    let last = wrote x.run (last_versions x q s.points) [] (last_lines q rs) d e done.did in
+    let O = content b x.run.versions in
     record {
-      output = done.wrote.output ∙ (append-nil (content d x.run.output) ∙ (files.output ∙ ap (λ (l : List ℕ). l ++ packets_from has.course x.written 0 rs (entries_of x.form rs)) opened.output));
-      verdicts = done.wrote.verdicts ∙ (ap (λ (l : List ℕ). l ++ last_lines q rs) (files.verdicts ∙ ap (λ (l : List ℕ). l ++ lines_from has.course 0 (entries_of x.form rs)) opened.verdicts)
-          ∙ ap (λ (f : Form). lines_from has.course 0 (entries_of x.form rs) ++ flat_map (ended_text false) (unfinished_of f rs)) has.written.stage_form);
-      versions = done.wrote.versions_is ∙ (ap (λ (l : List ℕ). l ++ last_versions x q s.points) (files.versions_is ∙ ap (λ (l : List ℕ). content b x.run.versions ++ load_lines l (take q.printed (loads_of x))) (append-nil s.points))
-          ∙ (append_assoc (content b x.run.versions) (load_lines s.points (take q.printed (loads_of x))) (last_versions x q s.points)
-          ∙ (ap (λ (l : List ℕ). content b x.run.versions ++ l) (all_lines s.points q.printed (loads_of x)) ∙ ap (λ (l : List ℕ). l ++ load_lines s.points (loads_of x)) opened.versions)));
-      others = λ name u v w. done.wrote.others name u v w ∙ (files.others name u v w ∙ opened.others name u v w);
-      summary = done.took ∙ ap (λ (t : Totals). option_map (λ (taken : List ℕ). taken ++ summary_text t) said) totals;
+      output = last.output ∙ (append-nil (content d x.run.output) ∙ (files.output ∙ ap (λ (l : List ℕ). l ++ P) opened.output));
+      verdicts = last.verdicts ∙ (ap (λ (l : List ℕ). l ++ last_lines q rs) (files.verdicts ∙ ap (λ (l : List ℕ). l ++ L) opened.verdicts)
+          ∙ ap (λ (f : Form). L ++ flat_map (ended_text false) (unfinished_of f rs)) has.written.stage_form);
+      versions = last.versions_is ∙ (ap (λ (l : List ℕ). l ++ last_versions x q s.points) (files.versions_is ∙ ap (λ (l : List ℕ). content b x.run.versions ++ load_lines l (take q.printed (loads_of x))) (append-nil s.points))
+          ∙ (append_assoc O V (last_versions x q s.points) ∙ (ap (λ (l : List ℕ). content b x.run.versions ++ l) (all_lines s.points q.printed (loads_of x)) ∙ ap (λ (l : List ℕ). l ++ load_lines s.points (loads_of x)) opened.versions)));
+      others = λ name u v w. last.others name u v w ∙ (files.others name u v w ∙ opened.others name u v w);
+      summary = done.took ∙ ap (λ (t : Totals). option_map (λ (taken : List ℕ). taken ++ summary_text t) said) (totals_are counts has);
     }
 
-pub is_history : (x : Setup) (tables : ℕ → BindingTable) (windows : List Window) (plan : Tables) (draws : List (ℕ × ℕ)) (s : Seats) (h : HistoryValue) (rs : List Rec) → IsPlanOf tables windows plan → IsClosed plan draws s h →
+pub is_history : (x : Setup) {tables : ℕ → BindingTable} {windows : List Window} {plan : Tables} {draws : List (ℕ × ℕ)} {s : Seats} {h : HistoryValue} {rs : List Rec} → IsPlanOf tables windows plan → IsClosed plan draws s h →
     length draws ≡ length rs → all_asking (items_in (entries_of x.form rs)) ≤ s.reads → IsHistoryOf tables windows s.points x.form rs (Some h)
-is_history x tables windows plan draws s h rs of closed count asked = record {
+is_history x {tables} {windows} {plan} {draws} {s} {h} {rs} of closed count asked = record {
   value = h;
   is = refl;
   plan = let P : Tables → Type 0 = λ p. IsPlanOf tables windows p in subst P (sym closed.same_plan) of;

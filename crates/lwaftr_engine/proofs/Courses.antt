@@ -1,9 +1,7 @@
 -- The course of all records of a run by the points whose lines are whole, and that of the first records by all points: what these
 -- records write is a front of what all of them write.
-use Rattle.std.proofs.Common.{◌≡◌, ℕ, ◌+◌, ◌<◌, ◌≤◌, false, List, ◌++◌, length, take, drop, flat_map, Option, refl, sym, ◌∙◌, ap, subst, arith, append_assoc}
+use Rattle.std.proofs.Common.{◌≡◌, ℕ, ◌+◌, ◌<◌, ◌≤◌, false, List, ◌++◌, length, take, flat_map, Option, refl, sym, ◌∙◌, ap, subst, arith, append_assoc}
 use Rattle.std.specs.Prelude.{IfSome}
-use Rattle.std.proofs.Math.Seq.{take-append_seam}
-use Rattle.std.proofs.lemmas.List.{take-append-drop}
 use Rattle.aftr_text.specs.Jobs.{IsRate}
 use Rattle.aftr_text.specs.Lines.{ended_text}
 use Rattle.binding_rules.specs.Tables.{BindingTable}
@@ -14,26 +12,29 @@ use Rattle.capture_io.specs.declared.written.Written.{Written}
 use Rattle.item_stage.specs.Items.{entries_of, unfinished_of}
 use Rattle.item_stage.specs.declared.entries.Entry.{Entry}
 use Rattle.item_stage.specs.Turns.{no_rows}
-use Rattle.run_output.specs.Laws.{AreJoined, IsLimitedAs, LimitsAreSome, LimitsBegin, RoundsJoin}
+use Rattle.run_output.specs.Laws.{AreJoined, IsLimitedAs, LimitsAreSome}
 use Rattle.run_output.specs.Limiting.{IsLimited, rate_of}
 use Rattle.run_output.specs.Outputs.{Course, lines_from, output_of, packets_from, verdicts_of}
 use Rattle.swap_core.specs.Points.{in_force}
-use Rattle.lwaftr_engine.specs.Fronts.{IsUnder}
+use Rattle.lwaftr_engine.specs.RunLaws.{RunLaws}
+use Rattle.lwaftr_engine.specs.Fronts.{IsFrontOf, IsUnder}
 use Rattle.lwaftr_engine.proofs.Alike.{AreAlike, entries_are, entries_behind, entries_count, limited_same, lines_same, packets_same}
 use Rattle.lwaftr_engine.proofs.Marked.{IsAskedFor, limits_exist}
+use Rattle.lwaftr_engine.proofs.Parts.{front_more, front_part}
 
 pub record HasUnder (tables : ℕ → BindingTable) (points : List ℕ) (errors : Option ℕ) (form : Form) (rs : List Rec) : Type 0 where
   pub course : Course
   pub under : IsUnder tables points errors form rs course
 
+-- the course without its limit
+abbrev pub bare : (ℕ → BindingTable) → List ℕ → Course
+bare tables points = record { tables = tables; version = in_force points; limited = λ _. false; loaded = length points }
+
 -- there is a course for all records and points
 pub some_course : LimitsAreSome → (tables : ℕ → BindingTable) (points : List ℕ) (errors : Option ℕ) (form : Form) (rs : List Rec) → IfSome errors IsRate → HasUnder tables points errors form rs
 some_course law tables points errors form rs rate =
-    let c0 : Course = record { tables = tables; version = in_force points; limited = λ _. false; loaded = length points } in
-    let asked : IsAskedFor errors form rs (entries_of form rs) (record { tables = tables; version = in_force points; limited = λ _. false; loaded = length points }) =
-    limits_exist errors rate form rs (entries_of form rs) (record { tables = tables; version = in_force points; limited = λ _. false; loaded = length points }) in
-    let some : IsLimitedAs (rate_of asked.limit) form rs (entries_of form rs) (record { tables = tables; version = in_force points; limited = λ _. false; loaded = length points }) =
-    law form rs (entries_of form rs) (record { tables = tables; version = in_force points; limited = λ _. false; loaded = length points }) asked.limit (entries_count form no_rows 0 rs) asked.asked in
+    let asked : IsAskedFor errors form rs (entries_of form rs) (bare tables points) = limits_exist errors rate form rs (entries_of form rs) (bare tables points) in
+    let some : IsLimitedAs (rate_of asked.limit) form rs (entries_of form rs) (bare tables points) = law form rs (entries_of form rs) (bare tables points) asked.limit (entries_count form no_rows 0 rs) asked.asked in
     let R : Option ℕ → Type 0 = λ r. IsLimited r form rs (entries_of form rs) some.course in
     record {
       course = some.course;
@@ -48,16 +49,9 @@ some_course law tables points errors form rs rate =
 abbrev pub with_points : Course → List ℕ → Course
 with_points c points = record { tables = c.tables; version = in_force points; limited = c.limited; loaded = length points }
 
--- a part that stands at the front, and a part of that
-pub front_part : (whole first rest : List ℕ) (count : ℕ) → whole ≡ first ++ rest → take count first ≡ take (length (take count first)) whole
-front_part whole first rest count is =
-    let split : whole ≡ take count first ++ (drop count first ++ rest) =
-    is ∙ (ap (λ (l : List ℕ). l ++ rest) (sym (take-append-drop count first)) ∙ append_assoc (take count first) (drop count first) rest) in
-    sym (take-append_seam (take count first) (drop count first ++ rest)) ∙ ap (λ (l : List ℕ). take (length (take count first)) l) (sym split)
-
-module _ (begins : LimitsBegin) (joins : RoundsJoin) (tables : ℕ → BindingTable) (errors : Option ℕ) (form : Form) (taken rest : List Rec) (points shown : List ℕ)
+module _ (laws : RunLaws) (taken rest : List Rec) (points : List ℕ) {tables : ℕ → BindingTable} {errors : Option ℕ} {form : Form} {shown : List ℕ}
     (same : (number : ℕ) → number < length taken → in_force shown number ≡ in_force points number)
-    (c : Course) (under : IsUnder tables shown errors form (taken ++ rest) c) where
+    {c : Course} (under : IsUnder tables shown errors form (taken ++ rest) c) where
   alike : AreAlike c (with_points c points) (length taken)
   alike = record {
     tables = refl;
@@ -72,11 +66,11 @@ module _ (begins : LimitsBegin) (joins : RoundsJoin) (tables : ℕ → BindingTa
   limited_first =
       let L : List Entry → Type 0 = λ es. IsLimited errors form (taken ++ rest) es c in
       limited_same c (with_points c points) (length taken) alike errors form taken (entries_of form taken) (omega arith) (omega (arith, count))
-      (begins errors form taken rest (entries_of form taken) (entries_behind form taken rest) c count (subst L (entries_are form taken rest) under.limited))
+      (laws.begins errors form taken rest (entries_of form taken) (entries_behind form taken rest) c count (subst L (entries_are form taken rest) under.limited))
 
   module _ (w : Written) where
     joined : AreJoined c w 0 taken rest (entries_of form taken) (entries_behind form taken rest)
-    joined = joins c w 0 taken rest (entries_of form taken) (entries_behind form taken rest) count
+    joined = laws.joins c w 0 taken rest (entries_of form taken) (entries_behind form taken rest) count
 
     packets_first : packets_from c w 0 (taken ++ rest) (entries_of form (taken ++ rest))
         ≡ packets_from (with_points c points) w 0 taken (entries_of form taken) ++ packets_from c w (0 + length taken) rest (entries_behind form taken rest)
@@ -91,16 +85,13 @@ module _ (begins : LimitsBegin) (joins : RoundsJoin) (tables : ℕ → BindingTa
         ap (λ (es : List Entry). lines_from c 0 es) (entries_are form taken rest)
         ∙ (joined.lines ∙ ap (λ (l : List ℕ). l ++ lines_from c (0 + length taken) (entries_behind form taken rest)) (sym (lines_same c (with_points c points) (length taken) alike 0 (entries_of form taken) less)))
 
-    pub output_front : (part : ℕ) → (count : ℕ) × (file_head w ++ take part (packets_from (with_points c points) w 0 taken (entries_of form taken)) ≡ take count (output_of c w form (taken ++ rest)))
+    pub output_front : (part : ℕ) → IsFrontOf (output_of c w form (taken ++ rest)) (file_head w ++ take part (packets_from (with_points c points) w 0 taken (entries_of form taken)))
     output_front part =
         let P = packets_from (with_points c points) w 0 taken (entries_of form taken) in
         let M = packets_from c w (0 + length taken) rest (entries_behind form taken rest) in
-        let split : output_of c w form (taken ++ rest) ≡ (file_head w ++ take part P) ++ (drop part P ++ M) =
-        ap (λ (l : List ℕ). file_head w ++ l) (packets_first ∙ (ap (λ (l : List ℕ). l ++ M) (sym (take-append-drop part P)) ∙ append_assoc (take part P) (drop part P) M))
-        ∙ sym (append_assoc (file_head w) (take part P) (drop part P ++ M)) in
-        (length (file_head w ++ take part P), sym (take-append_seam (file_head w ++ take part P) (drop part P ++ M)) ∙ ap (λ (l : List ℕ). take (length (file_head w ++ take part P)) l) (sym split))
+        (length (file_head w ++ take part P), front_more (output_of c w form (taken ++ rest)) (file_head w) P M part (ap (λ (l : List ℕ). file_head w ++ l) packets_first ∙ sym (append_assoc (file_head w) P M)))
 
-    pub verdicts_front : (part : ℕ) → (count : ℕ) × (take part (lines_from (with_points c points) 0 (entries_of form taken)) ≡ take count (verdicts_of c form (taken ++ rest)))
+    pub verdicts_front : (part : ℕ) → IsFrontOf (verdicts_of c form (taken ++ rest)) (take part (lines_from (with_points c points) 0 (entries_of form taken)))
     verdicts_front part =
         let L = lines_from (with_points c points) 0 (entries_of form taken) in
         let M = lines_from c (0 + length taken) (entries_behind form taken rest) in
@@ -108,11 +99,6 @@ module _ (begins : LimitsBegin) (joins : RoundsJoin) (tables : ℕ → BindingTa
         (length (take part L), front_part (verdicts_of c form (taken ++ rest)) L (M ++ U) part (ap (λ (l : List ℕ). l ++ U) lines_first ∙ append_assoc L M U))
 
     -- the first records write the same by both
-    pub output_same : output_of (with_points c points) w form taken ≡ output_of c w form taken
-    output_same =
-        let less : 0 + length taken ≤ length taken = omega arith in
-        ap (λ (l : List ℕ). file_head w ++ l) (packets_same c (with_points c points) (length taken) alike w 0 taken (entries_of form taken) less)
-
     pub verdicts_same : verdicts_of (with_points c points) form taken ≡ verdicts_of c form taken
     verdicts_same =
         let less : 0 + length (entries_of form taken) ≤ length taken = omega (arith, count) in

@@ -1,7 +1,9 @@
 -- What a run leaves whose records have ended, and that is finished.
 use Rattle.std.proofs.Common.{◌≡◌, ℕ, ◌+◌, ◌<◌, ◌≤◌, List, [], ◌∷◌, ◌++◌, length, All, Option, Some, None, Ok, ◌⊎◌, inl, inr, sym, ◌∙◌, subst, arith, append-nil}
+use Rattle.std.specs.Prelude.{IfSome}
 use Rattle.aftr_base.specs.Contents.{Contents, content, Moves}
 use Rattle.aftr_base.specs.Outside.{Outside}
+use Rattle.aftr_text.specs.Jobs.{IsRate}
 use Rattle.area_swap.specs.Histories.{HistoryValue}
 use Rattle.area_swap.specs.Values.{HasWholeShare}
 use Rattle.area_swap.specs.declared.board.View.{View}
@@ -15,19 +17,23 @@ use Rattle.item_stage.specs.Stages.{Stands}
 use Rattle.lwaftr_engine.specs.Ended.{Ends, EndsBy}
 use Rattle.lwaftr_engine.specs.Endings.{IsBehind}
 use Rattle.lwaftr_engine.specs.Finishing.{IsFinished, IsFirst}
-use Rattle.lwaftr_engine.specs.Opened.{IsOpened}
-use Rattle.lwaftr_engine.specs.Progress.{Goes, HasWritten, IsInRange, Seats, Setup, Spot, Stops, Suits, TakesOn, mark}
+use Rattle.lwaftr_engine.specs.RunLaws.{RunLaws}
+use Rattle.lwaftr_engine.specs.Progress.{Goes, HasWritten, Seats, Setup, Spot, Stops, Suits, TakesOn, mark}
 use Rattle.lwaftr_engine.specs.Runs.{IsPlanOf, IsRun}
+use Rattle.lwaftr_engine.specs.Writing.{Did, opening_steps}
 use Rattle.lwaftr_engine.specs.declared.rounds.Progress.{Progress}
 use Rattle.run_output.specs.Outputs.{Course}
 use Rattle.swap_core.specs.Laws.{SettledPointsAreAll}
 use Rattle.swap_core.specs.Plans.{IsPlan, Tables, window}
 use Rattle.swap_core.specs.Points.{AreAllPoints, AreInWindows}
 use Rattle.swap_core.specs.declared.plan.Window.{Window}
-use Rattle.worker_gate.specs.Reloading.{IsSettled, NoneIsLeft, WaitsFor}
+use Rattle.worker_gate.specs.Reloading.{IsSettled}
 use Rattle.lwaftr_engine.proofs.Apart.{AreFilesApart}
-use Rattle.lwaftr_engine.proofs.Closing.{EndLaws, HasCourse, IsClosed, bare, is_history, is_written, none_written, suits_bare, with_limit}
+use Rattle.lwaftr_engine.proofs.Closing.{AreWritten, HasCourse, IsClosed, course_with, first_past, is_history, is_written, suits_bare}
+use Rattle.lwaftr_engine.proofs.Courses.{HasUnder, bare, some_course}
 use Rattle.lwaftr_engine.proofs.Moving.{moves_join}
+use Rattle.lwaftr_engine.proofs.Steps.{none_waits}
+use Rattle.lwaftr_engine.proofs.Writing.{IsOpened, opened}
 
 -- the areas are closed, and each window that opened has its point
 pub record IsAtEnd (plan : Tables) (draws : List (ℕ × ℕ)) (s : Seats) (h : HistoryValue) (number : ℕ) : Type 0 where
@@ -35,11 +41,6 @@ pub record IsAtEnd (plan : Tables) (draws : List (ℕ × ℕ)) (s : Seats) (h : 
   pub few : length s.points < length plan.tables
   pub count : length draws ≡ number
   pub points : AreAllPoints plan.windows s.points number
-
-settled_by : (p : Tables) (desk : View) (records : ℕ) → desk.plan ≡ p → NoneIsLeft desk ⊎ WaitsFor desk records →
-    (length p.tables ≤ length desk.points + 1) ⊎ (records < (window p (length desk.points + 1)).earliest)
-settled_by p desk records same (inl none) = let P : Tables → Type 0 = λ q. length q.tables ≤ length desk.points + 1 in inl (subst P same none)
-settled_by p desk records same (inr waits) = let P : Tables → Type 0 = λ q. records < (window q (length desk.points + 1)).earliest in inr (subst P same waits.1)
 
 pub at_end : SettledPointsAreAll → (plan : Tables) (seat desk : View) (s : Seats) (h : HistoryValue) (number : ℕ) → IsClosed plan seat.actor.draws s h → IsSettled seat desk → HasWholeShare seat → desk.plan ≡ plan → desk.points ≡ s.points →
     length seat.actor.draws ≡ number → IsAtEnd plan seat.actor.draws s h number
@@ -54,7 +55,7 @@ at_end law plan seat desk s h number closed settled whole same_plan same_points 
     let Q : List ℕ → Type 0 = λ points. (length plan.tables ≤ length points + 1) ⊎ (number < (window plan (length points + 1)).earliest) in
     let D : ℕ → Type 0 = λ n. (length plan.tables ≤ length desk.points + 1) ⊎ (n < (window plan (length desk.points + 1)).earliest) in
     let due : (length plan.tables ≤ length s.points + 1) ⊎ (number < (window plan (length s.points + 1)).earliest) =
-    subst Q same_points (subst D seen (settled_by plan desk seat.seen.records same_plan settled.none_due)) in
+    subst Q same_points (subst D seen (none_waits plan desk seat.seen.records same_plan settled.none_due)) in
     let planned = let I : Tables → Type 0 = λ p. IsPlan p in subst I closed.same_plan history.planned in
     record {
       closed = closed;
@@ -73,19 +74,18 @@ is_behind place left bytes number [] ended it before = tt
 is_behind place left bytes number (r ∷ rs) ended it before = before r rs ended it
 
 -- how a run ended, by how its records stopped
-ends_by : (x : Setup) (tables : ℕ → BindingTable) (windows : List Window) (a e : Contents) (said now : Option (List ℕ)) (before after : Outside) (history : Option HistoryValue) (first reader : Spot) (number : ℕ) (bytes : List ℕ) (rs : List Rec) (stop : Ending) (last : Option (List ℕ × ℕ)) → after.last ≡ last →
-    bytes ≡ content a x.run.input → SomeLeft reader.left → first.at ≤ reader.at → All (λ r. r.next_at ≤ reader.at) rs → Precedes first.left reader.left bytes 0 rs number → Stops x.run.input reader bytes number (Some stop) last →
-    IsRun x.run tables windows x.slots x.form x.written rs a e said now history →
-    EndsBy x tables windows first (Ok stop) a e said now before after history
-ends_by x tables windows a e said now before after history first reader number bytes rs ending.End last shown same some forward within follows stopped run =
+ends_by : {x : Setup} {tables : ℕ → BindingTable} {windows : List Window} {a e : Contents} {said now : Option (List ℕ)} {history : Option HistoryValue} (before after : Outside) (first reader : Spot) (number : ℕ) (bytes : List ℕ) (rs : List Rec) (stop : Ending) {last : Option (List ℕ × ℕ)} →
+    after.last ≡ last → bytes ≡ content a x.run.input → SomeLeft reader.left → first.at ≤ reader.at → All (λ r. r.next_at ≤ reader.at) rs → Precedes first.left reader.left bytes 0 rs number →
+    Stops x.run.input reader bytes number (Some stop) last → IsRun x.run tables windows x.slots x.form x.written rs a e said now history → EndsBy x tables windows first (Ok stop) a e said now before after history
+ends_by before after first reader number bytes rs ending.End shown same some forward within follows stopped run =
     let P : List Rec → Type 0 = λ l. first.left bytes 0 l None in
     let B : List ℕ → Type 0 = λ b. first.left b 0 rs None in
     record { records = rs; capture = subst B same (subst P (append-nil rs) (follows [] None stopped)); is_run = run }
-ends_by x tables windows a e said now before after history first reader number bytes rs (ending.Bad refusal) last shown same some forward within follows stopped run =
+ends_by before after first reader number bytes rs (ending.Bad refusal) shown same some forward within follows stopped run =
     let P : List Rec → Type 0 = λ l. first.left bytes 0 l (Some refusal) in
     let B : List ℕ → Type 0 = λ b. first.left b 0 rs (Some refusal) in
     record { records = rs; capture = subst B same (subst P (append-nil rs) (follows [] (Some refusal) stopped)); is_run = run }
-ends_by x tables windows a e said now before after history first reader number bytes rs ending.ReadFault last shown same some forward within follows stopped run =
+ends_by before after first reader number bytes rs ending.ReadFault shown same some forward within follows stopped run =
     let rest = some bytes number in
     let B : List ℕ → Type 0 = λ b. first.left b 0 (rs ++ rest.0) rest.1 in
     record {
@@ -107,46 +107,55 @@ pub record IsHalfDone (x : Setup) (plan : Tables) (draws : List (ℕ × ℕ)) (p
   pub opened : IsOpened x.run x.written a middle
   pub goes : Goes x plan draws (mark middle p s0 first) (mark d q s reader) stop last
 
-pub same_input : (x : Setup) → AreFilesApart x.run → (a b : Contents) → IsOpened x.run x.written a b → content b x.run.input ≡ content a x.run.input
-same_input x far a b opened = opened.others x.run.input (λ e. far.output_input (sym e)) (λ e. far.verdicts_input (sym e)) (λ e. far.versions_input (sym e))
+pub same_input : (x : Setup) → AreFilesApart x.run → {a b : Contents} → IsOpened x.run x.written a b → content b x.run.input ≡ content a x.run.input
+same_input x far opened = opened.others x.run.input (λ e. far.output_input (sym e)) (λ e. far.verdicts_input (sym e)) (λ e. far.versions_input (sym e))
 
-module _ (laws : EndLaws) (x : Setup) (far : AreFilesApart x.run) (plan : Tables) (draws : List (ℕ × ℕ)) (s0 s : Seats) (h : HistoryValue) (p q : Progress) (first reader : Spot) (stop : Ending) (last : Option (List ℕ × ℕ)) (said now : Option (List ℕ)) (before after : Outside) (shown : after.last ≡ last)
-    (some : SomeLeft reader.left) (start : IsFirst x.form x.run.errors p) (no_points : s0.points ≡ []) (bounded : IsInRange x q) (end : IsAtEnd plan draws s h q.number) where
+pub half_done : (x : Setup) (plan : Tables) (draws : List (ℕ × ℕ)) (p q : Progress) (s0 s : Seats) (first reader : Spot) (stop : Option Ending) (last : Option (List ℕ × ℕ)) (h0 h1 h2 : Option Contents) →
+    Moves h0 h1 (Did x.run (opening_steps x.run x.written)) → Moves h1 h2 (λ b d. Goes x plan draws (mark b p s0 first) (mark d q s reader) stop last) →
+    Moves h0 h2 (λ a d. IsHalfDone x plan draws p q s0 s first reader stop last a d)
+half_done x plan draws p q s0 s first reader stop last h0 h1 h2 opening going =
+    moves_join h0 h1 h2 (Did x.run (opening_steps x.run x.written)) (λ b d. Goes x plan draws (mark b p s0 first) (mark d q s reader) stop last)
+    (λ a d. IsHalfDone x plan draws p q s0 s first reader stop last a d) (λ a b d u w. record { middle = b; opened = opened x.run x.written a b u; goes = w }) opening going
+
+-- what the rounds wrote from the first record on
+pub are_written : {x : Setup} {tables : ℕ → BindingTable} {windows : List Window} {plan : Tables} {draws : List (ℕ × ℕ)} {p q : Progress} {s0 s : Seats} {h : HistoryValue} {first reader : Spot} {b d : Contents} {stop : Option Ending} {last : Option (List ℕ × ℕ)} →
+    IsFirst x.form x.run.errors p → s0.points ≡ [] → IsPlanOf tables windows plan → IsAtEnd plan draws s h q.number → (took : TakesOn x plan draws (mark b p s0 first) (mark d q s reader) stop last) →
+    AreWritten x plan windows draws s b (mark d q s reader) took.records
+are_written {x} {tables} {windows} {plan} {draws} {p} {q} {s0} {s} {h} {first} {reader} {b} {d} {stop} {last} start no_points of end took = record { written = written; placed = placed } where
+  written : (c : Course) → Suits plan draws c → HasWritten x c b (mark d q s reader) took.records
+  written c suits = took.written (first_past c suits b first start no_points)
+
+  placed : AreAllPoints windows s.points (length took.records)
+  placed =
+      let W : List Window → Type 0 = λ w. AreAllPoints w s.points q.number in
+      let A : ℕ → Type 0 = λ n. AreAllPoints windows s.points n in
+      subst A (written (bare tables s.points) (suits_bare of end.closed)).number (subst W of.same_windows end.points)
+
+module _ (laws : RunLaws) (x : Setup) (far : AreFilesApart x.run) (plan : Tables) (draws : List (ℕ × ℕ)) (s0 s : Seats) (h : HistoryValue) (p q : Progress) (first reader : Spot) (stop : Ending) (last : Option (List ℕ × ℕ)) (said now : Option (List ℕ)) (before after : Outside) (shown : after.last ≡ last)
+    (some : SomeLeft reader.left) (start : IsFirst x.form x.run.errors p) (no_points : s0.points ≡ []) (rate : IfSome x.run.errors IsRate) (end : IsAtEnd plan draws s h q.number) where
   ended : (a d e : Contents) → IsHalfDone x plan draws p q s0 s first reader (Some stop) last a d → ((taken : List Rec) → Stands q.stage taken → IsFinished x q s.points taken d e said now) →
       Ends x plan first (Ok stop) a e said now before after (Some h)
   ended a d e half done tables windows of stood =
-      let b : Contents = half.middle in
-      let input : content half.middle x.run.input ≡ content a x.run.input = same_input x far a half.middle half.opened in
-      let took : TakesOn x plan draws (mark half.middle p s0 first) (mark d q s reader) (Some stop) last = half.goes (let S : List ℕ → Type 0 = λ bytes. first.stood bytes in subst S (sym input) stood) in
-      let rs : List Rec = took.records in
-      let written : (c : Course) → Suits plan draws c → HasWritten x c half.middle (mark d q s reader) took.records = λ c suits. took.written c suits half.middle [] (none_written x c half.middle p s0 first start no_points) in
-      let W : List Window → Type 0 = λ w. AreAllPoints w s.points q.number in
-      let c0 = written_count took.records written windows tables of in
-      let placed : AreAllPoints windows s.points (length took.records) = let A : ℕ → Type 0 = λ n. AreAllPoints windows s.points n in subst A c0 (subst W of.same_windows end.points) in
-      let has : HasCourse x tables windows s half.middle (mark d q s reader) took.records = with_limit laws x tables windows plan draws s h of end.closed end.few half.middle (mark d q s reader) took.records bounded.rate written placed in
+      let input = same_input x far half.opened in
+      let S : List ℕ → Type 0 = λ bytes. first.stood bytes in
+      let took : TakesOn x plan draws (mark half.middle p s0 first) (mark d q s reader) (Some stop) last = half.goes (subst S (sym input) stood) in
+      let are : AreWritten x plan windows draws s half.middle (mark d q s reader) took.records = are_written start no_points of end took in
+      let some_one : HasUnder tables s.points x.run.errors x.form took.records = some_course laws.limits tables s.points x.run.errors x.form took.records rate in
+      let has : HasCourse x tables windows s half.middle (mark d q s reader) took.records = course_with laws of end.closed end.few are some_one.course some_one.under in
       let run : IsRun x.run tables windows x.slots x.form x.written took.records a e said now (Some h) = record {
         points = s.points;
         course = has.course;
         is_course = has.is_course;
-        outputs = is_written x far laws.totals tables windows s q reader a half.middle d e said now took.records half.opened has (done took.records has.written.stands);
-        is_history = is_history x tables windows plan draws s h took.records of end.closed (end.count ∙ c0) has.written.reads;
+        outputs = is_written laws.totals half.opened has (done took.records has.written.stands);
+        is_history = is_history x of end.closed (end.count ∙ has.written.number) has.written.reads;
       } in
       let F : ℕ → Type 0 = λ n. Precedes first.left reader.left (content half.middle x.run.input) n took.records q.number in
-      ends_by x tables windows a e said now before after (Some h) first reader q.number (content half.middle x.run.input) took.records stop last shown input some took.forward took.within (subst F start.number took.follows) took.stopped run where
-        written_count : (rs : List Rec) → ((c : Course) → Suits plan draws c → HasWritten x c half.middle (mark d q s reader) rs) → (windows : List Window) (tables : ℕ → BindingTable) → IsPlanOf tables windows plan → q.number ≡ length rs
-        written_count rs written windows tables of = (written (bare tables s.points) (suits_bare tables windows plan draws s h of end.closed)).number
+      ends_by before after first reader q.number (content half.middle x.run.input) took.records stop shown input some took.forward took.within (subst F start.number took.follows) took.stopped run
 
-  pub ends : (h0 h1 h2 h3 : Option Contents) →
-      Moves h0 h1 (IsOpened x.run x.written) →
-      Moves h1 h2 (λ b d. Goes x plan draws (mark b p s0 first) (mark d q s reader) (Some stop) last) →
-      Moves h2 h3 (λ d e. (taken : List Rec) → Stands q.stage taken → IsFinished x q s.points taken d e said now) →
-      Moves h0 h3 (λ a e. Ends x plan first (Ok stop) a e said now before after (Some h))
+  pub ends : (h0 h1 h2 h3 : Option Contents) → Moves h0 h1 (Did x.run (opening_steps x.run x.written)) → Moves h1 h2 (λ b d. Goes x plan draws (mark b p s0 first) (mark d q s reader) (Some stop) last) →
+      Moves h2 h3 (λ d e. (taken : List Rec) → Stands q.stage taken → IsFinished x q s.points taken d e said now) → Moves h0 h3 (λ a e. Ends x plan first (Ok stop) a e said now before after (Some h))
   ends h0 h1 h2 h3 opening going third =
-      let half : Moves h0 h2 (λ a d. IsHalfDone x plan draws p q s0 s first reader (Some stop) last a d) =
-      moves_join h0 h1 h2 (IsOpened x.run x.written) (λ b d. Goes x plan draws (mark b p s0 first) (mark d q s reader) (Some stop) last)
-      (λ a d. IsHalfDone x plan draws p q s0 s first reader (Some stop) last a d) (λ a b d u w. record { middle = b; opened = u; goes = w }) opening going in
-      moves_join h0 h2 h3
-      (λ a d. IsHalfDone x plan draws p q s0 s first reader (Some stop) last a d)
+      moves_join h0 h2 h3 (λ a d. IsHalfDone x plan draws p q s0 s first reader (Some stop) last a d)
       (λ d e. (taken : List Rec) → Stands q.stage taken → IsFinished x q s.points taken d e said now)
       (λ a e. Ends x plan first (Ok stop) a e said now before after (Some h))
-      (λ a d e u w. ended a d e u w) half third
+      (λ a d e u w. ended a d e u w) (half_done x plan draws p q s0 s first reader (Some stop) last h0 h1 h2 opening going) third

@@ -1,4 +1,4 @@
--- Calls that were ended by a fault, and files by another writing of their name.
+-- Calls that were ended by a fault.
 use Rattle.std.proofs.Common.{◌≡◌, ℕ, ◌≤◌, List, ◌++◌, length, take, Option, Result, Ok, Err, refl, subst}
 use Rattle.std.specs.Prelude.{IfErr, IsErr}
 use Rattle.aftr_base.specs.Contents.{Contents, content, Moves, Writes}
@@ -6,12 +6,7 @@ use Rattle.aftr_base.specs.Outside.{Rises, has_failed}
 use Rattle.aftr_base.specs.Pieces.{AppendedAll}
 use Rattle.aftr_base.specs.declared.outside.Fault.{Fault}
 use Rattle.aftr_base.specs.declared.outside.Fault.TheVariants as fault
-use Rattle.capture_io.specs.declared.forms.Rec.{Rec}
-use Rattle.item_stage.specs.Stages.{Stands}
-use Rattle.lwaftr_engine.specs.Finishing.{Finishes}
 use Rattle.lwaftr_engine.specs.Fronts.{is_failure}
-use Rattle.lwaftr_engine.specs.Progress.{Setup}
-use Rattle.lwaftr_engine.specs.declared.rounds.Progress.{Progress}
 
 pub if_err : {T : Type 0} (A : Type 0) (r : Result T Fault) → A → IfErr r (λ _. A)
 if_err A (Ok x) a = tt
@@ -28,21 +23,3 @@ rises_by {T} r e k k1 is rises = let R : Result T Fault → Type 0 = λ q. Rises
   by_fault : (e : Fault) → (let q : Result T Fault = Err e in Rises (has_failed q) k k1) → Rises (is_failure e) k k1
   by_fault fault.Failed rises = rises
   by_fault fault.OutOfMemory rises = rises
-
-pub finishes_err : (x : Setup) (p : Progress) (points : List ℕ) (r : Result Unit Fault) (k k1 : ℕ) (a b : Option Contents) (said now : Option (List ℕ)) → IsErr r → Rises (has_failed r) k k1 →
-    ((e : Fault) → Rises (is_failure e) k k1 → Moves a b (λ m n. (taken : List Rec) → Stands p.stage taken → Finishes x p points taken (Err e) k k1 m n said now)) →
-    Moves a b (λ m n. (taken : List Rec) → Stands p.stage taken → Finishes x p points taken r k k1 m n said now)
-finishes_err x p points (Ok done) k k1 a b said now is rises step = absurd (cc is)
-finishes_err x p points (Err why) k k1 a b said now is rises step = step why (let r : Result Unit Fault = Err why in rises_by r why k k1 refl rises)
-
-pub named : (a b : Option Contents) (k name bytes : List ℕ) → k ≡ name → Moves a b (λ m n. Writes m n k (content m k ++ bytes)) → Moves a b (λ m n. Writes m n name (content m name ++ bytes))
-named a b k name bytes is step = let S : List ℕ → Type 0 = λ q. Moves a b (λ m n. Writes m n q (content m q ++ bytes)) in subst S is step
-
-pub cut_named : (a b : Option Contents) (k name bytes : List ℕ) → k ≡ name →
-    Moves a b (λ m n. (count : ℕ) × (count ≤ length bytes) × Writes m n k (content m k ++ take count bytes)) →
-    Moves a b (λ m n. (count : ℕ) × (count ≤ length bytes) × Writes m n name (content m name ++ take count bytes))
-cut_named a b k name bytes is step =
-    let S : List ℕ → Type 0 = λ q. Moves a b (λ m n. (count : ℕ) × (count ≤ length bytes) × Writes m n q (content m q ++ take count bytes)) in subst S is step
-
-pub made_named : (a b : Option Contents) (k name bytes : List ℕ) → k ≡ name → Moves a b (λ m n. Writes m n k bytes) → Moves a b (λ m n. Writes m n name bytes)
-made_named a b k name bytes is step = let S : List ℕ → Type 0 = λ q. Moves a b (λ m n. Writes m n q bytes) in subst S is step

@@ -27,6 +27,7 @@ mod Marked
 mod MigrateLemmas
 mod Moving
 mod OpenLemmas
+mod Parts
 mod PlanLemmas
 mod Prepared
 mod PromptLemmas
@@ -43,3 +44,4 @@ mod TopLemmas
 mod UnderwayLemmas
 mod UnopenedLemmas
 mod WriteLemmas
+mod Writing

@@ -1,5 +1,5 @@
 -- What is told of the files, from step to step.
-use Rattle.std.proofs.Common.{◌≡◌, Option, Some, None, subst}
+use Rattle.std.proofs.Common.{◌≡◌, Option, Some, None, sym, subst}
 use Rattle.aftr_base.specs.Contents.{Contents, Moves, Told}
 
 -- two steps are one
@@ -10,6 +10,13 @@ moves_join None (Some n) c P Q R both first second = absurd first
 moves_join (Some m) None c P Q R both first second = absurd first
 moves_join (Some m) (Some n) None P Q R both first second = second
 moves_join (Some m) (Some n) (Some o) P Q R both first second = both m n o first second
+
+-- a step that does nothing
+pub moves_none : (a b : Option Contents) (P : Contents → Contents → Type 0) → ((m : Contents) → P m m) → b ≡ a → Moves a b P
+moves_none a b P same is = let M : Option Contents → Type 0 = λ h. Moves a h P in subst M (sym is) (by_held a) where
+  by_held : (h : Option Contents) → Moves h h P
+  by_held None = tt
+  by_held (Some m) = same m
 
 -- what a step says, in other words
 pub moves_by : (a b : Option Contents) (P R : Contents → Contents → Type 0) → ((m n : Contents) → P m n → R m n) → Moves a b P → Moves a b R

@@ -12,14 +12,14 @@ use Rattle.error_limit.specs.Limits.{Bucket}
 use Rattle.item_stage.specs.declared.entries.Entry.{Entry}
 use Rattle.std.specs.Prelude.{Bool, false, string_bytes}
 use Rattle.aftr_base.specs.Outside.{OnlyWrites, Outside, Rises}
-use Rattle.lwaftr_engine.specs.Progress.{ReadsOf, Setup, Spot, Wrote, loads_of}
-use Rattle.lwaftr_engine.specs.Rounds.{HasBegunToWrite}
+use Rattle.lwaftr_engine.specs.Progress.{ReadsOf, Setup, Spot, loads_of}
+use Rattle.lwaftr_engine.specs.Writing.{round_steps}
 use Rattle.lwaftr_engine.specs.declared.rounds.Pending.{Pending}
 use Rattle.run_output.specs.Rendering.{lines_in, packets_in}
 use Rattle.run_output.specs.Versions.{NoneIsDue, between, load_lines, named}
 use Rattle.run_output.specs.declared.parts.Part.{Part}
 use Rattle.worker_gate.specs.declared.outcomes.Outcome.{Outcome}
-use Rattle.lwaftr_engine.specs.Underway.{AreNewLines, AreRendered, HasRead, Puts, PutsPart, unwritten}
+use Rattle.lwaftr_engine.specs.Underway.{AreNewLines, AreRendered, HasRead, steps_of}
 
 -- the outcomes are those of the workers
 pub rendered_by : (x : Setup) (start : ℕ) (records : List Rec) (es : List Entry) (shown os : List Outcome) (limit now : Option Bucket) (before after : Totals) (parts : List Part) → shown ≡ os →
@@ -59,20 +59,10 @@ pub follows_of : (h : Option Contents) (name : List ℕ) (Stood Stands : List �
 follows_of None name Stood Stands before now number round told = tt
 follows_of (Some m) name Stood Stands before now number round told = λ stood. (told stood).follows
 
--- what a round wrote, by another writing of it
-pub puts_shown : (x : Setup) (u : Pending) (vs : List ℕ) (parts : List Part) → vs ≡ string_bytes u.versions → parts ≡ u.rendered → (P : (Contents → Contents → Type 0) → Type 0) →
-    P (Wrote x.run vs (packets_in parts) (lines_in parts)) → P (Puts x (unwritten u))
-puts_shown x u vs parts vs_is parts_is P done =
-    let V : List ℕ → Type 0 = λ v. P (Wrote x.run v (packets_in parts) (lines_in parts)) in
-    let Q : List Part → Type 0 = λ ps. P (Wrote x.run (string_bytes u.versions) (packets_in ps) (lines_in ps)) in
-    subst Q parts_is (subst V vs_is done)
-
-pub part_shown : (x : Setup) (u : Pending) (vs : List ℕ) (parts : List Part) → vs ≡ string_bytes u.versions → parts ≡ u.rendered → (P : (Contents → Contents → Type 0) → Type 0) →
-    P (HasBegunToWrite x.run vs (packets_in parts) (lines_in parts)) → P (PutsPart x (unwritten u))
-part_shown x u vs parts vs_is parts_is P done =
-    let V : List ℕ → Type 0 = λ v. P (HasBegunToWrite x.run v (packets_in parts) (lines_in parts)) in
-    let Q : List Part → Type 0 = λ ps. P (HasBegunToWrite x.run (string_bytes u.versions) (packets_in ps) (lines_in ps)) in
-    subst Q parts_is (subst V vs_is done)
+-- what a round writes, by another writing of it
+pub steps_shown : (u : Pending) (vs : List ℕ) (parts : List Part) → vs ≡ string_bytes u.versions → parts ≡ u.rendered → round_steps vs (packets_in parts) (lines_in parts) ≡ steps_of u
+steps_shown u vs parts vs_is parts_is =
+    ap (λ (v : List ℕ). round_steps v (packets_in parts) (lines_in parts)) vs_is ∙ ap (λ (ps : List Part). round_steps (string_bytes u.versions) (packets_in ps) (lines_in ps)) parts_is
 
 -- what was read, where the files hold the same in another writing
 pub read_held : (x : Setup) (before now : Spot) (number : ℕ) (a b : Option Contents) (last : Option (List ℕ × ℕ)) (round : Round) → b ≡ a → HasRead x before now number a last round → HasRead x before now number b last round

@@ -50,7 +50,7 @@ suits_before plan draws news later c is suits =
 pub told_by : (plan : Tables) (u : Shift) → u.areas.plan ≡ plan → IsUpToDate u.areas.plan (length u.seat.known.actor.draws) u.desk.known.points → IsUpToDate plan (length u.seat.known.actor.draws) u.desk.known.points
 told_by plan u is told = let T : Tables → Type 0 = λ p. IsUpToDate p (length u.seat.known.actor.draws) u.desk.known.points in subst T is told
 
-none_waits : (plan : Tables) (desk : View) (records : ℕ) → desk.plan ≡ plan → NoneIsLeft desk ⊎ WaitsFor desk records → (length plan.tables ≤ length desk.points + 1) ⊎ (records < (window plan (length desk.points + 1)).earliest)
+pub none_waits : (plan : Tables) (desk : View) (records : ℕ) → desk.plan ≡ plan → NoneIsLeft desk ⊎ WaitsFor desk records → (length plan.tables ≤ length desk.points + 1) ⊎ (records < (window plan (length desk.points + 1)).earliest)
 none_waits plan desk records same (inl none) = let P : Tables → Type 0 = λ q. length q.tables ≤ length desk.points + 1 in inl (subst P same none)
 none_waits plan desk records same (inr waits) = let P : Tables → Type 0 = λ q. records < (window q (length desk.points + 1)).earliest in inr (subst P same waits.1)
 

@@ -1,18 +1,12 @@
 -- What the sink took of a summary, and the history that goes with it.
 use Rattle.std.proofs.Common.{◌≡◌, ℕ, List, ◌++◌, length, Option, Some, None, Result, Ok, Err, refl, sym, ◌∙◌, ap, subst}
 use Rattle.std.specs.Option.{option_map}
-use Rattle.std.specs.Prelude.{IsSome, OnOk}
-use Rattle.aftr_base.specs.Pieces.{TookAll}
-use Rattle.aftr_base.specs.declared.outside.Fault.{Fault}
+use Rattle.std.specs.Prelude.{IsSome}
 use Rattle.area_swap.specs.Histories.{AreDrawn, HistoryValue, IsHistory}
 use Rattle.lwaftr_engine.specs.Finishing.{last_line}
 use Rattle.lwaftr_engine.specs.Promises.{HasSummary, IsSummedUp}
 use Rattle.lwaftr_engine.specs.declared.rounds.Progress.{Progress}
 use Rattle.run_output.specs.Counting.{IsWithin, with_version}
-
-pub took_summary : (r : Result Unit Fault) (said now : Option (List ℕ)) (line other : List ℕ) → line ≡ other → TookAll r said now line → OnOk r (now ≡ option_map (λ taken. taken ++ other) said)
-took_summary (Ok done) said now line other is took = let T : List ℕ → Type 0 = λ l. now ≡ option_map (λ (taken : List ℕ). taken ++ l) said in subst T is took
-took_summary (Err why) said now line other is took = tt
 
 -- the areas that were closed, and the line of the whole run
 pub summed_up : (p : Progress) (points : List ℕ) (draws : List (ℕ × ℕ)) (h : HistoryValue) (said now : Option (List ℕ)) → IsHistory h → AreDrawn h draws → length draws ≡ p.number → IsWithin p.totals p.number → points ≡ h.points →

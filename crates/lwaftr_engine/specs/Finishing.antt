@@ -14,7 +14,8 @@ use Rattle.item_stage.specs.Stages.{Stands}
 use Rattle.lwaftr_engine.specs.Fronts.{is_failure}
 use Rattle.lwaftr_engine.specs.declared.rounds.Progress.{Progress}
 use Rattle.lwaftr_engine.specs.Promises.{HasSummary}
-use Rattle.lwaftr_engine.specs.Progress.{Setup, Wrote, loads_of}
+use Rattle.lwaftr_engine.specs.Progress.{Setup, loads_of}
+use Rattle.lwaftr_engine.specs.Writing.{Did, DidFront, Step, round_steps}
 use Rattle.run_output.specs.Counting.{no_totals, with_version}
 use Rattle.run_output.specs.Limiting.{HasAsked, rate_of}
 use Rattle.run_output.specs.Outputs.{Course}
@@ -41,28 +42,23 @@ last_lines p taken = flat_map (ended_text false) (unfinished_of p.stage.form tak
 abbrev pub last_line : Progress → List ℕ → List ℕ
 last_line p points = summary_text (with_version p.totals (length points))
 
--- all of it is written
+abbrev pub last_steps : Setup → Progress → List ℕ → List Rec → List Step
+last_steps x p points taken = round_steps (last_versions x p points) [] (last_lines p taken)
+
+-- all lines are written, and the summary is put
 pub record IsFinished (x : Setup) (p : Progress) (points : List ℕ) (taken : List Rec) (old new : Contents) (said now : Option (List ℕ)) : Type 0 where
-  pub wrote : Wrote x.run (last_versions x p points) [] (last_lines p taken) old new
+  pub did : Did x.run (last_steps x p points taken) old new
   pub took : now ≡ option_map (λ out. out ++ last_line p points) said
 
--- a front of it is written: of the lines of tables, then of those of datagrams, and nothing is put
-pub record IsHalfWritten (x : Setup) (p : Progress) (points : List ℕ) (taken : List Rec) (old new : Contents) (said now : Option (List ℕ)) : Type 0 where
-  pub versions : ℕ
-  pub lines : ℕ
-  pub wrote : Wrote x.run (take versions (last_versions x p points)) [] (take lines (last_lines p taken)) old new
-  pub took : now ≡ said
-
--- all lines are written, and a front of the summary is put
-pub record IsHalfPut (x : Setup) (p : Progress) (points : List ℕ) (taken : List Rec) (old new : Contents) (said now : Option (List ℕ)) : Type 0 where
-  pub wrote : Wrote x.run (last_versions x p points) [] (last_lines p taken) old new
-  pub count : ℕ
-  pub took : now ≡ option_map (λ out. out ++ take count (last_line p points)) said
+-- the sink took a front of this line
+abbrev pub TookFront : List ℕ → Option (List ℕ) → Option (List ℕ) → Type 0
+TookFront line said now = (count : ℕ) × (now ≡ option_map (λ out. out ++ take count line) said)
 
 -- where a call failed, it is an append while the lines are not whole, and a put behind them
 abbrev pub IsHalfFinished : Setup → Progress → List ℕ → List Rec → Fault → ℕ → ℕ → Contents → Contents → Option (List ℕ) → Option (List ℕ) → Type 0
 IsHalfFinished x p points taken why spoiled spoiled_now old new said now =
-    (Rises (is_failure why) spoiled spoiled_now × IsHalfWritten x p points taken old new said now) ⊎ ((spoiled_now ≡ spoiled) × IsHalfPut x p points taken old new said now)
+    (Rises (is_failure why) spoiled spoiled_now × (DidFront x.run (last_steps x p points taken) old new × (now ≡ said)))
+    ⊎ ((spoiled_now ≡ spoiled) × (Did x.run (last_steps x p points taken) old new × TookFront (last_line p points) said now))
 
 abbrev pub Finishes : Setup → Progress → List ℕ → List Rec → Result Unit Fault → ℕ → ℕ → Contents → Contents → Option (List ℕ) → Option (List ℕ) → Type 0
 Finishes x p points taken (Ok done) spoiled spoiled_now old new said now = IsFinished x p points taken old new said now

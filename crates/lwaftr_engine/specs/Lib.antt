@@ -1,6 +1,6 @@
 -- The promises of the program's calls stand in Promises, Questions, Migrations, Demos and Prompt, over Causes, Endings, Fronts, Inputs,
--- Runs, Statuses, Tables and Worlds. What stands in Answered, Broken, Ended, Finishing, Loads, Opened, Planned, Progress, Rounds, Shows and Underway is
--- for the parts of the engine alone.
+-- Runs, Statuses, Tables and Worlds. What stands in Answered, Broken, Ended, Finishing, Loads, Planned, Progress, RunLaws, Shows,
+-- Underway and Writing is for the parts of the engine alone.
 pub mod Causes
 pub mod Demos
 pub mod Endings
@@ -16,12 +16,12 @@ pub mod Tables
 pub mod Worlds
 pub mod Answered
 pub mod Loads
-pub mod Opened
 pub mod Progress
-pub mod Rounds
+pub mod RunLaws
 pub mod Broken
 pub mod Ended
 pub mod Finishing
 pub mod Planned
 pub mod Shows
 pub mod Underway
+pub mod Writing

@@ -1,5 +1,5 @@
 -- How far a run has come, and what its outputs hold by then.
-use Rattle.std.specs.Prelude.{◌≡◌, ◌≢◌, ℕ, ◌+◌, ◌^◌, ◌<◌, ◌≤◌, ◌⊎◌, Bool, true, false, List, [], ◌∷◌, ◌++◌, length, take, drop, All, Option, Some, None}
+use Rattle.std.specs.Prelude.{◌≡◌, ℕ, ◌+◌, ◌^◌, ◌<◌, ◌≤◌, ◌⊎◌, Bool, true, false, List, [], ◌∷◌, ◌++◌, length, take, drop, All, Option, Some, None}
 use Rattle.aftr_base.specs.Contents.{Contents, content}
 use Rattle.aftr_base.specs.Outside.{FailsAt, Outside, Rises, Rose}
 use Rattle.aftr_text.specs.declared.jobs.RunJob.{RunJob}
@@ -13,7 +13,7 @@ use Rattle.capture_io.specs.declared.written.Written.{Written}
 use Rattle.capture_io.specs.Rounds.{Left, Precedes}
 use Rattle.item_stage.specs.Items.{entries_of, items_in}
 use Rattle.item_stage.specs.Stages.{Stands}
-use Rattle.lwaftr_engine.specs.Runs.{all_asking}
+use Rattle.lwaftr_engine.specs.Runs.{OthersKept, all_asking}
 use Rattle.lwaftr_engine.specs.declared.rounds.Progress.{Progress}
 use Rattle.lwaftr_engine.specs.declared.shift.Shift.{Shift}
 use Rattle.lwaftr_engine.specs.declared.tasks.Task.{Task}
@@ -104,7 +104,7 @@ pub record Wrote (run : RunJob) (versions packets lines : List ℕ) (old new : C
   pub versions_is : content new run.versions ≡ content old run.versions ++ versions
   pub output : content new run.output ≡ content old run.output ++ packets
   pub verdicts : content new run.verdicts ≡ content old run.verdicts ++ lines
-  pub others : (name : List ℕ) → name ≢ run.output → name ≢ run.verdicts → name ≢ run.versions → content new name ≡ content old name
+  pub others : OthersKept run old new
 
 abbrev pub IsLimitedRun : Setup → Course → List Rec → Type 0
 IsLimitedRun x c taken = IsLimited x.run.errors x.form taken (entries_of x.form taken) c
@@ -123,6 +123,18 @@ pub record HasWritten (x : Setup) (c : Course) (opened : Contents) (m : Mark) (t
   pub none_due : NoneIsDue m.seats.points (drop m.progress.printed x.slots)
   pub spoken : (number : ℕ) → number < length taken → c.version number ≤ length m.seats.points
   pub reads : all_asking (items_in (entries_of x.form taken)) ≤ m.seats.reads
+
+-- what was written up to a mark, under some course that suits the plan and the draws
+pub record Past (x : Setup) (plan : Tables) (draws : List (ℕ × ℕ)) (m : Mark) : Type 0 where
+  pub course : Course
+  pub suits : Suits plan draws course
+  pub opened : Contents
+  pub taken : List Rec
+  pub written : HasWritten x course opened m taken
+
+-- and up to a later one: these records more
+abbrev pub WritesOn : Setup → Tables → List (ℕ × ℕ) → Mark → Mark → List Rec → Type 0
+WritesOn x plan draws a b records = (past : Past x plan draws a) → HasWritten x past.course past.opened b (past.taken ++ records)
 
 -- a read of the record that is next failed, at a place from its beginning on and before its end
 pub record IsCutAt (name : List ℕ) (reader : Spot) (bytes : List ℕ) (number : ℕ) (last : Option (List ℕ × ℕ)) : Type 0 where
@@ -148,7 +160,7 @@ pub record TakesOn (x : Setup) (plan : Tables) (draws : List (ℕ × ℕ)) (a b 
   pub forward : a.reader.at ≤ b.reader.at
   pub within : All (λ r. r.next_at ≤ b.reader.at) records
   pub stopped : Stops x.run.input b.reader (content a.held x.run.input) b.progress.number stop last
-  pub written : (c : Course) → Suits plan draws c → (opened : Contents) (taken : List Rec) → HasWritten x c opened a taken → HasWritten x c opened b (taken ++ records)
+  pub written : WritesOn x plan draws a b records
 
 abbrev pub Goes : Setup → Tables → List (ℕ × ℕ) → Mark → Mark → Option Ending → Option (List ℕ × ℕ) → Type 0
 Goes x plan draws a b stop last = a.reader.stood (content a.held x.run.input) → TakesOn x plan draws a b stop last

@@ -12,10 +12,10 @@ use Rattle.error_limit.specs.Limits.{Bucket}
 use Rattle.item_stage.specs.Items.{entries_of, items_in}
 use Rattle.item_stage.specs.Stages.{Staged, Stands}
 use Rattle.item_stage.specs.declared.entries.Entry.{Entry}
-use Rattle.lwaftr_engine.specs.Broken.{HasBegun}
-use Rattle.lwaftr_engine.specs.Progress.{AddsTo, HasWritten, IsInRange, IsOnDuty, IsUpToDate, Mark, Seats, Setup, Spot, Stops, Suits, Wrote, loads_of, mark, seats_of}
-use Rattle.lwaftr_engine.specs.Rounds.{HasBegunToWrite}
+use Rattle.lwaftr_engine.specs.Broken.{BeginsOn}
+use Rattle.lwaftr_engine.specs.Progress.{AddsTo, IsInRange, IsOnDuty, IsUpToDate, Mark, Seats, Setup, Spot, Stops, Suits, WritesOn, loads_of, mark, seats_of}
 use Rattle.lwaftr_engine.specs.Runs.{all_asking}
+use Rattle.lwaftr_engine.specs.Writing.{Did, DidFront, Step, round_steps}
 use Rattle.lwaftr_engine.specs.declared.rounds.Pending.{Pending}
 use Rattle.lwaftr_engine.specs.declared.rounds.Progress.{Progress}
 use Rattle.lwaftr_engine.specs.declared.shift.Shift.{Shift}
@@ -29,22 +29,9 @@ use Rattle.table_words.specs.Layout.{AreCompiled}
 use Rattle.worker_gate.specs.Reloading.{IsSettled}
 use Rattle.worker_gate.specs.declared.outcomes.Outcome.{Outcome}
 
--- what is not written yet: lines of tables, packets and lines of records
-pub record Unwritten : Type 0 where
-  pub versions : List ℕ
-  pub packets : List ℕ
-  pub lines : List ℕ
-
-abbrev pub unwritten : Pending → Unwritten
-unwritten p = record { versions = string_bytes p.versions; packets = packets_in p.rendered; lines = lines_in p.rendered }
-
--- all of it is put behind what the outputs hold
-abbrev pub Puts : Setup → Unwritten → Contents → Contents → Type 0
-Puts x u old new = Wrote x.run u.versions u.packets u.lines old new
-
--- a part of it is
-abbrev pub PutsPart : Setup → Unwritten → Contents → Contents → Type 0
-PutsPart x u old new = HasBegunToWrite x.run u.versions u.packets u.lines old new
+-- what is not written yet
+abbrev pub steps_of : Pending → List Step
+steps_of p = round_steps (string_bytes p.versions) (packets_in p.rendered) (lines_in p.rendered)
 
 -- what the stage says of the round's records
 pub record IsStaged (before after : Staged) (records : List Rec) (es : List Entry) : Type 0 where
@@ -67,28 +54,20 @@ pub record AreNewLines (x : Setup) (points now news : List ℕ) (from to : ℕ) 
   pub lines_are : (later : List ℕ) → lines ≡ load_lines (now ++ later) (between from to (loads_of x))
   pub none_due : NoneIsDue now (drop to x.slots)
 
--- all that is known of a round, whatever the course is
-pub record IsRoundOf (x : Setup) (p q : Progress) (s t : Seats) (news : List ℕ) (records : List Rec) (es : List Entry) (os : List Outcome) (lines : List ℕ) (parts : List Part) : Type 0 where
-  pub numbered : q.number ≡ p.number + length records
-  pub staged : IsStaged p.stage q.stage records es
-  pub outcomes_count : length os ≡ length es
-  pub versions : All (λ o. o.version ≤ length t.points) os
-  pub reads : s.reads + all_asking (items_in es) ≤ t.reads
-  pub rate : rate_of p.limit ≡ x.run.errors
-  pub made : AreRendered x p.number records es os p.limit q.limit p.totals q.totals parts
-  pub new_lines : AreNewLines x s.points t.points news p.printed q.printed lines
-
--- the outcomes of a round under every course that suits
-abbrev pub HaveOutcomes : Tables → List (ℕ × ℕ) → ℕ → List Entry → List Outcome → Type 0
-HaveOutcomes plan draws start es os = (c : Course) → Suits plan draws c → HasOutcomes c start es os
-
 -- a round was judged, and this is what it writes
 pub record HasJudged (x : Setup) (plan : Tables) (draws : List (ℕ × ℕ)) (p q : Progress) (s t : Seats) (records : List Rec) (made : Pending) : Type 0 where
   pub news : List ℕ
   pub entries : List Entry
   pub outcomes : List Outcome
-  pub of : IsRoundOf x p q s t news records entries outcomes (string_bytes made.versions) made.rendered
-  pub have : HaveOutcomes plan draws p.number entries outcomes
+  pub numbered : q.number ≡ p.number + length records
+  pub staged : IsStaged p.stage q.stage records entries
+  pub outcomes_count : length outcomes ≡ length entries
+  pub versions : All (λ o. o.version ≤ length t.points) outcomes
+  pub reads : s.reads + all_asking (items_in entries) ≤ t.reads
+  pub rate : rate_of p.limit ≡ x.run.errors
+  pub rendered : AreRendered x p.number records entries outcomes p.limit q.limit p.totals q.totals made.rendered
+  pub new_lines : AreNewLines x s.points t.points news p.printed q.printed (string_bytes made.versions)
+  pub have : (c : Course) → Suits plan draws c → HasOutcomes c p.number entries outcomes
 
 -- the outputs hold fronts of what the first of these records write, whichever points come later
 pub record IsCutFrom (x : Setup) (plan : Tables) (draws : List (ℕ × ℕ)) (points : List ℕ) (a : Mark) (now : Contents) (records : List Rec) : Type 0 where
@@ -96,14 +75,13 @@ pub record IsCutFrom (x : Setup) (plan : Tables) (draws : List (ℕ × ℕ)) (po
   pub first : List Rec
   pub others : List Rec
   pub all : records ≡ first ++ others
-  pub begun : (later : List ℕ) (c : Course) → Suits plan draws c → (opened : Contents) (taken : List Rec) → HasWritten x c opened a taken → HasBegun x c (points ++ later) opened now (taken ++ first)
+  pub begun : BeginsOn x plan draws points a now first
 
 -- From one state on these records were judged; what the last of them write is not in the outputs yet.
-pub record IsPending (x : Setup) (plan : Tables) (draws : List (ℕ × ℕ)) (a : Mark) (now : Contents) (p : Progress) (s : Seats) (u : Unwritten) (records : List Rec) : Type 0 where
+pub record IsPending (x : Setup) (plan : Tables) (draws : List (ℕ × ℕ)) (a : Mark) (now : Contents) (p : Progress) (s : Seats) (u : List Step) (records : List Rec) : Type 0 where
   pub input : content now x.run.input ≡ content a.held x.run.input
-  pub whole : (next : Contents) → Puts x u now next → (c : Course) → Suits plan draws c → (opened : Contents) (taken : List Rec) → HasWritten x c opened a taken →
-      HasWritten x c opened (mark next p s a.reader) (taken ++ records)
-  pub part : (next : Contents) → PutsPart x u now next → IsCutFrom x plan draws s.points a next records
+  pub whole : (next : Contents) → Did x.run u now next → WritesOn x plan draws a (mark next p s a.reader) records
+  pub part : (next : Contents) → DidFront x.run u now next → IsCutFrom x plan draws s.points a next records
 
 -- what was read, and how the records stopped
 pub record IsNext (name : List ℕ) (before now : Spot) (number : ℕ) (bytes : List ℕ) (round : Round) (last : Option (List ℕ × ℕ)) : Type 0 where
@@ -132,12 +110,12 @@ pub record HasTaken (name : List ℕ) (first now : Spot) (bytes : List ℕ) (num
   pub stopped : Stops name now bytes round.number round.ending last
 
 -- some records were judged, the last of them are not written, and the next round is read
-pub record IsUnderWay (x : Setup) (plan : Tables) (draws : List (ℕ × ℕ)) (a : Mark) (now : Contents) (p : Progress) (s : Seats) (u : Unwritten) (reader : Spot) (round : Round) (last : Option (List ℕ × ℕ)) : Type 0 where
+pub record IsUnderWay (x : Setup) (plan : Tables) (draws : List (ℕ × ℕ)) (a : Mark) (now : Contents) (p : Progress) (s : Seats) (u : List Step) (reader : Spot) (round : Round) (last : Option (List ℕ × ℕ)) : Type 0 where
   pub records : List Rec
   pub pending : IsPending x plan draws a now p s u records
   pub taken : HasTaken x.run.input a.reader reader (content a.held x.run.input) a.progress.number records round last
 
-abbrev pub StandsBetween : Setup → Tables → List (ℕ × ℕ) → Mark → Contents → Progress → Seats → Unwritten → Spot → Round → Option (List ℕ × ℕ) → Type 0
+abbrev pub StandsBetween : Setup → Tables → List (ℕ × ℕ) → Mark → Contents → Progress → Seats → List Step → Spot → Round → Option (List ℕ × ℕ) → Type 0
 StandsBetween x plan draws a now p s u reader round last = a.reader.stood (content a.held x.run.input) → IsUnderWay x plan draws a now p s u reader round last
 
 -- the round that is judged next
@@ -183,14 +161,14 @@ pub record HasRead (x : Setup) (before now : Spot) (number : ℕ) (held : Option
   pub placed : IsPlaced before.at now.at round
   pub told : Told held (λ m. before.stood (content m x.run.input) → IsNext x.run.input before now number (content m x.run.input) round last)
 
--- both are put behind what the outputs hold
-abbrev pub PutsBoth : Setup → Unwritten → Unwritten → Contents → Contents → Type 0
-PutsBoth x u v old new = (between : Contents) × Puts x u old between × Puts x v between new
+-- both are written
+abbrev pub DidBoth : Setup → List Step → List Step → Contents → Contents → Type 0
+DidBoth x u v old new = (between : Contents) × Did x.run u old between × Did x.run v between new
 
--- a part of the first is put, or all of it and a part of what the last round writes
-abbrev pub BreaksLast : Setup → Shift → Shift → Progress → Progress → Round → Unwritten → Pending → Contents → Contents → Type 0
+-- a front of the first is written, or all of it and a front of what the last round writes
+abbrev pub BreaksLast : Setup → Shift → Shift → Progress → Progress → Round → List Step → Pending → Contents → Contents → Type 0
 BreaksLast x before now p q round u made old new =
-    PutsPart x u old new ⊎ (WentWell x before now p q round made × ((between : Contents) × Puts x u old between × PutsPart x (unwritten made) between new))
+    DidFront x.run u old new ⊎ (WentWell x before now p q round made × ((between : Contents) × Did x.run u old between × DidFront x.run (steps_of made) between new))
 
 -- it has nothing that is to be written
 pub record IsNothing (p : Pending) : Type 0 where

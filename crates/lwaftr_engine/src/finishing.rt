@@ -92,14 +92,15 @@ pub fn finish<F: Files, O: Sink>(
     ensures writing { OneRises (has_failed result) (F.outside files.old).spoiled (F.outside files.new).spoiled (O.faults out.old) (O.faults out.new) }
 {
     let versions = last_versions(alloc, task, points, progress.printed)?;
+    let lines = unfinished_lines(alloc, &progress.stage)?;
+    let line = summary(alloc, totals_with(progress.totals, points))?;
     append_all(
         alloc,
         files,
         task.job.versions.as_str(),
         versions.as_bytes(),
     )?;
-    let lines = unfinished_lines(alloc, &progress.stage)?;
     append_all(alloc, files, task.job.verdicts.as_str(), &lines)?;
-    let line = summary(alloc, totals_with(progress.totals, points))?;
-    put_all(alloc, out, line.as_str().as_bytes())
+    put_all(alloc, out, line.as_str().as_bytes())?;
+    Ok(())
 }

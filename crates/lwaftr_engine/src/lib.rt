@@ -6,6 +6,7 @@ mod at_once;
 mod demo;
 mod finishing;
 mod jobs;
+mod known;
 mod loads;
 mod migrating;
 mod outputs;

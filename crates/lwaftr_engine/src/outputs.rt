@@ -4,10 +4,8 @@ ghost use Rattle.aftr_base.specs.Contents.{Moves};
 ghost use Rattle.aftr_base.specs.Outside.{OnlyWrites, has_failed};
 ghost use Rattle.aftr_base.specs.Pieces.{AppendedAll};
 ghost use Rattle.aftr_text.specs.Jobs.{AreApart};
-ghost use Rattle.lwaftr_engine.specs.Opened.{IsHalfOpened, IsOpened};
-ghost use Rattle.lwaftr_engine.specs.Progress.{Wrote};
-ghost use Rattle.lwaftr_engine.specs.Rounds.{HasBegunToWrite};
 ghost use Rattle.lwaftr_engine.specs.Runs.{OthersKept};
+ghost use Rattle.lwaftr_engine.specs.Writing.{Did, DidFront, opening_steps, round_steps};
 ghost use Rattle.run_output.specs.Rendering.{lines_in, packets_in};
 
 use aftr_base::{Fault, Files, append_all};
@@ -24,24 +22,25 @@ pub fn open_outputs<F: Files>(
     written: Written,
 ) -> Result<(), Fault>
     requires apart { AreApart job.now }
-    ensures opened { OnOk result (Moves (F.outside files.old).held (F.outside files.new).held (IsOpened job.now written)) }
-    ensures half { IfErr result (λ _. Moves (F.outside files.old).held (F.outside files.new).held (IsHalfOpened job.now written)) }
+    ensures opened { OnOk result (Moves (F.outside files.old).held (F.outside files.new).held (Did job.now (opening_steps job.now written))) }
+    ensures half { IfErr result (λ _. Moves (F.outside files.old).held (F.outside files.new).held (DidFront job.now (opening_steps job.now written))) }
     ensures others { Moves (F.outside files.old).held (F.outside files.new).held (OthersKept job.now) }
     ensures writes { OnlyWrites (has_failed result) (F.outside files.old) (F.outside files.new) }
 {
+    let mut header = Vec::new(alloc);
+    written.push_header(&mut header)?;
+    let line = initial_line(alloc, job.table.as_str())?;
     files.create(alloc, job.output.as_str())?;
     files.create(alloc, job.verdicts.as_str())?;
     files.create(alloc, job.versions.as_str())?;
-    let mut header = Vec::new(alloc);
-    written.push_header(&mut header)?;
     append_all(alloc, files, job.output.as_str(), &header)?;
-    let line = initial_line(alloc, job.table.as_str())?;
     append_all(
         alloc,
         files,
         job.versions.as_str(),
         line.as_str().as_bytes(),
-    )
+    )?;
+    Ok(())
 }
 
 /// Writes what a round rendered: the lines of tables, then the packets, then the lines of records. A fault is one of writing.
@@ -54,15 +53,16 @@ pub fn write_round<F: Files>(
 ) -> Result<(), Fault>
     requires apart { AreApart job.now }
     ensures wrote { OnOk result (Moves (F.outside files.old).held (F.outside files.new).held
-        (Wrote job.now versions.now (packets_in parts.now) (lines_in parts.now))) }
+        (Did job.now (round_steps versions.now (packets_in parts.now) (lines_in parts.now)))) }
     ensures begun { IfErr result (λ _. Moves (F.outside files.old).held (F.outside files.new).held
-        (HasBegunToWrite job.now versions.now (packets_in parts.now) (lines_in parts.now))) }
+        (DidFront job.now (round_steps versions.now (packets_in parts.now) (lines_in parts.now)))) }
     ensures others { Moves (F.outside files.old).held (F.outside files.new).held (OthersKept job.now) }
     ensures writes { OnlyWrites (has_failed result) (F.outside files.old) (F.outside files.new) }
 {
     append_all(alloc, files, job.versions.as_str(), versions)?;
     write_packets(alloc, files, job.output.as_str(), parts)?;
-    write_lines(alloc, files, job.verdicts.as_str(), parts)
+    write_lines(alloc, files, job.verdicts.as_str(), parts)?;
+    Ok(())
 }
 
 // Puts the packets of all parts behind what the file holds.

@@ -11,11 +11,13 @@ ghost use Rattle.lwaftr_engine.specs.Broken.{Breaks};
 ghost use Rattle.lwaftr_engine.specs.Causes.{MayFailIn};
 ghost use Rattle.lwaftr_engine.specs.Progress.{AddsTo, Goes, IsInRange, IsOnDuty, IsUpToDate, ReadsOf, mark, seats_of, setup_of, spot};
 ghost use Rattle.lwaftr_engine.specs.Runs.{OthersKept};
-ghost use Rattle.lwaftr_engine.specs.Underway.{BreaksLast, CanJudge, HasDrawn, HasRead, IsInHand, IsNothing, Puts, PutsBoth, PutsPart, ReadsPast, StaysOnDuty, WentWell, unwritten};
+ghost use Rattle.lwaftr_engine.specs.Underway.{BreaksLast, CanJudge, DidBoth, HasDrawn, HasRead, IsInHand, IsNothing, ReadsPast, StaysOnDuty, WentWell, steps_of};
+ghost use Rattle.lwaftr_engine.specs.Writing.{Did, DidFront};
 ghost use Rattle.run_output.specs.Rendering.{lines_in, packets_in};
 ghost use Rattle.table_words.specs.Layout.{AreCompiled};
 ghost use Rattle.worker_gate.specs.Reloading.{IsSettled};
 
+use crate::known::run_laws;
 use crate::outputs::write_round;
 use crate::shift::{Shift, judge_round};
 use crate::tasks::Task;
@@ -24,9 +26,7 @@ use aftr_text::Totals;
 use capture_io::{CaptureReader, Ending, Records, Round};
 use error_limit::Limiter;
 use item_stage::{RoundItems, Stage};
-use run_output::{
-    Rendered, limits_begin, load_lines_join, push_new_versions, render_round, rounds_join,
-};
+use run_output::{Rendered, push_new_versions, render_round};
 use std::alloc::Global;
 use std::mem;
 use std::sync::Wait;
@@ -124,8 +124,8 @@ fn put<F: Files>(
     pending: &Pending,
 ) -> Result<(), Fault>
     requires apart { AreApart (setup_of task).run }
-    ensures wrote { OnOk result (Moves (F.outside files.old).held (F.outside files.new).held (Puts (setup_of task.entry) (unwritten pending.now))) }
-    ensures begun { IfErr result (λ _. Moves (F.outside files.old).held (F.outside files.new).held (PutsPart (setup_of task.entry) (unwritten pending.now))) }
+    ensures wrote { OnOk result (Moves (F.outside files.old).held (F.outside files.new).held (Did (setup_of task.entry).run (steps_of pending.now))) }
+    ensures begun { IfErr result (λ _. Moves (F.outside files.old).held (F.outside files.new).held (DidFront (setup_of task.entry).run (steps_of pending.now))) }
     ensures others { Moves (F.outside files.old).held (F.outside files.new).held (OthersKept (setup_of task.entry).run) }
     ensures writes { OnlyWrites (has_failed result) (F.outside files.old) (F.outside files.new) }
 {
@@ -198,8 +198,8 @@ fn put_and_read<F: Files, C: CaptureReader>(
     requires apart { AreApart (setup_of task).run }
     requires number { number ≤ 2 ^ 31 }
     requires ready { C.ready reader.old number }
-    ensures wrote { IfOk result (λ _. Moves (F.outside files.old).held (F.outside files.new).held (Puts (setup_of task.entry) (unwritten pending.now))) }
-    ensures part { Moves (F.outside files.old).held (F.outside files.new).held (PutsPart (setup_of task.entry) (unwritten pending.now)) }
+    ensures wrote { IfOk result (λ _. Moves (F.outside files.old).held (F.outside files.new).held (Did (setup_of task.entry).run (steps_of pending.now))) }
+    ensures part { Moves (F.outside files.old).held (F.outside files.new).held (DidFront (setup_of task.entry).run (steps_of pending.now)) }
     ensures read { IfOk result (HasRead (setup_of task.entry)
         (spot (C.stands reader.old) (C.left reader.old) (C.at reader.old)) (spot (C.stands reader.new) (C.left reader.new) (C.at reader.new))
         number (F.outside files.new).held (F.outside files.new).last) }
@@ -258,8 +258,8 @@ fn step<R: Threads + Wait + Sync, F: Files, C: CaptureReader, G: Gate + Sync>(
     ensures well { IfOk result (λ _. WentWell (setup_of task.entry) shift.old shift.new progress.old progress.new round.now made.new) }
     ensures duty { StaysOnDuty shift.old shift.new }
     ensures drawn { HasDrawn shift.new round.now.number }
-    ensures wrote { IfOk result (λ _. Moves (F.outside files.old).held (F.outside files.new).held (Puts (setup_of task.entry) (unwritten pending.now))) }
-    ensures begun { IfErr result (λ _. Moves (F.outside files.old).held (F.outside files.new).held (PutsPart (setup_of task.entry) (unwritten pending.now))) }
+    ensures wrote { IfOk result (λ _. Moves (F.outside files.old).held (F.outside files.new).held (Did (setup_of task.entry).run (steps_of pending.now))) }
+    ensures begun { IfErr result (λ _. Moves (F.outside files.old).held (F.outside files.new).held (DidFront (setup_of task.entry).run (steps_of pending.now))) }
     ensures read { IfOk result (HasRead (setup_of task.entry)
         (spot (C.stands reader.old) (C.left reader.old) (C.at reader.old)) (spot (C.stands reader.new) (C.left reader.new) (C.at reader.new))
         round.now.number (F.outside files.new).held (F.outside files.new).last) }
@@ -279,8 +279,8 @@ fn step<R: Threads + Wait + Sync, F: Files, C: CaptureReader, G: Gate + Sync>(
     { judge(rt, alloc, task, gate, shift, progress, round, made) };
     let mut outside = ||
         requires { AreApart (setup_of task).run × ((number ≤ 2 ^ 31) × C.ready reader.now number) }
-        ensures { IfOk result (λ _. Moves (F.outside files.entry.now).held (F.outside files.exit.now).held (Puts (setup_of task.entry) (unwritten pending.entry.now)))
-            × (Moves (F.outside files.entry.now).held (F.outside files.exit.now).held (PutsPart (setup_of task.entry) (unwritten pending.entry.now))
+        ensures { IfOk result (λ _. Moves (F.outside files.entry.now).held (F.outside files.exit.now).held (Did (setup_of task.entry).run (steps_of pending.entry.now)))
+            × (Moves (F.outside files.entry.now).held (F.outside files.exit.now).held (DidFront (setup_of task.entry).run (steps_of pending.entry.now))
             × (IfOk result (HasRead (setup_of task.entry)
             (spot (C.stands reader.entry.now) (C.left reader.entry.now) (C.at reader.entry.now)) (spot (C.stands reader.exit.now) (C.left reader.exit.now) (C.at reader.exit.now))
             number (F.outside files.exit.now).held (F.outside files.exit.now).last)
@@ -318,8 +318,8 @@ fn last_steps<R: Threads + Wait + Sync, F: Files, G: Gate + Sync>(
     ensures well { IfOk result (λ _. WentWell (setup_of task.entry) shift.old shift.new progress.old progress.new round.now made.new) }
     ensures duty { StaysOnDuty shift.old shift.new }
     ensures drawn { HasDrawn shift.new round.now.number }
-    ensures wrote { IfOk result (λ _. Moves (F.outside files.old).held (F.outside files.new).held (PutsBoth (setup_of task.entry) (unwritten before.now) (unwritten made.new))) }
-    ensures begun { IfErr result (λ _. Moves (F.outside files.old).held (F.outside files.new).held (BreaksLast (setup_of task.entry) shift.old shift.new progress.old progress.new round.now (unwritten before.now) made.new)) }
+    ensures wrote { IfOk result (λ _. Moves (F.outside files.old).held (F.outside files.new).held (DidBoth (setup_of task.entry) (steps_of before.now) (steps_of made.new))) }
+    ensures begun { IfErr result (λ _. Moves (F.outside files.old).held (F.outside files.new).held (BreaksLast (setup_of task.entry) shift.old shift.new progress.old progress.new round.now (steps_of before.now) made.new)) }
     ensures others { Moves (F.outside files.old).held (F.outside files.new).held (OthersKept (setup_of task.entry).run) }
     ensures writes { OnlyWrites (has_failed result) (F.outside files.old) (F.outside files.new) }
 {
@@ -377,11 +377,9 @@ pub fn run_records<R: Threads + Wait + Sync, F: Files, C: CaptureReader, G: Gate
     ensures others { Moves (F.outside files.old).held (F.outside files.new).held (OthersKept (setup_of task.entry).run) }
     ensures spoiled { Rises (has_failed result) (F.outside files.old).spoiled (F.outside files.new).spoiled }
 {
-    // Laws, and no steps: whatever is left has some ending, and what rounds write joins.
+    // Laws, and no steps: whatever is left has some ending, and what holds of every run.
     C::some_left();
-    rounds_join();
-    limits_begin();
-    load_lines_join();
+    run_laws();
     let Room {
         records,
         spare,

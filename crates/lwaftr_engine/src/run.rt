@@ -14,6 +14,7 @@ ghost use Rattle.lwaftr_engine.specs.Underway.{IsNothing};
 ghost use Rattle.table_words.specs.Layout.{AreCompiled};
 
 use crate::finishing::finish;
+use crate::known::run_laws;
 use crate::outputs::open_outputs;
 use crate::rounds::{Pending, Progress, Room, run_records};
 use crate::shift::{begin_shift, end_shift};
@@ -23,15 +24,11 @@ use aftr_text::Totals;
 use area_swap::History;
 use capture_io::{CaptureReader, Ending, Form, Records};
 use item_stage::Stage;
-use packet_render::forwarded_is_sent;
-use run_output::{
-    Rendered, counts_are_totals, limits_are_some, limits_begin, new_limit, rounds_join,
-};
+use run_output::{Rendered, new_limit};
 use std::alloc::Global;
 use std::sync::Wait;
 use std::thread::Threads;
-use swap_core::{Plan, settled_points_are_all};
-use verdict_core::access;
+use swap_core::Plan;
 use worker_gate::Gate;
 
 /// What a round writes is made in so many parts, each by a thread of its own where there are records for it.
@@ -117,15 +114,9 @@ pub fn run_capture<R: Threads + Wait + Sync, F: Files, O: Sink, C: CaptureReader
     ensures capture_read { MayFailIn (setup_of task.entry).run.input (F.outside files.old) (F.outside files.new) }
     ensures writing { OneRises (has_failed result) (F.outside files.old).spoiled (F.outside files.new).spoiled (O.faults out.old) (O.faults out.new) }
 {
-    // Laws, and no steps: whatever is left has some ending, and what holds of every verdict, run and plan.
+    // Laws, and no steps: whatever is left has some ending, and what holds of every run and plan.
     C::some_left();
-    access();
-    forwarded_is_sent();
-    limits_are_some();
-    counts_are_totals();
-    rounds_join();
-    limits_begin();
-    settled_points_are_all();
+    run_laws();
     plan.len();
     let mut progress = at_first(alloc, task.form, task.job.errors)?;
     let room = first_room(alloc, task.job.workers)?;

@@ -17,18 +17,16 @@ returns-clause-well g c =
         news = c.judge_round.ensures.adds.news;
         entries = c.in_ok-items.items;
         outcomes = new.crew.outcomes;
-        of = record {
-          numbered = c.requires.can.in_hand.numbered;
-          staged = record { entries = c.in_ok-items.ensures.entries; stands = c.in_ok-items.ensures.stands; count = c.in_ok-items.ensures.count; form = c.in_ok-items.ensures.form };
-          outcomes_count = c.judge_round.ensures.fitting.count;
-          versions = c.judge_round.ensures.versions;
-          reads = c.judge_round.ensures.reads;
-          rate = c.requires.can.bounded.rate;
-          made = rendered_by x c.args.progress.now.number c.args.round.now.records c.in_ok-items.items c.outcomes.result new.crew.outcomes c.args.progress.now.limit c.render_round.new.limit c.args.progress.now.totals c.render_round.new.totals c.render_round.new.rendered c.outcomes.ensures
-              (record { rendered = c.in_ok-render_round.ensures.rendered; asked = c.in_ok-render_round.ensures.asked });
-          new_lines = new_lines_are x c.as_slice.result.now c.as_slice.ensures old.desk.known.points new.desk.known.points c.judge_round.ensures.adds.news c.points.result.now c.args.progress.now.printed c.in_ok-printed.printed lines (string_bytes c.clear.new.self) lines
-              c.judge_round.ensures.adds.points c.in_ok-printed.ensures.from c.clear.ensures.bytes c.points.ensures.points refl c.in_ok-printed.ensures.lines c.in_ok-printed.ensures.none_left;
-        };
+        numbered = c.requires.can.in_hand.numbered;
+        staged = record { entries = c.in_ok-items.ensures.entries; stands = c.in_ok-items.ensures.stands; count = c.in_ok-items.ensures.count; form = c.in_ok-items.ensures.form };
+        outcomes_count = c.judge_round.ensures.fitting.count;
+        versions = c.judge_round.ensures.versions;
+        reads = c.judge_round.ensures.reads;
+        rate = c.requires.can.bounded.rate;
+        rendered = rendered_by x c.args.progress.now.number c.args.round.now.records c.in_ok-items.items c.outcomes.result new.crew.outcomes c.args.progress.now.limit c.render_round.new.limit c.args.progress.now.totals c.render_round.new.totals c.render_round.new.rendered c.outcomes.ensures
+            (record { rendered = c.in_ok-render_round.ensures.rendered; asked = c.in_ok-render_round.ensures.asked });
+        new_lines = new_lines_are x c.as_slice.result.now c.as_slice.ensures old.desk.known.points new.desk.known.points c.judge_round.ensures.adds.news c.points.result.now c.args.progress.now.printed c.in_ok-printed.printed lines (string_bytes c.clear.new.self) lines
+            c.judge_round.ensures.adds.points c.in_ok-printed.ensures.from c.clear.ensures.bytes c.points.ensures.points refl c.in_ok-printed.ensures.lines c.in_ok-printed.ensures.none_left;
         have = c.judge_round.ensures.outcomes;
       };
       bounded = search rules;

@@ -2,21 +2,21 @@ use Rattle.std.proofs.Common.{ℕ, ◌∙◌, subst}
 use Rattle.aftr_base.specs.Outside.{Rises}
 use Rattle.capture_io.specs.Rounds.{is_cut}
 use Rattle.lwaftr_engine.specs.Progress.{setup_of, spot}
-use Rattle.lwaftr_engine.specs.Underway.{unwritten}
+use Rattle.lwaftr_engine.specs.Underway.{steps_of}
 use Rattle.lwaftr_engine.proofs.ReadLemmas.{failed_by, fails_after, none_failed}
 use Rattle.lwaftr_engine.proofs.RoundLemmas.{read_held}
-use Rattle.lwaftr_engine.proofs.UnderwayLemmas.{parts_of, read_none, read_past}
+use Rattle.lwaftr_engine.proofs.UnderwayLemmas.{fronts_of, read_none, read_past}
 use Rattle.lwaftr_engine.proofs.rounds.put_and_read.Goals as goal
 
 pub returns-in_err-round-clause-part : goal.returns-in_err-round-clause-part
 returns-in_err-round-clause-part g c =
     let f = g.F.Files in
-    parts_of (setup_of c.args.task) (unwritten c.args.pending.now) (f.outside c.args.files.now).held (f.outside c.put.new.files).held (f.outside c.read_next.new.files).held c.in_err-round.ensures.held c.in_ok-put.ensures.wrote
+    fronts_of (setup_of c.args.task) (steps_of c.args.pending.now) (f.outside c.args.files.now).held (f.outside c.put.new.files).held (f.outside c.read_next.new.files).held c.in_err-round.ensures.held c.in_ok-put.ensures.wrote
 
 pub returns-clause-part : goal.returns-clause-part
 returns-clause-part g c =
     let f = g.F.Files in
-    parts_of (setup_of c.args.task) (unwritten c.args.pending.now) (f.outside c.args.files.now).held (f.outside c.put.new.files).held (f.outside c.read_next.new.files).held c.in_ok-round.ensures.held c.in_ok-put.ensures.wrote
+    fronts_of (setup_of c.args.task) (steps_of c.args.pending.now) (f.outside c.args.files.now).held (f.outside c.put.new.files).held (f.outside c.read_next.new.files).held c.in_ok-round.ensures.held c.in_ok-put.ensures.wrote
 
 pub returns-in_err-put-clause-capture_read : goal.returns-in_err-put-clause-capture_read
 returns-in_err-put-clause-capture_read g c =

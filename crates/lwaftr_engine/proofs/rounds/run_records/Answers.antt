@@ -1,4 +1,4 @@
-use Rattle.std.proofs.Common.{ℕ, Option, Some, refl, sym, ◌∙◌, [], append-nil, arith, subst}
+use Rattle.std.proofs.Common.{ℕ, Option, Some, refl, sym, ◌∙◌, arith, subst}
 use Rattle.aftr_base.specs.Contents.{Contents, Moves, Told, content}
 use Rattle.aftr_base.specs.Outside.{Rises}
 use Rattle.capture_io.specs.Refusals.{EndsInRecords}
@@ -6,14 +6,13 @@ use Rattle.capture_io.specs.Rounds.{is_cut}
 use Rattle.capture_io.specs.declared.rounds.Ending.{Ending}
 use Rattle.lwaftr_engine.specs.Progress.{ReadsOf, mark, seats_of, setup_of, spot}
 use Rattle.lwaftr_engine.specs.Runs.{OthersKept}
-use Rattle.lwaftr_engine.specs.Underway.{IsInHand, ReadsPast, StandsBetween, unwritten}
+use Rattle.lwaftr_engine.specs.Underway.{IsInHand, ReadsPast, StandsBetween, steps_of}
 use Rattle.capture_io.specs.declared.rounds.Round.{Round}
 use Rattle.lwaftr_engine.specs.declared.rounds.Pending.{Pending}
 use Rattle.lwaftr_engine.proofs.Adding.{adds_more, adds_none, others_more, others_none, reads_on, same_plan}
 use Rattle.lwaftr_engine.proofs.Apart.{apart}
 use Rattle.lwaftr_engine.proofs.BrokenLemmas.{not_begun}
 use Rattle.lwaftr_engine.proofs.Exits.{if_err}
-use Rattle.lwaftr_engine.proofs.Going.{Joins}
 use Rattle.lwaftr_engine.proofs.ReadLemmas.{failed_by, fails_after, fails_before, none_failed}
 use Rattle.lwaftr_engine.proofs.RoundLemmas.{reads_after, reads_before}
 use Rattle.lwaftr_engine.proofs.Steps.{told_by}
@@ -24,12 +23,11 @@ pub returns-in_err-round-clause-broken : goal.returns-in_err-round-clause-broken
 returns-in_err-round-clause-broken g c =
     let f = g.F.Files in
     let r = g.C.CaptureReader in
-    let x = setup_of c.args.task in
     let s = c.args.shift.now in
-    if_err _ c.from_residual.result (not_begun x s.areas.plan s.seat.known.actor.draws c.args.progress.now (seats_of s) (seats_of s) []
-    (spot (r.stands c.args.reader.now) (r.left c.args.reader.now) (r.at c.args.reader.now)) (λ bytes number. c.some_left.ensures c.args.reader.now bytes number) (sym (append-nil s.desk.known.points)) (omega (arith, c.requires.drawn)) c.requires.up_to_date
-    (f.outside c.args.files.now).lost (f.outside c.read_next.new.files).lost (f.outside c.read_next.new.files).last c.in_err-round.ensures.lost
-    (f.outside c.args.files.now).held (f.outside c.read_next.new.files).held c.in_err-round.ensures.held)
+    let before = f.outside c.args.files.now in
+    let after = f.outside c.read_next.new.files in
+    if_err _ c.from_residual.result (not_begun (setup_of c.args.task) s.areas.plan s.seat.known.actor.draws c.args.progress.now (seats_of s) (spot (r.stands c.args.reader.now) (r.left c.args.reader.now) (r.at c.args.reader.now))
+    (λ bytes number. c.some_left.ensures c.args.reader.now bytes number) (omega (arith, c.requires.drawn)) c.requires.up_to_date before.lost after.lost after.last c.in_err-round.ensures.lost before.held after.held c.in_err-round.ensures.held)
 
 pub returns-in_err-round-clause-capture_read : goal.returns-in_err-round-clause-capture_read
 returns-in_err-round-clause-capture_read g c =
@@ -73,17 +71,18 @@ returns-in_err-next-clause-broken g c =
     let s = c.args.shift.now in
     let t = c.rounds.shift in
     let u = c.step.new.shift in
-    let joins : Joins = record { rounds = c.rounds_join.ensures; limits = c.limits_begin.ensures; lines = c.load_lines_join.ensures } in
+    let duty = c.in_err-next.ensures.duty in
+    let drawn = c.in_err-next.ensures.drawn in
+    let first = spot (r.stands c.args.reader.now) (r.left c.args.reader.now) (r.at c.args.reader.now) in
     let here = spot (r.stands c.rounds.reader) (r.left c.rounds.reader) (r.at c.rounds.reader) in
     let now = spot (r.stands c.step.new.reader) (r.left c.step.new.reader) (r.at c.step.new.reader) in
     let before = reads_on c.rounds.round.ending c.in_default.is x.run.input (f.outside c.args.files.now) (f.outside c.rounds.files) c.rounds.invariant.reads in
     let L : ℕ → Type 0 = λ n. Told (f.outside c.step.new.files).held (λ m. ReadsPast x.run.input here now c.rounds.round.number (content m x.run.input) n (f.outside c.step.new.files).lost (f.outside c.step.new.files).last) in
-    if_err _ c.from_residual-in_err-next.result (breaks_off joins x (apart x.run c.requires.apart) s.areas.plan t.seat.known.actor.draws c.in_err-next.ensures.duty.adds.drawn u.seat.known.actor.draws c.in_err-next.ensures.duty.adds.draws
-    c.args.progress.now c.rounds.progress (seats_of s) (seats_of t) (seats_of u) (unwritten c.rounds.pending)
-    (spot (r.stands c.args.reader.now) (r.left c.args.reader.now) (r.at c.args.reader.now)) (spot (r.stands c.rounds.reader) (r.left c.rounds.reader) (r.at c.rounds.reader)) c.rounds.round (f.outside c.rounds.files).last
-    c.in_err-next.ensures.duty.adds.news c.in_err-next.ensures.duty.adds.points c.in_err-next.ensures.drawn.few (told_by s.areas.plan u (same_plan s.areas u.areas (c.in_err-next.ensures.duty.areas ∙ c.rounds.invariant.same_areas)) c.in_err-next.ensures.drawn.up_to_date)
-    now (λ bytes number. c.some_left.ensures c.rounds.reader bytes number) (λ bytes number. c.some_left.ensures c.step.new.reader bytes number)
-    (f.outside c.args.files.now).lost (f.outside c.step.new.files).lost (f.outside c.step.new.files).last
+    if_err _ c.from_residual-in_err-next.result (breaks_off c.run_laws.ensures x (apart x.run c.requires.apart)
+    s.areas.plan t.seat.known.actor.draws u.seat.known.actor.draws duty.adds.drawn duty.adds.draws first here c.rounds.round c.args.progress.now c.rounds.progress (seats_of s) (seats_of t) (steps_of c.rounds.pending) now (f.outside c.rounds.files).last (f.outside c.step.new.files).last
+    (f.outside c.args.files.now).lost (f.outside c.step.new.files).lost duty.adds.news duty.adds.points drawn.few
+    (told_by s.areas.plan u (same_plan s.areas u.areas (duty.areas ∙ c.rounds.invariant.same_areas)) drawn.up_to_date)
+    (λ bytes number. c.some_left.ensures c.rounds.reader bytes number) (λ bytes number. c.some_left.ensures c.step.new.reader bytes number)
     (f.outside c.args.files.now).held (f.outside c.rounds.files).held (f.outside c.step.new.files).held (subst L before.1 c.in_err-next.ensures.past) c.rounds.invariant.went c.in_err-next.ensures.begun)
 
 pub returns-in_err-last_steps-clause-broken : goal.returns-in_err-last_steps-clause-broken
@@ -94,14 +93,17 @@ returns-in_err-last_steps-clause-broken g c =
     let s = c.args.shift.now in
     let t = c.rounds.shift in
     let u = c.last_steps.new.shift in
-    let joins : Joins = record { rounds = c.rounds_join.ensures; limits = c.limits_begin.ensures; lines = c.load_lines_join.ensures } in
+    let duty = c.in_err-last_steps.ensures.duty in
+    let drawn = c.in_err-last_steps.ensures.drawn in
+    let first = spot (r.stands c.args.reader.now) (r.left c.args.reader.now) (r.at c.args.reader.now) in
+    let here = spot (r.stands c.rounds.reader) (r.left c.rounds.reader) (r.at c.rounds.reader) in
     let L : ℕ → Type 0 = λ n. Rises (is_cut c.rounds.round.ending) (f.outside c.args.files.now).lost n in
-    if_err _ c.from_residual-in_err-last_steps.result (last_broken joins x (apart x.run c.requires.apart) s.areas.plan t.seat.known.actor.draws c.in_err-last_steps.ensures.duty.adds.drawn u.seat.known.actor.draws c.in_err-last_steps.ensures.duty.adds.draws
-    c.args.progress.now c.rounds.progress c.last_steps.new.progress (seats_of s) t u c.in_err-last_steps.ensures.duty.adds.news (unwritten c.rounds.pending) c.last_steps.new.made
-    (spot (r.stands c.args.reader.now) (r.left c.args.reader.now) (r.at c.args.reader.now)) (spot (r.stands c.rounds.reader) (r.left c.rounds.reader) (r.at c.rounds.reader)) c.rounds.round (f.outside c.rounds.files).last
-    c.in_err-last_steps.ensures.duty.adds.points c.in_err-last_steps.ensures.drawn.few (told_by s.areas.plan u (same_plan s.areas u.areas (c.in_err-last_steps.ensures.duty.areas ∙ c.rounds.invariant.same_areas)) c.in_err-last_steps.ensures.drawn.up_to_date) (λ bytes number. c.some_left.ensures c.rounds.reader bytes number)
-    (f.outside c.args.files.now).lost (f.outside c.last_steps.new.files).lost (f.outside c.last_steps.new.files).last c.in_err-last_steps.ensures.writes.last (subst L (sym c.in_err-last_steps.ensures.writes.lost) c.rounds.invariant.reads.lost)
-    (λ well. judged_planned x s.areas.plan t.areas.plan u.seat.known.actor.draws c.rounds.progress c.last_steps.new.progress (seats_of t) (seats_of u) c.rounds.round.records c.last_steps.new.made (same_plan s.areas t.areas c.rounds.invariant.same_areas) well.judged)
+    if_err _ c.from_residual-in_err-last_steps.result (last_broken c.run_laws.ensures x (apart x.run c.requires.apart)
+    s.areas.plan t.seat.known.actor.draws u.seat.known.actor.draws duty.adds.drawn duty.adds.draws first here c.rounds.round c.args.progress.now c.rounds.progress c.last_steps.new.progress (seats_of s) t u (steps_of c.rounds.pending) c.last_steps.new.made
+    (f.outside c.args.files.now).lost (f.outside c.last_steps.new.files).lost duty.adds.news duty.adds.points drawn.few
+    (told_by s.areas.plan u (same_plan s.areas u.areas (duty.areas ∙ c.rounds.invariant.same_areas)) drawn.up_to_date)
+    (λ bytes number. c.some_left.ensures c.rounds.reader bytes number) c.in_err-last_steps.ensures.writes.last (subst L (sym c.in_err-last_steps.ensures.writes.lost) c.rounds.invariant.reads.lost)
+    (λ well. judged_planned (same_plan s.areas t.areas c.rounds.invariant.same_areas) well.judged)
     (f.outside c.args.files.now).held (f.outside c.rounds.files).held (f.outside c.last_steps.new.files).held c.rounds.invariant.went c.in_err-last_steps.ensures.begun)
 
 pub returns-in-Some-clause-went : goal.returns-in-Some-clause-went
@@ -113,13 +115,12 @@ returns-in-Some-clause-went g c =
     let t = c.rounds.shift in
     let u = c.last_steps.new.shift in
     let well = c.in_ok-last_steps.ensures.well in
-    let joins : Joins = record { rounds = c.rounds_join.ensures; limits = c.limits_begin.ensures; lines = c.load_lines_join.ensures } in
-    ends_well joins x (apart x.run c.requires.apart) s.areas.plan t.seat.known.actor.draws c.in_ok-last_steps.ensures.duty.adds.drawn u.seat.known.actor.draws c.in_ok-last_steps.ensures.duty.adds.draws
-    c.args.progress.now c.rounds.progress (seats_of s) (seats_of t) (seats_of u) (unwritten c.rounds.pending)
-    (spot (r.stands c.args.reader.now) (r.left c.args.reader.now) (r.at c.args.reader.now)) (spot (r.stands c.rounds.reader) (r.left c.rounds.reader) (r.at c.rounds.reader)) c.rounds.round (f.outside c.rounds.files).last
-    c.last_steps.new.progress c.last_steps.new.made (Some c.in-Some.ending) (f.outside c.last_steps.new.files).last
-    (judged_planned x s.areas.plan t.areas.plan u.seat.known.actor.draws c.rounds.progress c.last_steps.new.progress (seats_of t) (seats_of u) c.rounds.round.records c.last_steps.new.made (same_plan s.areas t.areas c.rounds.invariant.same_areas) well.judged)
-    well.number c.in-Some.is c.in_ok-last_steps.ensures.writes.last
+    let adds = c.in_ok-last_steps.ensures.duty.adds in
+    let first = spot (r.stands c.args.reader.now) (r.left c.args.reader.now) (r.at c.args.reader.now) in
+    let here = spot (r.stands c.rounds.reader) (r.left c.rounds.reader) (r.at c.rounds.reader) in
+    ends_well c.run_laws.ensures x (apart x.run c.requires.apart)
+    s.areas.plan t.seat.known.actor.draws u.seat.known.actor.draws adds.drawn adds.draws first here c.rounds.round c.args.progress.now c.rounds.progress (seats_of s) (seats_of t) (steps_of c.rounds.pending)
+    (judged_planned (same_plan s.areas t.areas c.rounds.invariant.same_areas) well.judged) well.number c.in-Some.is c.in_ok-last_steps.ensures.writes.last
     (f.outside c.args.files.now).held (f.outside c.rounds.files).held (f.outside c.last_steps.new.files).held c.rounds.invariant.went c.in_ok-last_steps.ensures.wrote
 
 pub returns-in-Some-clause-reads : goal.returns-in-Some-clause-reads
@@ -163,6 +164,7 @@ rounds-preserved g c =
     let u = c.step.new.shift in
     let next = c.in_ok-next.next in
     let well = c.in_ok-next.ensures.well in
+    let adds = c.in_ok-next.ensures.duty.adds in
     let h0 = (f.outside c.args.files.now).held in
     let h1 = (f.outside c.rounds.files).held in
     let h2 = (f.outside c.step.new.files).held in
@@ -170,21 +172,18 @@ rounds-preserved g c =
     let first = spot (r.stands c.args.reader.now) (r.left c.args.reader.now) (r.at c.args.reader.now) in
     let here = spot (r.stands c.rounds.reader) (r.left c.rounds.reader) (r.at c.rounds.reader) in
     let now = spot (r.stands c.step.new.reader) (r.left c.step.new.reader) (r.at c.step.new.reader) in
-    let joins : Joins = record { rounds = c.rounds_join.ensures; limits = c.limits_begin.ensures; lines = c.load_lines_join.ensures } in
     let before = reads_on c.rounds.round.ending c.in_default.is x.run.input (f.outside c.args.files.now) (f.outside c.rounds.files) c.rounds.invariant.reads in
-    let P : Pending → Type 0 = λ k. Moves h0 h2 (λ a n. StandsBetween x s.areas.plan u.seat.known.actor.draws (mark a c.args.progress.now (seats_of s) first) n c.step.new.progress (seats_of u) (unwritten k) now next last) in
-    let Q : Round → Type 0 = λ k. Moves h0 h2 (λ a n. StandsBetween x s.areas.plan u.seat.known.actor.draws (mark a c.args.progress.now (seats_of s) first) n c.step.new.progress (seats_of u) (unwritten c.swap.new.x) now k last) in
+    let P : Pending → Type 0 = λ k. Moves h0 h2 (λ a n. StandsBetween x s.areas.plan u.seat.known.actor.draws (mark a c.args.progress.now (seats_of s) first) n c.step.new.progress (seats_of u) (steps_of k) now next last) in
+    let Q : Round → Type 0 = λ k. Moves h0 h2 (λ a n. StandsBetween x s.areas.plan u.seat.known.actor.draws (mark a c.args.progress.now (seats_of s) first) n c.step.new.progress (seats_of u) (steps_of c.swap.new.x) now k last) in
     let Y : Round → Type 0 = λ k. r.ready c.step.new.reader k.number in
     let H : Round → Type 0 = λ k. IsInHand c.step.new.progress.number k in
     let N : ℕ → Type 0 = λ n. IsInHand n next in
     let R : Round → Type 0 = λ k. ReadsOf (is_cut k.ending) x.run.input (f.outside c.args.files.now) (f.outside c.step.new.files) in
     let is = sym c.replace-records.ensures.after in
     record {
-      went = subst Q is (subst P (sym c.swap.ensures.x_after) (steps_on joins x (apart x.run c.requires.apart) s.areas.plan t.seat.known.actor.draws c.in_ok-next.ensures.duty.adds.drawn u.seat.known.actor.draws c.in_ok-next.ensures.duty.adds.draws
-          c.args.progress.now c.rounds.progress (seats_of s) (seats_of t) (seats_of u) (unwritten c.rounds.pending) first here c.rounds.round (f.outside c.rounds.files).last
-          c.step.new.progress c.step.new.made now next last
-          (judged_planned x s.areas.plan t.areas.plan u.seat.known.actor.draws c.rounds.progress c.step.new.progress (seats_of t) (seats_of u) c.rounds.round.records c.step.new.made (same_plan s.areas t.areas c.rounds.invariant.same_areas) well.judged)
-          h0 h1 h2 c.in_ok-next.ensures.read c.rounds.invariant.went c.in_ok-next.ensures.wrote));
+      went = subst Q is (subst P (sym c.swap.ensures.x_after) (steps_on c.run_laws.ensures x (apart x.run c.requires.apart)
+          s.areas.plan t.seat.known.actor.draws u.seat.known.actor.draws adds.drawn adds.draws first here c.rounds.round c.args.progress.now c.rounds.progress (seats_of s) (seats_of t) (steps_of c.rounds.pending) (f.outside c.rounds.files).last now
+          (judged_planned (same_plan s.areas t.areas c.rounds.invariant.same_areas) well.judged) h0 h1 h2 c.in_ok-next.ensures.read c.rounds.invariant.went c.in_ok-next.ensures.wrote));
       bounded = well.bounded;
       ready = subst Y is c.in_ok-next.ensures.ready;
       drawn = well.drawn;
@@ -192,7 +191,7 @@ rounds-preserved g c =
       same_areas = c.in_ok-next.ensures.duty.areas ∙ c.rounds.invariant.same_areas;
       duty = c.in_ok-next.ensures.duty.duty;
       up_to_date = c.in_ok-next.ensures.drawn.up_to_date;
-      adds = adds_more s t u c.rounds.invariant.adds c.in_ok-next.ensures.duty.adds;
+      adds = adds_more s t u c.rounds.invariant.adds adds;
       others = others_more x.run h0 h1 h2 c.rounds.invariant.others c.in_ok-next.ensures.others;
       reads = subst R is (reads_after (is_cut next.ending) x.run.input (f.outside c.args.files.now) (f.outside c.rounds.files) (f.outside c.step.new.files)
           (record { faults = before.0; lost = before.1; spoiled = c.rounds.invariant.spoiled; last = before.2 }) c.in_ok-next.ensures.reads);

@@ -9,7 +9,7 @@ use Rattle.lwaftr_engine.specs.Progress.{seats_of, setup_of, spot}
 use Rattle.lwaftr_engine.proofs.Adding.{as_planned, broken_planned, others_more, same_plan}
 use Rattle.lwaftr_engine.proofs.Apart.{apart}
 use Rattle.lwaftr_engine.proofs.Capturing.{closed_plan, ended_err, finish_broken, finished_at, opening_broken, rounds_broken}
-use Rattle.lwaftr_engine.proofs.Closing.{all_sent}
+use Rattle.lwaftr_engine.proofs.Closing.{IsClosed}
 use Rattle.lwaftr_engine.proofs.EndLemmas.{at_end, ends}
 use Rattle.lwaftr_engine.proofs.Exits.{rises_by}
 use Rattle.lwaftr_engine.proofs.ReadLemmas.{fails_after, fails_before, none_failed}
@@ -30,21 +30,21 @@ returns-clause-ended g c =
     let h2 = (f.outside c.run_records-taken.new.files).held in
     let s = c.in_ok-shift.shift in
     let u = c.run_records-taken.new.shift in
-    let last = (f.outside c.run_records-taken.new.files).last in
-    let q = c.run_records-taken.new.progress in
-    let reader = spot (r.stands c.run_records-taken.new.reader) (r.left c.run_records-taken.new.reader) (r.at c.run_records-taken.new.reader) in
-    let h3 = (f.outside c.finish.new.files).held in
-    let now = o.out c.finish.new.out in
-    ends (record { access = record { forwards = c.access.ensures.forwards; forbidden = c.access.ensures.forbidden; refused = c.access.ensures.refused; sends_on = c.access.ensures.sends_on; brings_in = c.access.ensures.brings_in; delivers = c.access.ensures.delivers; relays_own = c.access.ensures.relays_own; relays_all = c.access.ensures.relays_all; passes_on = c.access.ensures.passes_on; sends = all_sent c.access.ensures.fits c.access.ensures.room c.forwarded_is_sent.ensures }; limits = c.limits_are_some.ensures; totals = c.counts_are_totals.ensures; begins = c.limits_begin.ensures; joins = c.rounds_join.ensures }) x far c.args.plan u.seat.known.actor.draws (seats_of s) (seats_of u) c.end_shift-closed.result c.in_ok-progress.progress q first reader c.in_ok-ending.ending last said now (f.outside c.args.files.now) (f.outside c.finish.new.files) c.in_ok-finish.ensures.last
-    (λ bytes number. c.some_left.ensures c.run_records-taken.new.reader bytes number) c.in_ok-progress.ensures c.in_ok-shift.ensures.points c.in_ok-ending.ensures.bounded
-    (at_end c.settled_points_are_all.ensures c.args.plan u.seat.known u.desk.known (seats_of u) c.end_shift-closed.result q.number (record {
+    let closed : IsClosed c.args.plan u.seat.known.actor.draws (seats_of u) c.end_shift-closed.result = record {
       same_plan = closed_plan s.areas.plan u.areas.plan c.end_shift-closed.result.plan c.args.plan c.end_shift-closed.ensures.plan (same_plan s.areas u.areas c.in_ok-ending.ensures.areas) c.in_ok-shift.ensures.duty.its_plan;
       points = c.end_shift-closed.ensures.points;
       reads = c.end_shift-closed.ensures.reads;
       drawn = c.end_shift-closed.ensures.drawn;
       history = c.end_shift-closed.ensures.history;
-    })
-    c.in_ok-ending.ensures.settled c.in_ok-ending.ensures.duty.whole
+    } in
+    let last = (f.outside c.run_records-taken.new.files).last in
+    let q = c.run_records-taken.new.progress in
+    let reader = spot (r.stands c.run_records-taken.new.reader) (r.left c.run_records-taken.new.reader) (r.at c.run_records-taken.new.reader) in
+    let h3 = (f.outside c.finish.new.files).held in
+    let now = o.out c.finish.new.out in
+    ends c.run_laws.ensures x far c.args.plan u.seat.known.actor.draws (seats_of s) (seats_of u) c.end_shift-closed.result c.in_ok-progress.progress q first reader c.in_ok-ending.ending last said now (f.outside c.args.files.now) (f.outside c.finish.new.files) c.in_ok-finish.ensures.last
+    (λ bytes number. c.some_left.ensures c.run_records-taken.new.reader bytes number) c.in_ok-progress.ensures c.in_ok-shift.ensures.points c.requires.errors
+    (at_end c.run_laws.ensures.points c.args.plan u.seat.known u.desk.known (seats_of u) c.end_shift-closed.result q.number closed c.in_ok-ending.ensures.settled c.in_ok-ending.ensures.duty.whole
     (closed_plan s.areas.plan u.areas.plan u.desk.known.plan c.args.plan c.in_ok-ending.ensures.duty.desk_areas.same_plan (same_plan s.areas u.areas c.in_ok-ending.ensures.areas) c.in_ok-shift.ensures.duty.its_plan)
     refl c.in_ok-ending.ensures.drawn)
     h0 h1 h2 h3
@@ -99,7 +99,7 @@ returns-in_err-open_outputs-clause-ended g c =
     let answer : Result Unit Fault = Err c.in_err-open_outputs.field-0.0 in
     let e = err_from_is_err_and c.from_residual-in_err-open_outputs.result c.from_residual-in_err-open_outputs.ensures.1 in
     ended_err x c.args.plan first c.from_residual-in_err-open_outputs.result why h0 h1 said said before after c.args.history.now (e.1 ∙ ap Err e.2) c.requires.none
-    (opening_broken (record { access = record { forwards = c.access.ensures.forwards; forbidden = c.access.ensures.forbidden; refused = c.access.ensures.refused; sends_on = c.access.ensures.sends_on; brings_in = c.access.ensures.brings_in; delivers = c.access.ensures.delivers; relays_own = c.access.ensures.relays_own; relays_all = c.access.ensures.relays_all; passes_on = c.access.ensures.passes_on; sends = all_sent c.access.ensures.fits c.access.ensures.room c.forwarded_is_sent.ensures }; limits = c.limits_are_some.ensures; totals = c.counts_are_totals.ensures; begins = c.limits_begin.ensures; joins = c.rounds_join.ensures }) x c.args.plan c.len.ensures.rules c.requires.errors first (stop_by why before after) (rises_by answer why before.spoiled after.spoiled refl c.in_err-open_outputs.ensures.writes.spoiled) c.in_err-open_outputs.ensures.writes.lost said (λ bytes number. c.some_left.ensures c.args.reader.now bytes number) h0 h1
+    (opening_broken c.run_laws.ensures x c.args.plan c.len.ensures.rules c.requires.errors first (stop_by why before after) (rises_by answer why before.spoiled after.spoiled refl c.in_err-open_outputs.ensures.writes.spoiled) c.in_err-open_outputs.ensures.writes.lost said (λ bytes number. c.some_left.ensures c.args.reader.now bytes number) h0 h1
     c.in_err-open_outputs.ensures.half)
 
 pub returns-in_err-ending-clause-ended : goal.returns-in_err-ending-clause-ended
@@ -116,6 +116,13 @@ returns-in_err-ending-clause-ended g c =
     let h2 = (f.outside c.run_records-taken.new.files).held in
     let s = c.in_ok-shift.shift in
     let u = c.run_records-taken.new.shift in
+    let closed : IsClosed c.args.plan u.seat.known.actor.draws (seats_of u) c.end_shift-closed.result = record {
+      same_plan = closed_plan s.areas.plan u.areas.plan c.end_shift-closed.result.plan c.args.plan c.end_shift-closed.ensures.plan (same_plan s.areas u.areas c.in_err-ending.ensures.areas) c.in_ok-shift.ensures.duty.its_plan;
+      points = c.end_shift-closed.ensures.points;
+      reads = c.end_shift-closed.ensures.reads;
+      drawn = c.end_shift-closed.ensures.drawn;
+      history = c.end_shift-closed.ensures.history;
+    } in
     let last = (f.outside c.run_records-taken.new.files).last in
     let q = c.run_records-taken.new.progress in
     let reader = spot (r.stands c.run_records-taken.new.reader) (r.left c.run_records-taken.new.reader) (r.at c.run_records-taken.new.reader) in
@@ -127,13 +134,7 @@ returns-in_err-ending-clause-ended g c =
     let rises = subst R c.in_ok-open_outputs.ensures.writes.spoiled (rises_by answer why (f.outside c.open_outputs.new.files).spoiled after.spoiled refl c.in_err-ending.ensures.spoiled) in
     let e = err_from_is_err_and c.from_residual-in_err-ending.result c.from_residual-in_err-ending.ensures.1 in
     ended_err x c.args.plan first c.from_residual-in_err-ending.result why h0 h2 said said before after c.args.history.now (e.1 ∙ ap Err e.2) c.requires.none
-    (rounds_broken (record { access = record { forwards = c.access.ensures.forwards; forbidden = c.access.ensures.forbidden; refused = c.access.ensures.refused; sends_on = c.access.ensures.sends_on; brings_in = c.access.ensures.brings_in; delivers = c.access.ensures.delivers; relays_own = c.access.ensures.relays_own; relays_all = c.access.ensures.relays_all; passes_on = c.access.ensures.passes_on; sends = all_sent c.access.ensures.fits c.access.ensures.room c.forwarded_is_sent.ensures }; limits = c.limits_are_some.ensures; totals = c.counts_are_totals.ensures; begins = c.limits_begin.ensures; joins = c.rounds_join.ensures }) x far c.args.plan u.seat.known.actor.draws (seats_of s) (seats_of u) c.end_shift-closed.result (record {
-      same_plan = closed_plan s.areas.plan u.areas.plan c.end_shift-closed.result.plan c.args.plan c.end_shift-closed.ensures.plan (same_plan s.areas u.areas c.in_err-ending.ensures.areas) c.in_ok-shift.ensures.duty.its_plan;
-      points = c.end_shift-closed.ensures.points;
-      reads = c.end_shift-closed.ensures.reads;
-      drawn = c.end_shift-closed.ensures.drawn;
-      history = c.end_shift-closed.ensures.history;
-    })
+    (rounds_broken c.run_laws.ensures x far c.args.plan u.seat.known.actor.draws (seats_of s) (seats_of u) c.end_shift-closed.result closed
     c.in_ok-progress.progress first c.in_ok-progress.ensures c.in_ok-shift.ensures.points c.requires.errors (stop_by why before after) rises (f.outside c.open_outputs.new.files).lost c.in_ok-open_outputs.ensures.writes.lost said h0 h1 h2
     c.in_ok-open_outputs.ensures.opened
     (broken_planned x c.args.plan s.areas.plan c.in_ok-shift.ensures.duty.its_plan u.seat.known.actor.draws u.desk.known.points c.in_ok-progress.progress (seats_of s) first (f.outside c.open_outputs.new.files).lost after.lost after.last h1 h2 c.in_err-ending.ensures.broken))
@@ -157,6 +158,13 @@ returns-in_err-finish-clause-ended g c =
     let h2 = (f.outside c.run_records-taken.new.files).held in
     let s = c.in_ok-shift.shift in
     let u = c.run_records-taken.new.shift in
+    let closed : IsClosed c.args.plan u.seat.known.actor.draws (seats_of u) c.end_shift-closed.result = record {
+      same_plan = closed_plan s.areas.plan u.areas.plan c.end_shift-closed.result.plan c.args.plan c.end_shift-closed.ensures.plan (same_plan s.areas u.areas c.in_ok-ending.ensures.areas) c.in_ok-shift.ensures.duty.its_plan;
+      points = c.end_shift-closed.ensures.points;
+      reads = c.end_shift-closed.ensures.reads;
+      drawn = c.end_shift-closed.ensures.drawn;
+      history = c.end_shift-closed.ensures.history;
+    } in
     let last = (f.outside c.run_records-taken.new.files).last in
     let q = c.run_records-taken.new.progress in
     let reader = spot (r.stands c.run_records-taken.new.reader) (r.left c.run_records-taken.new.reader) (r.at c.run_records-taken.new.reader) in
@@ -170,23 +178,10 @@ returns-in_err-finish-clause-ended g c =
     let L : ℕ → Type 0 = λ n. Rises cut n after.lost in
     let e = err_from_is_err_and c.from_residual-in_err-finish.result c.from_residual-in_err-finish.ensures.1 in
     ended_err x c.args.plan first c.from_residual-in_err-finish.result why h0 h3 said now before after c.args.history.now (e.1 ∙ ap Err e.2) c.requires.none
-    (finish_broken (record { access = record { forwards = c.access.ensures.forwards; forbidden = c.access.ensures.forbidden; refused = c.access.ensures.refused; sends_on = c.access.ensures.sends_on; brings_in = c.access.ensures.brings_in; delivers = c.access.ensures.delivers; relays_own = c.access.ensures.relays_own; relays_all = c.access.ensures.relays_all; passes_on = c.access.ensures.passes_on; sends = all_sent c.access.ensures.fits c.access.ensures.room c.forwarded_is_sent.ensures }; limits = c.limits_are_some.ensures; totals = c.counts_are_totals.ensures; begins = c.limits_begin.ensures; joins = c.rounds_join.ensures }) x far c.args.plan u.seat.known.actor.draws (seats_of s) (seats_of u) c.end_shift-closed.result (record {
-      same_plan = closed_plan s.areas.plan u.areas.plan c.end_shift-closed.result.plan c.args.plan c.end_shift-closed.ensures.plan (same_plan s.areas u.areas c.in_ok-ending.ensures.areas) c.in_ok-shift.ensures.duty.its_plan;
-      points = c.end_shift-closed.ensures.points;
-      reads = c.end_shift-closed.ensures.reads;
-      drawn = c.end_shift-closed.ensures.drawn;
-      history = c.end_shift-closed.ensures.history;
-    })
+    (finish_broken c.run_laws.ensures x far c.args.plan u.seat.known.actor.draws (seats_of s) (seats_of u) c.end_shift-closed.result closed
     c.in_ok-progress.progress first c.in_ok-progress.ensures c.in_ok-shift.ensures.points c.requires.errors q reader
-    (λ bytes number. c.some_left.ensures c.run_records-taken.new.reader bytes number) c.in_ok-ending.ensures.bounded
-    (at_end c.settled_points_are_all.ensures c.args.plan u.seat.known u.desk.known (seats_of u) c.end_shift-closed.result q.number (record {
-      same_plan = closed_plan s.areas.plan u.areas.plan c.end_shift-closed.result.plan c.args.plan c.end_shift-closed.ensures.plan (same_plan s.areas u.areas c.in_ok-ending.ensures.areas) c.in_ok-shift.ensures.duty.its_plan;
-      points = c.end_shift-closed.ensures.points;
-      reads = c.end_shift-closed.ensures.reads;
-      drawn = c.end_shift-closed.ensures.drawn;
-      history = c.end_shift-closed.ensures.history;
-    })
-    c.in_ok-ending.ensures.settled c.in_ok-ending.ensures.duty.whole
+    (λ bytes number. c.some_left.ensures c.run_records-taken.new.reader bytes number)
+    (at_end c.run_laws.ensures.points c.args.plan u.seat.known u.desk.known (seats_of u) c.end_shift-closed.result q.number closed c.in_ok-ending.ensures.settled c.in_ok-ending.ensures.duty.whole
     (closed_plan s.areas.plan u.areas.plan u.desk.known.plan c.args.plan c.in_ok-ending.ensures.duty.desk_areas.same_plan (same_plan s.areas u.areas c.in_ok-ending.ensures.areas) c.in_ok-shift.ensures.duty.its_plan)
     refl c.in_ok-ending.ensures.drawn)
     c.in_ok-ending.ending last said now before after c.in_err-finish.ensures.last (subst L c.in_ok-open_outputs.ensures.writes.lost (subst K (sym c.in_err-finish.ensures.lost) c.in_ok-ending.ensures.reads.lost)) why c.points.result.now (c.points.ensures.points ∙ c.end_shift-closed.ensures.points)

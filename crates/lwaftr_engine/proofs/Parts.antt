@@ -1,0 +1,19 @@
+-- Parts of a list that are fronts of it.
+use Rattle.std.proofs.Common.{◌≡◌, ℕ, List, ◌++◌, length, take, drop, sym, ◌∙◌, ap, append_assoc, take-append-drop}
+use Rattle.std.proofs.Math.Seq.{take-append_seam}
+
+-- what stands before something more is a front of both
+pub front_of : {A : Type 0} (whole part rest : List A) → whole ≡ part ++ rest → part ≡ take (length part) whole
+front_of {A} whole part rest is = sym (take-append_seam part rest) ∙ ap (λ (l : List A). take (length part) l) (sym is)
+
+-- so is a part of it
+pub front_part : {A : Type 0} (whole first rest : List A) (count : ℕ) → whole ≡ first ++ rest → take count first ≡ take (length (take count first)) whole
+front_part {A} whole first rest count is =
+    front_of whole (take count first) (drop count first ++ rest)
+    (is ∙ (ap (λ (l : List A). l ++ rest) (sym (take-append-drop count first)) ∙ append_assoc (take count first) (drop count first) rest))
+
+-- with a part of the next list it is a front of both and what follows
+pub front_more : (whole part next rest : List ℕ) (count : ℕ) → whole ≡ (part ++ next) ++ rest → part ++ take count next ≡ take (length (part ++ take count next)) whole
+front_more whole part next rest count is =
+    let cut : part ++ next ≡ (part ++ take count next) ++ drop count next = ap (λ (l : List ℕ). part ++ l) (sym (take-append-drop count next)) ∙ sym (append_assoc part (take count next) (drop count next)) in
+    front_of whole (part ++ take count next) (drop count next ++ rest) (is ∙ (ap (λ (l : List ℕ). l ++ rest) cut ∙ append_assoc (part ++ take count next) (drop count next) rest))

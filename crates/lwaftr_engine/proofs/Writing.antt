@@ -1,0 +1,251 @@
+-- Steps of writing: how they join, and what the files hold by them.
+use Rattle.std.proofs.Common.{◌≡◌, ℕ, zero, suc, ◌+◌, ◌-◌, ◌<◌, ◌≤◌, nat_lt, Bool, true, false, if◌then◌else◌, List, [], ◌∷◌, ◌++◌, length, take, Option, Result, Ok, Err, OnOk, IfErr, refl, sym, ◌∙◌, ap, subst, arith, append-nil, append_assoc}
+use Rattle.std.proofs.Math.Seq.{take-append-add, take-length}
+use Rattle.aftr_base.specs.Contents.{Contents, content, Moves, Writes}
+use Rattle.aftr_base.specs.Pieces.{AppendedAll}
+use Rattle.aftr_base.specs.declared.outside.Fault.{Fault}
+use Rattle.aftr_text.specs.Lines.{initial_text}
+use Rattle.aftr_text.specs.declared.jobs.RunJob.{RunJob}
+use Rattle.capture_io.specs.Packets.{file_head}
+use Rattle.capture_io.specs.declared.written.Written.{Written}
+use Rattle.lwaftr_engine.specs.Fronts.{HoldsFront}
+use Rattle.lwaftr_engine.specs.Progress.{Wrote}
+use Rattle.lwaftr_engine.specs.Runs.{OthersKept}
+use Rattle.lwaftr_engine.specs.Writing.{Did, DidFront, File, Step, add, adds, holds, make, name_of, opening_steps, out_file, round_steps, same_file, verdicts_file, versions_file}
+use Rattle.lwaftr_engine.proofs.Apart.{AreFilesApart}
+use Rattle.lwaftr_engine.proofs.Moving.{moves_by, moves_join, moves_none}
+use Rattle.lwaftr_engine.proofs.Parts.{front_part}
+
+-- what is put behind a file, seen from any file
+if_same : (t : Bool) (held : List ℕ) (byte : ℕ) (bytes : List ℕ) →
+    (if t then (if t then held ++ (byte ∷ []) else held) ++ bytes else (if t then held ++ (byte ∷ []) else held)) ≡ (if t then held ++ (byte ∷ bytes) else held)
+if_same true held byte bytes = append_assoc held (byte ∷ []) bytes
+if_same false held byte bytes = refl
+
+if_none : (t : Bool) (held : List ℕ) → held ≡ (if t then held ++ [] else held)
+if_none true held = sym (append-nil held)
+if_none false held = refl
+
+holds_adds : (other file : File) (bytes held : List ℕ) → holds file (adds other bytes) held ≡ (if same_file other file then held ++ bytes else held)
+holds_adds other file [] held = if_none (same_file other file) held
+holds_adds other file (byte ∷ bytes) held =
+    holds_adds other file bytes (if same_file other file then held ++ (byte ∷ []) else held) ∙ if_same (same_file other file) held byte bytes
+
+holds_more : (file : File) (a b : List Step) (held : List ℕ) → holds file (a ++ b) held ≡ holds file b (holds file a held)
+holds_more file [] b held = refl
+holds_more file (make other ∷ a) b held = holds_more file a b (if same_file other file then [] else held)
+holds_more file (add other byte ∷ a) b held = holds_more file a b (if same_file other file then held ++ (byte ∷ []) else held)
+
+take_adds : (count : ℕ) (file : File) (bytes : List ℕ) → take count (adds file bytes) ≡ adds file (take count bytes)
+take_adds zero file bytes = refl
+take_adds (suc count) file [] = refl
+take_adds (suc count) file (byte ∷ bytes) = ap (λ (l : List Step). add file byte ∷ l) (take_adds count file bytes)
+
+-- bytes are put behind two files
+abbrev behind : File → File → List ℕ → List ℕ → List ℕ
+behind other file bytes held = if same_file other file then held ++ bytes else held
+
+holds_two : (a b file : File) (first second held : List ℕ) → holds file (adds a first ++ adds b second) held ≡ behind b file second (behind a file first held)
+holds_two a b file first second held =
+    holds_more file (adds a first) (adds b second) held
+    ∙ (ap (λ (l : List ℕ). holds file (adds b second) l) (holds_adds a file first held) ∙ holds_adds b file second (behind a file first held))
+
+holds_round : (file : File) (versions packets lines held : List ℕ) →
+    holds file (round_steps versions packets lines) held ≡ behind verdicts_file file lines (behind out_file file packets (behind versions_file file versions held))
+holds_round file versions packets lines held =
+    holds_more file (adds versions_file versions) (adds out_file packets ++ adds verdicts_file lines) held
+    ∙ (ap (λ (l : List ℕ). holds file (adds out_file packets ++ adds verdicts_file lines) l) (holds_adds versions_file file versions held)
+    ∙ holds_two out_file verdicts_file file packets lines (behind versions_file file versions held))
+
+-- steps join
+pub did_none : (run : RunJob) (m : Contents) → Did run [] m m
+did_none run m = record { files = λ file. refl; others = λ name u v w. refl }
+
+did_join : (run : RunJob) (a b : List Step) (m n o : Contents) → Did run a m n → Did run b n o → Did run (a ++ b) m o
+did_join run a b m n o first second = record {
+  files = λ file. second.files file ∙ (ap (λ (l : List ℕ). holds file b l) (first.files file) ∙ sym (holds_more file a b (content m (name_of run file))));
+  others = λ name u v w. second.others name u v w ∙ first.others name u v w;
+}
+
+-- what was done whole was done to a front, and a front of some steps is one of these and more
+pub front_of_all : (run : RunJob) (steps : List Step) (m n : Contents) → Did run steps m n → DidFront run steps m n
+front_of_all run steps m n did = let D : List Step → Type 0 = λ l. Did run l m n in (length steps, subst D (sym (take-length steps)) did)
+
+front_more : (run : RunJob) (a b : List Step) (m n : Contents) → DidFront run a m n → DidFront run (a ++ b) m n
+front_more run a b m n front =
+    let D : List Step → Type 0 = λ l. Did run l m n in
+    (length (take front.0 a), subst D (front_part (a ++ b) a b front.0 refl) front.1)
+
+front_behind : (run : RunJob) (a b : List Step) (m n o : Contents) → Did run a m n → DidFront run b n o → DidFront run (a ++ b) m o
+front_behind run a b m n o did front =
+    let D : List Step → Type 0 = λ l. Did run l m o in
+    (length a + front.0, subst D (sym (take-append-add a b front.0)) (did_join run a (take front.0 b) m n o did front.1))
+
+-- the same, where it is told
+module _ (run : RunJob) where
+  pub joined : (a b : List Step) (h0 h1 h2 : Option Contents) → Moves h0 h1 (Did run a) → Moves h1 h2 (Did run b) → Moves h0 h2 (Did run (a ++ b))
+  joined a b h0 h1 h2 first second = moves_join h0 h1 h2 (Did run a) (Did run b) (Did run (a ++ b)) (λ m n o u w. did_join run a b m n o u w) first second
+
+  pub joined_front : (a b : List Step) (h0 h1 h2 : Option Contents) → Moves h0 h1 (Did run a) → Moves h1 h2 (DidFront run b) → Moves h0 h2 (DidFront run (a ++ b))
+  joined_front a b h0 h1 h2 first second =
+      moves_join h0 h1 h2 (Did run a) (DidFront run b) (DidFront run (a ++ b)) (λ m n o u w. front_behind run a b m n o u w) first second
+
+  pub more_front : (a b : List Step) (h0 h1 : Option Contents) → Moves h0 h1 (DidFront run a) → Moves h0 h1 (DidFront run (a ++ b))
+  more_front a b h0 h1 front = moves_by h0 h1 (DidFront run a) (DidFront run (a ++ b)) (λ m n w. front_more run a b m n w) front
+
+  -- nothing was done
+  pub no_step : (steps : List Step) (h0 h1 : Option Contents) → h1 ≡ h0 → Moves h0 h1 (DidFront run steps)
+  no_step steps h0 h1 same = moves_none h0 h1 (DidFront run steps) (λ m. (0, did_none run m)) same
+
+  -- these were done, and nothing more
+  pub no_more : (a b : List Step) (h0 h1 h2 : Option Contents) → h2 ≡ h1 → Moves h0 h1 (Did run a) → Moves h0 h2 (DidFront run (a ++ b))
+  no_more a b h0 h1 h2 same first = joined_front a b h0 h1 h2 first (no_step b h1 h2 same)
+
+-- the calls of the files, as steps; a file may be named in another writing
+module _ (run : RunJob) (far : AreFilesApart run) where
+  each : (m n : Contents) (file : File) (f : List ℕ → List ℕ) → Writes m n (name_of run file) (f (content m (name_of run file))) → (other : File) →
+      content n (name_of run other) ≡ (if same_file file other then f (content m (name_of run other)) else content m (name_of run other))
+  each m n out_file f w out_file = w.here
+  each m n out_file f w verdicts_file = w.others run.verdicts (λ e. far.output_verdicts (sym e))
+  each m n out_file f w versions_file = w.others run.versions (λ e. far.output_versions (sym e))
+  each m n verdicts_file f w out_file = w.others run.output far.output_verdicts
+  each m n verdicts_file f w verdicts_file = w.here
+  each m n verdicts_file f w versions_file = w.others run.versions (λ e. far.verdicts_versions (sym e))
+  each m n versions_file f w out_file = w.others run.output far.output_versions
+  each m n versions_file f w verdicts_file = w.others run.verdicts far.verdicts_versions
+  each m n versions_file f w versions_file = w.here
+
+  kept : (m n : Contents) (file : File) (bytes : List ℕ) → Writes m n (name_of run file) bytes → OthersKept run m n
+  kept m n out_file bytes w = λ name u v z. w.others name u
+  kept m n verdicts_file bytes w = λ name u v z. w.others name v
+  kept m n versions_file bytes w = λ name u v z. w.others name z
+
+  pub made : (file : File) (k : List ℕ) → k ≡ name_of run file → (a b : Option Contents) → Moves a b (λ m n. Writes m n k []) → Moves a b (Did run (make file ∷ []))
+  made file k is a b step =
+      moves_by a b (λ m n. Writes m n k []) (Did run (make file ∷ []))
+      (λ m n w.
+        let W : List ℕ → Type 0 = λ q. Writes m n q [] in
+        record { files = each m n file (λ held. []) (subst W is w); others = kept m n file [] (subst W is w) }) step
+
+  -- all three are made, one after another
+  pub all_made : (k0 k1 k2 : List ℕ) → k0 ≡ run.output → k1 ≡ run.verdicts → k2 ≡ run.versions → (a b d e : Option Contents) → Moves a b (λ m n. Writes m n k0 []) → Moves b d (λ m n. Writes m n k1 []) →
+      Moves d e (λ m n. Writes m n k2 []) → Moves a e (Did run (make out_file ∷ make verdicts_file ∷ make versions_file ∷ []))
+  all_made k0 k1 k2 is0 is1 is2 a b d e first second third =
+      joined run (make out_file ∷ []) (make verdicts_file ∷ make versions_file ∷ []) a b e (made out_file k0 is0 a b first)
+      (joined run (make verdicts_file ∷ []) (make versions_file ∷ []) b d e (made verdicts_file k1 is1 b d second) (made versions_file k2 is2 d e third))
+
+  put : (m n : Contents) (file : File) (k bytes due : List ℕ) → k ≡ name_of run file → bytes ≡ due → Writes m n k (content m k ++ bytes) → Did run (adds file due) m n
+  put m n file k bytes due is due_is w =
+      let W : List ℕ → Type 0 = λ q. Writes m n q (content m q ++ bytes) in
+      let V : List ℕ → Type 0 = λ l. Writes m n (name_of run file) (content m (name_of run file) ++ l) in
+      let here : Writes m n (name_of run file) (content m (name_of run file) ++ due) = subst V due_is (subst W is w) in
+      record {
+        files = λ other. each m n file (λ held. held ++ due) here other ∙ sym (holds_adds file other due (content m (name_of run other)));
+        others = kept m n file (content m (name_of run file) ++ due) here;
+      }
+
+  pub added : (file : File) (k bytes due : List ℕ) → k ≡ name_of run file → bytes ≡ due → (a b : Option Contents) →
+      Moves a b (λ m n. Writes m n k (content m k ++ bytes)) → Moves a b (Did run (adds file due))
+  added file k bytes due is due_is a b step =
+      moves_by a b (λ m n. Writes m n k (content m k ++ bytes)) (Did run (adds file due)) (λ m n w. put m n file k bytes due is due_is w) step
+
+  pub cut : (file : File) (k bytes due : List ℕ) → k ≡ name_of run file → bytes ≡ due → (a b : Option Contents) →
+      Moves a b (λ m n. (count : ℕ) × (count ≤ length bytes) × Writes m n k (content m k ++ take count bytes)) → Moves a b (DidFront run (adds file due))
+  cut file k bytes due is due_is a b step =
+      moves_by a b (λ m n. (count : ℕ) × (count ≤ length bytes) × Writes m n k (content m k ++ take count bytes)) (DidFront run (adds file due))
+      (λ m n w.
+        let D : List Step → Type 0 = λ l. Did run l m n in
+        let same : take w.0 bytes ≡ take w.0 due = ap (λ (l : List ℕ). take w.0 l) due_is in
+        (w.0, subst D (sym (take_adds w.0 file due)) (put m n file k (take w.0 bytes) (take w.0 due) is same w.2))) step
+
+-- the outputs are made, with this header and this line
+pub record IsOpenedWith (run : RunJob) (head line : List ℕ) (old new : Contents) : Type 0 where
+  pub output : content new run.output ≡ head
+  pub verdicts : content new run.verdicts ≡ []
+  pub versions : content new run.versions ≡ line
+  pub others : OthersKept run old new
+
+abbrev pub IsOpened : RunJob → Written → Contents → Contents → Type 0
+IsOpened run w old new = IsOpenedWith run (file_head w) (initial_text run.table) old new
+
+opened_with : (run : RunJob) (head line : List ℕ) (m n : Contents) → Did run (make out_file ∷ make verdicts_file ∷ make versions_file ∷ (adds out_file head ++ adds versions_file line)) m n → IsOpenedWith run head line m n
+opened_with run head line m n did = record {
+  output = did.files out_file ∙ holds_two out_file versions_file out_file head line [];
+  verdicts = did.files verdicts_file ∙ holds_two out_file versions_file verdicts_file head line [];
+  versions = did.files versions_file ∙ holds_two out_file versions_file versions_file head line [];
+  others = did.others;
+}
+
+pub opened : (run : RunJob) (w : Written) (m n : Contents) → Did run (opening_steps run w) m n → IsOpened run w m n
+opened run w m n did = opened_with run (file_head w) (initial_text run.table) m n did
+
+-- a front of bytes for one file and of more steps is one of the bytes, or all of them and a front of the others
+data Cut (file : File) (count : ℕ) (bytes : List ℕ) (rest : List Step) : Type 0 where
+  within : take count (adds file bytes ++ rest) ≡ adds file (take count bytes) → Cut file count bytes rest
+  beyond : (left : ℕ) → take count (adds file bytes ++ rest) ≡ adds file bytes ++ take left rest → Cut file count bytes rest
+
+cut_at : (file : File) (count : ℕ) (bytes : List ℕ) (rest : List Step) → Cut file count bytes rest
+cut_at file zero bytes rest = within refl
+cut_at file (suc count) [] rest = beyond (suc count) refl
+cut_at file (suc count) (byte ∷ bytes) rest = more (cut_at file count bytes rest) where
+  more : Cut file count bytes rest → Cut file (suc count) (byte ∷ bytes) rest
+  more (within is) = within (ap (λ (l : List Step). add file byte ∷ l) is)
+  more (beyond left is) = beyond left (ap (λ (l : List Step). add file byte ∷ l) is)
+
+-- So many outputs are made, in this order, and each holds a front of what it begins with.
+pub record IsOpening (run : RunJob) (w : Written) (old new : Contents) : Type 0 where
+  pub made : ℕ
+  pub output : HoldsFront (nat_lt 0 made) (file_head w) (content old run.output) (content new run.output)
+  pub verdicts : HoldsFront (nat_lt 1 made) [] (content old run.verdicts) (content new run.verdicts)
+  pub versions : HoldsFront (nat_lt 2 made) (initial_text run.table) (content old run.versions) (content new run.versions)
+  pub others : OthersKept run old new
+
+pub opening_front : (run : RunJob) (w : Written) (m n : Contents) → DidFront run (opening_steps run w) m n → IsOpening run w m n
+opening_front run w m n (zero, did) = record { made = 0; output = did.files out_file; verdicts = did.files verdicts_file; versions = did.files versions_file; others = did.others }
+opening_front run w m n (suc zero, did) = record { made = 1; output = (0, did.files out_file); verdicts = did.files verdicts_file; versions = did.files versions_file; others = did.others }
+opening_front run w m n (suc (suc zero), did) = record { made = 2; output = (0, did.files out_file); verdicts = (0, did.files verdicts_file); versions = did.files versions_file; others = did.others }
+opening_front run w m n (suc (suc (suc count)), did) = by_head (cut_at out_file count (file_head w) (adds versions_file (initial_text run.table))) where
+  by_head : Cut out_file count (file_head w) (adds versions_file (initial_text run.table)) → IsOpening run w m n
+  by_head (within is) =
+      let D : List Step → Type 0 = λ steps. Did run (make out_file ∷ make verdicts_file ∷ make versions_file ∷ steps) m n in
+      let it = opened_with run (take count (file_head w)) [] m n (subst D (is ∙ sym (append-nil (adds out_file (take count (file_head w))))) did) in
+      record { made = 3; output = (count, it.output); verdicts = (0, it.verdicts); versions = (0, it.versions); others = it.others }
+  by_head (beyond left is) =
+      let D : List Step → Type 0 = λ steps. Did run (make out_file ∷ make verdicts_file ∷ make versions_file ∷ steps) m n in
+      let it = opened_with run (file_head w) (take left (initial_text run.table)) m n (subst D (is ∙ ap (λ (l : List Step). adds out_file (file_head w) ++ l) (take_adds left versions_file (initial_text run.table))) did) in
+      record { made = 3; output = (length (file_head w), it.output ∙ sym (take-length (file_head w))); verdicts = (0, it.verdicts); versions = (left, it.versions); others = it.others }
+
+-- a round is written
+pub wrote : (run : RunJob) (versions packets lines : List ℕ) (m n : Contents) → Did run (round_steps versions packets lines) m n → Wrote run versions packets lines m n
+wrote run versions packets lines m n did = record {
+  versions_is = did.files versions_file ∙ holds_round versions_file versions packets lines (content m run.versions);
+  output = did.files out_file ∙ holds_round out_file versions packets lines (content m run.output);
+  verdicts = did.files verdicts_file ∙ holds_round verdicts_file versions packets lines (content m run.verdicts);
+  others = did.others;
+}
+
+-- a round is written to a front: of its lines of tables, or all of them and fronts of the others
+pub data WroteFront (run : RunJob) (versions packets lines : List ℕ) (old new : Contents) : Type 0 where
+  in_tables : (count : ℕ) → Wrote run (take count versions) [] [] old new → WroteFront run versions packets lines old new
+  in_others : (p l : ℕ) → Wrote run versions (take p packets) (take l lines) old new → WroteFront run versions packets lines old new
+
+pub wrote_front : (run : RunJob) (versions packets lines : List ℕ) (m n : Contents) → DidFront run (round_steps versions packets lines) m n → WroteFront run versions packets lines m n
+wrote_front run versions packets lines m n front = by_versions (cut_at versions_file front.0 versions (adds out_file packets ++ adds verdicts_file lines)) where
+  by_packets : (left : ℕ) → Cut out_file left packets (adds verdicts_file lines) → Did run (adds versions_file versions ++ take left (adds out_file packets ++ adds verdicts_file lines)) m n → WroteFront run versions packets lines m n
+  by_packets left (within is) did =
+      let D : List Step → Type 0 = λ steps. Did run steps m n in
+      let shown : take left (adds out_file packets ++ adds verdicts_file lines) ≡ adds out_file (take left packets) ++ [] = is ∙ sym (append-nil (adds out_file (take left packets))) in
+      in_others left 0 (wrote run versions (take left packets) [] m n (subst D (ap (λ (l : List Step). adds versions_file versions ++ l) shown) did))
+  by_packets left (beyond more is) did =
+      let D : List Step → Type 0 = λ steps. Did run steps m n in
+      let shown : take left (adds out_file packets ++ adds verdicts_file lines) ≡ adds out_file (take (length packets) packets) ++ adds verdicts_file (take more lines) =
+      is ∙ (ap (λ (l : List Step). adds out_file packets ++ l) (take_adds more verdicts_file lines) ∙ ap (λ (l : List ℕ). adds out_file l ++ adds verdicts_file (take more lines)) (sym (take-length packets))) in
+      in_others (length packets) more (wrote run versions (take (length packets) packets) (take more lines) m n (subst D (ap (λ (l : List Step). adds versions_file versions ++ l) shown) did))
+
+  by_versions : Cut versions_file front.0 versions (adds out_file packets ++ adds verdicts_file lines) → WroteFront run versions packets lines m n
+  by_versions (within is) =
+      let D : List Step → Type 0 = λ steps. Did run steps m n in
+      in_tables front.0 (wrote run (take front.0 versions) [] [] m n (subst D (is ∙ sym (append-nil (adds versions_file (take front.0 versions)))) front.1))
+  by_versions (beyond left is) =
+      let D : List Step → Type 0 = λ steps. Did run steps m n in
+      by_packets left (cut_at out_file left packets (adds verdicts_file lines)) (subst D is front.1)
