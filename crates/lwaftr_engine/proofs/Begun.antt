@@ -90,7 +90,7 @@ module _ (laws : RunLaws) {x : Setup} {plan : Tables} {draws : List (ℕ × ℕ)
       let both : load_lines (s.points ++ (judged.news ++ later)) (take q.printed (loads_of x)) ≡ load_lines (s.points ++ (judged.news ++ later)) (take p.printed (loads_of x)) ++ string_bytes made.versions =
       ap (λ (l : List ℕ). load_lines l (take q.printed (loads_of x))) points_end ∙ sym (versions_are laws judged past later) in
       let whole : load_lines (s.points ++ (judged.news ++ later)) (loads_of x)
-          ≡ (load_lines (s.points ++ (judged.news ++ later)) (take p.printed (loads_of x)) ++ string_bytes made.versions) ++ load_lines (s.points ++ (judged.news ++ later)) (drop q.printed (loads_of x)) =
+      ≡ (load_lines (s.points ++ (judged.news ++ later)) (take p.printed (loads_of x)) ++ string_bytes made.versions) ++ load_lines (s.points ++ (judged.news ++ later)) (drop q.printed (loads_of x)) =
       lines_split points q.printed (loads_of x) ∙ ap (λ (l : List ℕ). l ++ after) both in
       subst B points_end (begun_by past.written (judged.news ++ later) (take count (string_bytes made.versions)) [] L
       (length (before ++ take count (string_bytes made.versions)), front_more (load_lines points (loads_of x)) before (string_bytes made.versions) after count whole)

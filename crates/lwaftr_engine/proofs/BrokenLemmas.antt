@@ -1,5 +1,5 @@
 -- Rounds that were ended by a fault, from one state to another.
-use Rattle.std.proofs.Common.{◌≡◌, ℕ, ◌≤◌, List, [], ◌++◌, length, Option, inl, refl, sym, ◌∙◌, ap, subst, arith, append-nil, append_assoc}
+use Rattle.std.proofs.Common.{◌≡◌, ℕ, ◌≤◌, List, [], ◌++◌, length, Option, inl, refl, sym, subst, arith, append-nil}
 use Rattle.aftr_base.specs.Contents.{Contents, content, Moves}
 use Rattle.capture_io.specs.declared.forms.Rec.{Rec}
 use Rattle.item_stage.specs.Items.{entries_of}
@@ -21,18 +21,18 @@ pub not_begun : (x : Setup) (plan : Tables) (draws : List (ℕ × ℕ)) (p : Pro
 not_begun x plan draws p s reader some few tells lost lost_now last lost_is h0 h1 same =
     moves_none h0 h1 (λ m n. Breaks x plan draws s.points (mark m p s reader) n lost lost_now last)
     (λ m here.
-      let left = some (content m x.run.input) p.number in
-      record {
-        input = refl;
-        records = [];
-        rest = left.0;
-        taken = λ stood. inl (lost_is, (left.1, left.2));
-        drawn = omega (arith, few);
-        up_to_date = tells;
-        begun = λ later past.
-            let B : List Rec → Type 0 = λ l. HasBegun x past.course (s.points ++ later) (lines_from past.course 0 (entries_of x.form l)) past.opened m l in
-            subst B (sym (append-nil past.taken)) (still_begun past.written later (wrote x.run [] [] [] m m (did_none x.run m)));
-      }) same
+    let left = some (content m x.run.input) p.number in
+    record {
+      input = refl;
+      records = [];
+      rest = left.0;
+      taken = λ stood. inl (lost_is, (left.1, left.2));
+      drawn = omega (arith, few);
+      up_to_date = tells;
+      begun = λ later past.
+          let B : List Rec → Type 0 = λ l. HasBegun x past.course (s.points ++ later) (lines_from past.course 0 (entries_of x.form l)) past.opened m l in
+          subst B (sym (append-nil past.taken)) (still_begun past.written later (wrote x.run [] [] [] m m (did_none x.run m)));
+    }) same
 
 pub others_input : (x : Setup) → AreFilesApart x.run → (steps : List Step) (a d : Contents) → Did x.run steps a d → content d x.run.input ≡ content a x.run.input
 others_input x far steps a d did = did.others x.run.input (λ e. far.output_input (sym e)) (λ e. far.verdicts_input (sym e)) (λ e. far.versions_input (sym e))

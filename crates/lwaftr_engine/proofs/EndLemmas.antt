@@ -1,5 +1,5 @@
 -- What a run leaves whose records have ended, and that is finished.
-use Rattle.std.proofs.Common.{◌≡◌, ℕ, ◌+◌, ◌<◌, ◌≤◌, List, [], ◌∷◌, ◌++◌, length, All, Option, Some, None, Ok, ◌⊎◌, inl, inr, sym, ◌∙◌, subst, arith, append-nil}
+use Rattle.std.proofs.Common.{◌≡◌, ℕ, ◌+◌, ◌<◌, ◌≤◌, List, [], ◌∷◌, ◌++◌, length, All, Option, Some, None, Ok, ◌⊎◌, sym, ◌∙◌, subst, arith, append-nil}
 use Rattle.std.specs.Prelude.{IfSome}
 use Rattle.aftr_base.specs.Contents.{Contents, content, Moves}
 use Rattle.aftr_base.specs.Outside.{Outside}

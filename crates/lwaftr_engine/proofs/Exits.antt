@@ -1,5 +1,5 @@
 -- Calls that were ended by a fault.
-use Rattle.std.proofs.Common.{◌≡◌, ℕ, ◌≤◌, List, ◌++◌, length, take, Option, Result, Ok, Err, refl, subst}
+use Rattle.std.proofs.Common.{◌≡◌, ℕ, ◌≤◌, List, ◌++◌, length, take, Option, Result, Ok, Err, subst}
 use Rattle.std.specs.Prelude.{IfErr, IsErr}
 use Rattle.aftr_base.specs.Contents.{Contents, content, Moves, Writes}
 use Rattle.aftr_base.specs.Outside.{Rises, has_failed}

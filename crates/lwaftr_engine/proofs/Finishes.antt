@@ -6,8 +6,7 @@ use Rattle.aftr_base.specs.Outside.{Rises, has_failed}
 use Rattle.aftr_base.specs.declared.outside.Fault.{Fault}
 use Rattle.capture_io.specs.declared.forms.Rec.{Rec}
 use Rattle.item_stage.specs.Stages.{Stands}
-use Rattle.lwaftr_engine.specs.Finishing.{Finishes, IsFinished, IsHalfFinished, last_line, last_lines, last_versions}
-use Rattle.lwaftr_engine.specs.Fronts.{is_failure}
+use Rattle.lwaftr_engine.specs.Finishing.{Finishes, IsFinished, last_line, last_lines, last_versions}
 use Rattle.lwaftr_engine.specs.Progress.{Setup}
 use Rattle.lwaftr_engine.specs.Writing.{Did, DidFront, round_steps}
 use Rattle.lwaftr_engine.specs.declared.rounds.Progress.{Progress}
@@ -37,8 +36,8 @@ module _ (x : Setup) (p : Progress) (points : List ℕ) where
     front_done r k k1 is rises a b said step =
         by_fault r k k1 a b said said is (λ e why. moves_by a b (DidFront x.run (round_steps (last_versions x p points) [] lines)) (Ended x p points (Err e) k k1 said said)
         (λ m n front taken stands.
-          let F : List ℕ → Type 0 = λ l. DidFront x.run (round_steps (last_versions x p points) [] l) m n in
-          inl (rises_by r e k k1 why rises, (subst F (are taken stands) front, refl))) step)
+        let F : List ℕ → Type 0 = λ l. DidFront x.run (round_steps (last_versions x p points) [] l) m n in
+        inl (rises_by r e k k1 why rises, (subst F (are taken stands) front, refl))) step)
 
     -- all lines were, and a front of the summary was put
     pub put_cut : (r : Result Unit Fault) (k k1 : ℕ) → IsErr r → k1 ≡ k → (a b : Option Contents) (said now : Option (List ℕ)) (line : List ℕ) → line ≡ last_line p points →
@@ -47,8 +46,8 @@ module _ (x : Setup) (p : Progress) (points : List ℕ) where
     put_cut r k k1 is same a b said now line line_is step took =
         by_fault r k k1 a b said now is (λ e why. moves_by a b (Did x.run (round_steps (last_versions x p points) [] lines)) (Ended x p points (Err e) k k1 said now)
         (λ m n did taken stands.
-          let F : List ℕ → Type 0 = λ l. Did x.run (round_steps (last_versions x p points) [] l) m n in
-          inr (same, (subst F (are taken stands) did, (took.0, took.2 ∙ ap (λ (l : List ℕ). option_map (λ (out : List ℕ). out ++ take took.0 l) said) line_is)))) step)
+        let F : List ℕ → Type 0 = λ l. Did x.run (round_steps (last_versions x p points) [] l) m n in
+        inr (same, (subst F (are taken stands) did, (took.0, took.2 ∙ ap (λ (l : List ℕ). option_map (λ (out : List ℕ). out ++ take took.0 l) said) line_is)))) step)
 
     -- and all of it
     pub all_done : (a b : Option Contents) (said now : Option (List ℕ)) (line : List ℕ) → line ≡ last_line p points →
@@ -57,5 +56,5 @@ module _ (x : Setup) (p : Progress) (points : List ℕ) where
     all_done a b said now line line_is step took =
         moves_by a b (Did x.run (round_steps (last_versions x p points) [] lines)) (λ m n. (taken : List Rec) → Stands p.stage taken → IsFinished x p points taken m n said now)
         (λ m n did taken stands.
-          let F : List ℕ → Type 0 = λ l. Did x.run (round_steps (last_versions x p points) [] l) m n in
-          record { did = subst F (are taken stands) did; took = took ∙ ap (λ (l : List ℕ). option_map (λ (out : List ℕ). out ++ l) said) line_is }) step
+        let F : List ℕ → Type 0 = λ l. Did x.run (round_steps (last_versions x p points) [] l) m n in
+        record { did = subst F (are taken stands) did; took = took ∙ ap (λ (l : List ℕ). option_map (λ (out : List ℕ). out ++ l) said) line_is }) step

@@ -21,13 +21,13 @@ use Rattle.lwaftr_engine.specs.Broken.{HasBegun, IsBrokenFrom}
 use Rattle.lwaftr_engine.specs.Ended.{AreSlotsOf}
 use Rattle.lwaftr_engine.specs.Finishing.{IsFirst, IsHalfFinished, TookFront, last_line, last_lines, last_steps, last_versions}
 use Rattle.lwaftr_engine.specs.Fronts.{HoldsFront, IsAtSummary, IsFront, IsFrontOf, IsUnder, Stop, is_table, shown_points, stop_by, whole_lines}
-use Rattle.lwaftr_engine.specs.Progress.{HasWritten, Seats, Setup, Spot, Suits, Wrote, loads_of, mark}
+use Rattle.lwaftr_engine.specs.Progress.{HasWritten, Seats, Setup, Spot, Suits, loads_of, mark}
 use Rattle.lwaftr_engine.specs.RunLaws.{RunLaws}
 use Rattle.lwaftr_engine.specs.Runs.{IsPlanOf}
 use Rattle.lwaftr_engine.specs.Writing.{Did, DidFront}
 use Rattle.lwaftr_engine.specs.declared.rounds.Progress.{Progress}
-use Rattle.run_output.specs.Outputs.{Course, lines_from, output_of, packets_from, verdicts_of}
-use Rattle.run_output.specs.Versions.{NoneIsDue, load_lines, named, versions_of}
+use Rattle.run_output.specs.Outputs.{Course, lines_from, packets_from, verdicts_of}
+use Rattle.run_output.specs.Versions.{NoneIsDue, load_lines, named}
 use Rattle.swap_core.specs.Plans.{IsPlan, Tables, table}
 use Rattle.swap_core.specs.Points.{AreAllPoints, AreInWindows, in_force}
 use Rattle.swap_core.specs.declared.plan.Window.{Window}
@@ -122,24 +122,28 @@ finish_begun : {x : Setup} {c : Course} {q : Progress} {s : Seats} {reader : Spo
 finish_begun {x} {c} {q} {s} {reader} {b} {d} {e} {rs} h front =
     let B : List ℕ → Type 0 = λ points. HasBegun x c points (verdicts_of c x.form rs) b e rs in
     subst B (append-nil s.points) (by_front (wrote_front x.run (last_versions x q s.points) [] (last_lines q rs) d e front)) where
-  versions : (count : ℕ) → IsFrontOf (load_lines (s.points ++ []) (loads_of x)) (load_lines (s.points ++ []) (take q.printed (loads_of x)) ++ take count (last_versions x q s.points))
-  versions count =
-      let before = load_lines (s.points ++ []) (take q.printed (loads_of x)) in
-      let same : load_lines (s.points ++ []) (drop q.printed (loads_of x)) ≡ last_versions x q s.points = ap (λ (l : List ℕ). load_lines l (drop q.printed (loads_of x))) (append-nil s.points) in
-      (length (before ++ take count (last_versions x q s.points)), front_more (load_lines (s.points ++ []) (loads_of x)) before (last_versions x q s.points) [] count
-      (lines_split (s.points ++ []) q.printed (loads_of x) ∙ (ap (λ (l : List ℕ). before ++ l) same ∙ sym (append-nil (before ++ last_versions x q s.points)))))
+      versions : (count : ℕ) → IsFrontOf (load_lines (s.points ++ []) (loads_of x)) (load_lines (s.points ++ []) (take q.printed (loads_of x)) ++ take count (last_versions x q s.points))
+      versions count =
+          let before = load_lines (s.points ++ []) (take q.printed (loads_of x)) in
+          let same : load_lines (s.points ++ []) (drop q.printed (loads_of x)) ≡ last_versions x q s.points = ap (λ (l : List ℕ). load_lines l (drop q.printed (loads_of x))) (append-nil s.points) in (
+            length (before ++ take count (last_versions x q s.points)),
+            front_more (load_lines (s.points ++ []) (loads_of x)) before (last_versions x q s.points) [] count
+                (lines_split (s.points ++ []) q.printed (loads_of x) ∙ (ap (λ (l : List ℕ). before ++ l) same ∙ sym (append-nil (before ++ last_versions x q s.points)))),
+          )
 
-  lines : (count : ℕ) → IsFrontOf (verdicts_of c x.form rs) (lines_from c 0 (entries_of x.form rs) ++ take count (last_lines q rs))
-  lines count =
-      let L = lines_from c 0 (entries_of x.form rs) in
-      (length (L ++ take count (last_lines q rs)), front_more (verdicts_of c x.form rs) L (last_lines q rs) [] count
-      (ap (λ (f : Form). lines_from c 0 (entries_of x.form rs) ++ flat_map (ended_text false) (unfinished_of f rs)) (sym h.stage_form) ∙ sym (append-nil (L ++ last_lines q rs))))
+      lines : (count : ℕ) → IsFrontOf (verdicts_of c x.form rs) (lines_from c 0 (entries_of x.form rs) ++ take count (last_lines q rs))
+      lines count =
+          let L = lines_from c 0 (entries_of x.form rs) in (
+            length (L ++ take count (last_lines q rs)),
+            front_more (verdicts_of c x.form rs) L (last_lines q rs) [] count
+                (ap (λ (f : Form). lines_from c 0 (entries_of x.form rs) ++ flat_map (ended_text false) (unfinished_of f rs)) (sym h.stage_form) ∙ sym (append-nil (L ++ last_lines q rs))),
+          )
 
-  by_front : WroteFront x.run (last_versions x q s.points) [] (last_lines q rs) d e → HasBegun x c (s.points ++ []) (verdicts_of c x.form rs) b e rs
-  by_front (in_tables count w) = begun_by h [] (take count (last_versions x q s.points)) [] (verdicts_of c x.form rs) (versions count) (lines 0) w
-  by_front (in_others p l w) =
-      let V = last_versions x q s.points in
-      begun_by h [] (take (length V) V) (take l (last_lines q rs)) (verdicts_of c x.form rs) (versions (length V)) (lines l) (wrote_same (sym (take-length V)) (take-nil p) refl w)
+      by_front : WroteFront x.run (last_versions x q s.points) [] (last_lines q rs) d e → HasBegun x c (s.points ++ []) (verdicts_of c x.form rs) b e rs
+      by_front (in_tables count w) = begun_by h [] (take count (last_versions x q s.points)) [] (verdicts_of c x.form rs) (versions count) (lines 0) w
+      by_front (in_others p l w) =
+          let V = last_versions x q s.points in
+          begun_by h [] (take (length V) V) (take l (last_lines q rs)) (verdicts_of c x.form rs) (versions (length V)) (lines l) (wrote_same (sym (take-length V)) (take-nil p) refl w)
 
 module _ (laws : RunLaws) (x : Setup) {tables : ℕ → BindingTable} {windows : List Window} {plan : Tables} {draws : List (ℕ × ℕ)} {s : Seats} {h : HistoryValue} (of : IsPlanOf tables windows plan) (closed : IsClosed plan draws s h)
     (slots_of : AreSlotsOf x.run windows x.slots) (rate : IfSome x.run.errors IsRate) {a b : Contents} (opened : IsOpened x.run x.written a b) where

@@ -21,7 +21,7 @@ use Rattle.lwaftr_engine.specs.declared.rounds.Progress.{Progress}
 use Rattle.run_output.specs.Counting.{no_totals, totals_from}
 use Rattle.run_output.specs.Laws.{AreJoined}
 use Rattle.run_output.specs.Limiting.{HasAsked, IsLimited}
-use Rattle.run_output.specs.Outputs.{Course, lines_from, packets_from}
+use Rattle.run_output.specs.Outputs.{lines_from, packets_from}
 use Rattle.run_output.specs.Rendering.{HasOutcomes, IsCourseOf, IsRendered, lines_in, packets_in}
 use Rattle.run_output.specs.Versions.{load_lines}
 use Rattle.swap_core.specs.Plans.{Tables}

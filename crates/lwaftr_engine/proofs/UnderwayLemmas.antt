@@ -10,7 +10,7 @@ use Rattle.capture_io.specs.declared.forms.Rec.{Rec}
 use Rattle.capture_io.specs.declared.rounds.Round.{Round}
 use Rattle.capture_io.specs.Rounds.{IsPlaced, Precedes, is_cut}
 use Rattle.lwaftr_engine.specs.Broken.{Breaks, HasBegun, IsBrokenFrom, Takes}
-use Rattle.lwaftr_engine.specs.Progress.{Goes, HasWritten, IsUpToDate, Mark, Past, Seats, Setup, Spot, Stops, TakesOn, WritesOn, Wrote, loads_of, mark, seats_of}
+use Rattle.lwaftr_engine.specs.Progress.{Goes, HasWritten, IsUpToDate, Mark, Seats, Setup, Spot, Stops, TakesOn, Wrote, loads_of, mark, seats_of}
 use Rattle.lwaftr_engine.specs.RunLaws.{RunLaws}
 use Rattle.lwaftr_engine.specs.Underway.{BreaksLast, DidBoth, HasJudged, HasRead, HasTaken, IsCutFrom, IsNext, IsNothing, IsPending, IsUnderWay, ReadsPast, StandsBetween, WentWell, steps_of}
 use Rattle.lwaftr_engine.specs.Writing.{Did, DidFront, Step, round_steps}
@@ -29,7 +29,7 @@ use Rattle.lwaftr_engine.proofs.Begun.{begun_more, begun_tables, still_begun}
 use Rattle.lwaftr_engine.proofs.BrokenLemmas.{others_input}
 use Rattle.lwaftr_engine.proofs.EndLemmas.{SomeLeft, is_behind}
 use Rattle.lwaftr_engine.proofs.Going.{past_before, past_on, written_more, wrote_more, wrote_same}
-use Rattle.lwaftr_engine.proofs.Moving.{moves_by, moves_join, moves_none}
+use Rattle.lwaftr_engine.proofs.Moving.{moves_by, moves_join}
 use Rattle.lwaftr_engine.proofs.Steps.{follows_more, no_further}
 use Rattle.lwaftr_engine.proofs.Writing.{WroteFront, front_of_all, in_others, in_tables, wrote, wrote_front}
 

@@ -1,9 +1,7 @@
 -- Steps of writing: how they join, and what the files hold by them.
-use Rattle.std.proofs.Common.{◌≡◌, ℕ, zero, suc, ◌+◌, ◌-◌, ◌<◌, ◌≤◌, nat_lt, Bool, true, false, if◌then◌else◌, List, [], ◌∷◌, ◌++◌, length, take, Option, Result, Ok, Err, OnOk, IfErr, refl, sym, ◌∙◌, ap, subst, arith, append-nil, append_assoc}
+use Rattle.std.proofs.Common.{◌≡◌, ℕ, zero, suc, ◌+◌, ◌≤◌, nat_lt, Bool, true, false, if◌then◌else◌, List, [], ◌∷◌, ◌++◌, length, take, Option, refl, sym, ◌∙◌, ap, subst, append-nil, append_assoc}
 use Rattle.std.proofs.Math.Seq.{take-append-add, take-length}
 use Rattle.aftr_base.specs.Contents.{Contents, content, Moves, Writes}
-use Rattle.aftr_base.specs.Pieces.{AppendedAll}
-use Rattle.aftr_base.specs.declared.outside.Fault.{Fault}
 use Rattle.aftr_text.specs.Lines.{initial_text}
 use Rattle.aftr_text.specs.declared.jobs.RunJob.{RunJob}
 use Rattle.capture_io.specs.Packets.{file_head}
@@ -124,8 +122,8 @@ module _ (run : RunJob) (far : AreFilesApart run) where
   made file k is a b step =
       moves_by a b (λ m n. Writes m n k []) (Did run (make file ∷ []))
       (λ m n w.
-        let W : List ℕ → Type 0 = λ q. Writes m n q [] in
-        record { files = each m n file (λ held. []) (subst W is w); others = kept m n file [] (subst W is w) }) step
+      let W : List ℕ → Type 0 = λ q. Writes m n q [] in
+      record { files = each m n file (λ held. []) (subst W is w); others = kept m n file [] (subst W is w) }) step
 
   -- all three are made, one after another
   pub all_made : (k0 k1 k2 : List ℕ) → k0 ≡ run.output → k1 ≡ run.verdicts → k2 ≡ run.versions → (a b d e : Option Contents) → Moves a b (λ m n. Writes m n k0 []) → Moves b d (λ m n. Writes m n k1 []) →
@@ -154,9 +152,9 @@ module _ (run : RunJob) (far : AreFilesApart run) where
   cut file k bytes due is due_is a b step =
       moves_by a b (λ m n. (count : ℕ) × (count ≤ length bytes) × Writes m n k (content m k ++ take count bytes)) (DidFront run (adds file due))
       (λ m n w.
-        let D : List Step → Type 0 = λ l. Did run l m n in
-        let same : take w.0 bytes ≡ take w.0 due = ap (λ (l : List ℕ). take w.0 l) due_is in
-        (w.0, subst D (sym (take_adds w.0 file due)) (put m n file k (take w.0 bytes) (take w.0 due) is same w.2))) step
+      let D : List Step → Type 0 = λ l. Did run l m n in
+      let same : take w.0 bytes ≡ take w.0 due = ap (λ (l : List ℕ). take w.0 l) due_is in
+      (w.0, subst D (sym (take_adds w.0 file due)) (put m n file k (take w.0 bytes) (take w.0 due) is same w.2))) step
 
 -- the outputs are made, with this header and this line
 pub record IsOpenedWith (run : RunJob) (head line : List ℕ) (old new : Contents) : Type 0 where

@@ -1,5 +1,4 @@
 -- What the laws of the crates below say of every run.
-use Rattle.std.specs.Prelude.{ℕ}
 use Rattle.binding_rules.specs.Tables.{BindingTable, IsLawful}
 use Rattle.ip_codec.specs.declared.items.Item.{Item}
 use Rattle.lwaftr_engine.specs.Runs.{HasAccess}

@@ -2,9 +2,7 @@
 ghost use Rattle.lwaftr_engine.specs.RunLaws.{RunLaws};
 
 use packet_render::forwarded_is_sent;
-use run_output::{
-    counts_are_totals, limits_are_some, limits_begin, load_lines_join, rounds_join,
-};
+use run_output::{counts_are_totals, limits_are_some, limits_begin, load_lines_join, rounds_join};
 use swap_core::settled_points_are_all;
 use verdict_core::access;
 

@@ -1,7 +1,3 @@
-use Rattle.std.proofs.Common.{ℕ, length}
-use Rattle.binding_rules.specs.Tables.{IsLawful}
-use Rattle.packet_render.specs.Counted.{Sends}
-use Rattle.packet_render.specs.Sent.{sent}
 use Rattle.verdict_core.specs.Verdicts.{verdict_of}
 use Rattle.lwaftr_engine.proofs.known.run_laws.Goals as goal
 

@@ -1,4 +1,4 @@
-use Rattle.std.proofs.Common.{ℕ, Option, Some, refl, sym, ◌∙◌, arith, subst}
+use Rattle.std.proofs.Common.{ℕ, Option, refl, sym, ◌∙◌, arith, subst}
 use Rattle.aftr_base.specs.Contents.{Contents, Moves, Told, content}
 use Rattle.aftr_base.specs.Outside.{Rises}
 use Rattle.capture_io.specs.Refusals.{EndsInRecords}
