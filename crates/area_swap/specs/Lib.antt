@@ -1,5 +1,4 @@
 pub mod Answers
-pub mod Changes
 pub mod Histories
 pub mod Places
 pub mod Reading

@@ -69,7 +69,6 @@ impl Areas {
             plan,
             table,
             long: _,
-            changes: _,
         } = self;
         let WorkerSeat { mut place, .. } = seat;
         let Desk {

@@ -7,7 +7,6 @@
 mod answers;
 mod areas;
 mod board;
-mod changes;
 mod desk;
 mod history;
 mod places;

@@ -10,4 +10,3 @@ pub mod PlanLemmas
 pub mod Pointing
 pub mod Seating
 pub mod Several
-pub mod Standing
