@@ -26,7 +26,7 @@ row_fits zero long j l m = omega arith
 row_fits (suc zero) long j l m = omega arith
 row_fits (suc (suc a)) long j l m = absurd (omega arith)
 
-pub table_in_row : (a long k : ℕ) → a < 2 → k ≤ long → row_place long a + k ≤ all_places long
+pub table_in_row : (a long k : ℕ) → a < 2 → k ≤ long → row_place long a + k < all_places long
 table_in_row zero long k l m = omega arith
 table_in_row (suc zero) long k l m = omega arith
 table_in_row (suc (suc a)) long k l m = absurd (omega arith)

@@ -6,20 +6,20 @@ use Rattle.std.proofs.lemmas.Bool.{cases_eq, cases_lt}
 use Rattle.std.proofs.lemmas.List.{length_push, get_or_push}
 use Rattle.atomic_table.specs.Table.{State, Allows, step}
 use Rattle.atomic_table.specs.Table as acts
-use Rattle.swap_core.specs.Plans.{Tables, table, width, window}
+use Rattle.swap_core.specs.Plans.{Tables, AreAlike, stale, table, width, window}
 use Rattle.swap_core.specs.States.{count_of, spare, next_table, with_desk, written, published}
 use Rattle.swap_core.specs.Sound.{Sound, IsWriting, IsAtWork}
 use Rattle.swap_core.specs.declared.actors.DeskState.{DeskState}
 use Rattle.swap_core.specs.declared.actors.DeskState.TheVariants.{Resting, Ready, Writing}
 use Rattle.swap_core.proofs.Laws.{few_records, few_versions}
-use Rattle.swap_core.proofs.Laws.{due_sound, count_sound, write_sound, publish_sound}
+use Rattle.swap_core.proofs.Laws.{due_sound, count_sound, standing_sound, write_sound, publish_sound}
 use Rattle.swap_core.proofs.Laws.{table_fits, in_window_of}
 use Rattle.area_swap.specs.Places.{version_place, claims_place, row_place}
 use Rattle.area_swap.specs.declared.answers.Seen.{Seen}
 use Rattle.area_swap.specs.declared.board.View.{View}
-use Rattle.area_swap.specs.Views.{now_of, packed, unpacked, reading, next_of, spare_of, IsUpTo}
+use Rattle.area_swap.specs.Views.{now_of, packed, unpacked, reading, next_of, spare_of, stale_of, IsUpTo}
 use Rattle.area_swap.specs.Rule.{Ruled, IsLawfulView, ShowsWords}
-use Rattle.area_swap.specs.SeatSteps.{Seated, FoundDue, FoundWord, ReadClaims, Wrote, Published}
+use Rattle.area_swap.specs.SeatSteps.{Seated, FoundDue, FoundWord, Passed, ReadClaims, Wrote, Published}
 use Rattle.area_swap.proofs.Packing.{up_to, laid_now, laid_row}
 use Rattle.area_swap.proofs.Keeping.{same_actors, same_words, shows_desk, fits, seat_step, moment_after}
 use Rattle.area_swap.proofs.Learning.{sees_word, sees_claims, unpacks}
@@ -107,6 +107,25 @@ module _ (p : Tables) (s : State (Unit {0}) View) (r : Ruled p s) (id : ℕ) (v 
   other_now i =
       seat_step p s r id v at i (slice_index s.words i) v r.core r.sound refl (same_words p s r id v at i)
       (same_actors p s r id v at) refl (λ _. shown) (λ _. (refl, refl)) (up_to (now_of r.core)) refl (fits p s r id v at)
+
+  stale_is : v.plan ≡ p → stale_of v ≡ stale r.core.plan r.core.version
+  stale_is same =
+      ap (λ (q : Tables). stale q (length v.points)) (same ∙ sym r.same_plan) ∙ ap (λ (n : ℕ). stale r.core.plan n) knows_version
+
+  -- words of the next table stand there already
+  pass_now : v.plan ≡ p → (from end i : ℕ) → v.desk ≡ Writing from → from ≤ end → end ≤ length (next_of v)
+      → AreAlike (stale_of v) (next_of v) from end
+      → Ruled p (record { words = set s.words i (slice_index s.words i); homes = s.homes; views = set s.views id (record v { desk = Writing end }) })
+  pass_now same from end i writing order room alike =
+      let desk : r.core.desk ≡ Writing from = sym shown.0 ∙ writing in
+      let inside : end ≤ length (next_table r.core) = omega (arith, ap (λ (l : List ℕ). length l) (next_is same)) in
+      let P : List ℕ → Type 0 = λ l. AreAlike l (next_of v) from end in
+      let Q : List ℕ → Type 0 = λ l. AreAlike (stale r.core.plan r.core.version) l from end in
+      let stand : AreAlike (stale r.core.plan r.core.version) (next_table r.core) from end = subst Q (next_is same) (subst P (stale_is same) alike) in
+      seat_step p s r id v at i (slice_index s.words i) (record v { desk = Writing end }) (with_desk r.core (Writing end))
+      (standing_sound r.core from end r.sound desk order inside stand) refl (same_words p s r id v at i)
+      (same_actors p s r id v at) refl (λ _. (refl, shown.1)) (λ lacks. not_false lacks) (up_to (now_of r.core)) refl
+      (fits_desk (now_of r.core) (record v { desk = Writing end }) (up_to (now_of r.core)) refl refl refl refl refl refl)
 
   -- one word more of the next table
   write_now : v.plan ≡ p → (j i x : ℕ) → v.desk ≡ Writing j → j < length (next_of v) → i ≡ row_place (width v.plan) (spare_of v) + j
@@ -279,6 +298,23 @@ module _ (p : Tables) (slots id : ℕ) (me : Seated) (same : me.0.plan ≡ p) (h
               },
             )
       ]
+
+  pub passes_words : (from end i : ℕ) → me.0.desk ≡ Writing from → from ≤ end → end ≤ length (next_of me.0)
+      → AreAlike (stale_of me.0) (next_of me.0) from end → i ≡ row_place (width me.0.plan) (spare_of me.0) + end
+      → Allows (Ruled p) slots id me i (λ n. n) (Passed (step slots i 0 0 none) me)
+  passes_words from end i writing order room alike place s r deep at range =
+      let ruled = pass_now p s r id me.0 at has same from end i writing order room alike in (
+        record me.0 { desk = Writing end },
+        acts.keeps,
+        tt,
+        ruled,
+        record {
+          words = end;
+          place = place;
+          after = refl;
+          now = moment_after p s r id me.0 at i (slice_index s.words i) (record me.0 { desk = Writing end }) same ruled;
+        },
+      )
 
   pub finds_word : (j i : ℕ) → me.0.desk ≡ Writing j → j < length (next_of me.0) → i ≡ row_place (width me.0.plan) (spare_of me.0) + j
       → Allows (Ruled p) slots id me i (λ n. n) (FoundWord (step slots i 0 0 none) me)

@@ -1,18 +1,20 @@
 -- What the steps of the desk make of its seat, from what each of them told.
 use Rattle.std.proofs.Common.{◌≡◌, ◌≢◌, ◌⊎◌, ℕ, ◌+◌, ◌<◌, ◌≤◌, true, List, length, slice_index, subst, sym, refl, ap, ◌∙◌, arith, inl, inr}
 use mathlib.Core.Option.{none}
+use Rattle.atomic_table.specs.Seated.{TableId}
 use Rattle.atomic_table.specs.Table.{Allows, step}
-use Rattle.swap_core.specs.Plans.{Tables, width, window}
+use Rattle.swap_core.specs.Plans.{Tables, AreAlike, window}
 use Rattle.swap_core.specs.Sound.{IsWriting, IsAtWork}
 use Rattle.swap_core.specs.declared.actors.DeskState.{DeskState}
 use Rattle.swap_core.specs.declared.actors.DeskState.TheVariants.{Resting, Ready, Writing}
-use Rattle.area_swap.specs.Places.{row_place}
 use Rattle.area_swap.specs.declared.answers.Seen.{Seen}
-use Rattle.area_swap.specs.Views.{unpacked, reading, next_of, spare_of}
+use Rattle.area_swap.specs.declared.board.View.{View}
+use Rattle.area_swap.specs.Values.{HasWritten, IsClear, IsDesk}
+use Rattle.area_swap.specs.Views.{unpacked, reading, next_of, stale_of}
 use Rattle.area_swap.specs.Rule.{Ruled, Sees}
 use Rattle.area_swap.specs.Answers.{NoneDue, LaterDue, NowDue, HasPublished}
-use Rattle.area_swap.specs.SeatSteps.{Stepped, Seated, FoundDue, FoundWord, Wrote, Published}
-use Rattle.area_swap.proofs.DeskSteps.{finds_word, writes_word}
+use Rattle.area_swap.specs.SeatSteps.{Stepped, Seated, FoundDue, FoundWord, Passed, Wrote, Published}
+use Rattle.area_swap.proofs.DeskSteps.{finds_word, passes_words, writes_word}
 
 -- who rests or is ready does not write
 pub not_writing : (d : DeskState) → (d ≡ Resting) ⊎ (d ≡ Ready) → IsWriting d → ⊥
@@ -85,24 +87,46 @@ published_is {st} {m0} {m1} {n} k s es has =
 abbrev pub writing_at : Seated → ℕ → Seated
 writing_at m j = (record m.0 { desk = Writing j }, m.1)
 
-pub may_find : (p : Tables) (slots id : ℕ) (m0 me : Seated) (j row : ℕ) (words : List ℕ) → me ≡ writing_at m0 j → m0.0.plan ≡ p
-    → m0.0.has_desk ≡ true → words ≡ next_of m0.0 → j < length words → row ≡ row_place (width m0.0.plan) (spare_of m0.0)
-    → Allows (Ruled p) slots id me (row + j) (λ n. n) (FoundWord (step slots (row + j) 0 0 none) me)
-may_find p slots id m0 me j row words e plan has next more place =
-    let P : Seated → Type 0 = λ m. Allows (Ruled p) slots id m (row + j) (λ n. n) (FoundWord (step slots (row + j) 0 0 none) m) in
-    let inside : j < length (next_of m0.0) = omega (arith, ap (λ (l : List ℕ). length l) next) in
-    subst P (sym e) (finds_word p slots id (writing_at m0 j) plan has j (row + j) refl inside (ap (λ (k : ℕ). k + j) place))
+-- who begins to write has a next table
+pub next_in : (v : View) (p : Tables) → IsDesk v → IsClear v → v.plan ≡ p → length v.points + 1 < length p.tables
+next_in v p desk clear same =
+    let W : DeskState → Type 0 = IsAtWork in
+    let T : Tables → Type 0 = λ q. length v.points + 1 < length q.tables in
+    subst T same (desk.next (subst W (sym clear) tt))
 
-pub may_write : (p : Tables) (slots id : ℕ) (m0 me : Seated) (j row x : ℕ) (words : List ℕ) → me ≡ writing_at m0 j → m0.0.plan ≡ p
-    → m0.0.has_desk ≡ true → words ≡ next_of m0.0 → j < length words → row ≡ row_place (width m0.0.plan) (spare_of m0.0)
-    → x ≡ slice_index words j
-    → Allows (Ruled p) slots id me (row + j) (λ _. x) (λ _. Wrote (step slots (row + j) x 0 none) me x)
-may_write p slots id m0 me j row x words e plan has next more place word =
-    let P : Seated → Type 0 = λ m. Allows (Ruled p) slots id m (row + j) (λ _. x) (λ _. Wrote (step slots (row + j) x 0 none) m x) in
-    let inside : j < length (next_of m0.0) = omega (arith, ap (λ (l : List ℕ). length l) next) in
+-- what is known while words are written, behind any of them
+pub written_on : (id : TableId) (plan : Tables) (words : List ℕ) (row i j : ℕ) (v w : View) → HasWritten id plan words row i v
+    → w ≡ record v { desk = Writing j } → HasWritten id plan words row j w
+written_on id plan words row i j v w h e =
+    let P : View → Type 0 = HasWritten id plan words row j in
     subst P (sym e)
-    (writes_word p slots id (writing_at m0 j) plan has j (row + j) x refl inside (ap (λ (k : ℕ). k + j) place)
-    (word ∙ ap (λ (l : List ℕ). slice_index l j) next))
+    (record { same_plan = h.same_plan; has = h.has; desk = refl; next = h.next; begins = h.begins; inside = h.inside; small = h.small })
+
+module _ (id : TableId) (p : Tables) (words : List ℕ) (row j slots seat : ℕ) (me : Seated) (h : HasWritten id p words row j me.0) where
+  more : j < length words → j < length (next_of me.0)
+  more l = omega (arith, ap (λ (l : List ℕ). length l) h.next)
+
+  pub may_pass : (end : ℕ) → j ≤ end → end ≤ length words → AreAlike (stale_of me.0) words j end
+      → Allows (Ruled p) slots seat me (row + end) (λ n. n) (Passed (step slots (row + end) 0 0 none) me)
+  may_pass end order inside alike =
+      let P : List ℕ → Type 0 = λ l. AreAlike (stale_of me.0) l j end in
+      let room : end ≤ length (next_of me.0) = omega (arith, ap (λ (l : List ℕ). length l) h.next) in
+      passes_words p slots seat me h.same_plan h.has j end (row + end) h.desk order room (subst P h.next alike) (ap (λ (k : ℕ). k + end) h.begins)
+
+  pub may_find : j < length words → Allows (Ruled p) slots seat me (row + j) (λ n. n) (FoundWord (step slots (row + j) 0 0 none) me)
+  may_find l = finds_word p slots seat me h.same_plan h.has j (row + j) h.desk (more l) (ap (λ (k : ℕ). k + j) h.begins)
+
+  pub may_write : (x : ℕ) → j < length words → x ≡ slice_index words j
+      → Allows (Ruled p) slots seat me (row + j) (λ _. x) (λ _. Wrote (step slots (row + j) x 0 none) me x)
+  may_write x l word =
+      writes_word p slots seat me h.same_plan h.has j (row + j) x h.desk (more l) (ap (λ (k : ℕ). k + j) h.begins)
+      (word ∙ ap (λ (l : List ℕ). slice_index l j) h.next)
+
+pub passed_view : (id : TableId) (p : Tables) (words : List ℕ) (row j end : ℕ) {st : Stepped} {me after : Seated} {n : ℕ} → HasWritten id p words row j me.0
+    → Passed st me n after → st.word ≡ row + end → after ≡ writing_at me end
+passed_view id p words row j end {st} {me} {after} {n} h k there =
+    let same : k.words ≡ end = omega (arith, k.place, h.begins) in
+    k.after ∙ ap (λ (i : ℕ). writing_at me i) same
 
 same_writing : (d : DeskState) (i j : ℕ) → d ≡ Writing i → d ≡ Writing j → i ≡ j
 same_writing d i j e k = let both : Writing i ≡ Writing j = sym e ∙ k in cc
@@ -132,3 +156,10 @@ module _ {st : Stepped} {me after : Seated} {n : ℕ} (m0 : Seated) (j : ℕ) (w
 
   pub other_view : n ≢ slice_index words j → after ≡ writing_at m0 j
   other_view differs = k.differs (λ stands. differs (stands ∙ next_word)) ∙ e
+
+-- what stands in the spare area does not hang on where the desk writes
+pub alike_still : (m0 me : Seated) (words : List ℕ) (i from end : ℕ) → me ≡ writing_at m0 i → AreAlike (stale_of m0.0) words from end
+    → AreAlike (stale_of me.0) words from end
+alike_still m0 me words i from end e h =
+    let P : Seated → Type 0 = λ m. AreAlike (stale_of m.0) words from end in
+    subst P (sym e) h

@@ -9,6 +9,7 @@ pub mod SeatMoves
 pub mod Claiming
 pub mod Belonging
 pub mod Drawing
+pub mod ChangeLemmas
 pub mod DeskSteps
 pub mod Deskwork
 pub mod Closing

@@ -1,4 +1,5 @@
 pub mod Answers
+pub mod Changes
 pub mod Histories
 pub mod Places
 pub mod Reading

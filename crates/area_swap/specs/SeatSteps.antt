@@ -8,7 +8,7 @@ use Rattle.swap_core.specs.declared.actors.ActorState.TheVariants.{Idle, Looked,
 use Rattle.swap_core.specs.declared.actors.DeskState.TheVariants.{Resting, Ready, Writing}
 use Rattle.area_swap.specs.declared.board.View.{View}
 use Rattle.area_swap.specs.Places.{row_place}
-use Rattle.area_swap.specs.Views.{unpacked, acting, reading, taking, next_of}
+use Rattle.area_swap.specs.Views.{unpacked, acting, reading, taking, next_of, spare_of}
 use Rattle.area_swap.specs.Rule.{Moment, Sees, SeesClaims}
 
 abbrev pub Stepped : Type 0
@@ -84,6 +84,14 @@ pub record ReadClaims (st : Stepped) (m : Seated) (n : ℕ) (m' : Seated) : Type
   pub free : n ≡ 0 → m' ≡ (record m.0 { counted = n; counts = m.0.counts + 1; desk = Writing 0 }, m.1)
   pub claimed : n ≢ 0 → m' ≡ (record m.0 { counted = n; counts = m.0.counts + 1 }, m.1)
   pub sees : SeesClaims m.0 n
+  pub now : Moment m'.0
+
+-- The desk's load of the word that follows so many of the next table's: all of them are in the spare area, those that it passes over
+-- since they stand there already.
+pub record Passed (st : Stepped) (m : Seated) (n : ℕ) (m' : Seated) : Type 0 where
+  pub words : ℕ
+  pub place : st.word ≡ row_place (width m.0.plan) (spare_of m.0) + words
+  pub after : m' ≡ (record m.0 { desk = Writing words }, m.1)
   pub now : Moment m'.0
 
 -- the desk's load of a word of the spare area: where it is the next table's already, it counts as written

@@ -1,5 +1,5 @@
 -- What contracts see of the areas and of a seat.
-use Rattle.std.specs.Prelude.{◌≡◌, ℕ, ◌+◌, ◌%◌, ◌<◌, ◌≤◌, ◌⊎◌, false, true, length}
+use Rattle.std.specs.Prelude.{◌≡◌, ℕ, ◌+◌, ◌%◌, ◌<◌, ◌≤◌, ◌⊎◌, false, true, List, length}
 use Rattle.atomic_table.specs.Seated.{TableId}
 use Rattle.swap_core.specs.Plans.{Tables, width}
 use Rattle.swap_core.specs.States.{newcomer}
@@ -8,7 +8,7 @@ use Rattle.swap_core.specs.declared.actors.ActorState.TheVariants.{Idle, Holds}
 use Rattle.swap_core.specs.declared.actors.DeskState.TheVariants.{Resting, Ready, Writing}
 use Rattle.area_swap.specs.declared.board.View.{View}
 use Rattle.area_swap.specs.Places.{row_place}
-use Rattle.area_swap.specs.Views.{held_table, held_version, next_of}
+use Rattle.area_swap.specs.Views.{held_table, held_version, next_of, spare_of}
 
 -- which words they are, and the tables that come into force in them
 pub record AreasValue : Type 0 where
@@ -67,6 +67,16 @@ HoldsAtMost held v = IsIdle v ⊎ (v.actor.state ≡ Holds (held % 2) held)
 -- the row of this version's area begins there
 abbrev pub IsRowOf : ℕ → ℕ → View → Type 0
 IsRowOf held row v = row ≡ row_place (width v.plan) (held % 2)
+
+-- So many words of the next table stand in the spare area of these words, and its row begins there.
+pub record HasWritten (id : TableId) (plan : Tables) (words : List ℕ) (row count : ℕ) (v : View) : Type 0 where
+  pub same_plan : v.plan ≡ plan
+  pub has : v.has_desk ≡ true
+  pub desk : v.desk ≡ Writing count
+  pub next : words ≡ next_of v
+  pub begins : row ≡ row_place (width v.plan) (spare_of v)
+  pub inside : row + length words < id.words
+  pub small : row + length words < 18446744073709551616
 
 -- What holds of the desk between two calls. It is no worker; there are at most 256 tables, one for each point and one more, and
 -- a next one where it is at work.

@@ -1,6 +1,6 @@
 -- What a seat knows, and how each of its moves changes that.
 use Rattle.std.specs.Prelude.{◌≡◌, ℕ, ◌+◌, ◌*◌, ◌/◌, ◌%◌, ◌<◌, ◌≤◌, ◌⊎◌, true, false, List, [], ◌++◌, length, max}
-use Rattle.swap_core.specs.Plans.{Tables, table, width}
+use Rattle.swap_core.specs.Plans.{Tables, stale, table, width}
 use Rattle.swap_core.specs.States.{CoreState, newcomer, in_state}
 use Rattle.swap_core.specs.declared.actors.ActorState.{ActorState}
 use Rattle.swap_core.specs.declared.actors.ActorState.TheVariants.{Asks, Holds}
@@ -140,6 +140,10 @@ held_row v = row_place (width v.plan) (held_version v % 2)
 -- the table that comes next, by the number of points
 abbrev pub next_of : View → List ℕ
 next_of v = table v.plan (length v.points + 1)
+
+-- the words that stand in the spare area before it is written
+abbrev pub stale_of : View → List ℕ
+stale_of v = stale v.plan (length v.points)
 
 abbrev pub spare_of : View → ℕ
 spare_of v = (length v.points + 1) % 2

@@ -5,6 +5,7 @@ ghost use Rattle.area_swap.specs.Values.{AreasValue, IsOf, SeatValue};
 ghost use Rattle.area_swap.specs.Views.{desk_view, first_view, worker_view};
 
 use crate::board::{Board, Place};
+use crate::changes::{Changes, changes_of};
 use crate::desk::Desk;
 use crate::places::{row_at, word_count};
 use crate::plays::DeskApart;
@@ -20,11 +21,14 @@ pub struct Areas {
     pub(crate) plan: Plan,
     pub(crate) table: Board,
     pub(crate) long: usize,
+    /// For each table but the first, which of its words are not those that stand in its area when it comes next.
+    pub(crate) changes: Vec<Changes>,
 }
 
 impl Model for Areas {
     ghost use Rattle.std.specs.Prelude.{◌≡◌, ◌≤◌};
     ghost use Rattle.swap_core.specs.Plans.{IsPlan, width};
+    ghost use Rattle.area_swap.specs.Changes.{AreListed};
     ghost use Rattle.area_swap.specs.Places.{all_places};
     ghost use Rattle.area_swap.specs.Values.{AreasValue};
 
@@ -32,7 +36,7 @@ impl Model for Areas {
 
     ghost view = { λ a. record { table_id = a.table.shared.table_id; plan = a.plan } };
 
-    ghost invariant = { λ a. (a.table.shared.key ≡ a.plan) × (a.long ≡ width a.plan) × (a.table.shared.table_id.words ≡ all_places (width a.plan)) × (width a.plan ≤ 16777216) × IsPlan a.plan };
+    ghost invariant = { λ a. (a.table.shared.key ≡ a.plan) × (a.long ≡ width a.plan) × (a.table.shared.table_id.words ≡ all_places (width a.plan)) × (width a.plan ≤ 16777216) × IsPlan a.plan × AreListed a.plan a.changes.items };
 }
 
 impl Areas {
@@ -62,10 +66,16 @@ pub fn prepare(alloc: Global, plan: Plan) -> Result<(Areas, WorkerSeat, Desk), O
     words.extend_from_slice(plan.words(0))?;
     words.resize(count, 0)?;
     let points = Vec::with_capacity(alloc, plan.len() as usize - 1)?;
+    let changes = changes_of(alloc, &plan)?;
     let (table, mut place) = Board::of_words(alloc, &words, &plan)?;
     let desk_place: Place = table.shared.split_seat::<DeskApart>(&mut place);
     Ok((
-        Areas { plan, table, long },
+        Areas {
+            plan,
+            table,
+            long,
+            changes,
+        },
         WorkerSeat::at(place),
         Desk::at(desk_place, points),
     ))

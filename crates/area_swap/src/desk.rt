@@ -1,18 +1,19 @@
 // The desk: it alone replaces a table.
-ghost use Rattle.std.specs.Prelude.{◌≡◌, ℕ, ◌⊎◌, ◌≤◌, ◌<◌, ◌+◌, ◌*◌, ◌%◌, [], length, slice_index, vec_capacity};
-ghost use Rattle.swap_core.specs.Plans.{width};
+ghost use Rattle.std.specs.Prelude.{◌≡◌, ◌⊎◌, ◌≤◌, ◌<◌, ◌+◌, [], length, min, vec_capacity};
+ghost use Rattle.swap_core.specs.Plans.{AreAlike};
 ghost use Rattle.swap_core.specs.declared.actors.DeskState.TheVariants.{Writing};
 ghost use Rattle.area_swap.specs.Answers.{HasPublished, IsDue, IsQuiet};
-ghost use Rattle.area_swap.specs.Places.{row_place};
+ghost use Rattle.area_swap.specs.Changes.{AreChanges, block_words};
 ghost use Rattle.area_swap.specs.Rule.{Moment};
-ghost use Rattle.area_swap.specs.Values.{IsClear, IsDesk, IsFull, IsOf, IsReady, IsResting};
-ghost use Rattle.area_swap.specs.Views.{next_of, spare_of};
+ghost use Rattle.area_swap.specs.Values.{HasWritten, IsClear, IsDesk, IsFull, IsOf, IsReady, IsResting};
+ghost use Rattle.area_swap.specs.Views.{next_of, stale_of};
 
 use crate::answers::{Due, Quiet};
 use crate::areas::Areas;
 use crate::board::{Place, SharedWords};
+use crate::changes::{BLOCK, blocks_of};
 use crate::places::{VERSION_PLACE, claims_at, row_at};
-use crate::plays::{CountClaims, FindDue, FindWord, PublishTable, WriteWord};
+use crate::plays::{CountClaims, FindDue, FindWord, PassWords, PublishTable, WriteWord};
 use crate::worker::halves;
 use std::marker::Model;
 
@@ -56,28 +57,77 @@ impl Desk {
     }
 }
 
-/// Writes the words of the next table, one after another, into the row of the spare area. A word that stands there already is not
-/// stored again: tables are mostly alike, and a store takes many times as long as a load.
-fn write_words(shared: &SharedWords, place: &mut Place, words: &[u64], row: usize)
+/// Passes over words of the next table that stand in the spare area already, by one step and without looking at them.
+fn pass_over(
+    shared: &SharedWords,
+    place: &mut Place,
+    words: &[u64],
+    row: usize,
+    from: usize,
+    end: usize,
+)
     requires table { place.old.table_id ≡ shared.now.table_id }
-    requires plan { place.old.me.0.plan ≡ shared.now.key }
-    requires desk { IsDesk place.old.me.0 }
-    requires clear { IsClear place.old.me.0 }
-    requires words { words.now ≡ next_of place.old.me.0 }
-    requires row { row ≡ row_place (width place.old.me.0.plan) (spare_of place.old.me.0) }
-    requires inside { row + length words.now ≤ shared.now.table_id.words }
-    requires small { row + length words.now < 18446744073709551616 }
+    requires written { HasWritten shared.now.table_id shared.now.key words.now row from place.old.me.0 }
+    requires order { from ≤ end }
+    requires inside { end ≤ length words.now }
+    requires alike { AreAlike (stale_of place.old.me.0) words.now from end }
     ensures table { place.new.table_id ≡ place.old.table_id }
-    ensures seat { place.new.me ≡ (record place.old.me.0 { desk = Writing (length words.now) }, place.old.me.1) }
-    ensures rule { 0 < length words.now → Moment place.new.me.0 }
+    ensures seat { place.new.me ≡ (record place.old.me.0 { desk = Writing end }, place.old.me.1) }
+    ensures rule { from < end → Moment place.new.me.0 }
 {
-    'words: for j in 0..words.len() {
+    if from >= end {
+        return;
+    }
+    shared.load::<PassWords>(place, row + end);
+}
+
+/// Writes the words of the block that begins there, one after another. A word that stands there already is not stored again: tables
+/// are mostly alike, and a store takes many times as long as a load. The answer is where the block ends.
+fn write_block(
+    shared: &SharedWords,
+    place: &mut Place,
+    words: &[u64],
+    row: usize,
+    first: usize,
+) -> usize
+    requires table { place.old.table_id ≡ shared.now.table_id }
+    requires written { HasWritten shared.now.table_id shared.now.key words.now row first place.old.me.0 }
+    requires inside { first < length words.now }
+    ensures end { result ≡ min (length words.now) (first + block_words) }
+    ensures table { place.new.table_id ≡ place.old.table_id }
+    ensures seat { place.new.me ≡ (record place.old.me.0 { desk = Writing result }, place.old.me.1) }
+    ensures rule { Moment place.new.me.0 }
+{
+    let end = words.len().min(first + BLOCK);
+    'words: for j in first..end {
         let word = words[j];
         let stands = shared.load::<FindWord>(place, row + j);
         if stands != word {
             shared.store::<WriteWord>(place, row + j, word);
         }
     }
+    end
+}
+
+/// Writes the next table into the row of the spare area. Outside of these blocks its words stand there already: tables are mostly
+/// alike, and the table two before it was the last to be written there.
+fn write_words(shared: &SharedWords, place: &mut Place, words: &[u64], row: usize, blocks: &[u32])
+    requires table { place.old.table_id ≡ shared.now.table_id }
+    requires written { HasWritten shared.now.table_id shared.now.key words.now row 0 place.old.me.0 }
+    requires blocks { AreChanges (stale_of place.old.me.0) words.now 0 (length words.now) blocks.now }
+    ensures table { place.new.table_id ≡ place.old.table_id }
+    ensures seat { place.new.me ≡ (record place.old.me.0 { desk = Writing (length words.now) }, place.old.me.1) }
+    ensures rule { 0 < length words.now → Moment place.new.me.0 }
+{
+    let mut reached = 0;
+    let mut left = blocks;
+    'listed: while let [block, behind @ ..] = left {
+        let first = *block as usize * BLOCK;
+        pass_over(shared, place, words, row, reached, first);
+        reached = write_block(shared, place, words, row, first);
+        left = behind;
+    }
+    pass_over(shared, place, words, row, reached, words.len());
 }
 
 impl Areas {
@@ -139,11 +189,13 @@ impl Areas {
         ensures desk { desk.new.known ≡ record desk.old.known { desk = Writing (length (next_of desk.old.known)) } }
         ensures rule { Moment desk.new.known }
     {
-        let next = desk.points.len() + 1;
+        let version = desk.points.len();
+        let next = version + 1;
         let area = next % 2;
         let row = row_at(self.long, area);
         let words = self.plan.words(next as u32);
-        write_words(&self.table.shared, &mut desk.place, words, row);
+        let blocks = blocks_of(self.changes.as_slice(), version);
+        write_words(&self.table.shared, &mut desk.place, words, row, blocks);
     }
 
     /// Puts the next table into force. The answer is its point: the number of records drawn until then.

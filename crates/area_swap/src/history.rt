@@ -69,6 +69,7 @@ impl Areas {
             plan,
             table,
             long: _,
+            changes: _,
         } = self;
         let WorkerSeat { mut place, .. } = seat;
         let Desk {

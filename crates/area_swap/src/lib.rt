@@ -7,6 +7,7 @@
 mod answers;
 mod areas;
 mod board;
+mod changes;
 mod desk;
 mod history;
 mod places;

@@ -83,6 +83,15 @@ impl Play<(), View> for CountClaims {
     ghost then = { ReadClaims };
 }
 
+/// The desk's load by which it passes over words of the next table that stand in the spare area already.
+pub struct PassWords;
+
+impl Play<(), View> for PassWords {
+    ghost use Rattle.area_swap.specs.SeatSteps.{Passed};
+
+    ghost then = { Passed };
+}
+
 /// The desk's load of a word of the spare area, which may be the next table's already.
 pub struct FindWord;
 

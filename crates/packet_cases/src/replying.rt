@@ -2,8 +2,8 @@
 // follow from RFC 1812, section 4.3.2.3, and RFC 4443, section 2.4 (c).
 use crate::rendering::{HAIRPIN_LOWERED, HAIRPIN_TUNNEL};
 use crate::sending::{
-    Recorded, are_just, dropped, exceeded, is_packet, joined, part, pattern, policy, relayed,
-    too_big, unreachable,
+    Recorded, are_just, dropped, exceeded, is_packet, joined, part, pattern, policy, policy_about,
+    relayed, too_big, unreachable,
 };
 use aftr_base::V6;
 use case_data::{AFTR, DOWN_LOWERED, DOWN_TUNNEL, LAST_HOP, OWN, SUBSCRIBER, UP};
@@ -96,6 +96,54 @@ fn subscribers_are_told_of_the_policy(rt: HostRuntime) -> Result<(), Fail> {
         is_just(&long, &[FORGED_BEFORE, FORGED, part(&data, 0, 1172)]),
         "1,280 bytes"
     );
+    Ok(())
+}
+
+// Headers with three bytes of No Operation and an End of Options List, to a subscriber and from one, and what stands before each quote.
+const WITH_OPTIONS: &[u8; 24] =
+    b"\x46\0\x05\xb9\0\x07\x40\0\x40\x11\xcb\xef\xc6\x33\x64\x07\xcb\0\x71\x01\x01\x01\x01\0";
+
+const WITH_OPTIONS_BEFORE: &[u8; 28] =
+    b"\x45\0\x02\x40\0\0\x40\0\x40\x01\x4c\x81\xc0\0\x02\x01\xc6\x33\x64\x07\x03\x04\x7e\xc4\0\0\x05\xb4";
+
+const FORGED_OPTIONS: &[u8; 24] =
+    b"\x46\0\x05\xb9\0\x07\0\0\x40\x11\x0b\xf0\xcb\0\x71\x01\xc6\x33\x64\x07\x01\x01\x01\0";
+
+const FORGED_OPTIONS_BEFORE: &[u8; 88] =
+    b"\x60\0\0\0\x04\xd8\x3a\x40\x20\x01\x0d\xb8\0\0\0\0\0\0\0\0\0\0\0\x01\x20\x01\x0d\xb8\0\x01\0\0\0\0\0\0\0\0\0\x02\x01\x05\xb8\x90\0\0\0\0\x60\0\0\0\x05\xb9\x04\x40\x20\x01\x0d\xb8\0\x01\0\0\0\0\0\0\0\0\0\x02\x20\x01\x0d\xb8\0\0\0\0\0\0\0\0\0\0\0\x01";
+
+#[test]
+fn a_quote_that_is_cut_begins_with_all_options(rt: HostRuntime) -> Result<(), Fail> {
+    let alloc = rt.alloc();
+    let data = pattern(alloc, 1441)?;
+    let long = too_big(alloc, &joined(alloc, WITH_OPTIONS, &data)?, OWN, 1460)?;
+    assert!(rt;
+        is_just(
+            &long,
+            &[WITH_OPTIONS_BEFORE, WITH_OPTIONS, part(&data, 0, 524)]
+        ),
+        "576 bytes"
+    );
+    let forged = policy(alloc, &joined(alloc, FORGED_OPTIONS, &data)?, OTHER)?;
+    assert!(rt;
+        is_just(
+            &forged,
+            &[FORGED_OPTIONS_BEFORE, FORGED_OPTIONS, part(&data, 0, 1168)]
+        ),
+        "1,280 bytes"
+    );
+    Ok(())
+}
+
+// The tunnel's header of another end, with eight bytes of destination options behind it.
+const BEHIND_OPTIONS: &[u8; 48] =
+    b"\x60\0\0\0\0\x28\x3c\x40\x20\x01\x0d\xb8\0\x01\0\0\0\0\0\0\0\0\0\x02\x20\x01\x0d\xb8\0\0\0\0\0\0\0\0\0\0\0\x01\x04\0\x01\x04\0\0\0\0";
+
+#[test]
+fn extension_headers_are_left_out_of_a_quote(rt: HostRuntime) -> Result<(), Fail> {
+    let alloc = rt.alloc();
+    let told = policy_about(alloc, &joined(alloc, BEHIND_OPTIONS, UP)?)?;
+    assert!(rt; is_just(&told, &[POLICY, OTHER_TUNNEL, UP]), "120 bytes");
     Ok(())
 }
 

@@ -6,11 +6,12 @@ ghost use Rattle.ip_codec.specs.Seen.{seen};
 ghost use Rattle.verdict_core.specs.Fitting.{Fits, HasRoom};
 
 use aftr_base::{OutOfMemory, V4, V6};
-use capture_io::Written;
+use capture_io::{Form, Written};
 use case_data::{AFTR, SUBSCRIBER};
 use icmp_codec::icmp6;
 use icmp_relay::read_quote;
 use ip_codec::{ItemView, Outer, ReadPacket, Rule, read_packet};
+use item_stage::read_item;
 use packet_render::push_packets;
 use std::alloc::Global;
 use std::test::Fail;
@@ -205,24 +206,38 @@ pub fn unreachable(alloc: Global, bytes: &[u8], own: V4, path: Path) -> Result<R
 }
 
 // What the end of a tunnel is told of a packet that is not its own.
-pub fn policy(alloc: Global, bytes: &[u8], end: V6) -> Result<Recorded, Fail> {
-    let Ok(inner) = read_packet(bytes) else {
-        return Err("a packet".into());
-    };
-    let item = ItemView::Up {
-        outer: outer(end),
-        inner,
-    };
+fn policy_on(alloc: Global, outer: Outer, inner: ReadPacket<'_>) -> Result<Recorded, Fail> {
     let reply = Reply::Policy {
         from: AFTR,
-        to: end,
+        to: outer.src,
         hop: 64,
     };
     let verdict = Verdict::Drop {
         why: Rule::NoBinding,
         reply,
     };
-    record(alloc, &item, verdict, 7)
+    record(alloc, &ItemView::Up { outer, inner }, verdict, 7)
+}
+
+// The same of an IPv4 packet that came from this end.
+pub fn policy(alloc: Global, bytes: &[u8], end: V6) -> Result<Recorded, Fail> {
+    let Ok(inner) = read_packet(bytes) else {
+        return Err("a packet".into());
+    };
+    policy_on(alloc, outer(end), inner)
+}
+
+// The same of a tunnel packet, as it is read from a record without a frame.
+pub fn policy_about(alloc: Global, bytes: &[u8]) -> Result<Recorded, Fail> {
+    let form = Form {
+        big: false,
+        nano: false,
+        link: 101,
+    };
+    match read_item(form, bytes) {
+        ItemView::Up { outer, inner } => policy_on(alloc, outer, inner),
+        _ => Err("a packet in a tunnel".into()),
+    }
 }
 
 // What a host is told of a packet that is too big.

@@ -10,7 +10,7 @@ ghost use Rattle.pcapng_io.specs.Long.{StandsBy};
 ghost use Rattle.pcapng_io.specs.Seen.{seen_by};
 ghost use Rattle.capture_io.specs.Windows.{IsAtFront};
 
-use crate::fronts::{Front, bytes_missing, front_of};
+use crate::fronts::{Sight, quick_sight_of};
 use crate::interface::Interface;
 use crate::long::{MOST_KEPT, read_long};
 use crate::walk::len_of;
@@ -99,26 +99,25 @@ pub fn read_block<F: Files>(
         (F.outside files.old) (F.outside files.new) }
 {
     'reading: loop {
-        match front_of(
+        match quick_sight_of(
             known,
             interfaces,
             window.as_slice(),
             window.is_last(),
             number,
         ) {
-            Front::Packet(packet) => return Ok(Block::Packet(packet)),
-            Front::Passed(passed) => {
+            Sight::Packet(packet) => return Ok(Block::Packet(packet)),
+            Sight::Passed(passed) => {
                 window.pass(len_of(passed));
                 return Ok(Block::Passed(passed));
             }
-            Front::End => return Ok(Block::End),
-            Front::Bad(refusal) => return Err(CaptureError::Bad(refusal)),
-            Front::More => {
+            Sight::End => return Ok(Block::End),
+            Sight::Bad(refusal) => return Err(CaptureError::Bad(refusal)),
+            Sight::More(missing) => {
                 if window.as_slice().len() >= MOST_KEPT {
                     let block = read_long(alloc, files, name, known, interfaces, number, window)?;
                     return Ok(block);
                 }
-                let missing = bytes_missing(known, window.as_slice());
                 window.read_more(alloc, files, name, known.at, missing)?;
             }
         }

@@ -1,10 +1,10 @@
 // The block that stands at the front of bytes that were read.
-ghost use Rattle.std.specs.Prelude.{◌≡◌, ℕ, ◌+◌, ◌-◌, ◌^◌, ◌<◌, ◌≤◌, All, Bool, IfOk, IfSome, IsTrue, Ok, length};
+ghost use Rattle.std.specs.Prelude.{◌≡◌, ℕ, ◌+◌, ◌-◌, ◌^◌, ◌<◌, ◌≤◌, nat_lt, All, Bool, IfOk, IfSome, IsTrue, Ok, length};
 ghost use Rattle.pcapng_io.specs.declared.fronts.Front.TheVariants as front;
 ghost use Rattle.pcapng_io.specs.Blocks.{block_in, body_in};
 ghost use Rattle.pcapng_io.specs.Files.{IsSound, IsSoundPacket};
 ghost use Rattle.pcapng_io.specs.Frames.{enhanced_packet_type, frame_in, least_total};
-ghost use Rattle.pcapng_io.specs.Fronts.{front_in, is_more, is_short, needed, IsSoundFront};
+ghost use Rattle.pcapng_io.specs.Fronts.{front_in, front_seen, is_more, is_short, needed, IsSomeMissing, IsSoundFront};
 ghost use Rattle.pcapng_io.specs.Seen.{seen_by};
 
 use crate::block::{Block, FARTHEST, Known, Packet, Passed};
@@ -32,6 +32,20 @@ pub enum Front {
     More,
 }
 
+/// What the front says, or how many bytes to ask for.
+#[derive(Clone, Copy)]
+pub enum Sight {
+    Packet(Packet),
+    /// A block that is no packet.
+    Passed(Passed),
+    /// No byte is left.
+    End,
+    /// What is left is no block.
+    Bad(CaptureBad),
+    /// So many bytes are missing of those that will say it, or that are kept of them; at least one.
+    More(usize),
+}
+
 /// What the front says of the block that stands at the place that is known, for a packet of this number. `last` says that
 /// nothing follows.
 pub fn front_of(
@@ -48,33 +62,75 @@ pub fn front_of(
     ensures sound { IsSoundFront number result }
     ensures short { IsTrue (is_more result) → length first.now < 2 ^ 32 }
 {
-    if !last && is_short(known, interfaces, first) {
-        return Front::More;
+    match sight_of(known, interfaces, first, last, number) {
+        Sight::Packet(packet) => Front::Packet(packet),
+        Sight::Passed(passed) => Front::Passed(passed),
+        Sight::End => Front::End,
+        Sight::Bad(refusal) => Front::Bad(refusal),
+        Sight::More(_) => Front::More,
+    }
+}
+
+/// The same, with how many bytes are missing. A plain packet is looked for first, since less has to be asked for it.
+#[inline(always)]
+pub fn quick_sight_of(
+    known: Known,
+    interfaces: &[Interface],
+    first: &[u8],
+    last: bool,
+    number: u32,
+) -> Sight
+    requires number { number ≤ 2 ^ 31 }
+    requires time { known.nanos < 1000000000 }
+    requires counted { All (λ interface. 0 < interface.ticks) interfaces.now }
+    ensures says { front_seen result ≡ front_in (seen_by known interfaces.now) first.now last number }
+    ensures sound { IsSoundFront number (front_seen result) }
+    ensures short { IsTrue (is_more (front_seen result)) → length first.now < 2 ^ 32 }
+    ensures some { IsSomeMissing result }
+{
+    match plain_packet(known, interfaces, first, number) {
+        Some(packet) => Sight::Packet(packet),
+        None => sight_of(known, interfaces, first, last, number),
+    }
+}
+
+// The same of a block of any kind.
+fn sight_of(known: Known, interfaces: &[Interface], first: &[u8], last: bool, number: u32) -> Sight
+    requires number { number ≤ 2 ^ 31 }
+    requires time { known.nanos < 1000000000 }
+    requires counted { All (λ interface. 0 < interface.ticks) interfaces.now }
+    ensures says { front_seen result ≡ front_in (seen_by known interfaces.now) first.now last number }
+    ensures sound { IsSoundFront number (front_seen result) }
+    ensures short { IsTrue (is_more (front_seen result)) → length first.now < 2 ^ 32 }
+    ensures some { IsSomeMissing result }
+{
+    let wanted = bytes_wanted(known, interfaces, first);
+    if !last && first.len() < wanted {
+        return Sight::More(missing_of(wanted, first.len()));
     }
     match block_of_front(known, interfaces, first, number) {
-        Ok(Block::End) => Front::End,
-        Ok(Block::Packet(packet)) => Front::Packet(packet),
-        Ok(Block::Passed(passed)) => Front::Passed(passed),
-        Err(refusal) => Front::Bad(refusal),
+        Ok(Block::End) => Sight::End,
+        Ok(Block::Packet(packet)) => Sight::Packet(packet),
+        Ok(Block::Passed(passed)) => Sight::Passed(passed),
+        Err(refusal) => Sight::Bad(refusal),
     }
 }
 
-// More has to be read before the front says something.
-fn is_short(known: Known, interfaces: &[Interface], first: &[u8]) -> bool
-    ensures short { result ≡ is_short (seen_by known interfaces.now) first.now }
-    ensures few { IsTrue result → length first.now < 2 ^ 32 }
+// How many bytes have to be there before the front says something.
+fn bytes_wanted(known: Known, interfaces: &[Interface], first: &[u8]) -> usize
+    ensures short { nat_lt (length first.now) result ≡ is_short (seen_by known interfaces.now) first.now }
+    ensures few { result < 2 ^ 32 }
 {
-    known.at <= FARTHEST && first.len() < bytes_needed(known.big, first, known.at)
+    if known.at > FARTHEST {
+        return 0;
+    }
+    bytes_needed(known.big, first, known.at)
 }
 
-/// How many bytes are missing of those that say what stands at the front, or that are kept of it; at least one.
-pub fn bytes_missing(known: Known, first: &[u8]) -> usize
+fn missing_of(wanted: usize, there: usize) -> usize
     ensures { 1 ≤ result }
 {
-    bytes_needed(known.big, first, known.at)
-        .min(MOST_KEPT)
-        .saturating_sub(first.len())
-        .max(1)
+    wanted.min(MOST_KEPT).saturating_sub(there).max(1)
 }
 
 // How many bytes say what stands at the front.

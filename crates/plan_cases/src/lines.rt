@@ -8,13 +8,58 @@ use binding_file::{FileRefused, Name, Place};
 use binding_rules::Refused;
 use ip_codec::Rule;
 use std::alloc::Global;
+use std::fmt::Write;
 use std::test::Fail;
-use verdict_core::Verdict;
+use verdict_core::{Reply, Verdict};
 
 #[test]
 fn a_limited_record(rt: HostRuntime) -> Result<(), Fail> {
     let line = limited_line(rt.alloc(), 1, 0, Rule::Ttl)?;
     assert_eq!(rt; line.as_str(), "1 0 drop ttl limited 0\n");
+    Ok(())
+}
+
+// Each rule by its name, in the order in which FORMATS lists them.
+#[test]
+fn each_rule_has_its_name(rt: HostRuntime) -> Result<(), Fail> {
+    let rules = [
+        (Rule::FrameShort, "frame-short"),
+        (Rule::FrameType, "frame-type"),
+        (Rule::Ip4Malformed, "ip4-malformed"),
+        (Rule::Ip4Checksum, "ip4-checksum"),
+        (Rule::Ip6Malformed, "ip6-malformed"),
+        (Rule::Ip6Chain, "ip6-chain"),
+        (Rule::FragOdd, "frag-odd"),
+        (Rule::FragLong, "frag-long"),
+        (Rule::FragOverlap, "frag-overlap"),
+        (Rule::FragMany, "frag-many"),
+        (Rule::FragFull, "frag-full"),
+        (Rule::NotOurs, "not-ours"),
+        (Rule::NotSoftwire, "not-softwire"),
+        (Rule::InnerMalformed, "inner-malformed"),
+        (Rule::InnerChecksum, "inner-checksum"),
+        (Rule::ToSelf, "to-self"),
+        (Rule::IcmpOff, "icmp-off"),
+        (Rule::IcmpBad, "icmp-bad"),
+        (Rule::NoPort, "no-port"),
+        (Rule::NoBinding, "no-binding"),
+        (Rule::Ttl, "ttl"),
+        (Rule::TooBig, "too-big"),
+        (Rule::HairpinOff, "hairpin-off"),
+        (Rule::HairpinNoBinding, "hairpin-no-binding"),
+        (Rule::Relayed, "relayed"),
+        (Rule::RelayBad, "relay-bad"),
+        (Rule::RelayNoBinding, "relay-no-binding"),
+        (Rule::RelayMute, "relay-mute"),
+    ];
+    let mut lines = Vec::new(rt.alloc());
+    let mut expected = String::new(rt.alloc());
+    for (why, name) in rules {
+        let reply = Reply::Silent;
+        push_verdict_line(&mut lines, 5, 0, &Verdict::Drop { why, reply }, 0)?;
+        write!(expected, "5 0 drop {name} 0\n")?;
+    }
+    assert_eq!(rt; lines.as_slice(), expected.as_bytes());
     Ok(())
 }
 

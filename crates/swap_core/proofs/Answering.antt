@@ -4,11 +4,12 @@ use mathlib.Core.Option as maybe
 use lib.ListN.{get_elem?}
 use Rattle.std.proofs.lemmas.List.{get_or_default}
 use Rattle.swap_core.specs.Plans.{table, limit}
-use Rattle.swap_core.specs.States.{CoreState, area, confirmed, drawn, gone}
-use Rattle.swap_core.specs.Transitions.{Outcome, IsAnswer, yes, no, by_actor, look, enter, confirm, read, draw, leave}
+use Rattle.swap_core.specs.States.{CoreState, area, confirmed, drawn, gone, next_table, written}
+use Rattle.swap_core.specs.Transitions.{Outcome, IsAnswer, yes, no, by_actor, look, enter, confirm, read, draw, leave, write}
 use Rattle.swap_core.specs.declared.actors.Actor.{Actor}
 use Rattle.swap_core.specs.declared.actors.ActorState.{ActorState}
 use Rattle.swap_core.specs.declared.actors.ActorState.TheVariants.{Idle, Looked, Asks, Holds}
+use Rattle.swap_core.specs.declared.actors.DeskState.TheVariants.{Writing}
 use Rattle.swap_core.specs.declared.steps.NotNow.{NotNow}
 use Rattle.swap_core.specs.declared.steps.NotNow.TheVariants.{Stranger, Phase, Moved, Past, Hold}
 use Rattle.swap_core.specs.declared.steps.Took.{Took}
@@ -130,6 +131,9 @@ pub draw_next : (c : CoreState) (who : ℕ) (x : Actor) (a w : ℕ) → c.versio
 draw_next c who x a w e n =
     on_true (eqb c.version w) _ _ (eq-eqb c.version w e)
     ∙ on_false (eqb c.records (limit c.plan c.version)) _ _ (ne_eqb c.records (limit c.plan c.version) n)
+
+pub write_word : (c : CoreState) (j : ℕ) → j < length (next_table c) → write c (Writing j) ≡ yes (written c j) 0
+write_word c j l = on_true (ltb j (length (next_table c))) _ _ (lt-ltb j (length (next_table c)) l)
 
 pub leave_claimed : (c : CoreState) (who : ℕ) (x : Actor) (s : ActorState) (a : ℕ) → HasClaimed a s
     → leave c who x s ≡ yes (gone c who x a) 0

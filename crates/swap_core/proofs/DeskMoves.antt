@@ -1,14 +1,14 @@
 -- The steps of the desk: it waits, finds the spare area free, writes the next table there, and puts it into force.
-use Rattle.std.proofs.Common.{◌≡◌, ℕ, ◌+◌, ◌%◌, ◌<◌, ◌≤◌, ◌≢◌, Bool, false, cond, nat_le, List, [], ◌∷◌, ◌++◌, length, get_or, set, slice_index, subst, sym, refl, ap, ◌∙◌, arith, inl, inr, length-set, get_or-set_same, get_or-set_other}
+use Rattle.std.proofs.Common.{◌≡◌, ℕ, suc, ◌+◌, ◌%◌, ◌<◌, ◌≤◌, ◌≢◌, Bool, false, cond, nat_le, List, [], ◌∷◌, ◌++◌, length, get_or, set, slice_index, subst, sym, refl, ap, ◌∙◌, arith, inl, inr, length-set, get_or-set_same, get_or-set_other}
 use borrow.Author.Tests.{lt-leb}
 use Rattle.std.proofs.lemmas.Bool.{cases_eq, cases_lt}
 use Rattle.std.proofs.lemmas.List.{length_push, get_or_push, get_or_append_left}
 use Rattle.std.proofs.lemmas.List.Elements.{All-weaker}
 use Rattle.std.proofs.lemmas.List.Sums.{sum_by_push}
-use Rattle.swap_core.specs.Plans.{always, limit, table, window, width}
+use Rattle.swap_core.specs.Plans.{always, limit, stale, table, window, width}
 use Rattle.swap_core.specs.Points.{in_force}
 use Rattle.swap_core.specs.States.{CoreState, IsActor, area, count_of, spare, next_table, with_desk, written, published}
-use Rattle.swap_core.specs.Sound.{Sound, HoldsRightly, IsWriting, IsAtWork, IsDrawRight, Begins, BeginsWith}
+use Rattle.swap_core.specs.Sound.{Sound, HoldsRightly, IsWriting, IsAtWork, IsDrawRight, BeginsWith, words_written}
 use Rattle.swap_core.specs.declared.actors.Actor.{Actor}
 use Rattle.swap_core.specs.declared.actors.ActorState.{ActorState}
 use Rattle.swap_core.specs.declared.actors.ActorState.TheVariants.{Idle, Looked, Asks, Holds}
@@ -16,16 +16,16 @@ use Rattle.swap_core.specs.declared.actors.DeskState.{DeskState}
 use Rattle.swap_core.specs.declared.actors.DeskState.TheVariants.{Resting, Ready, Writing}
 use Rattle.swap_core.specs.declared.plan.Window.{Window}
 use Rattle.swap_core.proofs.PlanLemmas.{limit_before, limit_rises, table_fits, window_at}
-use Rattle.swap_core.proofs.Moves.{counted_there}
+use Rattle.swap_core.proofs.Moves.{counted_there, not_written}
 
 -- the desk's state changes, and nothing else
 pub desk_moves : (c : CoreState) (d : DeskState) → Sound c
     → ((j : ℕ) → d ≡ Writing j → (j ≤ length (next_table c)) × BeginsWith j (next_table c) (area c (spare c)))
-    → ((IsWriting d → ⊥) → IsWriting c.desk → ⊥)
+    → words_written c.desk ≤ words_written d
     → ((who : ℕ) (x : Actor) → IsActor c who x → HoldsRightly (with_desk c d) x.state)
     → (IsAtWork d → (c.version + 1 < length c.plan.tables) × ((window c.plan (c.version + 1)).earliest ≤ c.records))
     → Sound (with_desk c d)
-desk_moves c d h writing before held next =
+desk_moves c d h writing more held next =
     record {
       planned = h.planned;
       there = h.there;
@@ -35,7 +35,7 @@ desk_moves c d h writing before held next =
       counted = h.counted;
       current = h.current;
       writing = writing;
-      before = λ n. h.before (before n);
+      left = λ j l. h.left j (omega arith);
       held = held;
       next = next;
       pointed = h.pointed;
@@ -57,19 +57,19 @@ held_still c d (Holds a w) n r = (r.0, elim r.1 [ inl e ↦ inl e | inr t ↦ in
 pub due_sound : (c : CoreState) → Sound c → (IsWriting c.desk → ⊥) → c.version + 1 < length c.plan.tables
     → (window c.plan (c.version + 1)).earliest ≤ c.records → Sound (with_desk c Ready)
 due_sound c h still more reached =
-    desk_moves c Ready h (λ j e. cc) (λ _. still)
+    desk_moves c Ready h (λ j e. cc) (omega (arith, not_written c.desk still))
     (λ who x at. held_still c Ready x.state (λ w. w) (h.held who x at)) (λ _. (more, reached))
 
 -- the desk rests
 pub rests_sound : (c : CoreState) → Sound c → (IsWriting c.desk → ⊥) → Sound (with_desk c Resting)
 rests_sound c h still =
-    desk_moves c Resting h (λ j e. cc) (λ _. still)
+    desk_moves c Resting h (λ j e. cc) (omega (arith, not_written c.desk still))
     (λ who x at. held_still c Resting x.state (λ w. w) (h.held who x at)) (λ w. absurd w)
 
 -- nobody has claimed the spare area, so who holds a version holds the one in force
 pub count_sound : (c : CoreState) → Sound c → c.desk ≡ Ready → count_of c (spare c) ≡ 0 → Sound (with_desk c (Writing 0))
 count_sound c h ready none =
-    desk_moves c (Writing 0) h writing (λ n _. n tt) (λ who x at. held who x x.state at refl (h.held who x at))
+    desk_moves c (Writing 0) h writing (omega (arith, ap words_written ready)) (λ who x at. held who x x.state at refl (h.held who x at))
     (λ _. h.next (let P : DeskState → Type 0 = IsAtWork in subst P (sym ready) tt))
   where
     writing : (j : ℕ) → Writing 0 ≡ Writing j → (j ≤ length (next_table c)) × BeginsWith j (next_table c) (area c (spare c))
@@ -106,7 +106,7 @@ write_sound c j h desk more =
       counted = h.counted;
       current = λ k l. ap (λ (r : List ℕ). slice_index r k) (elsewhere (c.version % 2) (omega arith)) ∙ h.current k l;
       writing = writing;
-      before = λ n. absurd (n tt);
+      left = left;
       held = λ who x at. held x.state (h.held who x at);
       next = λ _. h.next at_work;
       pointed = h.pointed;
@@ -161,6 +161,14 @@ write_sound c j h desk more =
               ],
         )
 
+    left : (k : ℕ) → j + 1 ≤ k → k < length (stale c.plan c.version)
+        → slice_index (area (written c j) (spare c)) k ≡ slice_index (stale c.plan c.version) k
+    left k l m =
+        let other : k ≢ j = λ e. absurd (omega arith) in
+        let behind : words_written c.desk ≤ k = omega (arith, ap words_written desk) in
+        ap (λ (r : List ℕ). slice_index r k) here
+        ∙ get_or-set_other (area c (spare c)) j k (slice_index (next_table c) j) 0 other ∙ h.left k behind m
+
     held : (s : ActorState) → HoldsRightly c s → HoldsRightly (written c j) s
     held Idle r = tt
     held (Looked v) r = tt
@@ -179,7 +187,7 @@ publish_sound c j h desk done =
       counted = h.counted;
       current = λ k l. (h.writing j desk).1 k (omega arith);
       writing = λ i e. cc;
-      before = before;
+      left = left;
       held = λ who x at. held x.state (h.held who x at);
       next = λ w. absurd w;
       pointed = length_push c.points c.records ∙ ap (λ (n : ℕ). n + 1) h.pointed;
@@ -196,11 +204,13 @@ publish_sound c j h desk done =
     busy : IsWriting c.desk
     busy = let P : DeskState → Type 0 = IsWriting in subst P (sym desk) tt
 
-    before : (IsWriting Resting → ⊥) → (w : ℕ) → w + 1 ≡ c.version + 1 → Begins (table c.plan w) (area c (w % 2))
-    before _ w e =
-        let same : c.version ≡ w = omega arith in
-        let P : ℕ → Type 0 = λ v. Begins (table c.plan v) (area c (v % 2)) in
-        subst P same h.current
+    left : (k : ℕ) → 0 ≤ k → k < length (stale c.plan (c.version + 1))
+        → slice_index (area c (spare (published c))) k ≡ slice_index (stale c.plan (c.version + 1)) k
+    left k _ l =
+        let one : c.version + 1 ≡ suc c.version = omega arith in
+        let here : spare (published c) ≡ c.version % 2 = omega arith in
+        let inside : k < length (table c.plan c.version) = omega (arith, ap (λ (v : ℕ). length (stale c.plan v)) one) in
+        ap (λ (a : ℕ). slice_index (area c a) k) here ∙ h.current k inside ∙ sym (ap (λ (v : ℕ). slice_index (stale c.plan v) k) one)
 
     held : (s : ActorState) → HoldsRightly c s → HoldsRightly (published c) s
     held Idle r = tt

@@ -7,3 +7,4 @@ pub use Rattle.swap_core.proofs.PlanLemmas.{table_fits}
 pub use Rattle.swap_core.proofs.Pointing.{in_window_of}
 pub use Rattle.swap_core.proofs.Seating.{newcomer_sound, merged_sound}
 pub use Rattle.swap_core.proofs.Several.{several_sound}
+pub use Rattle.swap_core.proofs.Standing.{standing_sound}

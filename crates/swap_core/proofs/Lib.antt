@@ -10,3 +10,4 @@ pub mod PlanLemmas
 pub mod Pointing
 pub mod Seating
 pub mod Several
+pub mod Standing

@@ -1,14 +1,16 @@
 -- The steps by which an actor comes to hold a table, and gives it up.
-use Rattle.std.proofs.Common.{◌≡◌, ℕ, ◌+◌, ◌-◌, ◌%◌, ◌<◌, ◌≤◌, ◌≢◌, ◌⊎◌, Bool, cond, All, List, length, set, sum_by, slice_index, subst, sym, refl, ap, ◌∙◌, arith, inl, inr, eq-eqb, ne_eqb, length-set, get_or-set_same, get_or-set_other}
+use Rattle.std.proofs.Common.{◌≡◌, ℕ, suc, ◌+◌, ◌-◌, ◌%◌, ◌<◌, ◌≤◌, ◌≢◌, ◌⊎◌, Bool, cond, All, List, length, set, sum_by, slice_index, subst, sym, refl, ap, ◌∙◌, arith, inl, inr, eq-eqb, ne_eqb, length-set, get_or-set_same, get_or-set_other}
 use mathlib.Core.Option.{some}
 use lib.ListN.{get_elem?}
 use Rattle.std.proofs.lemmas.Bool.{cases_eq}
-use Rattle.swap_core.specs.Plans.{table}
-use Rattle.swap_core.specs.States.{CoreState, IsActor, count_of, area, in_state, with_actor, looked, entered, confirmed, gone}
-use Rattle.swap_core.specs.Sound.{Sound, HoldsRightly, IsDrawRight, HasClaimed, claims, times, draw_count, Begins}
+use Rattle.swap_core.specs.Plans.{table, stale}
+use Rattle.swap_core.specs.States.{CoreState, IsActor, count_of, area, spare, in_state, with_actor, looked, entered, confirmed, gone}
+use Rattle.swap_core.specs.Sound.{Sound, HoldsRightly, IsDrawRight, HasClaimed, IsWriting, claims, times, draw_count, words_written, Begins}
 use Rattle.swap_core.specs.declared.actors.Actor.{Actor}
 use Rattle.swap_core.specs.declared.actors.ActorState.{ActorState}
 use Rattle.swap_core.specs.declared.actors.ActorState.TheVariants.{Idle, Looked, Asks, Holds}
+use Rattle.swap_core.specs.declared.actors.DeskState.{DeskState}
+use Rattle.swap_core.specs.declared.actors.DeskState.TheVariants.{Resting, Ready, Writing}
 use Rattle.aftr_base.proofs.PlaceLemmas.{at_set}
 use Rattle.aftr_base.proofs.TotalLemmas.{sum_changed, sum_kept, part_of_sum}
 
@@ -38,7 +40,7 @@ moves c who x s counts h at two count right =
           omega arith;
       current = h.current;
       writing = h.writing;
-      before = h.before;
+      left = h.left;
       held = held;
       next = h.next;
       pointed = h.pointed;
@@ -159,6 +161,22 @@ leaves_sound c who x a h at has =
               omega (arith, t.1)
         ]
 
+pub not_written : (d : DeskState) → (IsWriting d → ⊥) → words_written d ≡ 0
+not_written Resting n = refl
+not_written Ready n = refl
+not_written (Writing j) n = absurd (n tt)
+
+-- while the desk does not write, the spare area begins with the table that was in force before
+before_whole : (c : CoreState) → Sound c → (IsWriting c.desk → ⊥) → (w : ℕ) → w + 1 ≡ c.version → Begins (table c.plan w) (area c (w % 2))
+before_whole c h still w e =
+    let version : c.version ≡ suc w = omega arith in
+    let here : spare c ≡ w % 2 = omega arith in
+    λ j l.
+    let inside : j < length (stale c.plan c.version) = omega (arith, ap (λ (v : ℕ). length (stale c.plan v)) version) in
+    sym (ap (λ (a : ℕ). slice_index (area c a) j) here)
+    ∙ h.left j (omega (arith, not_written c.desk still)) inside
+    ∙ ap (λ (v : ℕ). slice_index (stale c.plan v) j) version
+
 -- who holds a version finds its table in the area
 pub reads_whole : (c : CoreState) (who : ℕ) (x : Actor) (a w : ℕ) → Sound c → IsActor c who x → x.state ≡ Holds a w
     → Begins (table c.plan w) (area c a)
@@ -167,7 +185,7 @@ reads_whole c who x a w h at state =
     let whole : Begins (table c.plan w) (area c (w % 2)) =
     elim right.1 [
       | inl e ↦ let P : ℕ → Type 0 = λ v. Begins (table c.plan v) (area c (v % 2)) in subst P (sym e) h.current
-      | inr t ↦ h.before t.1 w t.0
+      | inr t ↦ before_whole c h t.1 w t.0
     ] in
     let P : ℕ → Type 0 = λ b. Begins (table c.plan w) (area c b) in
     subst P (sym right.0) whole

@@ -1,12 +1,13 @@
 -- What follows for whoever uses the machine.
 use Rattle.std.specs.Prelude.{◌≡◌, ℕ, ◌+◌, ◌<◌, ◌≤◌, ◌⊎◌, List, ◌≢◌, All, slice_index, length, replicate, sum_by}
-use Rattle.swap_core.specs.Plans.{Tables, IsPlan, table, limit, window}
+use Rattle.swap_core.specs.Plans.{Tables, AreAlike, IsPlan, table, limit, stale, window}
 use Rattle.swap_core.specs.Points.{in_force, AreInWindows, AreAllPoints}
-use Rattle.swap_core.specs.States.{CoreState, IsActor, area, spare, opening, several_drawn, joined_by_newcomer, merged}
+use Rattle.swap_core.specs.States.{CoreState, IsActor, area, spare, next_table, opening, with_desk, several_drawn, joined_by_newcomer, merged}
 use Rattle.swap_core.specs.Transitions.{after, after_all, yes}
 use Rattle.swap_core.specs.Sound.{Sound, IsWriting, times}
 use Rattle.swap_core.specs.declared.actors.Actor.{Actor}
 use Rattle.swap_core.specs.declared.actors.ActorState.TheVariants.{Idle, Holds}
+use Rattle.swap_core.specs.declared.actors.DeskState.TheVariants.{Writing}
 use Rattle.swap_core.specs.declared.steps.Step.{Step}
 use Rattle.swap_core.specs.declared.steps.Step.TheVariants as step
 
@@ -37,6 +38,13 @@ SeveralDrawsAreSteps =
     (c : CoreState) (who count a : ℕ) (x : Actor) → IsActor c who x → x.state ≡ Holds a c.version
     → c.records + count ≤ limit c.plan c.version
     → after_all c (replicate count (step.Draw who)) ≡ several_drawn c who x count
+
+-- So many writes of words that stand there already, one after another: each is taken, and together they change no word.
+abbrev pub StandingWordsAreWrites : Type 0
+StandingWordsAreWrites =
+    (c : CoreState) (from count : ℕ) → Sound c → c.desk ≡ Writing from → from + count ≤ length (next_table c)
+    → AreAlike (stale c.plan c.version) (next_table c) from (from + count)
+    → after_all c (replicate count step.Write) ≡ with_desk c (Writing (from + count))
 
 -- a step of any kind leaves a sound state sound
 abbrev pub StepsKeepSound : Type 0

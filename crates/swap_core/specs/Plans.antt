@@ -1,6 +1,6 @@
 -- The tables that come into force one after another, and when each may. Tables are counted from 0, and window k, from 1,
 -- belongs to table k: table k comes into force once as many records were drawn as its window allows.
-use Rattle.std.specs.Prelude.{◌≡◌, ℕ, ◌+◌, ◌-◌, ◌^◌, ◌<◌, ◌≤◌, max, nat_lt, if◌then◌else◌, List, [], ◌∷◌, ◌++◌, length, slice_index_or, All, fold}
+use Rattle.std.specs.Prelude.{◌≡◌, ℕ, zero, suc, ◌+◌, ◌-◌, ◌^◌, ◌<◌, ◌≤◌, max, nat_lt, if◌then◌else◌, List, [], ◌∷◌, ◌++◌, length, slice_index, slice_index_or, replicate, All, fold}
 use Rattle.swap_core.specs.declared.plan.Window.{Window}
 
 pub record Tables : Type 0 where
@@ -15,6 +15,21 @@ table p k = slice_index_or p.tables k []
 abbrev pub always : Window
 always = record { earliest = 0; latest = 2 ^ 31 }
 
+-- the length of the longest table
+abbrev pub width : Tables → ℕ
+width p = fold (λ (longest : ℕ) words. max longest (length words)) 0 p.tables
+
+-- The words that stand in the spare area while this version is in force and the next table is not yet written: those of the table
+-- that was in force before it, or zeros where none was.
+abbrev pub stale : Tables → ℕ → List ℕ
+stale p zero = replicate (width p) 0
+stale p (suc before) = table p before
+
+-- In these places the next words are those that stand there already.
+abbrev pub AreAlike : List ℕ → List ℕ → ℕ → ℕ → Type 0
+AreAlike standing next from end =
+    (j : ℕ) → from ≤ j → j < end → (j < length standing) × (slice_index standing j ≡ slice_index next j)
+
 -- window k, for k from 1
 abbrev pub window : Tables → ℕ → Window
 window p k = slice_index_or p.windows (k - 1) always
@@ -22,10 +37,6 @@ window p k = slice_index_or p.windows (k - 1) always
 -- how many records may be drawn while this version is in force: up to the last moment of the next window
 abbrev pub limit : Tables → ℕ → ℕ
 limit p version = if nat_lt version (length p.windows) then (window p (version + 1)).latest else 2 ^ 31
-
--- the length of the longest table
-abbrev pub width : Tables → ℕ
-width p = fold (λ (longest : ℕ) words. max longest (length words)) 0 p.tables
 
 -- a plan with one table more
 abbrev pub longer : Tables → Window → List ℕ → Tables

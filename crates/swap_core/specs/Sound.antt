@@ -1,6 +1,6 @@
 -- What holds of the state of the machine at any moment.
 use Rattle.std.specs.Prelude.{◌≡◌, ℕ, ◌+◌, ◌%◌, ◌<◌, ◌≤◌, ◌⊎◌, Bool, false, cond, ◌==◌, nat_lt, List, length, slice_index, All, sum_by, count_by}
-use Rattle.swap_core.specs.Plans.{IsPlan, table, width, limit, window}
+use Rattle.swap_core.specs.Plans.{IsPlan, table, stale, width, limit, window}
 pub use Rattle.swap_core.specs.Points.{in_force}
 use Rattle.swap_core.specs.Points.{AreInWindows}
 use Rattle.swap_core.specs.States.{CoreState, IsActor, count_of, area, spare, next_table}
@@ -38,6 +38,11 @@ abbrev pub IsAtWork : DeskState → Type 0
 IsAtWork Resting = ⊥
 IsAtWork _ = Unit {0}
 
+-- how many words of the next table stand in the spare area
+abbrev pub words_written : DeskState → ℕ
+words_written (Writing j) = j
+words_written _ = 0
+
 -- a version is held in its own area, and is in force, or was last and nobody writes over it
 abbrev pub HoldsRightly : CoreState → ActorState → Type 0
 HoldsRightly c (Holds a w) = (a ≡ w % 2) × ((w ≡ c.version) ⊎ ((w + 1 ≡ c.version) × (IsWriting c.desk → ⊥)))
@@ -72,8 +77,9 @@ pub record Sound (c : CoreState) : Type 0 where
   pub current : Begins (table c.plan c.version) (area c (c.version % 2))
   -- While the desk writes, the spare area begins with the words written so far of the next table.
   pub writing : (j : ℕ) → c.desk ≡ Writing j → (j ≤ length (next_table c)) × BeginsWith j (next_table c) (area c (spare c))
-  -- While it does not, the spare area begins with the table that was in force before.
-  pub before : (IsWriting c.desk → ⊥) → (w : ℕ) → w + 1 ≡ c.version → Begins (table c.plan w) (area c (w % 2))
+  -- Behind them it has still the words of the table that was in force before, or zeros where none was.
+  pub left : (j : ℕ) → words_written c.desk ≤ j → j < length (stale c.plan c.version)
+      → slice_index (area c (spare c)) j ≡ slice_index (stale c.plan c.version) j
   -- Who holds a version holds its own area; the version is in force, or was before it and nobody writes over it.
   pub held : (who : ℕ) (x : Actor) → IsActor c who x → HoldsRightly c x.state
   -- While the desk is at work there is a next table, and the records drawn have reached its window.

@@ -18,5 +18,5 @@ pub use steps::{NotNow, Step, Took};
 pub use theorems::{
     draws_are_in_force, held_tables_are_whole, merges_keep_sound, newcomers_keep_sound,
     no_number_is_drawn_twice, runs_are_sound, settled_points_are_all, several_draws_are_steps,
-    steps_keep_sound, writes_disturb_nobody,
+    standing_words_are_writes, steps_keep_sound, writes_disturb_nobody,
 };

@@ -1,5 +1,5 @@
 // What the machine is for, as laws over its definitions: each function's contract is one, and it does nothing.
-ghost use Rattle.swap_core.specs.Laws.{DrawnInForce, MergeKeepsSound, NewcomerKeepsSound, NoneTwice, ReadsItsTable, RunsAreSound, SettledPointsAreAll, SeveralDrawsAreSteps, StepsKeepSound, WritesWhereNobodyHolds};
+ghost use Rattle.swap_core.specs.Laws.{DrawnInForce, MergeKeepsSound, NewcomerKeepsSound, NoneTwice, ReadsItsTable, RunsAreSound, SettledPointsAreAll, SeveralDrawsAreSteps, StandingWordsAreWrites, StepsKeepSound, WritesWhereNobodyHolds};
 ghost use Rattle.swap_core.specs.Sound.{Sound};
 ghost use Rattle.swap_core.specs.States.{CoreState};
 
@@ -36,6 +36,11 @@ pub fn draws_are_in_force()
 /// Draws in a row by one actor give it so many numbers in a row: what one step of its own may do at once.
 pub fn several_draws_are_steps()
     ensures { SeveralDrawsAreSteps }
+{}
+
+/// Writes of words that stand in the spare area already change no word: what one step of the desk's may pass over at once.
+pub fn standing_words_are_writes()
+    ensures { StandingWordsAreWrites }
 {}
 
 /// One actor more, which is idle and has drawn nothing, leaves a sound state sound.

@@ -1,20 +1,11 @@
-use Rattle.std.proofs.Common.{rules, arith}
-use Rattle.area_swap.proofs.Deskwork.{may_find, may_write, other_view}
+use Rattle.std.proofs.Common.{length}
+use Rattle.area_swap.specs.Views.{stale_of}
+use Rattle.area_swap.proofs.ChangeLemmas.{none_left}
+use Rattle.area_swap.proofs.Deskwork.{alike_still}
 use Rattle.area_swap.proofs.desk.write_words.Goals as goal
 
-pub load-stands-requires : goal.load-stands-requires
-load-stands-requires c = (
-  search rules,
-  omega arith,
-  may_find _ _ _ c.args.place.now.me _ _ _ c.args.words.now c.words.invariant.seat c.requires.plan c.requires.desk.has c.requires.words
-      (omega arith) c.requires.row,
-)
-
-pub store-requires : goal.store-requires
-store-requires c = (
-  search rules,
-  omega arith,
-  may_write _ _ _ c.args.place.now.me _ _ _ _ c.args.words.now
-      (other_view c.args.place.now.me c.words.j c.args.words.now c.load-stands.ensures.2 c.words.invariant.seat c.requires.words c.if-stands-word.true)
-      c.requires.plan c.requires.desk.has c.requires.words (omega arith) c.requires.row (search rules),
-)
+pub pass_over-requires-2-clause-alike : goal.pass_over-requires-2-clause-alike
+pass_over-requires-2-clause-alike c =
+    alike_still c.args.place.now.me c.listed.place.me c.args.words.now c.listed.reached c.listed.reached (length c.args.words.now) c.listed.invariant.seat
+    (none_left (stale_of c.args.place.now.me.0) c.args.words.now c.listed.reached (length c.args.words.now) c.listed.left.now c.in_default.len_below
+    c.listed.invariant.changes)
