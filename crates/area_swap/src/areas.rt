@@ -41,13 +41,20 @@ impl Model for Areas {
 
 impl Areas {
     ghost use Rattle.std.specs.Prelude.{◌≡◌};
-    ghost use Rattle.swap_core.specs.Plans.{limit as limit_of};
+    ghost use Rattle.swap_core.specs.Plans.{limit as limit_of, threshold as threshold_of};
 
     /// The most records that may be drawn while the version is in force.
     pub fn limit(&self, version: u32) -> u32
         ensures { result ≡ limit_of self.now.plan version }
     {
         self.plan.limit(version)
+    }
+
+    /// The fewest records that have to be drawn before another version may follow this one.
+    pub fn threshold(&self, version: u32) -> u32
+        ensures { result ≡ threshold_of self.now.plan version }
+    {
+        self.plan.threshold(version)
     }
 }
 

@@ -55,6 +55,7 @@ fn a_window_holds_the_draws(rt: HostRuntime) -> Result<(), Fail> {
     };
     plan.add(window, table(rt.alloc(), 1, 8)?)?;
     assert_eq!(rt; (plan.len(), plan.limit(0), plan.limit(1)), (2, 1, 1 << 31));
+    assert_eq!(rt; (plan.threshold(0), plan.threshold(1)), (1, 1 << 31));
     assert_eq!(rt; (plan.window(1), plan.words(1)[0]), (window, 8));
     let mut core = Core::opening(rt.alloc(), plan, 1)?;
     core.run(&[LOOK, ENTER, CONFIRM])?;

@@ -34,6 +34,10 @@ AreAlike standing next from end =
 abbrev pub window : Tables → ℕ → Window
 window p k = slice_index_or p.windows (k - 1) always
 
+-- how many records have to be drawn before another version may follow this one: up to the first moment of the next window
+abbrev pub threshold : Tables → ℕ → ℕ
+threshold p version = if nat_lt version (length p.windows) then (window p (version + 1)).earliest else 2 ^ 31
+
 -- how many records may be drawn while this version is in force: up to the last moment of the next window
 abbrev pub limit : Tables → ℕ → ℕ
 limit p version = if nat_lt version (length p.windows) then (window p (version + 1)).latest else 2 ^ 31

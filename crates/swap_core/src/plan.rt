@@ -1,6 +1,6 @@
 // The tables that come into force one after another, and when each may.
 ghost use Rattle.std.specs.Prelude.{◌≡◌, ◌≤◌, ◌<◌, [], ◌∷◌, IfOk, is_ok, if◌then◌else◌, length};
-ghost use Rattle.swap_core.specs.Plans.{IsPlan, IsTableSize, MayFollow, limit as limit_of, longer, table, window as window_of, width};
+ghost use Rattle.swap_core.specs.Plans.{IsPlan, IsTableSize, MayFollow, limit as limit_of, longer, table, threshold as threshold_of, window as window_of, width};
 
 use aftr_base::{OutOfMemory, WordList};
 use std::alloc::Global;
@@ -64,6 +64,19 @@ impl Plan {
         let next = version as usize;
         if next < self.windows.len() {
             self.windows[next].latest
+        } else {
+            1 << 31
+        }
+    }
+
+    /// The fewest records that have to be drawn before another version may follow this one: the `earliest` of the window after
+    /// it, or 2^31 where there is none.
+    pub fn threshold(&self, version: u32) -> u32
+        ensures { result ≡ threshold_of self.now version }
+    {
+        let next = version as usize;
+        if next < self.windows.len() {
+            self.windows[next].earliest
         } else {
             1 << 31
         }

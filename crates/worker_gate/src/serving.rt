@@ -18,7 +18,11 @@ use item_stage::RoundItems;
 use std::marker::Brand;
 use std::sync::Wait;
 use std::sync::ledger::{Blank, Ledger};
+use std::thread::yield_now;
 use table_words::Steps;
+
+// So often a worker gives up its time slice under a version that another may follow already.
+const YIELDS: u32 = 16;
 
 // Judges the item of a record under the held table, and puts its outcome down. The item is written to a place that the caller
 // keeps.
@@ -75,6 +79,15 @@ fn put_run<S: RoundItems, G: Gate, L: Ledger>(
     }
 }
 
+// Gives up the time slice, a few times under a version, where so many records are drawn that the next table may come into force:
+// where more threads want to run than there are processors, the desk has its turn before all records are drawn.
+fn give_way(areas: &Areas, version: u32, drawn: u32, left: &mut u32) {
+    if *left != 0 && areas.threshold(version) <= drawn {
+        *left -= 1;
+        yield_now();
+    }
+}
+
 // Draws and judges under the held table, until another is in force or there is a reason to stop.
 fn serve_under<R: Wait, S: RoundItems, G: Gate, L: Ledger>(
     rt: &R,
@@ -92,11 +105,13 @@ fn serve_under<R: Wait, S: RoundItems, G: Gate, L: Ledger>(
     ensures ended { IfSome result (λ stop. HasEnded stop task.now.end worker.new.seat.known) }
     ensures last { IfSome result (λ _. HoldsLast worker.new.seat.known) }
 {
+    let mut left = YIELDS;
     'turns: for _ in rt.forever() {
         match take_run(task.areas, &mut worker.seat, task.end, task.most) {
             Turn::Run { first, count } => {
                 put_run(task, worker, settings, version, first, count, steps);
                 worker.next = first + count;
+                give_way(task.areas, version, worker.next, &mut left);
             }
             Turn::Lost => {}
             Turn::Moved => return None,
