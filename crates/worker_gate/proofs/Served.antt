@@ -137,6 +137,16 @@ served_on p items start u v w h k =
       reads = omega (arith, h.reads, k.reads, asked);
     }
 
+-- two steps by which nothing was drawn
+pub nothing_on : (u v w : View) → DrawsNothing u v → DrawsNothing v w → DrawsNothing u w
+nothing_on u v w m n =
+    record {
+      draws = n.draws ∙ m.draws;
+      later = upto_on u.seen v.seen w.seen m.later n.later;
+      same_reads = n.same_reads ∙ m.same_reads;
+      same_share = n.same_share ∙ m.same_share;
+    }
+
 -- a step of the seat by which nothing was drawn
 pub nothing_served : (p : Tables) (items : List Item) (start : ℕ) (v : Worker) (s : SeatValue) → DrawsNothing v.seat.known s.known
     → HasServed p items start v (record v { seat = s })
@@ -208,6 +218,15 @@ run_served p items areas start end first count version v w s h t share held k =
       later = (let P : SeatValue → Type 0 = λ x. IsUpTo v.seat.known.seen x.known.seen in subst P (sym k.only_reads.rest) t.later);
       reads = omega (arith, k.reads, t.same_reads);
     }
+
+-- The same behind what was served before.
+pub run_on : (p : Tables) (items : List Item) (areas : AreasValue) (start end first count version : ℕ) (u v w : Worker) (s : SeatValue)
+    → HasServed p items start u v → CanServe areas start end v → HasTakenRun end first count v.seat.known s.known
+    → s.known.share ≡ v.seat.known.share → held_version v.seat.known ≡ version → ArePutDown p items start first count version (record v { seat = s }) w
+    → HasServed p items start u (record w { next = first + count })
+run_on p items areas start end first count version u v w s before h t share held k =
+    served_on p items start u v (record w { next = first + count }) before
+    (run_served p items areas start end first count version v w s h t share held k)
 
 pub run_work : (p : Tables) (items : List Item) (areas : AreasValue) (start end first count version : ℕ) (v w : Worker) (s : SeatValue)
     → CanServe areas start end v → HasTakenRun end first count v.seat.known s.known → IsOf areas w.seat

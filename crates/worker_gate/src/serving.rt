@@ -1,9 +1,10 @@
 // A worker's way through the records: it holds a table, draws, judges, and puts down what came of it.
 ghost use Rattle.std.specs.Prelude.{◌≡◌, ◌+◌, ◌-◌, ◌<◌, ◌≤◌, All, IfSome, length};
 ghost use Rattle.table_words.specs.Layout.{AreCompiled};
-ghost use Rattle.area_swap.specs.Values.{HoldsOne, IsIdle};
+ghost use Rattle.area_swap.specs.Values.{HoldsOne, IsIdle, IsOf};
 ghost use Rattle.area_swap.specs.Views.{held_table, held_version};
 ghost use Rattle.worker_gate.specs.Serving.{ArePutDown, CanServe, HasEnded, HasServed, HeldLast, HoldsLast, IsHolding, IsPutDown};
+ghost use Rattle.worker_gate.specs.Turns.{DrawsNothing};
 
 use crate::claims::{Turn, give_up, take_run, try_claim};
 use crate::gate::Gate;
@@ -11,7 +12,7 @@ use crate::judging::held_settings;
 use crate::outcomes::Stop;
 use crate::task::Task;
 use crate::worker::Worker;
-use area_swap::Areas;
+use area_swap::{Areas, WorkerSeat};
 use binding_rules::Softwire;
 use ip_codec::ItemView;
 use item_stage::RoundItems;
@@ -21,8 +22,11 @@ use std::sync::ledger::{Blank, Ledger};
 use std::thread::yield_now;
 use table_words::Steps;
 
-// So often a worker gives up its time slice under a version that another may follow already.
-const YIELDS: u32 = 16;
+// So often a worker looks at most whether the next table came that may come.
+const LOOKS: u32 = 2_097_152;
+
+// So often it looks before the time slice is given up.
+const LOOKS_BETWEEN: u32 = 8_192;
 
 // Judges the item of a record under the held table, and puts its outcome down. The item is written to a place that the caller
 // keeps.
@@ -79,21 +83,14 @@ fn put_run<S: RoundItems, G: Gate, L: Ledger>(
     }
 }
 
-// Gives up the time slice, a few times under a version, where so many records are drawn that the next table may come into force:
-// where more threads want to run than there are processors, the desk has its turn before all records are drawn.
-fn give_way(areas: &Areas, version: u32, drawn: u32, left: &mut u32) {
-    if *left != 0 && areas.threshold(version) <= drawn {
-        *left -= 1;
-        yield_now();
-    }
-}
-
-// Draws and judges under the held table, until another is in force or there is a reason to stop.
+// Draws and judges under the held table, until another is in force, or may be and the worker is patient, or there is a reason to
+// stop.
 fn serve_under<R: Wait, S: RoundItems, G: Gate, L: Ledger>(
     rt: &R,
     task: &Task<'_, S, G>,
     worker: &mut Worker,
     version: u32,
+    patient: bool,
     settings: &Softwire,
     steps: &mut Steps<L>,
 ) -> Option<Stop>
@@ -105,13 +102,14 @@ fn serve_under<R: Wait, S: RoundItems, G: Gate, L: Ledger>(
     ensures ended { IfSome result (λ stop. HasEnded stop task.now.end worker.new.seat.known) }
     ensures last { IfSome result (λ _. HoldsLast worker.new.seat.known) }
 {
-    let mut left = YIELDS;
     'turns: for _ in rt.forever() {
         match take_run(task.areas, &mut worker.seat, task.end, task.most) {
             Turn::Run { first, count } => {
                 put_run(task, worker, settings, version, first, count, steps);
                 worker.next = first + count;
-                give_way(task.areas, version, worker.next, &mut left);
+                if patient && task.areas.threshold(version) <= worker.next {
+                    return None;
+                }
             }
             Turn::Lost => {}
             Turn::Moved => return None,
@@ -127,6 +125,7 @@ fn serve_held<R: Wait, S: RoundItems, G: Gate, L: Ledger>(
     task: &Task<'_, S, G>,
     worker: &mut Worker,
     version: u32,
+    patient: bool,
     steps: &mut Steps<L>,
 ) -> Option<Stop>
     requires work { CanServe task.now.areas.now task.now.start task.now.end worker.old }
@@ -140,10 +139,31 @@ fn serve_held<R: Wait, S: RoundItems, G: Gate, L: Ledger>(
     ensures last { IfSome result (λ _. HoldsLast worker.new.seat.known) }
 {
     let settings = held_settings(task.areas, &mut worker.seat, steps);
-    serve_under(rt, task, worker, version, &settings, steps)
+    serve_under(rt, task, worker, version, patient, &settings, steps)
 }
 
-// Draws and judges, until all records are drawn or the version in force allows no record more.
+// Whether another version than this one came into force, by many looks. A worker that holds nothing waits so for the desk, which else
+// gets no turn before all records are drawn: where more threads want to run than there are processors, or where its thread was just made.
+fn comes_next(areas: &Areas, seat: &mut WorkerSeat, version: u32) -> bool
+    requires areas { IsOf areas.now seat.old }
+    requires idle { IsIdle seat.old.known }
+    ensures areas { IsOf areas.now seat.new }
+    ensures idle { IsIdle seat.new.known }
+    ensures nothing { DrawsNothing seat.old.known seat.new.known }
+{
+    'looks: for turn in 0..LOOKS {
+        if areas.see(seat).version != version {
+            return true;
+        }
+        if turn % LOOKS_BETWEEN == LOOKS_BETWEEN - 1 {
+            yield_now();
+        }
+    }
+    false
+}
+
+// Draws and judges, until all records are drawn or the version in force allows no record more. Once under a version it waits for the
+// next table, where that may come.
 pub(crate) fn serve_in<R: Wait, S: RoundItems, G: Gate, L: Ledger>(
     rt: &R,
     task: &Task<'_, S, G>,
@@ -163,13 +183,15 @@ pub(crate) fn serve_in<R: Wait, S: RoundItems, G: Gate, L: Ledger>(
     ensures last { HeldLast worker.new.seat.known }
 {
     let mut steps = Steps::<L>::start(blank);
+    let mut patient = true;
     'claims: for _ in rt.forever() {
         if let Some(version) = try_claim(task.areas, &mut worker.seat) {
-            let ended = serve_held(rt, task, worker, version, &mut steps);
+            let ended = serve_held(rt, task, worker, version, patient, &mut steps);
             give_up(task.areas, &mut worker.seat);
             if let Some(stop) = ended {
                 return stop;
             }
+            patient = comes_next(task.areas, &mut worker.seat, version);
         }
     }
     unreachable!()

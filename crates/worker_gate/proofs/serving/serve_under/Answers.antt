@@ -1,5 +1,5 @@
 use Rattle.std.proofs.Common.{◌+◌}
-use Rattle.worker_gate.proofs.Served.{nothing_served, nothing_work, run_served, run_work, served_none, served_on}
+use Rattle.worker_gate.proofs.Served.{nothing_served, nothing_work, run_on, run_work, served_none, served_on}
 use Rattle.worker_gate.proofs.serving.serve_under.Goals as goal
 
 pub turns-init : goal.turns-init
@@ -13,8 +13,8 @@ turns-init g c =
 pub put_run-requires-clause-holding : goal.put_run-requires-clause-holding
 put_run-requires-clause-holding g c = c.take_run.ensures.goes_on_holding c.args.version c.args.settings.now c.turns.invariant.holding
 
-pub turns-preserved-in-Run : goal.turns-preserved-in-Run
-turns-preserved-in-Run g c =
+pub turns-preserved-else-patient : goal.turns-preserved-else-patient
+turns-preserved-else-patient g c =
     let p = c.args.task.now.areas.now.plan in
     let items = g.S.RoundItems.items c.args.task.now.items.now in
     let v = c.turns.worker in
@@ -28,10 +28,21 @@ turns-preserved-in-Run g c =
           c.put_run.ensures.holding.its_areas c.put_run.ensures.down;
       holding = c.put_run.ensures.holding;
       served =
-          served_on p items c.args.task.now.start c.args.worker.now v (record w { next = first + count }) c.turns.invariant.served
-          (run_served p items c.args.task.now.areas.now c.args.task.now.start c.args.task.now.end first count c.args.version v w s c.turns.invariant.work c.in-Run.ensures.turned
-          c.take_run.ensures.holding.share c.turns.invariant.holding.held c.put_run.ensures.down);
+          run_on p items c.args.task.now.areas.now c.args.task.now.start c.args.task.now.end first count c.args.version c.args.worker.now v w s c.turns.invariant.served
+          c.turns.invariant.work c.in-Run.ensures.turned c.take_run.ensures.holding.share c.turns.invariant.holding.held c.put_run.ensures.down;
     }
+
+pub returns-then-threshold-worker-clause-work : goal.returns-then-threshold-worker-clause-work
+returns-then-threshold-worker-clause-work g c =
+    run_work c.args.task.now.areas.now.plan (g.S.RoundItems.items c.args.task.now.items.now) c.args.task.now.areas.now c.args.task.now.start c.args.task.now.end
+    c.in-Run.first c.in-Run.count c.args.version c.turns.worker c.put_run.new.worker c.take_run.new.seat c.turns.invariant.work c.in-Run.ensures.turned
+    c.put_run.ensures.holding.its_areas c.put_run.ensures.down
+
+pub returns-then-threshold-worker-clause-served : goal.returns-then-threshold-worker-clause-served
+returns-then-threshold-worker-clause-served g c =
+    run_on c.args.task.now.areas.now.plan (g.S.RoundItems.items c.args.task.now.items.now) c.args.task.now.areas.now c.args.task.now.start c.args.task.now.end
+    c.in-Run.first c.in-Run.count c.args.version c.args.worker.now c.turns.worker c.put_run.new.worker c.take_run.new.seat c.turns.invariant.served
+    c.turns.invariant.work c.in-Run.ensures.turned c.take_run.ensures.holding.share c.turns.invariant.holding.held c.put_run.ensures.down
 
 pub turns-preserved : goal.turns-preserved
 turns-preserved g c =
