@@ -135,7 +135,9 @@ impl Slow {
 impl Gate for Slow {
     fn pass(&self, _number: u32, version: u32) {
         if version < 2 {
-            let _came = comes(&self.note, 8_000);
+            for _ in 0..8_000 {
+                let _note = self.note.load(SeqCst);
+            }
         }
     }
 }
