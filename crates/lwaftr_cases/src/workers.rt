@@ -61,11 +61,13 @@ impl Gate for Held {
             self.passed.store(1, SeqCst);
         }
         if self.holds(number, version) && self.late.load(SeqCst) == 0 {
-            for _ in 0..self.turns {
+            for turn in 0..self.turns {
                 if self.passed.load(SeqCst) == 1 {
                     return;
                 }
-                yield_now();
+                if turn % 16 == 0 {
+                    yield_now();
+                }
             }
             self.late.store(1, SeqCst);
         }
@@ -178,7 +180,7 @@ fn two_workers_run_beside_one_another(rt: HostRuntime) -> Result<(), Fail> {
 /// The point of a table that may come into force from record 1 to record 64, where records under the first table wait for one
 /// under the next.
 fn point_beside<R: Threads + Wait + Sync>(rt: &R, alloc: Global) -> Result<u32, Fail> {
-    let gate = Held::new(None, None, 100_000);
+    let gate = Held::new(None, None, 1_000_000);
     let ran = run_held(rt, alloc, 64, "1-64:whole --workers 2", &gate)?;
     let printed = points(alloc, ran.files.text("versions.txt"))?;
     Ok(printed.first().copied().unwrap_or(64))
