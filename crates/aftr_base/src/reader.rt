@@ -1,7 +1,7 @@
 // The file that was read last.
 ghost use Rattle.std.specs.Prelude.{◌≡◌, ◌≢◌, ◌<◌, ◌≤◌, [], None, Some, IsTrue, IfOk, OnOk, length, take, drop, string_bytes};
 ghost use Rattle.std.specs.Option.{ForSome};
-ghost use Rattle.aftr_base.specs.Contents.{content};
+ghost use Rattle.aftr_base.specs.Contents.{Contents, content};
 ghost use Rattle.aftr_base.specs.System.{StandsIn};
 
 use crate::failure::Failure;
@@ -97,7 +97,7 @@ impl<S: System> Reader<S> {
         Ok(count)
     }
 
-    /// Bytes of the file from a place on, as `Files::read` has them.
+    /// Bytes of the file from a place on, as `Files::read` has them. What was read ahead is not asked.
     pub fn read(&mut self, system: &mut S, at: u64, into: &mut [u8]) -> Result<usize, Failure>
         requires { IsTrue S.tells → StandsIn self.old.window (content (S.held system.old) (string_bytes self.old.name)) }
         ensures name { string_bytes self.new.name ≡ string_bytes self.old.name }
@@ -109,9 +109,8 @@ impl<S: System> Reader<S> {
             → drop at (content (S.held system.old) (string_bytes self.old.name)) ≡ []) }
         ensures same { IsTrue S.tells → S.held system.new ≡ S.held system.old }
     {
-        let count = self.window.copy(at, into);
-        if count > 0 || into.is_empty() {
-            return Ok(count);
+        if into.is_empty() {
+            return Ok(0);
         }
         if into.len() >= DIRECT {
             return self.read_direct(system, at, into);
@@ -119,6 +118,25 @@ impl<S: System> Reader<S> {
         self.refill(system, at)?;
         Ok(self.window.copy(at, into))
     }
+}
+
+/// Copies what the reader, if it is of this name, has read ahead from a place on.
+pub fn copy_ahead<S: System>(
+    reader: &Option<Reader<S>>,
+    name: &str,
+    at: u64,
+    into: &mut [u8],
+) -> usize
+    ensures within { result ≤ length into.old }
+    ensures bytes { (held : Contents) → ForSome reader.now (λ r. StandsIn r.window (content held (string_bytes r.name)))
+        → take result into.new ≡ take result (drop at (content held name.now)) }
+{
+    if let Some(open) = reader {
+        if open.name.as_str() == name {
+            return open.window.copy(at, into);
+        }
+    }
+    0
 }
 
 /// Reads by the reader, if it is of this name, and else opens the file in its place.

@@ -9,7 +9,7 @@ ghost use Rattle.aftr_base.specs.declared.last_error.Call.TheVariants as call;
 
 use crate::failure::Failure;
 use crate::last_error::{Call, Counts, LastError};
-use crate::reader::{Reader, forget, read_file};
+use crate::reader::{Reader, copy_ahead, forget, read_file};
 use crate::system::System;
 use crate::writers::Writer;
 use crate::{Fault, Files, writers};
@@ -72,6 +72,29 @@ impl<S: System + Drop> SystemFiles<S> {
     {
         self.counts.last_error.as_ref()
     }
+    // A read that finds nothing read ahead.
+    #[inline(never)]
+    fn read_system(
+        &mut self,
+        alloc: Global,
+        name: &str,
+        at: u64,
+        into: &mut [u8],
+    ) -> Result<usize, Fault>
+        ensures within { IfOk result (λ n. n ≤ length into.old) }
+        ensures bytes { IfOk result (λ n. Told self.old.outside.held
+            (λ m. take n into.new ≡ take n (drop at (content m name.now)))) }
+        ensures nothing { IfOk result (λ n. Told self.old.outside.held
+            (λ m. n ≡ 0 → 0 < length into.old → drop at (content m name.now) ≡ [])) }
+        ensures reads { OnlyReads (has_failed result) name.now (λ place. place ≡ at) self.old.outside self.new.outside }
+        ensures error { Keeps (has_failed result) (call.Read at) name.now self.old self.new }
+    {
+        match read_file(&mut self.system, &mut self.reader, alloc, name, at, into) {
+            Ok(count) => Ok(count),
+            Err(Failure::Refused(error)) => self.counts.lose(alloc, name, at, error),
+            Err(Failure::OutOfMemory) => Err(Fault::OutOfMemory),
+        }
+    }
 }
 
 impl<S: System + Drop> Files for SystemFiles<S> {
@@ -86,11 +109,11 @@ impl<S: System + Drop> Files for SystemFiles<S> {
         ensures reads { OnlyReads (has_failed result) name.now (λ place. place ≡ at) self.old.outside self.new.outside }
         ensures error { Keeps (has_failed result) (call.Read at) name.now self.old self.new }
     {
-        match read_file(&mut self.system, &mut self.reader, alloc, name, at, into) {
-            Ok(count) => Ok(count),
-            Err(Failure::Refused(error)) => self.counts.lose(alloc, name, at, error),
-            Err(Failure::OutOfMemory) => Err(Fault::OutOfMemory),
+        let count = copy_ahead(&self.reader, name, at, into);
+        if count > 0 {
+            return Ok(count);
         }
+        self.read_system(alloc, name, at, into)
     }
 
     fn create(&mut self, alloc: Global, name: &str) -> Result<(), Fault>

@@ -2,8 +2,8 @@ use Rattle.std.proofs.Common.{refl}
 use Rattle.aftr_base.specs.System.{WriteHandle}
 use Rattle.aftr_base.specs.declared.writers.Writer.{Writer}
 use Rattle.aftr_base.proofs.HandleLemmas.{ends_same}
-use Rattle.aftr_base.proofs.real.SystemFilesFiles.read.Given as given
-use Rattle.aftr_base.proofs.real.SystemFilesFiles.read.Goals as goal
+use Rattle.aftr_base.proofs.real.SystemFiles.read_system.Given as given
+use Rattle.aftr_base.proofs.real.SystemFiles.read_system.Goals as goal
 
 abbrev handle : (g : given.Over) → Writer g.row.S.Denot g.row.S-Reading.Denot g.row.S-Writing.Denot g.S.System → WriteHandle
 handle g w = g.S.System.writes w.file
