@@ -115,7 +115,9 @@ pub fn fitting(fits: usize, records: usize, bytes: usize) -> usize
     fits.saturating_add(fits / 8)
 }
 
-// Reads pieces until the front of the window says what the next record is. It answers whether a read failed before that.
+// Reads pieces until the front of the window says what the next record is. It answers whether a read failed before that. It stands
+// apart from the walk over the records, which is then left with more registers.
+#[inline(never)]
 fn fetch<F: Files>(
     alloc: Global,
     files: &mut F,
