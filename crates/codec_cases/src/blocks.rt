@@ -20,7 +20,7 @@ pub(crate) const INTERFACE: &[u8; 20] = b"\x01\0\0\0\x14\0\0\0\x65\0\0\0\0\0\x04
 const ETHERNET: &[u8; 20] = b"\x01\0\0\0\x14\0\0\0\x01\0\0\0\0\0\x04\0\x14\0\0\0";
 
 /// The same of plain IP, with ticks of a nanosecond.
-const IN_NANOS: &[u8; 32] =
+pub(crate) const IN_NANOS: &[u8; 32] =
     b"\x01\0\0\0\x20\0\0\0\x65\0\0\0\0\0\x04\0\x09\0\x01\0\x09\0\0\0\0\0\0\0\x20\0\0\0";
 
 /// What stands before and behind a packet of 72 bytes at tick 1,000,000 of interface 0.
@@ -239,6 +239,8 @@ fn each_refusal_of_a_simple_packet_has_its_place(rt: HostRuntime) -> Result<(), 
     let no_limit = b"\0\0\0\x01\0\0\0\x14\0\x65\0\0\0\0\0\0\0\0\0\x14";
     let long = b"\0\0\0\x03\0\0\0\x10\0\x04\0\x01\0\0\0\x10";
     assert!(rt; reads_as(alloc, &[BIG_SECTION, no_limit, long], "ng too-long 48")?);
+    let short = b"\0\0\0\x03\0\0\0\x0c\0\0\0\x0c";
+    assert!(rt; reads_as(alloc, &[BIG_SECTION, BIG_INTERFACE, short], "ng length 48")?);
     Ok(())
 }
 

@@ -5,6 +5,8 @@
 #[cfg(test)]
 mod address_texts;
 #[cfg(test)]
+mod all_pieces;
+#[cfg(test)]
 mod block_rounds;
 #[cfg(test)]
 mod blocks;

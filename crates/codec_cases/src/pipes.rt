@@ -85,8 +85,8 @@ pub(crate) fn piped(alloc: Global, bytes: &[u8], most: usize, call: u64) -> Resu
     Ok(told)
 }
 
-// The records and how they end, without the bars of rounds.
-fn joined_rounds(alloc: Global, text: &str) -> Result<String, Fail> {
+/// The records and how they end, without the bars of rounds.
+pub(crate) fn joined_rounds(alloc: Global, text: &str) -> Result<String, Fail> {
     let mut joined = String::new(alloc);
     'rounds: for part in text.split("| ") {
         joined.push_str(part)?;
