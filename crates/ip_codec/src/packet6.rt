@@ -1,6 +1,6 @@
 // IPv6 packets, read and written.
 ghost use Rattle.std.specs.Prelude.{◌≡◌, ◌+◌, ◌^◌, ◌<◌, ◌≤◌, ◌++◌, length, IfOk, Ok, is_ok, true};
-ghost use Rattle.std.specs.Int.{w64, w128, to_be_bytes};
+ghost use Rattle.std.specs.Int.{w128, to_be_bytes};
 ghost use Rattle.ip_codec.specs.Packet6.{ip6_of, packet6, Reads6, IsBounded6, version6, bytes6, fields6, header6, made6, payload_len};
 
 use aftr_base::{Bytes, OutOfMemory, V6, be16, be32, be128};
@@ -140,21 +140,13 @@ pub fn head6_bytes(head: Head6, payload_len: u16) -> [u8; 40]
     bytes
 }
 
-// Half an address. Not inlined: beside the other half a compiler no longer sees that its bytes are turned round by one instruction.
-#[inline(never)]
-fn half_bytes(half: u64) -> [u8; 8]
-    ensures { result ≡ to_be_bytes w64 half }
-{
-    half.to_be_bytes()
-}
-
 // By halves, each of which a processor turns round at once.
 #[inline(always)]
 fn address_bytes(address: V6) -> [u8; 16]
     ensures { result ≡ to_be_bytes w128 address.0 }
 {
     let mut bytes = [0; 16];
-    bytes[..8].copy_from_slice(&half_bytes((address.0 >> 64) as u64));
+    bytes[..8].copy_from_slice(&((address.0 >> 64) as u64).to_be_bytes());
     bytes[8..].copy_from_slice(&((address.0 % (1 << 64)) as u64).to_be_bytes());
     bytes
 }
