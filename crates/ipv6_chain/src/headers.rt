@@ -68,20 +68,20 @@ pub fn walk(next: u8, body: &[u8], start: Start) -> Result<Chain, ChainBad>
 {
     let mut number = next;
     let mut at = 0;
-    'headers: while is_passed(number) {
+    'headers: while is_skipped(number) {
         let left = &body[at..];
-        if stands_wrong(number, at, start) {
+        if is_misplaced(number, at, start) {
             return Err(ChainBad::Order);
         }
-        let len = passed_len(left)?;
-        if asks_for_route(number, left) {
+        let len = header_len(left)?;
+        if has_segments(number, left) {
             return Err(ChainBad::Routing);
         }
         number = left[0];
         at += len;
     }
     if number == FRAGMENT {
-        return behind_fragment(at, &body[at..], start);
+        return fragment_end(at, &body[at..], start);
     }
     Ok(Chain {
         next: number,
@@ -91,21 +91,21 @@ pub fn walk(next: u8, body: &[u8], start: Start) -> Result<Chain, ChainBad>
 }
 
 // Whether the walk passes a header with this number.
-fn is_passed(number: u8) -> bool
+fn is_skipped(number: u8) -> bool
     ensures { result ≡ is_skipped number }
 {
     number == HOP_BY_HOP || number == ROUTING || number == DESTINATION
 }
 
 // Whether this is a Hop-by-Hop Options header that does not stand in front of a packet's body.
-fn stands_wrong(number: u8, at: usize, start: Start) -> bool
+fn is_misplaced(number: u8, at: usize, start: Start) -> bool
     ensures { result ≡ is_misplaced number at start }
 {
     number == HOP_BY_HOP && !(at == 0 && start == Start::Packet)
 }
 
 // Whether this is a Routing header with segments left.
-fn asks_for_route(number: u8, left: &[u8]) -> bool
+fn has_segments(number: u8, left: &[u8]) -> bool
     requires { 8 ≤ length left.now }
     ensures { result ≡ has_segments number left.now }
 {
@@ -113,7 +113,7 @@ fn asks_for_route(number: u8, left: &[u8]) -> bool
 }
 
 // How many bytes a header has that is passed: its second byte counts those past the first eight, eight at a time.
-fn passed_len(left: &[u8]) -> Result<usize, ChainBad>
+fn header_len(left: &[u8]) -> Result<usize, ChainBad>
     ensures { MatchResult result
         (λ len. (len ≡ header_len left.now) × (is_short left.now ≡ false) × (8 ≤ len) × (len ≤ length left.now))
         (λ bad. (bad ≡ ChainBad.Short) × (is_short left.now ≡ true)) }
@@ -129,7 +129,7 @@ fn passed_len(left: &[u8]) -> Result<usize, ChainBad>
 }
 
 // The end of a chain behind a Fragment header, which stands at this place and in front of `left`.
-fn behind_fragment(at: usize, left: &[u8], start: Start) -> Result<Chain, ChainBad>
+fn fragment_end(at: usize, left: &[u8], start: Start) -> Result<Chain, ChainBad>
     requires { at + length left.now ≤ 2 ^ 63 }
     ensures { result ≡ fragment_end at left.now start }
 {

@@ -12,10 +12,10 @@ headers-preserved c =
       chain = chain-on c.headers.number at c.in_ok-len.len _ body (take (length body - at) (drop at body)) c.args.start _ (take_rest body at)
           c.in_ok-len.ensures.0 refl
           (record {
-            skipped = sym c.is_passed.ensures ∙ c.headers-test.true;
-            placed = sym c.stands_wrong.ensures ∙ c.if-stands_wrong.false;
+            skipped = sym c.is_skipped.ensures ∙ c.headers-test.true;
+            placed = sym c.is_misplaced.ensures ∙ c.if-is_misplaced.false;
             whole = c.in_ok-len.ensures.1;
-            unrouted = sym c.asks_for_route.ensures ∙ c.if-asks_for_route.false;
+            unrouted = sym c.has_segments.ensures ∙ c.if-has_segments.false;
           })
           c.headers.invariant.chain;
       inside = omega (arith, c.in_ok-len.ensures.3, ap length (take_rest body at), length-drop at body, c.headers.invariant.inside);
