@@ -1,6 +1,6 @@
 // The headers of fragments, appended to what is written.
-ghost use Rattle.std.specs.Prelude.{◌≡◌, ◌+◌, ◌≤◌, ◌++◌, length, IfOk};
-ghost use Rattle.ip_codec.specs.Packet4.{flag_worth};
+ghost use Rattle.std.specs.Prelude.{◌≡◌, ◌+◌, ◌≤◌, ◌++◌, length, IfOk, IsErr};
+ghost use Rattle.ip_codec.specs.Appended.{Extends};
 ghost use Rattle.ip_codec.specs.Packet6.{packet6};
 ghost use Rattle.fragmenter.specs.Pieces6.{piece6, fragment_bytes, fragment_head};
 
@@ -24,7 +24,8 @@ pub(crate) fn push_piece6(
 ) -> Result<(), OutOfMemory>
     requires place { before ≤ 65535 }
     requires most { length first.now + length second.now ≤ 65527 }
-    ensures { IfOk result (λ _. out.new.items ≡ out.old.items ++ piece6 (packet6 packet.now) id before more (first.now ++ second.now)) }
+    ensures bytes { IfOk result (λ _. out.new.items ≡ out.old.items ++ piece6 (packet6 packet.now) id before more (first.now ++ second.now)) }
+    ensures kept { IsErr result → Extends out.old.items out.new.items }
 {
     let head = fragment_head(packet);
     let len = first.len() + second.len();
@@ -36,7 +37,8 @@ pub(crate) fn push_piece6(
 
 // Appends two lists.
 fn push_part(out: &mut Vec<u8>, first: &[u8], second: &[u8]) -> Result<(), OutOfMemory>
-    ensures { IfOk result (λ _. out.new.items ≡ out.old.items ++ (first.now ++ second.now)) }
+    ensures bytes { IfOk result (λ _. out.new.items ≡ out.old.items ++ (first.now ++ second.now)) }
+    ensures kept { IsErr result → Extends out.old.items out.new.items }
 {
     out.extend_from_slice(first)?;
     out.extend_from_slice(second)?;
@@ -65,17 +67,12 @@ fn push_fragment_header(
     id: u32,
 ) -> Result<(), OutOfMemory>
     requires { before ≤ 65535 }
-    ensures { IfOk result (λ _. out.new.items ≡ out.old.items ++ fragment_bytes next before more id) }
+    ensures bytes { IfOk result (λ _. out.new.items ≡ out.old.items ++ fragment_bytes next before more id) }
+    ensures kept { IsErr result → Extends out.old.items out.new.items }
 {
-    let place = (before / 8 * 8) as u16 + flag(more, 1);
+    let place = (before / 8 * 8) as u16 + u16::from(more);
     out.extend_from_slice(&[next, 0])?;
     out.extend_from_slice(&place.to_be_bytes())?;
     out.extend_from_slice(&id.to_be_bytes())?;
     Ok(())
-}
-
-fn flag(on: bool, worth: u16) -> u16
-    ensures { result ≡ flag_worth on worth }
-{
-    if on { worth } else { 0 }
 }

@@ -7,7 +7,7 @@ ghost use Rattle.fragmenter.specs.Pieces4.{Pieces4, pieces4, fragments4, options
 use crate::options::{Options, copied};
 use crate::single::only;
 use aftr_base::{Bytes, OutOfMemory, Packets};
-use ip_codec::{Head4, Ip4View, ip4, push_head4};
+use ip_codec::{Head4, Ip4View, known_packet, push_head4};
 use std::alloc::Global;
 
 /// The most pieces that `cut4` and `Cuts4` give: a payload of 65,515 bytes or less on a link that takes 576, behind headers of
@@ -40,6 +40,7 @@ pub struct Cuts4<'a> {
 impl<'a> Cuts4<'a> {
     ghost use Rattle.fragmenter.specs.Cutting.{HasFirst, IsWritten, part_len};
     ghost use Rattle.fragmenter.specs.Left4.{left4};
+    ghost use Rattle.ip_codec.specs.Appended.{Extends};
 
     /// The pieces of a packet that does not fit a link, for links that take 576 bytes or more. `packet` is one that `ip4`
     /// reads, and no fragment; of its header nothing but the options is taken from the bytes, so its time to live may be
@@ -70,11 +71,13 @@ impl<'a> Cuts4<'a> {
         }
     }
 
-    /// Appends the next piece. After an `Err`, some of it may stand behind `out`, and it is the next one still.
+    /// Appends the next piece. After an `Err` some of it may stand behind what stood there, and it
+    /// is the next one still.
     pub fn push_next(&mut self, out: &mut Vec<u8>) -> Result<(), OutOfMemory>
         requires { left4 self.old ≢ [] }
         ensures written { IfOk result (λ _. IsWritten (left4 self.old) (left4 self.new) out.old.items out.new.items) }
         ensures kept { IsErr result → left4 self.new ≡ left4 self.old }
+        ensures list_kept { IsErr result → Extends out.old.items out.new.items }
     {
         let end = self.before + self.part_len();
         let more = end < self.packet.payload.len();
@@ -143,10 +146,7 @@ pub fn cut4(alloc: Global, packet: &[u8], mtu: u16) -> Result<Packets, OutOfMemo
     ensures only { IfOk result (λ list. (p : Packet4) → ip4_of packet.now ≡ Ok p → list ≡ pieces4 p mtu) }
     ensures few { IfOk result (λ list. length list ≤ MOST_PIECES4) }
 {
-    // The condition says that the packet is read, so there is no other case.
-    let Ok(view) = ip4(packet) else {
-        return Err(OutOfMemory);
-    };
+    let view = known_packet(packet).view;
     if view.total_len() <= usize::from(mtu) {
         return only(alloc, &packet[..view.total_len()]);
     }

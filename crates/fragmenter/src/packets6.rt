@@ -34,6 +34,7 @@ pub struct Cuts6<'a> {
 impl<'a> Cuts6<'a> {
     ghost use Rattle.fragmenter.specs.Cutting.{HasFirst, IsWritten, part_len};
     ghost use Rattle.fragmenter.specs.Left6.{left6};
+    ghost use Rattle.ip_codec.specs.Appended.{Extends};
 
     /// The fragments of a packet that does not fit a link, for links that take 1,280 bytes or more. `packet` is one that `ip6`
     /// reads, without extension headers; `rest` is what its body has behind that of the view, so that a body in two parts is
@@ -65,11 +66,13 @@ impl<'a> Cuts6<'a> {
         }
     }
 
-    /// Appends the next fragment. After an `Err`, some of it may stand behind `out`, and it is the next one still.
+    /// Appends the next fragment. After an `Err` some of it may stand behind what stood there, and it
+    /// is the next one still.
     pub fn push_next(&mut self, out: &mut Vec<u8>) -> Result<(), OutOfMemory>
         requires { left6 self.old ≢ [] }
         ensures written { IfOk result (λ _. IsWritten (left6 self.old) (left6 self.new) out.old.items out.new.items) }
         ensures kept { IsErr result → left6 self.new ≡ left6 self.old }
+        ensures list_kept { IsErr result → Extends out.old.items out.new.items }
     {
         let len = self.part_len();
         let end = self.before + len;
@@ -124,9 +127,8 @@ pub fn cut6(alloc: Global, packet: &[u8], mtu: u16, id: u32) -> Result<Packets, 
     if packet.len() <= usize::from(mtu) {
         return only(alloc, packet);
     }
-    // The condition says that the packet is read, so there is no other case.
     let Ok(view) = ip6(packet) else {
-        return Err(OutOfMemory);
+        unreachable!();
     };
     let list = cut_view(alloc, &view, mtu, id)?;
     Ok(list)

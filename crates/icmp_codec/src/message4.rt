@@ -69,8 +69,8 @@ fn view_of<'a>(bytes: &'a [u8], embedded: Option<Embedded<'a>>) -> Icmp4View<'a>
     }
 }
 
-// Echo reply and echo (RFC 792).
-fn is_echo(kind: u8) -> bool
+/// Whether a message of this type is an echo reply or an echo (RFC 792).
+pub fn is_echo(kind: u8) -> bool
     ensures { result ≡ is_echo kind }
 {
     matches!(kind, 0 | 8)

@@ -1,5 +1,5 @@
 -- The ICMPv4 errors that the router sends (RFC 792; RFC 1812, section 4.3.2).
-use Rattle.std.specs.Prelude.{◌≡◌, ℕ, ◌-◌, ◌/◌, true, false, List, [], ◌++◌, length, take, Some, Ok}
+use Rattle.std.specs.Prelude.{◌≡◌, ℕ, ◌+◌, ◌-◌, ◌/◌, true, false, List, [], ◌++◌, length, take, min, Some, Ok}
 use Rattle.icmp_codec.specs.Quoted.{EmbeddedPacket}
 use Rattle.aftr_base.specs.declared.numbers.V4.{V4}
 use Rattle.icmp_codec.specs.Message4.{icmp4_bytes, icmp4_of}
@@ -11,6 +11,10 @@ use Rattle.ip_codec.specs.declared.packet4.Head4.{Head4}
 -- of 20 and the message's first 8 (RFC 1812, section 4.3.2.3).
 abbrev pub most_quoted : ℕ
 most_quoted = 548
+
+-- how many bytes an error has that quotes a packet of so many
+abbrev pub error_len : ℕ → ℕ
+error_len quoted = 28 + min most_quoted quoted
 
 -- the header of an error: no type of service and no identification (both ours), DF, the time to live that hosts start with,
 -- and ICMP behind it

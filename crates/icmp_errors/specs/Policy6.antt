@@ -1,5 +1,5 @@
 -- The ICMPv6 error to a subscriber whose packets no binding covers (RFC 7596, section 6.2; RFC 4443, section 3.1).
-use Rattle.std.specs.Prelude.{◌≡◌, ℕ, List, take, Ok}
+use Rattle.std.specs.Prelude.{◌≡◌, ℕ, ◌+◌, List, take, min, Ok}
 use Rattle.aftr_base.specs.declared.numbers.V6.{V6}
 use Rattle.icmp_codec.specs.Message6.{icmp6_bytes, icmp6_of, made_message6}
 use Rattle.ip_codec.specs.Packet6.{bytes6, ip6_of, made6}
@@ -10,6 +10,10 @@ use Rattle.ip_codec.specs.declared.packet6.Head6.{Head6}
 -- the message's first 8 (RFC 4443, section 2.4 (c)).
 abbrev pub most_quoted6 : ℕ
 most_quoted6 = 1232
+
+-- how many bytes an error has about an inner packet of so many
+abbrev pub policy_len : ℕ → ℕ
+policy_len inner = 48 + min most_quoted6 (40 + inner)
 
 -- The header of the tunnel packet that came. What stood between it and the inner packet is not kept, so the quote has IPv4
 -- behind it and the length of the inner packet (ours).

@@ -5,10 +5,11 @@ ghost use Rattle.ip_codec.specs.Packet4.{packet4};
 ghost use Rattle.icmp_errors.specs.Answers.{about, first_bits, first_byte, gets_answer, gets_answer6, holds_echo};
 
 use aftr_base::{V4, V6};
-use icmp_codec::Embedded;
+use icmp_codec::{Embedded, is_echo};
 use ip_codec::Ip4View;
 
-const ICMP: u8 = 1;
+// The number of ICMP among the protocols (RFC 792).
+pub(crate) const ICMP: u8 = 1;
 
 /// Whether an ICMP error may be sent about the packet (RFC 1122, section 3.2.2; RFC 1812, section 4.3.2.7).
 pub fn may_complain(p: &Ip4View<'_>) -> bool
@@ -36,7 +37,10 @@ pub fn may_complain_about(packet: &Embedded<'_>) -> bool
 fn holds_echo(message: &[u8]) -> bool
     ensures { result ≡ holds_echo message.now }
 {
-    matches!(message, [0 | 8, ..])
+    match message {
+        [kind, ..] => is_echo(*kind),
+        [] => false,
+    }
 }
 
 // Whether the address is a group's or the broadcast.

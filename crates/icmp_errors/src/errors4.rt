@@ -1,14 +1,15 @@
 // The ICMPv4 errors that the router sends.
-ghost use Rattle.std.specs.Prelude.{◌≡◌, ◌+◌, ◌^◌, ◌<◌, ◌≤◌, ◌++◌, false, min, length, take, if◌then◌else◌, is_ok, IfOk, Ok, Some, []};
+ghost use Rattle.std.specs.Prelude.{◌≡◌, ◌+◌, ◌^◌, ◌<◌, ◌≤◌, ◌++◌, false, length, take, if◌then◌else◌, is_ok, IfOk, Ok, Some, []};
 ghost use Rattle.icmp_codec.specs.Message4.{icmp4_bytes, is_echo};
 ghost use Rattle.icmp_codec.specs.Quoted.{EmbeddedPacket, embedded_of};
 ghost use Rattle.ip_codec.specs.Packet4.{header4, ip4_of, made4, packet4, packet_len};
-ghost use Rattle.icmp_errors.specs.Errors4.{TellsOf, TellsSource, error4, error_about, error_head, exceeded_bytes, most_quoted, too_big_bytes, unreachable_bytes};
+ghost use Rattle.icmp_errors.specs.Errors4.{TellsOf, TellsSource, error4, error_about, error_head, error_len, exceeded_bytes, most_quoted, too_big_bytes, unreachable_bytes};
 
+use crate::answers::ICMP;
 use crate::fronts::front;
-use aftr_base::{Bytes, OutOfMemory, V4, put_checksum};
+use aftr_base::{Bytes, OutOfMemory, V4};
 use icmp_codec::{IcmpHead, push_icmp4};
-use ip_codec::Ip4View;
+use ip_codec::{Head4, Ip4View, head4_bytes};
 use std::alloc::Global;
 
 // How much of a packet is quoted at most, and what stands before it: the IPv4 header and the first part of the message.
@@ -17,6 +18,9 @@ const MOST_QUOTED: usize = 548;
 const HEADER_LEN: usize = 20;
 
 const MESSAGE_HEAD_LEN: usize = 8;
+
+// The time to live that hosts start with.
+const TTL: u8 = 64;
 
 // Types and codes (RFC 792; RFC 1191, section 4).
 const UNREACHABLE: u8 = 3;
@@ -35,11 +39,18 @@ const TIME_EXCEEDED: IcmpHead = IcmpHead {
     word: 0,
 };
 
+/// How many bytes an ICMPv4 error has that quotes a packet of so many bytes, or the first of them.
+pub fn error_len(quoted: usize) -> usize
+    ensures { result ≡ error_len quoted }
+{
+    HEADER_LEN + MESSAGE_HEAD_LEN + MOST_QUOTED.min(quoted)
+}
+
 /// Destination unreachable, code 1, to the packet's source from the address `own` (RFC 792). It quotes the first 548 bytes
 /// of the packet, and has 576 at most.
 pub fn host_unreachable(alloc: Global, own: V4, p: &Ip4View<'_>) -> Result<Bytes, OutOfMemory>
     ensures bytes { IfOk result (λ packet. packet ≡ unreachable_bytes own (packet4 p.now)) }
-    ensures size { IfOk result (λ packet. length packet ≡ 28 + min most_quoted (packet_len (packet4 p.now))) }
+    ensures size { IfOk result (λ packet. length packet ≡ error_len (packet_len (packet4 p.now))) }
     ensures most { IfOk result (λ packet. length packet ≤ 576) }
     ensures told { IfOk result (λ packet. TellsSource own 3 1 0 (packet4 p.now) packet) }
 {
@@ -52,7 +63,7 @@ pub fn host_unreachable(alloc: Global, own: V4, p: &Ip4View<'_>) -> Result<Bytes
 /// and `mtu` bytes would fit (RFC 1191, section 4). It quotes the first 548 bytes of the packet, and has 576 at most.
 pub fn too_big(alloc: Global, own: V4, mtu: u16, p: &Ip4View<'_>) -> Result<Bytes, OutOfMemory>
     ensures bytes { IfOk result (λ packet. packet ≡ too_big_bytes own mtu (packet4 p.now)) }
-    ensures size { IfOk result (λ packet. length packet ≡ 28 + min most_quoted (packet_len (packet4 p.now))) }
+    ensures size { IfOk result (λ packet. length packet ≡ error_len (packet_len (packet4 p.now))) }
     ensures most { IfOk result (λ packet. length packet ≤ 576) }
     ensures told { IfOk result (λ packet. TellsSource own 3 4 mtu (packet4 p.now) packet) }
 {
@@ -65,7 +76,7 @@ pub fn too_big(alloc: Global, own: V4, mtu: u16, p: &Ip4View<'_>) -> Result<Byte
 /// packet, and has 576 at most.
 pub fn time_exceeded(alloc: Global, own: V4, p: &Ip4View<'_>) -> Result<Bytes, OutOfMemory>
     ensures bytes { IfOk result (λ packet. packet ≡ exceeded_bytes own (packet4 p.now)) }
-    ensures size { IfOk result (λ packet. length packet ≡ 28 + min most_quoted (packet_len (packet4 p.now))) }
+    ensures size { IfOk result (λ packet. length packet ≡ error_len (packet_len (packet4 p.now))) }
     ensures most { IfOk result (λ packet. length packet ≤ 576) }
     ensures told { IfOk result (λ packet. TellsSource own 11 0 0 (packet4 p.now) packet) }
 {
@@ -81,7 +92,7 @@ pub fn push_host_unreachable(
     p: &Ip4View<'_>,
 ) -> Result<(), OutOfMemory>
     ensures bytes { list.new.items ≡ (if is_ok result then list.old.items ++ unreachable_bytes own (packet4 p.now) else list.old.items) }
-    ensures size { length (unreachable_bytes own (packet4 p.now)) ≡ 28 + min most_quoted (packet_len (packet4 p.now)) }
+    ensures size { length (unreachable_bytes own (packet4 p.now)) ≡ error_len (packet_len (packet4 p.now)) }
     ensures told { IfOk result (λ _. TellsSource own 3 1 0 (packet4 p.now) (unreachable_bytes own (packet4 p.now))) }
 {
     push_about(list, own, HOST_UNREACHABLE, p)
@@ -95,7 +106,7 @@ pub fn push_too_big(
     p: &Ip4View<'_>,
 ) -> Result<(), OutOfMemory>
     ensures bytes { list.new.items ≡ (if is_ok result then list.old.items ++ too_big_bytes own mtu (packet4 p.now) else list.old.items) }
-    ensures size { length (too_big_bytes own mtu (packet4 p.now)) ≡ 28 + min most_quoted (packet_len (packet4 p.now)) }
+    ensures size { length (too_big_bytes own mtu (packet4 p.now)) ≡ error_len (packet_len (packet4 p.now)) }
     ensures told { IfOk result (λ _. TellsSource own 3 4 mtu (packet4 p.now) (too_big_bytes own mtu (packet4 p.now))) }
 {
     let head = IcmpHead {
@@ -109,7 +120,7 @@ pub fn push_too_big(
 /// Appends what `time_exceeded` writes. Where there is no memory, the list stays as it was.
 pub fn push_time_exceeded(list: &mut Vec<u8>, own: V4, p: &Ip4View<'_>) -> Result<(), OutOfMemory>
     ensures bytes { list.new.items ≡ (if is_ok result then list.old.items ++ exceeded_bytes own (packet4 p.now) else list.old.items) }
-    ensures size { length (exceeded_bytes own (packet4 p.now)) ≡ 28 + min most_quoted (packet_len (packet4 p.now)) }
+    ensures size { length (exceeded_bytes own (packet4 p.now)) ≡ error_len (packet_len (packet4 p.now)) }
     ensures told { IfOk result (λ _. TellsSource own 11 0 0 (packet4 p.now) (exceeded_bytes own (packet4 p.now))) }
 {
     push_about(list, own, TIME_EXCEEDED, p)
@@ -125,7 +136,7 @@ fn push_about(
     requires { is_echo head.kind ≡ false }
     ensures bytes { list.new.items ≡ (if is_ok result
         then list.old.items ++ error_about own head.kind head.code head.word (packet4 p.now) else list.old.items) }
-    ensures size { length (error_about own head.kind head.code head.word (packet4 p.now)) ≡ 28 + min most_quoted (packet_len (packet4 p.now)) }
+    ensures size { length (error_about own head.kind head.code head.word (packet4 p.now)) ≡ error_len (packet_len (packet4 p.now)) }
     ensures told { IfOk result (λ _.
         TellsSource own head.kind head.code head.word (packet4 p.now) (error_about own head.kind head.code head.word (packet4 p.now))) }
 {
@@ -145,7 +156,7 @@ pub fn push_error4(
 ) -> Result<(), OutOfMemory>
     ensures bytes { list.new.items ≡ (if is_ok result
         then list.old.items ++ error4 own to head.kind head.code head.word (header.now ++ payload.now) else list.old.items) }
-    ensures size { length (error4 own to head.kind head.code head.word (header.now ++ payload.now)) ≡ 28 + min most_quoted (length header.now + length payload.now) }
+    ensures size { length (error4 own to head.kind head.code head.word (header.now ++ payload.now)) ≡ error_len (length header.now + length payload.now) }
 
     // It is read as a packet from one address to the other, which holds the message.
     ensures read { IfOk result (λ _. ip4_of (error4 own to head.kind head.code head.word (header.now ++ payload.now))
@@ -169,12 +180,17 @@ fn error_header(own: V4, to: V4, message_len: u16) -> [u8; 20]
     ensures bytes { result ≡ header4 (error_head own to) [] message_len }
     ensures addresses_fit { (own.0 < 2 ^ 32) × (to.0 < 2 ^ 32) }
 {
-    let [total_high, total_low] = (HEADER_LEN as u16 + message_len).to_be_bytes();
-    let [s0, s1, s2, s3] = own.0.to_be_bytes();
-    let [d0, d1, d2, d3] = to.0.to_be_bytes();
-    let mut header = [
-        0x45, 0, total_high, total_low, 0, 0, 0x40, 0, 64, 1, 0, 0, s0, s1, s2, s3, d0, d1, d2, d3,
-    ];
-    put_checksum(&mut header, 10);
-    header
+    let head = Head4 {
+        tos: 0,
+        id: 0,
+        reserved: false,
+        df: true,
+        mf: false,
+        offset: 0,
+        ttl: TTL,
+        protocol: ICMP,
+        src: own,
+        dst: to,
+    };
+    head4_bytes(head, message_len)
 }

@@ -8,7 +8,7 @@ mod policy6;
 
 pub use answers::{may_complain, may_complain_about, may_complain6};
 pub use errors4::{
-    host_unreachable, push_error4, push_host_unreachable, push_time_exceeded, push_too_big,
-    time_exceeded, too_big,
+    error_len, host_unreachable, push_error4, push_host_unreachable, push_time_exceeded,
+    push_too_big, time_exceeded, too_big,
 };
-pub use policy6::{push_source_policy6, source_policy6};
+pub use policy6::{policy_len, push_source_policy6, source_policy6};

@@ -1,6 +1,6 @@
 // The ICMPv6 error to a subscriber whose packets no binding covers.
 ghost use Rattle.std.specs.Prelude.{◌≡◌, ◌+◌, ◌^◌, ◌<◌, ◌≤◌, ◌++◌, min, take, length, if◌then◌else◌, is_ok, IfOk};
-ghost use Rattle.icmp_errors.specs.Policy6.{TellsPolicy, most_quoted6, policy6, quoted_head};
+ghost use Rattle.icmp_errors.specs.Policy6.{TellsPolicy, policy6, policy_len, quoted_head};
 ghost use Rattle.ip_codec.specs.Packet6.{header6};
 
 use crate::fronts::front;
@@ -31,6 +31,14 @@ const SOURCE_POLICY: IcmpHead = IcmpHead {
     word: 0,
 };
 
+/// How many bytes the error has about an inner packet of so many bytes, at most 65,535.
+pub fn policy_len(inner: usize) -> usize
+    requires { inner ≤ 65535 }
+    ensures { result ≡ policy_len inner }
+{
+    HEADER_LEN + MESSAGE_HEAD_LEN + (HEADER_LEN + MOST_INNER).min(HEADER_LEN + inner)
+}
+
 /// Destination unreachable, code 5, from one address to another with this hop limit (RFC 7596, section 6.2; RFC 4443,
 /// section 3.1). It quotes the tunnel packet that came: its header's first word, hop limit and addresses, and the inner
 /// packet of at most 65,535 bytes. It quotes 1,232 bytes at most, and has 1,280 at most.
@@ -44,7 +52,7 @@ pub fn source_policy6(
 ) -> Result<Bytes, OutOfMemory>
     requires { length inner.now ≤ 65535 }
     ensures bytes { IfOk result (λ packet. packet ≡ policy6 from to hop outer.now inner.now) }
-    ensures size { IfOk result (λ packet. length packet ≡ 48 + min most_quoted6 (40 + length inner.now)) }
+    ensures size { IfOk result (λ packet. length packet ≡ policy_len (length inner.now)) }
     ensures most { IfOk result (λ packet. length packet ≤ 1280) }
     ensures told { IfOk result (λ packet. TellsPolicy from to hop outer.now inner.now packet) }
 {
@@ -67,7 +75,7 @@ pub fn push_source_policy6(
     requires header { length header.now ≤ 60 }
     requires most { length header.now + length payload.now ≤ 65535 }
     ensures bytes { list.new.items ≡ (if is_ok result then list.old.items ++ policy6 from to hop outer.now (header.now ++ payload.now) else list.old.items) }
-    ensures size { length (policy6 from to hop outer.now (header.now ++ payload.now)) ≡ 48 + min most_quoted6 (40 + (length header.now + length payload.now)) }
+    ensures size { length (policy6 from to hop outer.now (header.now ++ payload.now)) ≡ policy_len (length header.now + length payload.now) }
     ensures told { IfOk result (λ _.
         TellsPolicy from to hop outer.now (header.now ++ payload.now) (policy6 from to hop outer.now (header.now ++ payload.now))) }
 {

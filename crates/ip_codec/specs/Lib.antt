@@ -1,3 +1,4 @@
+pub mod Appended
 pub mod Packet4
 pub mod Packet6
 pub mod Rules

@@ -9,7 +9,9 @@ mod readings;
 mod rules;
 
 pub use items::{Item, ItemView, Outer};
-pub use packet4::{Head4, Ip4Bad, Ip4View, ip4, is_plain4, push_head4, put4};
+pub use packet4::{
+    Head4, Ip4Bad, Ip4View, head4_bytes, ip4, is_plain4, push_head4, put4, sum_of_both,
+};
 pub use packet6::{Head6, Ip6Bad, Ip6View, head6_bytes, ip6, is_ip6, known_ip6, push_head6, put6};
 pub use readings::{ReadPacket, Unread, known_packet, plain_packet, read_packet};
 pub use rules::Rule;

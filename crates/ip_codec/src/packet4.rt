@@ -1,7 +1,8 @@
 // IPv4 packets, read and written.
-ghost use Rattle.std.specs.Prelude.{◌≡◌, ◌≢◌, ◌==◌, ◌+◌, ◌-◌, ◌%◌, ◌^◌, ◌<◌, ◌≤◌, ◌++◌, length, take, IfOk, Ok, false};
+ghost use Rattle.std.specs.Prelude.{◌≡◌, ◌≢◌, ◌==◌, ◌+◌, ◌-◌, ◌%◌, ◌^◌, ◌<◌, ◌≤◌, ◌++◌, length, take, IfOk, IsErr, Ok, [], false};
 ghost use Rattle.aftr_base.specs.Numbers.{big_endian, span};
 ghost use Rattle.aftr_base.specs.Sums.{checksum, folded, word_sum};
+ghost use Rattle.ip_codec.specs.Appended.{Extends};
 ghost use Rattle.ip_codec.specs.Packet4.{ip4_of, packet4, Reads4, IsBounded4, fields4, header4, fixed4, flags_of, flag_worth, made4, is_fragment, is_plain, packet_len, starts_plain};
 
 use aftr_base::{Bytes, OutOfMemory, V4, be16, be32, patch16, put_be16, put_checksum, sum16};
@@ -255,7 +256,8 @@ pub fn put4(
 }
 
 /// Appends the header with these fields, options and its checksum, before a payload of a length (RFC 791, section 3.1). The
-/// options fill whole words of four bytes, ten at most; the packet has at most 65,535 bytes.
+/// options fill whole words of four bytes, ten at most; the packet has at most 65,535 bytes. After an `Err` some of it may stand
+/// behind what stood there.
 pub fn push_head4(
     out: &mut Vec<u8>,
     head: &Head4,
@@ -266,7 +268,8 @@ pub fn push_head4(
     requires most_options { length options.now ≤ 40 }
     requires offset { head.now.offset ≤ 8191 }
     requires most { 20 + length options.now + payload_len ≤ 65535 }
-    ensures { IfOk result (λ _. out.new.items ≡ out.old.items ++ header4 head.now options.now payload_len) }
+    ensures bytes { IfOk result (λ _. out.new.items ≡ out.old.items ++ header4 head.now options.now payload_len) }
+    ensures kept { IsErr result → Extends out.old.items out.new.items }
 {
     let header_len = 20 + options.len();
     let total_len = header_len + payload_len;
@@ -278,11 +281,25 @@ pub fn push_head4(
     Ok(())
 }
 
-// The checksum of bytes of an even number and of others behind them. Patching adds up the complements of two sums.
-fn sum_of_both(first: &[u8], rest: &[u8]) -> u16
+/// The header without options with these fields and its checksum, before a payload of a length (RFC 791, section 3.1).
+#[inline(always)]
+pub fn head4_bytes(head: Head4, payload_len: u16) -> [u8; 20]
+    requires offset { head.offset ≤ 8191 }
+    requires most { 20 + payload_len ≤ 65535 }
+    ensures bytes { result ≡ header4 head [] payload_len }
+    ensures addresses_fit { (head.src.0 < 2 ^ 32) × (head.dst.0 < 2 ^ 32) }
+{
+    let mut header = fixed_part(head, PLAIN_HEADER as u8, PLAIN_HEADER as u16 + payload_len);
+    put_checksum(&mut header, 10);
+    header
+}
+
+/// The checksum of bytes of an even number and of others behind them (RFC 1071).
+pub fn sum_of_both(first: &[u8], rest: &[u8]) -> u16
     requires { length first.now % 2 ≡ 0 }
     ensures { result ≡ checksum (first.now ++ rest.now) }
 {
+    // Patching adds up the complements of two sums.
     patch16(sum16(first), sum16(rest), 0)
 }
 

@@ -1,6 +1,7 @@
 // IPv6 packets, read and written.
-ghost use Rattle.std.specs.Prelude.{◌≡◌, ◌+◌, ◌^◌, ◌<◌, ◌≤◌, ◌++◌, length, IfOk, Ok, is_ok, true};
+ghost use Rattle.std.specs.Prelude.{◌≡◌, ◌+◌, ◌^◌, ◌<◌, ◌≤◌, ◌++◌, length, IfOk, IsErr, Ok, is_ok, true};
 ghost use Rattle.std.specs.Int.{w128, to_be_bytes};
+ghost use Rattle.ip_codec.specs.Appended.{Extends};
 ghost use Rattle.ip_codec.specs.Packet6.{ip6_of, packet6, Reads6, IsBounded6, version6, bytes6, fields6, header6, made6, payload_len};
 
 use aftr_base::{Bytes, OutOfMemory, V6, be16, be32, be128};
@@ -115,9 +116,11 @@ pub fn put6(alloc: Global, head: &Head6, body: &[u8]) -> Result<Bytes, OutOfMemo
     Ok(Bytes::of(list))
 }
 
-/// Appends the fixed header with these fields, before a body of a length (RFC 8200, section 3).
+/// Appends the fixed header with these fields, before a body of a length (RFC 8200, section 3). After an `Err` some of it may stand
+/// behind what stood there.
 pub fn push_head6(out: &mut Vec<u8>, head: &Head6, payload_len: u16) -> Result<(), OutOfMemory>
-    ensures { IfOk result (λ _. out.new.items ≡ out.old.items ++ header6 head.now payload_len) }
+    ensures bytes { IfOk result (λ _. out.new.items ≡ out.old.items ++ header6 head.now payload_len) }
+    ensures kept { IsErr result → Extends out.old.items out.new.items }
 {
     out.extend_from_slice(&head6_bytes(*head, payload_len))?;
     Ok(())

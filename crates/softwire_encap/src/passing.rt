@@ -1,6 +1,7 @@
 // Packets that are passed on.
-ghost use Rattle.std.specs.Prelude.{◌≡◌, ℕ, ◌+◌, ◌-◌, ◌≤◌, ◌++◌, drop, length, take, IfOk, Ok};
+ghost use Rattle.std.specs.Prelude.{◌≡◌, ℕ, ◌+◌, ◌-◌, ◌≤◌, ◌++◌, drop, length, take, IfOk, IsErr, Ok};
 ghost use Rattle.aftr_base.specs.Sums.{patched};
+ghost use Rattle.ip_codec.specs.Appended.{Extends};
 ghost use Rattle.ip_codec.specs.Packet4.{ip4_of, packet4, packet_len};
 ghost use Rattle.softwire_encap.specs.Passing.{lowered, lowered_header, passed};
 
@@ -33,7 +34,7 @@ pub fn lower(alloc: Global, p: &Ip4View<'_>) -> Result<Bytes, OutOfMemory>
     Ok(Bytes::of(list))
 }
 
-/// Puts the packet that `lower` makes behind what `out` holds. After an `Err` some of it may stand there.
+/// Appends the packet that `lower` makes. After an `Err` some of it may stand behind what stood there.
 #[inline(always)]
 pub fn push_lowered(out: &mut Vec<u8>, p: &Ip4View<'_>) -> Result<(), OutOfMemory>
     requires whole { ip4_of (p.now.header.now ++ p.now.payload.now) ≡ Ok (packet4 p.now) }
@@ -41,6 +42,7 @@ pub fn push_lowered(out: &mut Vec<u8>, p: &Ip4View<'_>) -> Result<(), OutOfMemor
     ensures bytes { IfOk result (λ _. out.new.items ≡ out.old.items ++ lowered (packet4 p.now)) }
     ensures read { IfOk result (λ _. ip4_of (lowered (packet4 p.now)) ≡ Ok (passed (packet4 p.now))) }
     ensures size { IfOk result (λ _. length (lowered (packet4 p.now)) ≡ packet_len (packet4 p.now)) }
+    ensures kept { IsErr result → Extends out.old.items out.new.items }
 {
     let from = out.len();
     push_header(out, p.header)?;
@@ -49,10 +51,11 @@ pub fn push_lowered(out: &mut Vec<u8>, p: &Ip4View<'_>) -> Result<(), OutOfMemor
     Ok(())
 }
 
-// Puts a header there. One without options, as most are, has a length that the compiler knows, and needs no call.
+// Appends a header. One without options, as most are, has a length that the compiler knows, and needs no call.
 #[inline(always)]
 fn push_header(out: &mut Vec<u8>, header: &[u8]) -> Result<(), OutOfMemory>
-    ensures { IfOk result (λ _. out.new.items ≡ out.old.items ++ header.now) }
+    ensures bytes { IfOk result (λ _. out.new.items ≡ out.old.items ++ header.now) }
+    ensures kept { IsErr result → Extends out.old.items out.new.items }
 {
     if header.len() == PLAIN_HEADER {
         out.extend_from_slice(&header[..PLAIN_HEADER])?;

@@ -1,5 +1,6 @@
 // IPv4 packets in IPv6 packets.
-ghost use Rattle.std.specs.Prelude.{◌≡◌, ℕ, ◌+◌, ◌*◌, ◌≤◌, ◌++◌, List, length, IfOk, Ok};
+ghost use Rattle.std.specs.Prelude.{◌≡◌, ℕ, ◌+◌, ◌*◌, ◌≤◌, ◌++◌, List, length, IfOk, IsErr, Ok};
+ghost use Rattle.ip_codec.specs.Appended.{Extends};
 ghost use Rattle.ip_codec.specs.Packet4.{ip4_of, packet4, packet_len};
 ghost use Rattle.ip_codec.specs.Packet6.{Packet6, ip6_of, packet6};
 ghost use Rattle.softwire_encap.specs.Passing.{lowered};
@@ -70,8 +71,8 @@ pub fn tunnel_view<'a>(from: V6, to: V6, hop: u8, inner: &'a [u8]) -> Ip6View<'a
     }
 }
 
-/// Puts the header of the tunnel packet that `encap` makes behind what `out` holds, for an inner packet of `len` bytes with
-/// the type of service `tos`. The inner packet goes behind it. After an `Err` some of the header may stand there.
+/// Appends the header of the tunnel packet that `encap` makes, for an inner packet of `len` bytes with the type of service `tos`.
+/// The inner packet goes behind it. After an `Err` some of the header may stand behind what stood there.
 #[inline(always)]
 pub fn push_tunnel_head(
     out: &mut Vec<u8>,
@@ -81,13 +82,14 @@ pub fn push_tunnel_head(
     tos: u8,
     len: u16,
 ) -> Result<(), OutOfMemory>
-    ensures { IfOk result (λ _. out.new.items ≡ out.old.items ++ tunnel_front from to hop tos len) }
+    ensures bytes { IfOk result (λ _. out.new.items ≡ out.old.items ++ tunnel_front from to hop tos len) }
+    ensures kept { IsErr result → Extends out.old.items out.new.items }
 {
     push_head6(out, &tunnel_head(from, to, hop, tos), len)
 }
 
-/// Puts the packet that `lower` makes behind what `out` holds, in the tunnel packet that `encap` makes of it. After an `Err`
-/// some of it may stand there.
+/// Appends the packet that `lower` makes, in the tunnel packet that `encap` makes of it. After an `Err` some of it may stand
+/// behind what stood there.
 pub fn push_tunnelled(
     out: &mut Vec<u8>,
     from: V6,
@@ -100,6 +102,7 @@ pub fn push_tunnelled(
     requires most { packet_len (packet4 p.now) ≤ 65535 }
     ensures bytes { IfOk result (λ _. out.new.items ≡ out.old.items ++ wrapped from to hop (lowered (packet4 p.now))) }
     ensures size { IfOk result (λ _. length (wrapped from to hop (lowered (packet4 p.now))) ≡ packet_len (packet4 p.now) + 40) }
+    ensures kept { IsErr result → Extends out.old.items out.new.items }
 {
     push_tunnel_head(out, from, to, hop, p.tos, p.total_len() as u16)?;
     push_lowered(out, p)?;

@@ -6,8 +6,8 @@ use Rattle.fragmenter.specs.Pieces6.{fragment_bytes, fragment_head}
 use Rattle.fragmenter.proofs.CutLemmas.{appended}
 use Rattle.fragmenter.proofs.headers.push_piece6.Goals as goal
 
-pub returns : goal.returns
-returns c =
+pub returns-clause-bytes : goal.returns-clause-bytes
+returns-clause-bytes c =
     let packet = packet6 c.args.packet.now in
     let out = c.args.out.now.items in
     let part = c.args.first.now ++ c.args.second.now in
@@ -16,5 +16,5 @@ returns c =
     let len_is : 8 + (length c.args.first.now + length c.args.second.now) ≡ length (fragment ++ part) =
     omega (arith, length-append c.args.first.now c.args.second.now) in
     appended out (header6 (fragment_head packet) (length (fragment ++ part))) _ _ (fragment ++ part)
-    (c.in_ok-push_head6.ensures ∙ (λ i. out ++ header6 (head_is i) (len_is i)))
-    (appended c.push_head6.new.out.items fragment _ _ part c.in_ok-push_fragment_header.ensures c.in_ok-push_part.ensures)
+    (c.in_ok-push_head6.ensures.bytes ∙ (λ i. out ++ header6 (head_is i) (len_is i)))
+    (appended c.push_head6.new.out.items fragment _ _ part c.in_ok-push_fragment_header.ensures.bytes c.in_ok-push_part.ensures.bytes)

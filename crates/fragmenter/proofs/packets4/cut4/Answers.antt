@@ -6,16 +6,16 @@ use Rattle.fragmenter.proofs.packets4.cut4.Goals as goal
 
 pub returns-clause-pieces : goal.returns-clause-pieces
 returns-clause-pieces c =
-    let view = packet4 c.in-Ok.view in
-    let bounds = c.in-Ok.ensures.bounded in
+    let view = packet4 c.known_packet.result.view in
+    let bounds = c.known_packet.result.bounded in
     let long : c.args.mtu < packet_len view = omega (arith, c.if-total_len-from.false, c.from.ensures, c.total_len.ensures) in
     λ p read. cut-read4 c.args.packet.now view p c.args.mtu c.in_ok-list.list (rooms4 view c.args.mtu c.requires.least_mtu bounds.most_header bounds.whole_words)
-    c.in-Ok.ensures.reads read long c.in_ok-list.ensures
+    c.known_packet.ensures.read read long c.in_ok-list.ensures
 
 pub returns-clause-few : goal.returns-clause-few
 returns-clause-few c =
-    let view = packet4 c.in-Ok.view in
-    let bounds = c.in-Ok.ensures.bounded in
+    let view = packet4 c.known_packet.result.view in
+    let bounds = c.known_packet.result.bounded in
     let few : length c.in_ok-list.list ≤ 128 =
     omega (
       arith,

@@ -11,4 +11,4 @@ returns-clause-bytes c =
     let packet = packet4 c.args.p.now in
     let like = like_old packet c.requires.whole in
     wrapped-pushed c.args.from c.args.to c.args.hop packet.tos c.total_len.result c.args.out.now.items c.push_tunnel_head.new.out.items c.push_lowered.new.out.items
-    (lowered packet) like.tos (like.len ∙ sym c.total_len.ensures) c.in_ok-push_tunnel_head.ensures c.in_ok-push_lowered.ensures.bytes
+    (lowered packet) like.tos (like.len ∙ sym c.total_len.ensures) c.in_ok-push_tunnel_head.ensures.bytes c.in_ok-push_lowered.ensures.bytes

@@ -24,5 +24,5 @@ returns-clause-written c =
       is = first-piece (room4 packet cuts.mtu) (rooms4 packet cuts.mtu cuts.least_mtu cuts.most_header cuts.header_words) (piece4 packet) body before len more inside c.part_len.ensures.part refl;
       written = piece4-written out c.options-options.result.now (take (before + len - before) (drop before body))
           (take len (drop before body)) c.push_head4.new.out.items c.extend_from_slice.new.self.items packet before more c.head_of-head.result
-          c.head_of-head.ensures c.options-options.ensures.are part c.in_ok-push_head4.ensures c.in_ok-extend_from_slice.ensures.items;
+          c.head_of-head.ensures c.options-options.ensures.are part c.in_ok-push_head4.ensures.bytes c.in_ok-extend_from_slice.ensures.items;
     }

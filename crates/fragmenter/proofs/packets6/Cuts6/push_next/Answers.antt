@@ -26,5 +26,5 @@ returns-clause-written c =
     record {
       first = piece6 packet cuts.id before more (take len (drop before body));
       is = first-piece (room6 cuts.mtu) (rooms6 cuts.mtu cuts.least_mtu) (piece6 packet cuts.id) body before len more inside c.part_len-len.ensures.part refl;
-      written = c.in_ok-push_piece6.ensures ∙ (λ i. out ++ piece6 packet cuts.id before (more_is i) (part i));
+      written = c.in_ok-push_piece6.ensures.bytes ∙ (λ i. out ++ piece6 packet cuts.id before (more_is i) (part i));
     }
