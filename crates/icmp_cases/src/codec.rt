@@ -1,6 +1,8 @@
 // Messages read and written.
 use aftr_base::V6;
-use icmp_codec::{IcmpBad, IcmpHead, icmp4, icmp6, push_icmp4, push_icmp6, put_icmp4, put_icmp6};
+use icmp_codec::{
+    IcmpBad, IcmpHead, icmp4, icmp6, is_echo, push_icmp4, push_icmp6, put_icmp4, put_icmp6,
+};
 use std::test::Fail;
 
 // An echo with the identifier 1232; the same with a wrong checksum.
@@ -55,6 +57,12 @@ fn told(bytes: &[u8]) -> Result<Told, IcmpBad> {
         None => (0, 0),
     };
     Ok((view.kind, view.code, view.id, view.word, protocol, payload))
+}
+
+#[test]
+fn echoes_are_told_by_their_type(rt: HostRuntime) {
+    assert!(rt; is_echo(0) && is_echo(8));
+    assert!(rt; !is_echo(3) && !is_echo(13));
 }
 
 #[test]

@@ -3,7 +3,8 @@ ghost use Rattle.std.specs.Prelude.{◌≡◌, IfOk, vec_len};
 
 use aftr_base::{V4, V6};
 use icmp_errors::{
-    host_unreachable, may_complain, may_complain6, source_policy6, time_exceeded, too_big,
+    error_len, host_unreachable, may_complain, may_complain6, policy_len, source_policy6,
+    time_exceeded, too_big,
 };
 use ip_codec::{Ip4View, Outer, ip4};
 use std::test::Fail;
@@ -113,6 +114,18 @@ fn policy_errors_about_long_packets_are_cut(rt: HostRuntime) -> Result<(), Fail>
     assert_eq!(rt; policy.as_slice().len(), 1280);
     assert!(rt; has_zeros_behind(policy.as_slice(), LONG_POLICY_HEAD));
     Ok(())
+}
+
+#[test]
+fn lengths_of_errors_are_known_before(rt: HostRuntime) {
+    assert_eq!(rt;
+        (error_len(32), error_len(548), error_len(1461)),
+        (60, 576, 576)
+    );
+    assert_eq!(rt;
+        (policy_len(32), policy_len(1192), policy_len(1461)),
+        (120, 1280, 1280)
+    );
 }
 
 fn answered(protocol: u8, offset: u16, src: u32, dst: u32, payload: &[u8]) -> bool {
