@@ -1,5 +1,5 @@
 // Captures that are written: their headers, and what stands round each packet.
-ghost use Rattle.std.specs.Prelude.{◌≡◌, ◌/◌, ◌%◌, ◌^◌, ◌≤◌, ◌++◌, IfOk};
+ghost use Rattle.std.specs.Prelude.{◌≡◌, ℕ, ◌/◌, ◌%◌, ◌^◌, ◌≤◌, ◌++◌, List, IfOk, IsErr};
 ghost use Rattle.capture_io.specs.Packets.{block_head, block_len, block_tail, block_words, file_head, packet_head, packet_tail, padding, record_head, section_bytes, ticks};
 
 use crate::put_header;
@@ -37,7 +37,8 @@ impl Written {
         count: u32,
     ) -> Result<(), OutOfMemory>
         requires { count ≤ 262144 }
-        ensures { IfOk result (λ _. out.new.items ≡ out.old.items ++ packet_head self seconds fraction count) }
+        ensures bytes { IfOk result (λ _. out.new.items ≡ out.old.items ++ packet_head self seconds fraction count) }
+        ensures kept { IsErr result → (more : List ℕ) × (out.new.items ≡ out.old.items ++ more) }
     {
         match self {
             Written::Classic { .. } => push_record_head(out, seconds, fraction, count),
@@ -49,7 +50,8 @@ impl Written {
     #[inline(always)]
     pub fn push_tail(self, out: &mut Vec<u8>, count: u32) -> Result<(), OutOfMemory>
         requires { count ≤ 262144 }
-        ensures { IfOk result (λ _. out.new.items ≡ out.old.items ++ packet_tail self count) }
+        ensures bytes { IfOk result (λ _. out.new.items ≡ out.old.items ++ packet_tail self count) }
+        ensures kept { IsErr result → (more : List ℕ) × (out.new.items ≡ out.old.items ++ more) }
     {
         match self {
             Written::Classic { .. } => Ok(()),
@@ -77,7 +79,8 @@ fn push_record_head(
     fraction: u32,
     count: u32,
 ) -> Result<(), OutOfMemory>
-    ensures { IfOk result (λ _. out.new.items ≡ out.old.items ++ record_head seconds fraction count) }
+    ensures bytes { IfOk result (λ _. out.new.items ≡ out.old.items ++ record_head seconds fraction count) }
+    ensures kept { IsErr result → (more : List ℕ) × (out.new.items ≡ out.old.items ++ more) }
 {
     let [s0, s1, s2, s3] = seconds.to_le_bytes();
     let [f0, f1, f2, f3] = fraction.to_le_bytes();
@@ -141,7 +144,8 @@ fn push_block_head(
     count: u32,
 ) -> Result<(), OutOfMemory>
     requires { count ≤ 262144 }
-    ensures { IfOk result (λ _. out.new.items ≡ out.old.items ++ block_head seconds fraction count) }
+    ensures bytes { IfOk result (λ _. out.new.items ≡ out.old.items ++ block_head seconds fraction count) }
+    ensures kept { IsErr result → (more : List ℕ) × (out.new.items ≡ out.old.items ++ more) }
 {
     let time = ticks_of(seconds, fraction);
     let head = head_words(block_len_of(count), high_half(time), low_half(time), count);
@@ -152,7 +156,8 @@ fn push_block_head(
 #[inline(never)]
 fn push_block_tail(out: &mut Vec<u8>, count: u32) -> Result<(), OutOfMemory>
     requires { count ≤ 262144 }
-    ensures { IfOk result (λ _. out.new.items ≡ out.old.items ++ block_tail count) }
+    ensures bytes { IfOk result (λ _. out.new.items ≡ out.old.items ++ block_tail count) }
+    ensures kept { IsErr result → (more : List ℕ) × (out.new.items ≡ out.old.items ++ more) }
 {
     let [l0, l1, l2, l3] = block_len_of(count).to_le_bytes();
     match padding_of(count) {

@@ -31,11 +31,15 @@ is_first_piece bytes =
 abbrev pub tunnel_len : List ℕ → ℕ
 tunnel_len bytes = if is_plain bytes then 40 else 48
 
--- What is wrong with the quoted bytes: each condition with its refusal. The payload length is not looked at, since quotes
--- are cut.
+-- The bytes do not begin with the headers of a tunnel. The payload length is not looked at, since quotes are cut.
+abbrev pub lacks_tunnel : List ℕ → Bool
+lacks_tunnel bytes =
+    nat_lt (length bytes) 40 || not (slice_index bytes 0 / 16 == 6) || not (is_plain bytes || is_first_piece bytes)
+
+-- what is wrong with the quoted bytes: each condition with its refusal
 abbrev pub quote_refusals : List ℕ → List (Bool × QuoteBad)
 quote_refusals bytes =
-    (nat_lt (length bytes) 40 || not (slice_index bytes 0 / 16 == 6) || not (is_plain bytes || is_first_piece bytes), bad.Tunnel)
+    (lacks_tunnel bytes, bad.Tunnel)
     ∷ (lacks_header (drop (tunnel_len bytes) bytes), bad.Inner)
     ∷ []
 
@@ -50,10 +54,6 @@ quote_fields bytes packet = record {
 -- the tunnel packet that the bytes quote, or the first true refusal
 abbrev pub quote_of : List ℕ → Result TunnelQuote QuoteBad
 quote_of bytes = refused_or (first_true (quote_refusals bytes)) (quote_fields bytes (drop (tunnel_len bytes) bytes))
-
--- the same where the tunnel's header is one, and this stands behind it
-abbrev pub quote_behind : List ℕ → List ℕ → Result TunnelQuote QuoteBad
-quote_behind bytes packet = refused_or (first_true ((lacks_header packet, bad.Inner) ∷ [])) (quote_fields bytes packet)
 
 -- the IPv4 packet of a quote
 abbrev pub inner_packet : Quote → EmbeddedPacket

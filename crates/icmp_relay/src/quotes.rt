@@ -1,8 +1,8 @@
 // The tunnel packets that ICMPv6 errors quote.
-ghost use Rattle.std.specs.Prelude.{◌≡◌, ◌≤◌, length, IfOk, Some};
+ghost use Rattle.std.specs.Prelude.{◌≡◌, ◌≤◌, length, IfOk, MatchOption, Some, true, false};
 ghost use Rattle.icmp_codec.specs.Quoted.{embedded_of, embedded_packet};
 ghost use Rattle.icmp_errors.specs.Answers.{gets_answer};
-ghost use Rattle.icmp_relay.specs.Quotes.{ReadsQuote, inner_packet, is_first_piece, quote_behind, quote_of};
+ghost use Rattle.icmp_relay.specs.Quotes.{ReadsQuote, inner_packet, is_first_piece, lacks_tunnel, quote_of, tunnel_len};
 ghost use Rattle.port_locate.specs.Keys.{destination_at, quoted_want, source_at};
 
 use aftr_base::{V4, V6, be16, be128};
@@ -53,16 +53,40 @@ pub fn read_quote(rest: &[u8]) -> Result<Quote<'_>, QuoteBad>
     ensures reads { ReadsQuote result (quote_of rest.now) }
     ensures packet { IfOk result (λ q. embedded_of q.packet.now ≡ Some (inner_packet q)) }
 {
-    if rest.len() < HEADER_LEN || rest[0] >> 4 != 6 {
+    let Some(tunnel_len) = tunnel_len(rest) else {
         return Err(QuoteBad::Tunnel);
+    };
+    let packet = &rest[tunnel_len..];
+    let Some(inner) = read_embedded(packet) else {
+        return Err(QuoteBad::Inner);
+    };
+    Ok(Quote {
+        src6: V6(be128(rest, 8)),
+        dst6: V6(be128(rest, 24)),
+        protocol: inner.protocol,
+        offset: inner.offset,
+        src: inner.src,
+        dst: inner.dst,
+        payload: inner.payload,
+        packet,
+    })
+}
+
+// How many bytes the headers of the tunnel have; none where they are not there.
+fn tunnel_len(rest: &[u8]) -> Option<usize>
+    ensures { MatchOption result (lacks_tunnel rest.now ≡ true)
+        (λ len. (lacks_tunnel rest.now ≡ false) × (len ≡ tunnel_len rest.now) × (40 ≤ len) × (len ≤ length rest.now)) }
+{
+    if rest.len() < HEADER_LEN || rest[0] >> 4 != 6 {
+        return None;
     }
     if rest[6] == IPV4 {
-        return quote_behind(rest, &rest[HEADER_LEN..]);
+        return Some(HEADER_LEN);
     }
-    if !is_first_piece(rest) {
-        return Err(QuoteBad::Tunnel);
+    if is_first_piece(rest) {
+        return Some(HEADER_LEN + FRAGMENT_LEN);
     }
-    quote_behind(rest, &rest[HEADER_LEN + FRAGMENT_LEN..])
+    None
 }
 
 // Whether a Fragment header of the first piece with IPv4 behind it follows.
@@ -74,27 +98,6 @@ fn is_first_piece(rest: &[u8]) -> bool
         && rest.len() >= HEADER_LEN + FRAGMENT_LEN
         && rest[HEADER_LEN] == IPV4
         && be16(rest, HEADER_LEN + 2) >> 3 == 0
-}
-
-// The quote whose IPv4 packet is this one.
-fn quote_behind<'a>(tunnel: &'a [u8], packet: &'a [u8]) -> Result<Quote<'a>, QuoteBad>
-    requires { 40 ≤ length tunnel.now }
-    ensures reads { ReadsQuote result (quote_behind tunnel.now packet.now) }
-    ensures packet { IfOk result (λ q. embedded_of q.packet.now ≡ Some (inner_packet q)) }
-{
-    let Some(inner) = read_embedded(packet) else {
-        return Err(QuoteBad::Inner);
-    };
-    Ok(Quote {
-        src6: V6(be128(tunnel, 8)),
-        dst6: V6(be128(tunnel, 24)),
-        protocol: inner.protocol,
-        offset: inner.offset,
-        src: inner.src,
-        dst: inner.dst,
-        payload: inner.payload,
-        packet,
-    })
 }
 
 impl<'a> Quote<'a> {

@@ -1,6 +1,6 @@
 // The ICMPv4 error by which an error about a tunnel packet is passed on.
-ghost use Rattle.std.specs.Prelude.{◌≡◌, ◌+◌, ◌≤◌, ◌++◌, ◌⊎◌, min, length, if◌then◌else◌, is_ok, IfOk};
-ghost use Rattle.icmp_errors.specs.Errors4.{most_quoted};
+ghost use Rattle.std.specs.Prelude.{◌≡◌, ◌≤◌, ◌++◌, ◌⊎◌, length, if◌then◌else◌, is_ok, IfOk};
+ghost use Rattle.icmp_errors.specs.Errors4.{error_len};
 ghost use Rattle.icmp_relay.specs.Relayed.{TellsInner, relayed};
 
 use crate::quotes::Quote;
@@ -24,7 +24,7 @@ pub fn relay(
 ) -> Result<Bytes, OutOfMemory>
     requires { (code ≡ 1) ⊎ (code ≡ 4) }
     ensures bytes { IfOk result (λ packet. packet ≡ relayed own code mtu q.now) }
-    ensures size { IfOk result (λ packet. length packet ≡ 28 + min most_quoted (length q.now.packet.now)) }
+    ensures size { IfOk result (λ packet. length packet ≡ error_len (length q.now.packet.now)) }
     ensures most { IfOk result (λ packet. length packet ≤ 576) }
     ensures told { IfOk result (λ packet. TellsInner own code mtu q.now packet) }
 {
@@ -33,7 +33,7 @@ pub fn relay(
     Ok(Bytes::of(list))
 }
 
-/// Appends what `relay` writes. Where there is no memory, the list stays as it was.
+/// Appends what `relay` writes, with any code. Where there is no memory, the list stays as it was.
 pub fn push_relay(
     list: &mut Vec<u8>,
     own: V4,
@@ -41,9 +41,8 @@ pub fn push_relay(
     mtu: u16,
     q: &Quote<'_>,
 ) -> Result<(), OutOfMemory>
-    requires { (code ≡ 1) ⊎ (code ≡ 4) }
     ensures bytes { list.new.items ≡ (if is_ok result then list.old.items ++ relayed own code mtu q.now else list.old.items) }
-    ensures size { length (relayed own code mtu q.now) ≡ 28 + min most_quoted (length q.now.packet.now) }
+    ensures size { length (relayed own code mtu q.now) ≡ error_len (length q.now.packet.now) }
     ensures told { IfOk result (λ _. TellsInner own code mtu q.now (relayed own code mtu q.now)) }
 {
     let head = IcmpHead {

@@ -1,6 +1,6 @@
 -- How many packets are sent for a verdict that fits.
 use Rattle.std.proofs.Common.{◌≡◌, ℕ, ◌≤◌, ◌+◌, ◌-◌, nat_lt, Bool, true, false, List, [], ◌∷◌, ◌++◌, length, Option, Some, Ok, refl, sym, ◌∙◌, ap, subst, arith}
-use Rattle.std.specs.Prelude.{if◌then◌else◌, option_and_then}
+use Rattle.std.specs.Prelude.{if◌then◌else◌, Result, option_and_then}
 use Rattle.std.proofs.lemmas.Bool.{ltb-false, ltb-true}
 use Rattle.aftr_base.specs.declared.numbers.V6.{V6}
 use Rattle.fragmenter.specs.Cutting.{Room, packets_of, pieces_of}
@@ -13,8 +13,10 @@ use Rattle.ip_codec.specs.declared.items.Item.{Item}
 use Rattle.ip_codec.specs.declared.items.Item.TheVariants as item
 use Rattle.ip_codec.specs.declared.rules.Rule.{Rule}
 use Rattle.packet_render.specs.Counted.{Sends}
-use Rattle.packet_render.specs.Sent.{along, if_quoted, if_read, inward, made_of, outward, packet_of_item, policies, quote_of_item, quoted_in, relayed_bytes, sent}
-use Rattle.icmp_relay.specs.Quotes.{TunnelQuote}
+use Rattle.packet_render.specs.Sent.{along, if_ok, inward, made_of, outward, packet_of_item, policies, quote_of_item, relayed_bytes, sent}
+use Rattle.icmp_codec.specs.Message6.{Message6}
+use Rattle.icmp_codec.specs.declared.message4.IcmpBad.{IcmpBad}
+use Rattle.icmp_relay.specs.Quotes.{TunnelQuote, quote_of}
 use Rattle.softwire_encap.proofs.Laws.{like_old}
 use Rattle.packet_render.specs.Pushed.{one_hop_on}
 use Rattle.softwire_encap.specs.Passing.{lowered}
@@ -56,7 +58,7 @@ some_in from to hop mtu number p alone true long =
 
 -- the packet that the item has
 packet_is : (i : Item) (p : Packet4) → HasPacket i p → packet_of_item i ≡ Some p
-packet_is i p has = ap (λ (bytes : Option (List ℕ)). option_and_then (λ b. if_read (ip4_of b)) bytes) has.1 ∙ ap if_read has.2
+packet_is i p has = ap (λ (bytes : Option (List ℕ)). option_and_then (λ b. if_ok (ip4_of b)) bytes) has.1 ∙ ap if_ok has.2
 
 many_made : {A : Type 0} (some : Option A) (a : A) (packets : A → List (List ℕ)) → some ≡ Some a → length (made_of some packets) ≡ length (packets a)
 many_made {A = A} some a packets is = ap (λ (o : Option A). length (made_of o packets)) is
@@ -71,7 +73,11 @@ one_policy (item.Bad why) from to hop p up = absurd up
 
 -- the tunnel packet that the item quotes
 quote_is : (i : Item) → IsRelayable i → (quote : TunnelQuote) × (quote_of_item i ≡ Some quote)
-quote_is (item.Six58 src dst message) quotes = (quotes.quote, ap quoted_in quotes.read ∙ ap if_quoted quotes.quoted)
+quote_is (item.Six58 src dst message) quotes = (
+  quotes.quote,
+  ap (λ (read : Result Message6 IcmpBad). option_and_then (λ m. if_ok (quote_of m.rest)) (if_ok read)) quotes.read
+      ∙ ap if_ok quotes.quoted,
+)
 quote_is (item.Down packet) quotes = absurd quotes
 quote_is (item.Up outer inner) quotes = absurd quotes
 quote_is (item.Six dst) quotes = absurd quotes

@@ -1,13 +1,10 @@
 -- Lemmas on packets that are recorded behind what a list holds.
-use Rattle.std.proofs.Common.{◌≡◌, ℕ, ◌+◌, List, [], ◌∷◌, ◌++◌, length, flat_map, if◌then◌else◌, is_ok, Option, Some, Result, Ok, Err, refl, sym, ◌∙◌, ap, subst, append_assoc, append-nil}
-use Rattle.aftr_base.specs.declared.numbers.V4.{V4}
+use Rattle.std.proofs.Common.{◌≡◌, ℕ, ◌+◌, List, [], ◌∷◌, ◌++◌, length, flat_map, Option, Some, refl, sym, ◌∙◌, ap, subst, append_assoc, append-nil}
 use Rattle.capture_io.specs.Packets.{packet_bytes, packet_head, packet_tail}
 use Rattle.capture_io.specs.declared.written.Written.{Written}
-use Rattle.icmp_codec.specs.declared.head.IcmpHead.{IcmpHead}
-use Rattle.icmp_errors.specs.Errors4.{error4}
+use Rattle.ip_codec.specs.Appended.{Extends}
 use Rattle.packet_render.specs.Pushed.{ArePushed}
-use Rattle.packet_render.specs.Sent.{along, made_of}
-use Rattle.verdict_core.specs.declared.verdicts.Path.{Path}
+use Rattle.packet_render.specs.Sent.{made_of}
 
 regrouped : (out head packet tail : List ℕ) → ((out ++ head) ++ packet) ++ tail ≡ out ++ ((head ++ packet) ++ tail)
 regrouped out head packet tail =
@@ -48,37 +45,15 @@ pub record IsUnderWay (record_of : List ℕ → List ℕ) (all left : List (List
   pub bytes : out ++ flat_map record_of left ≡ start ++ flat_map record_of all
   pub many : count + length left ≡ length all
 
--- what a call appended where it succeeded
-pub appended_ok : {A E : Type 0} (r : Result A E) (x : A) (new old more : List ℕ) → r ≡ Ok x →
-    new ≡ (if is_ok r then old ++ more else old) → new ≡ old ++ more
-appended_ok (Ok y) x new old more is new_is = new_is
-appended_ok (Err e) x new old more is new_is = absurd cc
+-- what two calls leave in front, one behind the other
+extends_on : (old middle new : List ℕ) → Extends old middle → Extends middle new → Extends old new
+extends_on old middle new first second =
+    (first.0 ++ second.0, second.1 ∙ (ap (λ (l : List ℕ). l ++ second.0) first.1 ∙ append_assoc old first.0 second.0))
 
--- two parts behind nothing
-pub two_parts : (list list1 list2 first second : List ℕ) → list ≡ [] → list1 ≡ list ++ first → list2 ≡ list1 ++ second → list2 ≡ first ++ second
-two_parts list list1 list2 first second is is1 is2 = is2 ∙ ap (λ l. l ++ second) (is1 ∙ ap (λ l. l ++ first) is)
+-- something was appended, then a packet, and a third call appended what it could
+pub kept_after : (packet out out1 out2 out3 : List ℕ) → Extends out out1 → out2 ≡ out1 ++ packet → Extends out2 out3 → Extends out out3
+kept_after packet out out1 out2 out3 first is more = extends_on out out1 out3 first (extends_on out1 out2 out3 (packet, is) more)
 
--- an error whose type, code and word are known
-same_error : (record_of : List ℕ → List ℕ) (way : Path) (own to : V4) (head : IcmpHead) (kind code mtu : ℕ) (packet out : List ℕ) →
-    (head.kind ≡ kind) × (head.code ≡ code) × (head.word ≡ mtu) →
-    out ++ record_of (along way (error4 own to head.kind head.code head.word packet)) ≡ out ++ record_of (along way (error4 own to kind code mtu packet))
-same_error record_of way own to head kind code mtu packet out is =
-    let made : ℕ → ℕ → ℕ → List ℕ = λ k c w. out ++ record_of (along way (error4 own to k c w packet)) in
-    ap (λ k. made k head.code head.word) is.0 ∙ ap (λ c. made kind c head.word) is.1 ∙ ap (λ w. made kind code w) is.2
-
-pub error_pushed : (record_of : List ℕ → List ℕ) (way : Path) (own to : V4) (head : IcmpHead) (kind code mtu : ℕ) (packet out after : List ℕ) →
-    (head.kind ≡ kind) × (head.code ≡ code) × (head.word ≡ mtu) →
-    after ≡ out ++ record_of (along way (error4 own to head.kind head.code head.word packet)) →
-    ArePushed record_of (along way (error4 own to kind code mtu packet) ∷ []) out after 1
-error_pushed record_of way own to head kind code mtu packet out after head_is is =
-    one_pushed record_of (along way (error4 own to kind code mtu packet)) out after
-    (is ∙ same_error record_of way own to head kind code mtu packet out head_is)
-
--- an error that quotes a packet in one part
-pub relayed_pushed : (record_of : List ℕ → List ℕ) (way : Path) (own to : V4) (head : IcmpHead) (kind code mtu : ℕ) (packet out after : List ℕ) →
-    (head.kind ≡ kind) × (head.code ≡ code) × (head.word ≡ mtu) →
-    after ≡ out ++ record_of (along way (error4 own to head.kind head.code head.word (packet ++ []))) →
-    ArePushed record_of (along way (error4 own to kind code mtu packet) ∷ []) out after 1
-relayed_pushed record_of way own to head kind code mtu packet out after head_is is =
-    error_pushed record_of way own to head kind code mtu packet out after head_is
-    (is ∙ ap (λ l. out ++ record_of (along way (error4 own to head.kind head.code head.word l))) (append-nil packet))
+-- a second call appended nothing
+pub kept_alone : (out out1 out2 : List ℕ) → Extends out out1 → out2 ≡ out1 → Extends out out2
+kept_alone out out1 out2 first same = (first.0, same ∙ first.1)

@@ -4,16 +4,13 @@ use Rattle.aftr_base.specs.declared.numbers.V4.{V4}
 use Rattle.aftr_base.specs.declared.numbers.V6.{V6}
 use Rattle.fragmenter.specs.Pieces4.{pieces4}
 use Rattle.fragmenter.specs.Pieces6.{pieces6}
-use Rattle.icmp_codec.specs.Message6.{Message6, icmp6_of}
-use Rattle.icmp_codec.specs.declared.message4.IcmpBad.{IcmpBad}
+use Rattle.icmp_codec.specs.Message6.{icmp6_of}
 use Rattle.icmp_errors.specs.Errors4.{error4, exceeded_bytes, too_big_bytes, unreachable_bytes}
 use Rattle.icmp_errors.specs.Policy6.{policy6}
 use Rattle.icmp_relay.specs.Quotes.{TunnelQuote, quote_of}
-use Rattle.icmp_relay.specs.declared.quotes.QuoteBad.{QuoteBad}
 use Rattle.ip_codec.specs.Packet4.{Packet4, ip4_of, whole4}
 use Rattle.ip_codec.specs.declared.items.Item.{Item}
 use Rattle.ip_codec.specs.declared.items.Item.TheVariants as item
-use Rattle.ip_codec.specs.declared.packet4.Ip4Bad.{Ip4Bad}
 use Rattle.softwire_encap.specs.Passing.{lowered, passed}
 use Rattle.softwire_encap.specs.Tunnel.{tunnelled, wrapped}
 use Rattle.verdict_core.specs.Fitting.{ipv4_bytes}
@@ -24,25 +21,18 @@ use Rattle.verdict_core.specs.declared.verdicts.Reply.TheVariants as reply
 use Rattle.verdict_core.specs.declared.verdicts.Verdict.{Verdict}
 use Rattle.verdict_core.specs.declared.verdicts.Verdict.TheVariants as verdict
 
-abbrev pub if_read : Result Packet4 Ip4Bad → Option Packet4
-if_read (Ok packet) = Some packet
-if_read (Err refusal) = None
+-- what was read, where it could be
+abbrev pub if_ok : {A E : Type 0} → Result A E → Option A
+if_ok (Ok read) = Some read
+if_ok (Err refusal) = None
 
 -- the item's IPv4 packet, where it has one that can be read
 abbrev pub packet_of_item : Item → Option Packet4
-packet_of_item i = option_and_then (λ bytes. if_read (ip4_of bytes)) (ipv4_bytes i)
-
-abbrev pub if_quoted : Result TunnelQuote QuoteBad → Option TunnelQuote
-if_quoted (Ok quote) = Some quote
-if_quoted (Err refusal) = None
-
-abbrev pub quoted_in : Result Message6 IcmpBad → Option TunnelQuote
-quoted_in (Ok message) = if_quoted (quote_of message.rest)
-quoted_in (Err refusal) = None
+packet_of_item i = option_and_then (λ bytes. if_ok (ip4_of bytes)) (ipv4_bytes i)
 
 -- the tunnel packet that the item's ICMPv6 message quotes, where both can be read
 abbrev pub quote_of_item : Item → Option TunnelQuote
-quote_of_item (item.Six58 src dst message) = quoted_in (icmp6_of src.0 dst.0 message)
+quote_of_item (item.Six58 src dst bytes) = option_and_then (λ message. if_ok (quote_of message.rest)) (if_ok (icmp6_of src.0 dst.0 bytes))
 quote_of_item _ = None
 
 -- what is made of a value, where there is one

@@ -1,8 +1,9 @@
 // Packets that go on.
-ghost use Rattle.std.specs.Prelude.{◌≡◌, ◌∷◌, ◌≤◌, [], IfOk, IfSome};
+ghost use Rattle.std.specs.Prelude.{◌≡◌, ◌∷◌, ◌≤◌, [], IfOk, IsErr, IfSome};
 ghost use Rattle.capture_io.specs.Packets.{packet_bytes};
 ghost use Rattle.fragmenter.specs.Pieces4.{fragments4};
 ghost use Rattle.fragmenter.specs.Pieces6.{fragments6};
+ghost use Rattle.ip_codec.specs.Appended.{Extends};
 ghost use Rattle.ip_codec.specs.Packet4.{packet4, IsBounded4};
 ghost use Rattle.ip_codec.specs.Seen.{seen};
 ghost use Rattle.packet_render.specs.Pushed.{ArePushed, one_hop_on};
@@ -28,7 +29,7 @@ pub(crate) struct Tunnel {
     pub hop: u8,
 }
 
-// Puts the item's packet there as it goes out, in pieces where it does not fit.
+// Appends the item's packet as it goes out, in pieces where it does not fit.
 pub(crate) fn push_outward(
     out: &mut Vec<u8>,
     stamp: Stamp,
@@ -40,6 +41,7 @@ pub(crate) fn push_outward(
     ensures pushed { IfOk result (λ count. ArePushed (packet_bytes stamp.form stamp.seconds stamp.fraction)
         (made_of (packet_of_item (seen item.now)) (outward mtu)) out.old.items out.new.items count) }
     ensures few { IfOk result (λ count. count ≤ 128) }
+    ensures kept { IsErr result → Extends out.old.items out.new.items }
 {
     let Some(packet) = packet_of(item) else {
         return Ok(0);
@@ -48,7 +50,7 @@ pub(crate) fn push_outward(
     Ok(count)
 }
 
-// Puts this packet there as it goes out. It is inlined down to the bytes, so that of the packet's fields only those are made that are
+// Appends this packet as it goes out. It is inlined down to the bytes, so that of the packet's fields only those are made that are
 // written; a view of all of them is made where the packet is cut.
 #[inline(always)]
 pub(crate) fn push_packet_outward(
@@ -62,6 +64,7 @@ pub(crate) fn push_packet_outward(
     ensures pushed { IfOk result (λ count. ArePushed (packet_bytes stamp.form stamp.seconds stamp.fraction)
         (outward mtu (packet4 packet.now.view)) out.old.items out.new.items count) }
     ensures few { IfOk result (λ count. count ≤ 128) }
+    ensures kept { IsErr result → Extends out.old.items out.new.items }
 {
     if packet.view.total_len() <= usize::from(mtu) {
         let count = push_whole_outward(out, stamp, packet)?;
@@ -81,6 +84,7 @@ fn push_whole_outward(
     ensures pushed { IfOk result (λ count. ArePushed (packet_bytes stamp.form stamp.seconds stamp.fraction)
         (lowered (packet4 packet.now.view) ∷ []) out.old.items out.new.items count) }
     ensures one { IfOk result (λ count. count ≡ 1) }
+    ensures kept { IsErr result → Extends out.old.items out.new.items }
 {
     let len = packet.view.total_len();
     stamp.push_head(out, len)?;
@@ -101,6 +105,7 @@ fn push_cut_outward(
     ensures pushed { IfOk result (λ count. ArePushed (packet_bytes stamp.form stamp.seconds stamp.fraction)
         (fragments4 (one_hop_on (packet4 packet.now.view)) mtu 0) out.old.items out.new.items count) }
     ensures few { IfOk result (λ count. count ≤ 128) }
+    ensures kept { IsErr result → Extends out.old.items out.new.items }
 {
     let count = push_pieces4(out, stamp, &lowered_field(packet), mtu)?;
     Ok(count)
@@ -118,7 +123,7 @@ fn lowered_field<'a>(packet: &ReadPacket<'a>) -> Ip4View<'a>
     view
 }
 
-// Puts the item's packet there as it goes to a subscriber, in the tunnel; the tunnel packet is cut where it does not fit.
+// Appends the item's packet as it goes to a subscriber, in the tunnel; the tunnel packet is cut where it does not fit.
 pub(crate) fn push_inward(
     out: &mut Vec<u8>,
     stamp: Stamp,
@@ -132,6 +137,7 @@ pub(crate) fn push_inward(
     ensures pushed { IfOk result (λ count. ArePushed (packet_bytes stamp.form stamp.seconds stamp.fraction)
         (made_of (packet_of_item (seen item.now)) (inward tunnel.from tunnel.to tunnel.hop mtu number)) out.old.items out.new.items count) }
     ensures few { IfOk result (λ count. count ≤ 54) }
+    ensures kept { IsErr result → Extends out.old.items out.new.items }
 {
     let Some(packet) = packet_of(item) else {
         return Ok(0);
@@ -140,7 +146,7 @@ pub(crate) fn push_inward(
     Ok(count)
 }
 
-// Puts this packet there as it goes to a subscriber.
+// Appends this packet as it goes to a subscriber.
 #[inline(always)]
 pub(crate) fn push_packet_inward(
     out: &mut Vec<u8>,
@@ -155,6 +161,7 @@ pub(crate) fn push_packet_inward(
     ensures pushed { IfOk result (λ count. ArePushed (packet_bytes stamp.form stamp.seconds stamp.fraction)
         (inward tunnel.from tunnel.to tunnel.hop mtu number (packet4 packet.now.view)) out.old.items out.new.items count) }
     ensures few { IfOk result (λ count. count ≤ 54) }
+    ensures kept { IsErr result → Extends out.old.items out.new.items }
 {
     if TUNNEL + packet.view.total_len() <= usize::from(mtu) {
         let count = push_whole_inward(out, stamp, packet, tunnel)?;
@@ -175,6 +182,7 @@ fn push_whole_inward(
     ensures pushed { IfOk result (λ count. ArePushed (packet_bytes stamp.form stamp.seconds stamp.fraction)
         (wrapped tunnel.from tunnel.to tunnel.hop (lowered (packet4 packet.now.view)) ∷ []) out.old.items out.new.items count) }
     ensures one { IfOk result (λ count. count ≡ 1) }
+    ensures kept { IsErr result → Extends out.old.items out.new.items }
 {
     let len = TUNNEL + packet.view.total_len();
     stamp.push_head(out, len)?;
@@ -197,6 +205,7 @@ fn push_cut_inward(
     ensures pushed { IfOk result (λ count. ArePushed (packet_bytes stamp.form stamp.seconds stamp.fraction)
         (fragments6 (tunnelled tunnel.from tunnel.to tunnel.hop (lowered (packet4 packet.now.view))) mtu number 0) out.old.items out.new.items count) }
     ensures few { IfOk result (λ count. count ≤ 54) }
+    ensures kept { IsErr result → Extends out.old.items out.new.items }
 {
     let lowered = lowered_header(&packet.view);
     let header = &lowered[..packet.view.header.len()];

@@ -1,8 +1,9 @@
 // Packets that do not fit, in pieces.
-ghost use Rattle.std.specs.Prelude.{◌≡◌, ◌+◌, ◌≤◌, length, IfOk};
+ghost use Rattle.std.specs.Prelude.{◌≡◌, ◌+◌, ◌≤◌, length, IfOk, IsErr};
 ghost use Rattle.capture_io.specs.Packets.{packet_bytes};
 ghost use Rattle.fragmenter.specs.Pieces4.{fragments4};
 ghost use Rattle.fragmenter.specs.Pieces6.{fragments6, with_rest};
+ghost use Rattle.ip_codec.specs.Appended.{Extends};
 ghost use Rattle.ip_codec.specs.Packet4.{packet4, IsBounded4};
 ghost use Rattle.ip_codec.specs.Packet6.{packet6};
 ghost use Rattle.packet_render.specs.Pushed.{ArePushed};
@@ -12,7 +13,7 @@ use aftr_base::OutOfMemory;
 use fragmenter::{Cuts4, Cuts6};
 use ip_codec::{Ip4View, Ip6View};
 
-// Puts the pieces of an IPv4 packet that does not fit there. Of its header's bytes nothing but the options is taken.
+// Appends the pieces of an IPv4 packet that does not fit. Of its header's bytes nothing but the options is taken.
 #[inline(never)]
 pub(crate) fn push_pieces4(
     out: &mut Vec<u8>,
@@ -25,6 +26,7 @@ pub(crate) fn push_pieces4(
     ensures pushed { IfOk result (λ count. ArePushed (packet_bytes stamp.form stamp.seconds stamp.fraction)
         (fragments4 (packet4 packet.now) mtu 0) out.old.items out.new.items count) }
     ensures few { IfOk result (λ count. count ≤ 128) }
+    ensures kept { IsErr result → Extends out.old.items out.new.items }
 {
     let mut cuts = Cuts4::of(packet, mtu);
     let mut count = 0;
@@ -37,7 +39,7 @@ pub(crate) fn push_pieces4(
     Ok(count)
 }
 
-// Puts the fragments of a tunnel packet that does not fit there. What its body has behind that of the view stands in `rest`.
+// Appends the fragments of a tunnel packet that does not fit. What its body has behind that of the view stands in `rest`.
 pub(crate) fn push_pieces6(
     out: &mut Vec<u8>,
     stamp: Stamp,
@@ -51,6 +53,7 @@ pub(crate) fn push_pieces6(
     ensures pushed { IfOk result (λ count. ArePushed (packet_bytes stamp.form stamp.seconds stamp.fraction)
         (fragments6 (with_rest (packet6 packet.now) rest.now) mtu id 0) out.old.items out.new.items count) }
     ensures few { IfOk result (λ count. count ≤ 54) }
+    ensures kept { IsErr result → Extends out.old.items out.new.items }
 {
     let mut cuts = Cuts6::of(packet, rest, mtu, id);
     let mut count = 0;

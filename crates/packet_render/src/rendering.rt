@@ -1,7 +1,8 @@
 // The packets of a verdict.
-ghost use Rattle.std.specs.Prelude.{◌≡◌, ◌≤◌, ◌++◌, true, Some, length, IfOk};
+ghost use Rattle.std.specs.Prelude.{◌≡◌, ◌≤◌, ◌++◌, true, Some, length, IfOk, IsErr};
 ghost use Rattle.std.specs.List.{flat_map};
 ghost use Rattle.capture_io.specs.Packets.{packet_bytes};
+ghost use Rattle.ip_codec.specs.Appended.{Extends};
 ghost use Rattle.ip_codec.specs.Packet4.{packet4};
 ghost use Rattle.ip_codec.specs.Seen.{seen};
 ghost use Rattle.ip_codec.specs.declared.items.Item.{Item};
@@ -43,6 +44,7 @@ pub fn push_packets(
         ++ flat_map (packet_bytes form seconds fraction) (sent (seen item.now) verdict.now number)) }
     ensures count { IfOk result (λ count. count ≡ length (sent (seen item.now) verdict.now number)) }
     ensures few { IfOk result (λ count. count ≤ MOST_PACKETS) }
+    ensures kept { IsErr result → Extends out.old.items out.new.items }
 {
     let stamp = Stamp {
         form,
@@ -73,6 +75,7 @@ pub fn push_forwarded(
     ensures count { IfOk result (λ count. (i : Item) → packet_of_item i ≡ Some (packet4 packet.now.view) →
         count ≡ length (sent i verdict.now number)) }
     ensures few { IfOk result (λ count. count ≤ MOST_PACKETS) }
+    ensures kept { IsErr result → Extends out.old.items out.new.items }
 {
     let stamp = Stamp {
         form,
@@ -108,6 +111,7 @@ fn push_stamped(
     ensures pushed { IfOk result (λ count. ArePushed (packet_bytes stamp.form stamp.seconds stamp.fraction)
         (sent (seen item.now) verdict.now number) out.old.items out.new.items count) }
     ensures few { IfOk result (λ count. count ≤ 128) }
+    ensures kept { IsErr result → Extends out.old.items out.new.items }
 {
     match *verdict {
         Verdict::Held => Ok(0),

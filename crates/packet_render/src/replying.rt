@@ -1,11 +1,14 @@
 // What the sender of a dropped packet is told.
-ghost use Rattle.std.specs.Prelude.{◌≡◌, ◌∷◌, ◌≤◌, ◌++◌, ℕ, List, [], length, IfOk};
+ghost use Rattle.std.specs.Prelude.{◌≡◌, ◌∷◌, ◌≤◌, ◌++◌, ℕ, List, [], length, if◌then◌else◌, is_ok, IfOk, IsErr};
 ghost use Rattle.capture_io.specs.Packets.{packet_bytes, packet_head};
-ghost use Rattle.icmp_errors.specs.Errors4.{error4, error_about};
+ghost use Rattle.icmp_errors.specs.Errors4.{error_len};
 ghost use Rattle.icmp_errors.specs.Policy6.{policy6};
-ghost use Rattle.ip_codec.specs.Packet4.{packet4, whole4};
+ghost use Rattle.icmp_relay.specs.Relayed.{relayed};
+ghost use Rattle.ip_codec.specs.Appended.{Extends};
+ghost use Rattle.ip_codec.specs.Packet4.{packet4, packet_len, whole4};
 ghost use Rattle.ip_codec.specs.Seen.{seen};
 ghost use Rattle.packet_render.specs.Pushed.{ArePushed};
+ghost use Rattle.packet_render.specs.Told.{told_bytes};
 ghost use Rattle.packet_render.specs.Sent.{along, made_of, packet_of_item, policies, quote_of_item, relayed_bytes, replies};
 ghost use Rattle.softwire_encap.specs.Tunnel.{tos_of};
 
@@ -13,70 +16,24 @@ use crate::carried::{packet_of, quote_of};
 use crate::forwarding::{TUNNEL, Tunnel};
 use crate::stamps::Stamp;
 use aftr_base::{OutOfMemory, V4};
-use icmp_codec::IcmpHead;
-use icmp_errors::{push_error4, push_source_policy6};
-use ip_codec::{ItemView, Outer, ReadPacket};
+use icmp_errors::{
+    error_len, policy_len, push_host_unreachable, push_source_policy6, push_time_exceeded,
+    push_too_big,
+};
+use icmp_relay::{Quote, push_relay};
+use ip_codec::{Ip4View, ItemView, Outer, ReadPacket};
 use softwire_encap::push_tunnel_head;
 use verdict_core::{Path, Reply};
 
-// How many bytes stand in an ICMPv4 error before what it quotes, and how many it quotes at most (RFC 1812, section 4.3.2.3);
-// the same of the ICMPv6 error (RFC 4443, section 2.4 (c)).
-const BEFORE_QUOTE: usize = 28;
-
-const MOST_QUOTED: usize = 548;
-
-const BEFORE_QUOTE6: usize = 48;
-
-const MOST_QUOTED6: usize = 1232;
-
-// Types and codes (RFC 792; RFC 1191, section 4).
-const UNREACHABLE: u8 = 3;
-
-const DF_SET: u8 = 4;
-
-const HOST_UNREACHABLE: Cause = Cause {
-    kind: UNREACHABLE,
-    code: 1,
-    mtu: 0,
-};
-
-const TIME_EXCEEDED: Cause = Cause {
-    kind: 11,
-    code: 0,
-    mtu: 0,
-};
-
-// What an ICMPv4 error says: type, code, and in the low 16 bits behind the checksum how much would fit (RFC 1191, section 4).
+// What an ICMPv4 error tells the source of a packet.
 #[derive(Clone, Copy, Debug)]
-struct Cause {
-    kind: u8,
-    code: u8,
-    mtu: u16,
+enum Told {
+    Unreachable,
+    TooBig { mtu: u16 },
+    Exceeded,
 }
 
-impl Cause {
-    fn head(self) -> IcmpHead
-        ensures { (result.kind ≡ self.kind) × (result.code ≡ self.code) × (result.word ≡ self.mtu) }
-    {
-        IcmpHead {
-            kind: self.kind,
-            code: self.code,
-            word: u32::from(self.mtu),
-        }
-    }
-}
-
-// An ICMPv4 error that is not written yet: its ends, what it says, and the packet that it quotes, in two parts.
-#[derive(Clone, Copy, Debug)]
-struct IcmpError<'a> {
-    own: V4,
-    to: V4,
-    head: IcmpHead,
-    header: &'a [u8],
-    payload: &'a [u8],
-}
-
-// Puts the packet of a reply there, where there is one to send.
+// Appends the packet of a reply, where there is one to send.
 pub(crate) fn push_reply(
     out: &mut Vec<u8>,
     stamp: Stamp,
@@ -86,122 +43,125 @@ pub(crate) fn push_reply(
     ensures pushed { IfOk result (λ count. ArePushed (packet_bytes stamp.form stamp.seconds stamp.fraction)
         (replies (seen item.now) reply) out.old.items out.new.items count) }
     ensures few { IfOk result (λ count. count ≤ 1) }
+    ensures kept { IsErr result → Extends out.old.items out.new.items }
 {
     match reply {
         Reply::Silent => Ok(0),
         Reply::Unreachable { own, path } => {
-            push_about(out, stamp, item, path, own, HOST_UNREACHABLE)
+            push_about(out, stamp, item, path, own, Told::Unreachable)
         }
         Reply::TooBig { own, mtu, path } => {
-            let cause = Cause {
-                kind: UNREACHABLE,
-                code: DF_SET,
-                mtu,
-            };
-            push_about(out, stamp, item, path, own, cause)
+            push_about(out, stamp, item, path, own, Told::TooBig { mtu })
         }
-        Reply::Exceeded { own, path } => push_about(out, stamp, item, path, own, TIME_EXCEEDED),
+        Reply::Exceeded { own, path } => push_about(out, stamp, item, path, own, Told::Exceeded),
         Reply::Policy { from, to, hop } => push_policy(out, stamp, item, Tunnel { from, to, hop }),
         Reply::Relay {
             own,
             code,
             mtu,
             path,
-        } => {
-            let cause = Cause {
-                kind: UNREACHABLE,
-                code,
-                mtu,
-            };
-            push_relayed(out, stamp, item, path, own, cause)
-        }
+        } => push_relayed(out, stamp, item, path, own, code, mtu),
     }
 }
 
-// Puts an error about the item's packet there, to its source.
+// Appends an error about the item's packet, to its source.
 fn push_about(
     out: &mut Vec<u8>,
     stamp: Stamp,
     item: &ItemView<'_>,
     path: Path,
     own: V4,
-    cause: Cause,
+    told: Told,
 ) -> Result<u32, OutOfMemory>
     ensures pushed { IfOk result (λ count. ArePushed (packet_bytes stamp.form stamp.seconds stamp.fraction)
-        (made_of (packet_of_item (seen item.now)) (λ packet. along path (error_about own cause.kind cause.code cause.mtu packet) ∷ []))
+        (made_of (packet_of_item (seen item.now)) (λ packet. along path (told_bytes own told packet) ∷ []))
         out.old.items out.new.items count) }
     ensures few { IfOk result (λ count. count ≤ 1) }
+    ensures kept { IsErr result → Extends out.old.items out.new.items }
 {
     let Some(packet) = packet_of(item) else {
         return Ok(0);
     };
-    let error = IcmpError {
-        own,
-        to: packet.view.src,
-        head: cause.head(),
-        header: packet.view.header,
-        payload: packet.view.payload,
-    };
-    push_error(out, stamp, path, &error)?;
+    push_error(out, stamp, path, own, told, &packet.view)?;
     Ok(1)
 }
 
-// Puts an error about the IPv4 packet there that the item's message quotes in its tunnel packet, to that packet's source.
+// Appends an error about a packet to its source, as it is or in the tunnel.
+fn push_error(
+    out: &mut Vec<u8>,
+    stamp: Stamp,
+    path: Path,
+    own: V4,
+    told: Told,
+    p: &Ip4View<'_>,
+) -> Result<(), OutOfMemory>
+    ensures bytes { IfOk result (λ _. out.new.items ≡ out.old.items
+        ++ packet_bytes stamp.form stamp.seconds stamp.fraction (along path (told_bytes own told (packet4 p.now)))) }
+    ensures kept { IsErr result → Extends out.old.items out.new.items }
+{
+    let total = push_front(out, stamp, path, error_len(p.total_len()))?;
+    push_told(out, own, told, p)?;
+    stamp.push_tail(out, total)?;
+    Ok(())
+}
+
+// Appends the error alone.
+fn push_told(out: &mut Vec<u8>, own: V4, told: Told, p: &Ip4View<'_>) -> Result<(), OutOfMemory>
+    ensures bytes { out.new.items ≡ (if is_ok result then out.old.items ++ told_bytes own told (packet4 p.now) else out.old.items) }
+    ensures size { length (told_bytes own told (packet4 p.now)) ≡ error_len (packet_len (packet4 p.now)) }
+    ensures tos { tos_of (told_bytes own told (packet4 p.now)) ≡ 0 }
+{
+    match told {
+        Told::Unreachable => push_host_unreachable(out, own, p),
+        Told::TooBig { mtu } => push_too_big(out, own, mtu, p),
+        Told::Exceeded => push_time_exceeded(out, own, p),
+    }
+}
+
+// Appends an error about the IPv4 packet that the item's message quotes in its tunnel packet, to that packet's source.
 fn push_relayed(
     out: &mut Vec<u8>,
     stamp: Stamp,
     item: &ItemView<'_>,
     path: Path,
     own: V4,
-    cause: Cause,
+    code: u8,
+    mtu: u16,
 ) -> Result<u32, OutOfMemory>
     ensures pushed { IfOk result (λ count. ArePushed (packet_bytes stamp.form stamp.seconds stamp.fraction)
-        (made_of (quote_of_item (seen item.now)) (λ quote.
-        along path (error4 own (record { 0 = quote.inner.src }) cause.kind cause.code cause.mtu quote.packet) ∷ []))
+        (made_of (quote_of_item (seen item.now)) (λ quote. along path (relayed_bytes own code mtu quote) ∷ []))
         out.old.items out.new.items count) }
     ensures few { IfOk result (λ count. count ≤ 1) }
+    ensures kept { IsErr result → Extends out.old.items out.new.items }
 {
     let Some(quote) = quote_of(item) else {
         return Ok(0);
     };
-    let error = IcmpError {
-        own,
-        to: quote.src,
-        head: cause.head(),
-        header: quote.packet,
-        payload: &[],
-    };
-    push_error(out, stamp, path, &error)?;
+    push_relayed_error(out, stamp, path, own, code, mtu, &quote)?;
     Ok(1)
 }
 
-// Puts an ICMPv4 error there, as it is or in the tunnel.
-fn push_error(
+// Appends an error about a quoted packet to its source, as it is or in the tunnel.
+fn push_relayed_error(
     out: &mut Vec<u8>,
     stamp: Stamp,
     path: Path,
-    error: &IcmpError<'_>,
+    own: V4,
+    code: u8,
+    mtu: u16,
+    quote: &Quote<'_>,
 ) -> Result<(), OutOfMemory>
-    ensures { IfOk result (λ _. out.new.items ≡ out.old.items ++ packet_bytes stamp.form stamp.seconds stamp.fraction
-        (along path (error4 error.now.own error.now.to error.now.head.kind error.now.head.code error.now.head.word
-        (error.now.header.now ++ error.now.payload.now)))) }
+    ensures bytes { IfOk result (λ _. out.new.items ≡ out.old.items
+        ++ packet_bytes stamp.form stamp.seconds stamp.fraction (along path (relayed own code mtu quote.now))) }
+    ensures kept { IsErr result → Extends out.old.items out.new.items }
 {
-    let quoted = error.header.len() + error.payload.len();
-    let len = BEFORE_QUOTE + MOST_QUOTED.min(quoted);
-    let total = push_front(out, stamp, path, len)?;
-    push_error4(
-        out,
-        error.own,
-        error.to,
-        error.head,
-        error.header,
-        error.payload,
-    )?;
+    let total = push_front(out, stamp, path, error_len(quote.packet.len()))?;
+    push_relay(out, own, code, mtu, quote)?;
     stamp.push_tail(out, total)?;
     Ok(())
 }
 
-// Puts there what stands before an IPv4 packet of this length with no type of service, recorded as it is or in the tunnel. It
+// Appends what stands before an IPv4 packet of this length with no type of service, recorded as it is or in the tunnel. It
 // answers how long what is recorded is.
 fn push_front(out: &mut Vec<u8>, stamp: Stamp, path: Path, len: usize) -> Result<usize, OutOfMemory>
     requires { len ≤ 576 }
@@ -209,6 +169,7 @@ fn push_front(out: &mut Vec<u8>, stamp: Stamp, path: Path, len: usize) -> Result
         (out.new.items ++ packet ≡ out.old.items ++ (packet_head stamp.form stamp.seconds stamp.fraction total ++ along path packet))
         × (length (along path packet) ≡ total)) }
     ensures small { IfOk result (λ total. total ≤ 616) }
+    ensures kept { Extends out.old.items out.new.items }
 {
     match path {
         Path::Plain => {
@@ -223,7 +184,7 @@ fn push_front(out: &mut Vec<u8>, stamp: Stamp, path: Path, len: usize) -> Result
     }
 }
 
-// Puts the error there that the packet's source failed the policy.
+// Appends the error that the packet's source failed the policy.
 fn push_policy(
     out: &mut Vec<u8>,
     stamp: Stamp,
@@ -234,6 +195,7 @@ fn push_policy(
         (made_of (packet_of_item (seen item.now)) (policies (seen item.now) tunnel.from tunnel.to tunnel.hop))
         out.old.items out.new.items count) }
     ensures few { IfOk result (λ count. count ≤ 1) }
+    ensures kept { IsErr result → Extends out.old.items out.new.items }
 {
     match item {
         ItemView::Up { outer, inner } => push_policy_about(out, stamp, tunnel, outer, inner),
@@ -256,8 +218,9 @@ fn push_policy_about(
     ensures pushed { IfOk result (λ count. ArePushed (packet_bytes stamp.form stamp.seconds stamp.fraction)
         (policy6 tunnel.from tunnel.to tunnel.hop outer.now (whole4 (packet4 inner.now.view)) ∷ []) out.old.items out.new.items count) }
     ensures few { IfOk result (λ count. count ≤ 1) }
+    ensures kept { IsErr result → Extends out.old.items out.new.items }
 {
-    let len = BEFORE_QUOTE6 + MOST_QUOTED6.min(TUNNEL + inner.view.total_len());
+    let len = policy_len(inner.view.total_len());
     stamp.push_head(out, len)?;
     push_source_policy6(
         out,

@@ -1,6 +1,7 @@
 // What every packet of a record is recorded with.
-ghost use Rattle.std.specs.Prelude.{◌≡◌, ◌≤◌, ◌++◌, IfOk};
+ghost use Rattle.std.specs.Prelude.{◌≡◌, ◌≤◌, ◌++◌, IfOk, IsErr};
 ghost use Rattle.capture_io.specs.Packets.{packet_head, packet_tail};
+ghost use Rattle.ip_codec.specs.Appended.{Extends};
 
 use aftr_base::OutOfMemory;
 use capture_io::Written;
@@ -14,22 +15,24 @@ pub(crate) struct Stamp {
 }
 
 impl Stamp {
-    // Puts what stands before a packet of this length behind what `out` holds.
+    // Appends what stands before a packet of this length.
     #[inline(always)]
     pub(crate) fn push_head(self, out: &mut Vec<u8>, len: usize) -> Result<(), OutOfMemory>
         requires { len ≤ 65575 }
-        ensures { IfOk result (λ _. out.new.items ≡ out.old.items ++ packet_head self.form self.seconds self.fraction len) }
+        ensures bytes { IfOk result (λ _. out.new.items ≡ out.old.items ++ packet_head self.form self.seconds self.fraction len) }
+        ensures kept { IsErr result → Extends out.old.items out.new.items }
     {
         self.form
             .push_head(out, self.seconds, self.fraction, len as u32)?;
         Ok(())
     }
 
-    // Puts what stands behind such a packet there.
+    // Appends what stands behind such a packet.
     #[inline(always)]
     pub(crate) fn push_tail(self, out: &mut Vec<u8>, len: usize) -> Result<(), OutOfMemory>
         requires { len ≤ 65575 }
-        ensures { IfOk result (λ _. out.new.items ≡ out.old.items ++ packet_tail self.form len) }
+        ensures bytes { IfOk result (λ _. out.new.items ≡ out.old.items ++ packet_tail self.form len) }
+        ensures kept { IsErr result → Extends out.old.items out.new.items }
     {
         self.form.push_tail(out, len as u32)?;
         Ok(())

@@ -7,7 +7,7 @@ use Rattle.ip_codec.specs.declared.items.Item.TheVariants as item
 use Rattle.ip_codec.specs.declared.packet4.Ip4Bad.{Ip4Bad}
 use Rattle.item_stage.specs.Items.{items_in}
 use Rattle.item_stage.specs.Packets.{if_packet, packet_at, packet_in}
-use Rattle.packet_render.specs.Sent.{if_read, is_forwarded, packet_of_item}
+use Rattle.packet_render.specs.Sent.{if_ok, is_forwarded, packet_of_item}
 use Rattle.item_stage.specs.declared.entries.Entry.{Entry}
 use Rattle.run_output.specs.Cells.{FitsAt}
 use Rattle.run_output.proofs.CellLemmas.{entry_there, item_there}
@@ -43,7 +43,7 @@ goes_on i (verdict.Inward from to hop mtu false) on fits = sendable_goes i (mtu 
 goes_on i (verdict.Drop why told) on fits = absurd cc
 goes_on i verdict.Held on fits = absurd cc
 
-same_reading : (read : Result Packet4 Ip4Bad) → if_packet read ≡ if_read read
+same_reading : (read : Result Packet4 Ip4Bad) → if_packet read ≡ if_ok read
 same_reading (Ok packet) = refl
 same_reading (Err refusal) = refl
 

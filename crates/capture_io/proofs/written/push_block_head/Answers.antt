@@ -2,8 +2,8 @@ use Rattle.std.proofs.Common.{◌/◌, ◌%◌, ◌^◌, ◌++◌, ◌∙◌, ap
 use Rattle.capture_io.specs.Packets.{block_words}
 use Rattle.capture_io.proofs.written.push_block_head.Goals as goal
 
-pub returns : goal.returns
-returns c =
+pub returns-clause-bytes : goal.returns-clause-bytes
+returns-clause-bytes c =
     let high = c.high_half.ensures ∙ ap (λ time. time / 2 ^ 32) c.ticks_of-time.ensures in
     let low = c.low_half.ensures ∙ ap (λ time. time % 2 ^ 32) c.ticks_of-time.ensures in
     c.in_ok-extend_from_slice.ensures.items
