@@ -304,6 +304,7 @@ pub fn sum_of_both(first: &[u8], rest: &[u8]) -> u16
 }
 
 // The twenty bytes before the options, with zero in the place of the checksum.
+#[inline(always)]
 fn fixed_part(head: Head4, header_len: u8, total_len: u16) -> [u8; 20]
     requires offset { head.offset ≤ 8191 }
     requires most { header_len ≤ 60 }
@@ -340,6 +341,7 @@ fn fixed_part(head: Head4, header_len: u8, total_len: u16) -> [u8; 20]
 }
 
 // The three flags and the offset, in one word.
+#[inline(always)]
 fn flags_word(head: Head4) -> u16
     requires { head.offset ≤ 8191 }
     ensures { result ≡ flags_of head }
@@ -347,6 +349,7 @@ fn flags_word(head: Head4) -> u16
     flag(head.reserved, 0x8000) + flag(head.df, 0x4000) + flag(head.mf, 0x2000) + head.offset
 }
 
+#[inline(always)]
 fn flag(on: bool, worth: u16) -> u16
     ensures { result ≡ flag_worth on worth }
 {
