@@ -2,8 +2,8 @@
 use aftr_base::V4;
 use case_data::{AFTR, DOWN, LAST_HOP, OPTIONS, SERVER, SHARED, SUBSCRIBER, UP, UP_TUNNEL};
 use ip_codec::{
-    Head4, Head6, Ip4Bad, Ip6Bad, ReadPacket, Rule, ip4, ip6, push_head4, push_head6, put4, put6,
-    read_packet,
+    Head4, Head6, Ip4Bad, Ip6Bad, ReadPacket, Rule, head4_bytes, head6_bytes, ip4, ip6, push_head4,
+    push_head6, put4, put6, read_packet, sum_of_both,
 };
 use std::test::Fail;
 
@@ -185,6 +185,9 @@ fn headers_are_put_behind_what_is_there(rt: HostRuntime) -> Result<(), Fail> {
     assert_eq!(rt; out.len(), 61);
     assert!(rt; out.starts_with(b"\x07") && out.ends_with(&UP[..20]));
     assert_eq!(rt; &out[1..41], UP_TUNNEL.as_slice());
+    assert!(rt; head6_bytes(tunnel, 32) == *UP_TUNNEL);
+    assert_eq!(rt; head4_bytes(inner, 12).as_slice(), &UP[..20]);
+    assert_eq!(rt; sum_of_both(&UP[..8], &UP[8..20]), 0);
     Ok(())
 }
 
