@@ -5,24 +5,19 @@ use Rattle.aftr_base.specs.declared.numbers.V4.{V4}
 use Rattle.binding_rules.specs.Tables.{BindingTable}
 use Rattle.binding_rules.specs.declared.binding.Binding.{Binding}
 use Rattle.table_words.specs.Answers.{has_v4}
-use Rattle.table_words.specs.Layout.{IsCompiled}
 use Rattle.table_words.specs.Spans.{first_at, IsIndexGroup, TellsAddress}
 use Rattle.table_words.proofs.Filters.{any_passes, any_fails}
-use Rattle.table_words.proofs.Groups.{fields}
-use Rattle.table_words.proofs.Members.{known}
 
 -- what the entries tell is so of the bindings
-pub address_told : (t : BindingTable) (words : List ℕ) → IsCompiled t words → (v4 : V4) (from to : ℕ) → IsIndexGroup t words v4.0 from to
+pub address_told : (t : BindingTable) (words : List ℕ) (v4 : V4) (from to : ℕ) → IsIndexGroup t words v4.0 from to
     → (b : Bool) → TellsAddress words from to v4.0 b → b ≡ has_v4 t.bindings v4
-address_told t words h v4 from to group true told =
+address_told t words v4 from to group true told =
     let b = group.entries told.0 told.1 told.2 in
-    let f = fields b.0 (known t h.lawful b.0 b.1) (first_at words told.0) b.2.first in
-    sym (any_passes (λ (x : Binding). eqb x.v4.0 v4.0) t.bindings b.0 b.1 (eq-eqb _ _ (sym f.v4 ∙ told.3)))
-address_told t words h v4 from to group false told =
+    sym (any_passes (λ (x : Binding). eqb x.v4.0 v4.0) t.bindings b.0 b.1 (eq-eqb _ _ (b.2.first.like.v4 ∙ told.3)))
+address_told t words v4 from to group false told =
     sym (any_fails (λ (x : Binding). eqb x.v4.0 v4.0) t.bindings (λ x m. ne_eqb _ _ (λ same.
     let c = group.members x m same in
-    let f = fields x (known t h.lawful x m) (first_at words c.0) c.3.first in
-    told c.0 c.1 c.2 (f.v4 ∙ same))))
+    told c.0 c.1 c.2 (sym c.3.first.like.v4 ∙ same))))
 
 -- the entry at a place has the address
 pub address_at : (words : List ℕ) (from to a at word : ℕ) → from ≤ at → at < to → word ≡ first_at words at → word / 4294967296 ≡ a

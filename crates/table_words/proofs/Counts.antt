@@ -118,3 +118,10 @@ le_greatest value (y ∷ xs) x (zero, l, e) = let f : value y ≡ value x = ap v
 le_greatest value (y ∷ xs) x (suc k, l, e) =
     let rest : value x ≤ greatest value xs = le_greatest value xs x (k, omega arith, e) in
     omega (arith, rest)
+
+pub greatest_le : (value : Binding → ℕ) (n : ℕ) (xs : List Binding) → ((x : Binding) → Contains xs x → value x ≤ n) → greatest value xs ≤ n
+greatest_le value n [] h = omega arith
+greatest_le value n (x ∷ xs) h =
+    let here : value x ≤ n = h x (contains_front x xs) in
+    let rest : greatest value xs ≤ n = greatest_le value n xs (λ y m. h y (contains_after x xs y m)) in
+    omega (arith, here, rest)

@@ -30,6 +30,22 @@ count_below_all test (suc n) h =
     let before : count_below test n ≡ n = count_below_all test n (λ k l. h k (omega arith)) in
     rw (here, before) (omega arith)
 
+-- where all that pass are one number, at most one passes
+module _ (test : ℕ → Bool) (one : (j k : ℕ) → test j ≡ true → test k ≡ true → j ≡ k) where
+  none_below : (n m : ℕ) → test n ≡ true → m ≤ n → count_below test m ≤ 0
+  none_below n zero passes l = omega arith
+  none_below n (suc m) passes l = elim (cases_Bool (test m)) [
+    | inl too ↦ absurd (let same : m ≡ n = one m n too passes in omega (arith, same, l))
+    | inr fails ↦ rw fails (let rest : count_below test m ≤ 0 = none_below n m passes (omega arith) in omega (arith, rest))
+  ]
+
+  pub count_below_one : (n : ℕ) → count_below test n ≤ 1
+  count_below_one zero = omega arith
+  count_below_one (suc n) = elim (cases_Bool (test n)) [
+    | inl passes ↦ rw passes (let none : count_below test n ≤ 0 = none_below n n passes (omega arith) in omega (arith, none))
+    | inr fails ↦ rw fails (let rest : count_below test n ≤ 1 = count_below_one n in omega (arith, rest))
+  ]
+
 -- where a test that passes some number passes each below it, the count is the first number that fails
 pub count_below_ends : (test : ℕ → Bool) → ((j k : ℕ) → j ≤ k → test k ≡ true → test j ≡ true) → (n : ℕ)
     → count_below test n < n → test (count_below test n) ≡ false

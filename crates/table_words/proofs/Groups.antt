@@ -10,9 +10,9 @@ use Rattle.std.proofs.lemmas.Nat.{pow_pos}
 use Rattle.binding_rules.specs.Tables.{BindingTable}
 use Rattle.binding_rules.specs.declared.binding.Binding.{Binding}
 use Rattle.table_words.specs.Bounds.{group_size, group_digits, greatest}
-use Rattle.table_words.specs.Layout.{IsCompiled, row, row_at, rows_below}
+use Rattle.table_words.specs.Layout.{IsCompiled, flag, is_mixed, marked, row, row_at, rows_below}
 use Rattle.table_words.specs.Parts.{IsAscending}
-use Rattle.table_words.specs.Spans.{IsEntryRange, IsIndexGroup, IsEntry, IsLike}
+use Rattle.table_words.specs.Spans.{first_at, mark_of, IsEntryRange, IsFirstOf, IsIndexGroup, IsEntry}
 use Rattle.table_words.proofs.Counts.{count_at_most, count_at_least, count_map, count_weaker, count_split, le_greatest}
 use Rattle.table_words.proofs.Digits.{below_digits}
 use Rattle.table_words.proofs.Members.{contains_map, contains_from_map, IsKnown, known}
@@ -34,8 +34,47 @@ fields x k n e =
     let f = fields_of x.v4.0 x.offset x.length x.psid n (omega (arith, k.shape.offset_fits)) (omega (arith, k.shape.sum_fits)) k.psid e in
     record { v4 = f.0; top = f.1; offset = f.2; length = f.3; psid = f.4 }
 
-pub like : (x : Binding) → IsKnown x → (n : ℕ) → AreFields n x → IsLike n x
-like x k n f = record { v4 = sym f.v4; offset = sym f.offset; length = sym f.length; psid = k.psid; psid_fits = k.psid_fits }
+pub unmarked : (x : Binding) → IsKnown x → (n : ℕ) → n ≡ (row x).0 → n / 2147483648 % 2 ≡ 0
+unmarked x k n e =
+    let low : x.offset * 16777216 + x.length * 65536 + x.psid < 2147483648 = omega (arith, k.shape.sum_fits, k.psid) in
+    omega (arith, e, low)
+
+-- a marked first word
+flag_small : (b : Bool) (worth : ℕ) → flag b worth ≤ worth
+flag_small true worth = omega arith
+flag_small false worth = omega arith
+
+pub marked_less : (mixed : ℕ → Bool) (n m : ℕ) → n / 2147483648 % 2 ≡ 0 → m / 2147483648 % 2 ≡ 0 → n < m → marked mixed n < marked mixed m
+marked_less mixed n m hn hm less = elim (cases_eq (n / 4294967296) (m / 4294967296)) [
+  | inl same ↦ (let alike : flag (mixed (n / 4294967296)) 2147483648 ≡ flag (mixed (m / 4294967296)) 2147483648 =
+      ap (λ (a : ℕ). flag (mixed a) 2147483648) same in omega (arith, alike, less))
+  | inr other ↦ (let small : flag (mixed (n / 4294967296)) 2147483648 ≤ 2147483648 = flag_small _ _ in
+      omega (arith, small, hn, hm, less, other))
+]
+
+-- what is read off a marked first word
+pub record IsMarked (mixed : ℕ → Bool) (x : Binding) (n : ℕ) : Type 0 where
+  pub first : IsFirstOf n x
+  pub mark : mark_of n ≡ flag (mixed (n / 4294967296)) 1
+
+marked_fields : (b : Bool) (a o l p n : ℕ) → o < 128 → l < 256 → p < 65536 → n ≡ a * 4294967296 + o * 16777216 + l * 65536 + p + flag b 2147483648
+    → (n / 4294967296 ≡ a) × (n / 2147483648 % 2 ≡ flag b 1) × (n / 16777216 % 128 ≡ o) × (n / 65536 % 256 ≡ l) × (n % 65536 ≡ p)
+marked_fields true a o l p n ho hl hp e = (omega arith, omega arith, omega arith, omega arith, omega arith)
+marked_fields false a o l p n ho hl hp e = (omega arith, omega arith, omega arith, omega arith, omega arith)
+
+pub is_marked : (mixed : ℕ → Bool) (x : Binding) → IsKnown x → (n : ℕ) → n ≡ marked mixed (row x).0 → IsMarked mixed x n
+is_marked mixed x k n e =
+    let address : (row x).0 / 4294967296 ≡ x.v4.0 = (fields x k (row x).0 refl).v4 in
+    let b : Bool = mixed x.v4.0 in
+    let f = marked_fields b x.v4.0 x.offset x.length x.psid n (omega (arith, k.shape.sum_fits)) (omega (arith, k.shape.sum_fits)) k.psid
+    (e ∙ ap (λ (a : ℕ). (row x).0 + flag (mixed a) 2147483648) address) in
+    record {
+      first = record {
+        like = record { v4 = sym f.0; offset = sym f.2; length = sym f.3; psid_fits = k.psid_fits };
+        psid = sym f.4;
+      };
+      mark = f.1 ∙ ap (λ (a : ℕ). flag (mixed a) 1) (sym f.0);
+    }
 
 top : List (ℕ × ℕ) → ℕ → ℕ
 top rows e = (row_at rows e).0 / 281474976710656
@@ -103,33 +142,60 @@ module _ (t : BindingTable) (words : List ℕ) (h : IsCompiled t words) where
   pub index_small : (g : ℕ) → g ≤ 65536 → slice_index words (8 + g) ≤ 65536
   index_small g l = omega (arith, h.index g l, few_below h.rows rows_ascend g, row_count)
 
-  entry_is : (x : Binding) (e : ℕ) → e < length h.rows → row_at h.rows e ≡ row x → IsEntry words x e
-  entry_is x e l same =
+  -- the first word of an entry, by its row
+  entry_marked : (x : Binding) → Contains t.bindings x → (e : ℕ) → e < length h.rows → row_at h.rows e ≡ row x
+      → IsMarked (is_mixed t.bindings) x (first_at words e)
+  entry_marked x m e l same =
+      is_marked (is_mixed t.bindings) x (known t h.lawful x m) (first_at words e) (h.first e l ∙ ap (λ (r : ℕ × ℕ). marked (is_mixed t.bindings) r.0) same)
+
+  entry_is : (x : Binding) → Contains t.bindings x → (e : ℕ) → e < length h.rows → row_at h.rows e ≡ row x → IsEntry words x e
+  entry_is x m e l same =
       let high = h.b4_high e l in
       let low = h.b4_low e l in
       let b4 : (row_at h.rows e).1 ≡ x.b4.0 = ap (λ (r : ℕ × ℕ). r.1) same in
       record {
-        first = h.first e l ∙ ap (λ (r : ℕ × ℕ). r.0) same;
+        first = (entry_marked x m e l same).first;
         b4 = omega (arith, high, low, b4);
       }
 
   pub entry_of : (x : Binding) → Contains t.bindings x → (e : ℕ) × (e < length h.rows) × IsEntry words x e
   entry_of x m =
       let c = Contains-permutation (map row t.bindings) h.rows (row x) h.same (contains_map row t.bindings x m) in
-      (c.0, c.1, entry_is x c.0 c.1 (get_or_default h.rows c.0 (0, 0) (row x) c.1 ∙ c.2))
+      (c.0, c.1, entry_is x m c.0 c.1 (get_or_default h.rows c.0 (0, 0) (row x) c.1 ∙ c.2))
+
+  row_binding : (e : ℕ) → e < length h.rows → (x : Binding) × Contains t.bindings x × (row x ≡ row_at h.rows e)
+  row_binding e l =
+      let c = Contains-permutation h.rows (map row t.bindings) (row_at h.rows e) (IsPermutation-sym _ _ h.same) (Contains-get_or h.rows e (0, 0) l) in
+      contains_from_map row t.bindings (row_at h.rows e) c
 
   pub binding_of : (e : ℕ) → e < length h.rows → (x : Binding) × Contains t.bindings x × IsEntry words x e
-  binding_of e l =
-      let c = Contains-permutation h.rows (map row t.bindings) (row_at h.rows e) (IsPermutation-sym _ _ h.same) (Contains-get_or h.rows e (0, 0) l) in
-      let b = contains_from_map row t.bindings (row_at h.rows e) c in
-      (b.0, b.1, entry_is b.0 e l (sym b.2))
+  binding_of e l = let b = row_binding e l in (b.0, b.1, entry_is b.0 b.1 e l (sym b.2))
+
+  marks_of : (e : ℕ) → e < length h.rows → mark_of (first_at words e) ≡ flag (is_mixed t.bindings (first_at words e / 4294967296)) 1
+  marks_of e l = let b = row_binding e l in (entry_marked b.0 b.1 e l (sym b.2)).mark
+
+  row_unmarked : (e : ℕ) → e < length h.rows → (row_at h.rows e).0 / 2147483648 % 2 ≡ 0
+  row_unmarked e l =
+      let b = row_binding e l in
+      unmarked b.0 (known t h.lawful b.0 b.1) (row_at h.rows e).0 (ap (λ (r : ℕ × ℕ). r.0) (sym b.2))
+
+  rising : (d e : ℕ) → d < e → e < length h.rows → first_at words d < first_at words e
+  rising d e l m = rw (h.first d (omega (arith, l, m)), h.first e m)
+      (marked_less (is_mixed t.bindings) _ _ (row_unmarked d (omega (arith, l, m))) (row_unmarked e m) (h.ascending d e l m))
+
+  ascending : (d e : ℕ) → d ≤ e → e < length h.rows → first_at words d ≤ first_at words e
+  ascending d e l m = elim (cases_lt d e) [
+    | inl less ↦ (let up : first_at words d < first_at words e = rising d e less m in omega (arith, up))
+    | inr more ↦ (let same : d ≡ e = omega (arith, l, more) in rw same (omega arith))
+  ]
 
   -- a row's address is that of its entry
-  top_of : (x : Binding) → Contains t.bindings x → (e : ℕ) → e < length h.rows → IsEntry words x e
-      → (row_at h.rows e).0 / 281474976710656 ≡ x.v4.0 / 65536
-  top_of x m e l entry =
-      let same : (row_at h.rows e).0 ≡ (row x).0 = sym (h.first e l) ∙ entry.first in
-      (fields x (known t h.lawful x m) _ same).top
+  top_of : (x : Binding) (e : ℕ) → e < length h.rows → IsEntry words x e → (row_at h.rows e).0 / 281474976710656 ≡ x.v4.0 / 65536
+  top_of x e l entry =
+      let b = row_binding e l in
+      let f = fields b.0 (known t h.lawful b.0 b.1) (row_at h.rows e).0 (ap (λ (r : ℕ × ℕ). r.0) (sym b.2)) in
+      let v4 : b.0.v4.0 ≡ x.v4.0 = (entry_is b.0 b.1 e l (sym b.2)).first.like.v4 ∙ sym entry.first.like.v4 in
+      f.top ∙ ap (λ (a : ℕ). a / 65536) v4
 
   group_count : (g : ℕ) → rows_below h.rows (g + 1) ≤ rows_below h.rows g + group_size t.bindings g
   group_count g =
@@ -165,13 +231,12 @@ module _ (t : BindingTable) (words : List ℕ) (h : IsCompiled t words) where
       ordered = from_to;
       few = omega (arith, to_within, row_count);
       within = omega (arith, to_within, h.size);
-      ascending = λ d e l m. rw (h.first d (omega (arith, to_within)), h.first e (omega (arith, to_within))) (rows_ascend d e l (omega (arith, to_within)));
-      rising = λ d e l m. rw (h.first d (omega (arith, to_within)), h.first e (omega (arith, to_within))) (h.ascending d e l (omega (arith, to_within)));
+      ascending = λ d e l m. ascending d e l (omega (arith, to_within, m));
+      rising = λ d e l m. rising d e l (omega (arith, to_within, m));
       shapes = λ e l.
           let b = binding_of e (omega (arith, to_within)) in
-          let k = known t h.lawful b.0 b.1 in
-          let n = fields b.0 k _ b.2.first in
-          rw (n.offset, n.length) k.shape;
+          let like = b.2.first.like in
+          rw (← like.offset, ← like.length) (known t h.lawful b.0 b.1).shape;
     }
 
     pub group_is : IsIndexGroup t words a from to
@@ -179,9 +244,10 @@ module _ (t : BindingTable) (words : List ℕ) (h : IsCompiled t words) where
       members = λ x m same.
           let c = entry_of x m in
           let e = c.0 in
-          let top_here : (row_at h.rows e).0 / 281474976710656 ≡ a / 65536 = top_of x m e c.1 c.2 ∙ ap (λ (n : ℕ). n / 65536) same in
+          let top_here : (row_at h.rows e).0 / 281474976710656 ≡ a / 65536 = top_of x e c.1 c.2 ∙ ap (λ (n : ℕ). n / 65536) same in
           (e, from_on e c.1 top_here, up_to e c.1 top_here, c.2);
       entries = λ e l m. binding_of e (omega (arith, to_within));
+      marks = λ e l m. marks_of e (omega (arith, to_within, m));
       size = small_size;
     }
       where
@@ -204,7 +270,7 @@ module _ (t : BindingTable) (words : List ℕ) (h : IsCompiled t words) where
               (let inside : from < length h.rows = omega (arith, to_within, some) in
               let b = binding_of from inside in
               let x = b.0 in
-              let top_x : (row_at h.rows from).0 / 281474976710656 ≡ x.v4.0 / 65536 = top_of x b.1 from inside b.2 in
+              let top_x : (row_at h.rows from).0 / 281474976710656 ≡ x.v4.0 / 65536 = top_of x from inside b.2 in
               let low : a / 65536 ≤ (row_at h.rows from).0 / 281474976710656 = above_at h.rows rows_ascend (a / 65536) from inside (omega (arith, from_is)) in
               let high : (row_at h.rows from).0 / 281474976710656 < a / 65536 + 1 = below_at h.rows rows_ascend (a / 65536 + 1) from inside (omega (arith, some, to_is)) in
               let same : x.v4.0 / 65536 ≡ a / 65536 = omega (arith, top_x, low, high) in

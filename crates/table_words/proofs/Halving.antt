@@ -36,21 +36,31 @@ probed_more s s0 w v n later some most half h = elim (cases_eq s s0) [
   | inr probed ↦ halved_more s (s0 + 1) w v n (omega (arith, later, probed)) some (half probed) h
 ]
 
--- two searches, the second among what the first has left
-pub joined_halvings : (s c w n d : ℕ) → 1 ≤ w → 2 ^ s * w ≤ n → 2 ^ c ≤ 2 * w + 1 → n < 2 ^ d → s + c ≤ d + 1
-joined_halvings s c w n d some first second few = elim (cases_lt (d + 1) (s + c)) [
-  | inl more ↦ absurd (
-      let most : 2 ^ (suc (suc d)) ≤ 2 ^ (s + c) = pow_mono (omega (arith, more)) in
-      let split : 2 ^ (s + c) ≡ 2 ^ s * 2 ^ c = pow-add 2 s c in
-      let product : 2 ^ s * 2 ^ c ≤ 2 ^ s * (3 * w) = mul-le (2 ^ s) (2 ^ c) (2 ^ s) (3 * w) (omega arith) (omega (arith, second, some)) in
-      let moved : 2 ^ s * (3 * w) ≡ 3 * (2 ^ s * w) = triple (2 ^ s) w in
-      let powers : 2 ^ suc (suc d) ≡ 4 * 2 ^ d = omega arith in
-      omega (arith, most, split, product, moved, powers, first, few))
-  | inr less ↦ omega (arith, less)
-]
+-- what a search has left, where it halved so often
+pub narrowed : (s w n d : ℕ) → 1 ≤ w → 2 ^ s * w ≤ n → n < 2 ^ d → (s ≤ d) × (w < 2 ^ (d - s))
+narrowed s w n d some halved few = (often, less)
   where
-    triple : (p w : ℕ) → p * (3 * w) ≡ 3 * (p * w)
-    triple p w = omega arith
+    often : s ≤ d
+    often = elim (cases_lt d s) [
+      | inl more ↦ absurd (
+          let powers : 2 ^ d ≤ 2 ^ s = pow_mono (omega (arith, more)) in
+          let product : 2 ^ s * 1 ≤ 2 ^ s * w = mul-le (2 ^ s) 1 (2 ^ s) w (omega arith) some in
+          omega (arith, powers, product, halved, few))
+      | inr fewer ↦ fewer
+    ]
+
+    less : w < 2 ^ (d - s)
+    less = elim (cases_lt w (2 ^ (d - s))) [
+      | inl small ↦ small
+      | inr more ↦ absurd (
+          let product : 2 ^ s * 2 ^ (d - s) ≤ 2 ^ s * w = mul-le (2 ^ s) (2 ^ (d - s)) (2 ^ s) w (omega arith) more in
+          let joined : 2 ^ (s + (d - s)) ≡ 2 ^ s * 2 ^ (d - s) = pow-add 2 s (d - s) in
+          let whole : 2 ^ (s + (d - s)) ≡ 2 ^ d = ap (λ (n : ℕ). 2 ^ n) (sum s d often) in
+          omega (arith, product, joined, whole, halved, few))
+    ]
+      where
+        sum : (s d : ℕ) → s ≤ d → s + (d - s) ≡ d
+        sum s d l = omega (arith, l)
 
 pub reads_on : (r0 r1 r2 : Option ℕ) (m k n : ℕ) → m + k ≡ n → r1 ≡ read_more r0 m → r2 ≡ read_more r1 k → r2 ≡ read_more r0 n
 reads_on r0 r1 r2 m k n e f g = g ∙ ap (λ (r : Option ℕ). read_more r k) f ∙ joined r0

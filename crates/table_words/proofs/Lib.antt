@@ -10,5 +10,6 @@ pub mod Halving
 pub mod Keys
 pub mod Laws
 pub mod Members
+pub mod Spots
 pub mod TwoShapes
 pub mod Trying

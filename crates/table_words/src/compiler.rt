@@ -1,17 +1,17 @@
 // The words of a table.
-ghost use Rattle.std.specs.Prelude.{◌≡◌, ◌+◌, ◌*◌, ◌/◌, ◌%◌, ◌^◌, ◌<◌, ◌≤◌, ◌++◌, IfOk, OnOk, List, ℕ, length, map, vec_len, IsPermutation, Bool, true, ◌↔◌};
+ghost use Rattle.std.specs.Prelude.{◌≡◌, ◌+◌, ◌*◌, ◌/◌, ◌%◌, ◌^◌, ◌<◌, ◌≤◌, ◌++◌, IfOk, OnOk, List, ℕ, length, map, vec_len, IsPermutation, Bool};
 ghost use Rattle.binding_rules.specs.Tables.{BindingTable};
 ghost use Rattle.table_words.specs.Layout.{IsCompiled, AreCompiled, row, flag, flags};
-ghost use Rattle.table_words.specs.Parts.{IsAscending, HaveTwoShapes, settings_words, index_words, entry_words};
+ghost use Rattle.table_words.specs.Parts.{IsAscending, AreUnmarked, IsEndOfAddress, TellsMixed, settings_words, index_words, entry_words};
 
-use crate::entries::FIRST_ENTRY;
+use crate::entries::{FIRST_ENTRY, MIXED};
 use aftr_base::{OutOfMemory, WordList};
 use binding_rules::{Binding, Softwire, Table};
 use std::alloc::Global;
 
-/// The words of the table, which `look`, `has_address` and `softwire` read: the settings in eight words, which also tell
-/// whether some address has bindings of two shapes; an index by the top 16 bits of an address in 65,537 words; and an
-/// entry of three words for each binding. `OutOfMemory` comes where the allocator has no room for them.
+/// The words of the table, which `look`, `has_address` and `softwire` read: the settings in eight words, an index by the
+/// top 16 bits of an address in 65,537 words, and an entry of three words for each binding, which is marked where the
+/// bindings of its address have two shapes. `OutOfMemory` comes where the allocator has no room for them.
 pub fn compile(alloc: Global, table: &Table) -> Result<WordList, OutOfMemory>
     ensures words { IfOk result (λ words. IsCompiled table.now words) }
     ensures some_table { IfOk result (λ words. AreCompiled words) }
@@ -20,12 +20,7 @@ pub fn compile(alloc: Global, table: &Table) -> Result<WordList, OutOfMemory>
     let bindings = table.bindings();
     let rows = rows_of(alloc, bindings)?;
     let mut words = Vec::with_capacity(alloc, FIRST_ENTRY as usize + 3 * rows.len())?;
-    put_settings(
-        &mut words,
-        rows.len(),
-        table.softwire(),
-        have_two_shapes(&rows),
-    )?;
+    put_settings(&mut words, rows.len(), table.softwire())?;
     put_index(&mut words, &rows)?;
     put_entries(&mut words, &rows)?;
     Ok(WordList::of(words))
@@ -55,33 +50,9 @@ fn row_of(binding: Binding) -> (u64, u128)
     (first, binding.b4.0)
 }
 
-/// Whether two rows have one address and two shapes. Ascending rows with one address stand together, and so do those that
-/// have its first shape.
-fn have_two_shapes(rows: &[(u64, u128)]) -> bool
-    requires { IsAscending rows.now }
-    ensures { (result ≡ true) ↔ HaveTwoShapes rows.now }
-{
-    let mut at = 1;
-    'rows: while at < rows.len() {
-        let before = rows[at - 1].0;
-        let here = rows[at].0;
-        let same_address = before / 0x1_0000_0000 == here / 0x1_0000_0000;
-        if same_address && before / 0x1_0000 != here / 0x1_0000 {
-            return true;
-        }
-        at += 1;
-    }
-    false
-}
-
-/// Puts the eight words before the index: the settings, and whether some address has bindings of two shapes.
-fn put_settings(
-    words: &mut Vec<u64>,
-    count: usize,
-    softwire: Softwire,
-    two_shapes: bool,
-) -> Result<(), OutOfMemory>
-    ensures { OnOk result (words.new.items ≡ words.old.items ++ settings_words softwire count two_shapes) }
+/// Puts the eight words before the index: how many rows there are, and the settings.
+fn put_settings(words: &mut Vec<u64>, count: usize, softwire: Softwire) -> Result<(), OutOfMemory>
+    ensures { OnOk result (words.new.items ≡ words.old.items ++ settings_words softwire count) }
 {
     words.extend_from_slice(&[
         count as u64,
@@ -91,7 +62,7 @@ fn put_settings(
         u64::from(softwire.mtu6) * 0x1_0000_0000
             + u64::from(softwire.mtu4) * 0x1_0000
             + u64::from(softwire.hop_limit),
-        flag_of(two_shapes, 1),
+        0,
         0,
         0,
     ])?;
@@ -142,12 +113,45 @@ fn put_index(words: &mut Vec<u64>, rows: &[(u64, u128)]) -> Result<(), OutOfMemo
     Ok(())
 }
 
-/// Puts the three words of each row.
+/// Puts the three words of each row, the rows of an address marked where they have two shapes. Ascending rows of one
+/// address stand together, from its least shape to its greatest.
 fn put_entries(words: &mut Vec<u64>, rows: &[(u64, u128)]) -> Result<(), OutOfMemory>
-    ensures { OnOk result (words.new.items ≡ words.old.items ++ entry_words rows.now) }
+    requires ascending { IsAscending rows.now }
+    requires unmarked { AreUnmarked rows.now }
+    ensures { OnOk result ((mixed : ℕ → Bool) → TellsMixed rows.now mixed → words.new.items ≡ words.old.items ++ entry_words mixed rows.now) }
 {
+    let mut from = 0;
+    'addresses: while from < rows.len() {
+        let to = end_of_address(rows, from);
+        let mixed = rows[from].0 / 0x1_0000 != rows[to - 1].0 / 0x1_0000;
+        put_address(words, &rows[from..to], mixed)?;
+        from = to;
+    }
+    Ok(())
+}
+
+/// The end of the rows that have the address of this one.
+fn end_of_address(rows: &[(u64, u128)], from: usize) -> usize
+    requires ascending { IsAscending rows.now }
+    requires within { from < length rows.now }
+    ensures { IsEndOfAddress rows.now from result }
+{
+    let address = rows[from].0 / 0x1_0000_0000;
+    let mut to = from + 1;
+    'rows: while to < rows.len() && rows[to].0 / 0x1_0000_0000 == address {
+        to += 1;
+    }
+    to
+}
+
+/// Puts the three words of each row of an address.
+fn put_address(words: &mut Vec<u64>, rows: &[(u64, u128)], mixed: bool) -> Result<(), OutOfMemory>
+    requires { AreUnmarked rows.now }
+    ensures { OnOk result (words.new.items ≡ words.old.items ++ entry_words (λ _. mixed) rows.now) }
+{
+    let mark = flag_of(mixed, MIXED);
     'rows: for row in rows {
-        words.extend_from_slice(&[row.0, high_half(row.1), low_half(row.1)])?;
+        words.extend_from_slice(&[row.0 + mark, high_half(row.1), low_half(row.1)])?;
     }
     Ok(())
 }

@@ -15,6 +15,9 @@ use std::sync::ledger::Ledger;
 /// Where the first entry stands: behind the eight words of settings and the 65,537 of the index.
 pub(crate) const FIRST_ENTRY: u32 = 65_545;
 
+/// What is added to the first word of each entry of an address whose bindings have two shapes: the top bit of the offset.
+pub(crate) const MIXED: u64 = 0x8000_0000;
+
 /// The first word of an entry.
 pub(crate) fn first_word<W: Words, L: Ledger>(
     words: &mut W,
@@ -51,10 +54,10 @@ pub(crate) fn tunnel_end<W: Words, L: Ledger>(words: &mut W, entry: u32, steps: 
 /// where no binding of this shape can own it.
 #[inline(always)]
 pub(crate) fn key_of(first: u64, want: Want) -> Option<u64>
-    requires { IsShape (first / 16777216 % 256) (first / 65536 % 256) }
+    requires { IsShape (first / 16777216 % 128) (first / 65536 % 256) }
     ensures { IsKey first want result }
 {
-    let offset = (first / 0x100_0000 % 0x100) as u8;
+    let offset = (first / 0x100_0000 % 0x80) as u8;
     let length = (first / 0x1_0000 % 0x100) as u8;
     let least = first - first % 0x1_0000;
     match want {

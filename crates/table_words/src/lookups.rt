@@ -7,20 +7,17 @@ ghost use Rattle.table_words.specs.Bounds.{group_digits};
 ghost use Rattle.table_words.specs.Layout.{IsCompiled, AreCompiled};
 ghost use Rattle.table_words.specs.Reads.{read_more};
 ghost use Rattle.table_words.specs.Spent.{IsBounded};
-ghost use Rattle.table_words.specs.Spans.{IsEntryRange, IsIndexGroup};
 
 use crate::counter::Steps;
 use crate::destination::Destination;
 use crate::entries::first_word;
-use crate::owners::{destination_alike, owner_like};
+use crate::owners::owner_near;
+use crate::probes::spot_of_address;
 use crate::reader::Words;
-use crate::searches::{Span, group_of, lower_bound};
+use crate::searches::{group_of, lower_bound};
 use aftr_base::{V4, V6};
 use binding_rules::Want;
 use std::sync::ledger::Ledger;
-
-// What word 5 is where no address has bindings of two shapes.
-const ONE_SHAPE: u64 = 0;
 
 /// Whether some binding of the table has the address, and the tunnel's end of the one that owns the port, or, for
 /// `Whole`, whose offset and length are both 0: `has_address` and `look` in one search. The condition is that the words
@@ -28,6 +25,8 @@ const ONE_SHAPE: u64 = 0;
 /// their addresses, and at most G different shapes at one address, it reads at most `G * (2 * B + 4) + B + 4` words, and B
 /// fewer where it finds an owner, and where no address has two shapes, as in every table of edition One. It reads at least one word,
 /// whatever the table has.
+// It is inlined where packets are judged, with what it calls: what the words are read through stays in registers, and so
+// does the answer.
 #[inline(always)]
 pub fn destination_of<W: Words, L: Ledger>(
     words: &mut W,
@@ -45,57 +44,12 @@ pub fn destination_of<W: Words, L: Ledger>(
     ensures rises { steps.old + 1 ≤ steps.new }
 {
     let group = group_of(words, v4, steps);
-    if group.from >= group.to {
+    let Some(spot) = spot_of_address(words, group.from, group.to, v4, steps) else {
         return Destination::Unbound;
-    }
-    destination_among(words, group, v4, want, steps)
-}
-
-// The same among the entries that agree with the address in its top 16 bits, where there are some. Two words were read to
-// find them.
-// It is inlined where packets are judged, with what it calls: what the words are read through stays in registers, and so
-// does the answer.
-#[inline(always)]
-fn destination_among<W: Words, L: Ledger>(
-    words: &mut W,
-    group: Span,
-    v4: V4,
-    want: Want,
-    steps: &mut Steps<L>,
-) -> Destination
-    requires compiled { AreCompiled (W.list words.old) }
-    requires some { group.from < group.to }
-    requires span { IsEntryRange (W.list words.old) group.from group.to }
-    requires group { (t : BindingTable) → IsCompiled t (W.list words.old) → IsIndexGroup t (W.list words.old) v4.0 group.from group.to }
-    ensures address { (t : BindingTable) → IsCompiled t (W.list words.old) → has_binding result ≡ has_v4 t.bindings v4 }
-    ensures owner { (t : BindingTable) → IsCompiled t (W.list words.old) → tunnel_of result ≡ first_b4 (bound t.bindings v4 want) }
-    ensures bounds { IsBounded (W.list words.old) (tunnel_of result) steps.old (steps.new + 2) }
-    ensures list { W.list words.new ≡ W.list words.old }
-    ensures reads { W.reads words.new ≡ read_more (W.reads words.old) (steps.new - steps.old) }
-    ensures goes { W.goes words.old words.new }
-    ensures rises { steps.old + 1 ≤ steps.new }
-{
-    if words.word(5, steps) == ONE_SHAPE {
-        return destination_alike(words, group.from, group.to, v4, want, steps);
-    }
-    let address = u64::from(v4.0);
-    let mut from = group.from;
-    let mut least = address * 0x1_0000_0000;
-    let mut answer = Destination::Unbound;
-    'shapes: loop {
-        from = lower_bound(words, from, group.to, least, steps);
-        if from >= group.to {
-            return answer;
-        }
-        let first = first_word(words, from, steps);
-        if first / 0x1_0000_0000 != address {
-            return answer;
-        }
-        if let Some(end) = owner_like(words, from, group.to, first, want, steps) {
-            return Destination::Owned(end);
-        }
-        answer = Destination::Unowned;
-        least = first - first % 0x1_0000 + 0x1_0000;
+    };
+    match owner_near(words, spot, want, steps) {
+        Some(end) => Destination::Owned(end),
+        None => Destination::Unowned,
     }
 }
 

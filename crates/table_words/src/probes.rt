@@ -1,7 +1,8 @@
 // The search that begins where an entry is guessed to be.
-ghost use Rattle.std.specs.Prelude.{◌≡◌, ◌+◌, ◌-◌, ◌*◌, ◌^◌, ◌<◌, ◌≤◌, IfSome, IfNone};
+ghost use Rattle.std.specs.Prelude.{◌≡◌, ℕ, ◌+◌, ◌-◌, ◌*◌, ◌^◌, ◌<◌, ◌≤◌, IfSome, IfNone};
 ghost use Rattle.table_words.specs.Reads.{read_more};
 ghost use Rattle.table_words.specs.Spans.{IsEntryRange, IsSpot, HasNoSpot, IsReach};
+ghost use Rattle.table_words.specs.Tried.{IsNarrowed};
 
 use crate::counter::Steps;
 use crate::entries::first_word;
@@ -70,6 +71,35 @@ pub(crate) fn spot_of<W: Words, L: Ledger>(
     None
 }
 
+/// An entry of these that has the address.
+#[inline(always)]
+pub(crate) fn spot_of_address<W: Words, L: Ledger>(
+    words: &mut W,
+    from: u32,
+    to: u32,
+    v4: V4,
+    steps: &mut Steps<L>,
+) -> Option<Spot>
+    requires { IsEntryRange (W.list words.old) from to }
+    ensures spot { IfSome result (λ s. IsSpot (W.list words.old) from to (v4.0 * 4294967296) (v4.0 * 4294967296 + 4294967295) s.low s.high s.at s.first) }
+    ensures none { IfNone result (HasNoSpot (W.list words.old) from to (v4.0 * 4294967296) (v4.0 * 4294967296 + 4294967295)) }
+    ensures left { IfSome result (λ s. (d : ℕ) → to - from < 2 ^ d → IsNarrowed d (s.high - s.low) (steps.new - steps.old)) }
+    ensures cost { (d : ℕ) → to - from < 2 ^ d → steps.new ≤ steps.old + d + 3 }
+    ensures list { W.list words.new ≡ W.list words.old }
+    ensures reads { W.reads words.new ≡ read_more (W.reads words.old) (steps.new - steps.old) }
+    ensures goes { W.goes words.old words.new }
+    ensures later { steps.old ≤ steps.new }
+{
+    let guess = guess_of(words, from, to, v4, steps);
+    let near = Reach {
+        low: from,
+        high: to,
+        guess,
+    };
+    let least = u64::from(v4.0) * 0x1_0000_0000;
+    spot_of(words, near, least, least + 0xffff_ffff, steps)
+}
+
 /// The entry of these where the address stands if the addresses rise evenly from the first of them to the last. Fewer than
 /// eight entries are not worth the two reads.
 #[inline(always)]
@@ -80,12 +110,10 @@ pub(crate) fn guess_of<W: Words, L: Ledger>(
     v4: V4,
     steps: &mut Steps<L>,
 ) -> u32
-    requires span { IsEntryRange (W.list words.old) from to }
-    requires some { from < to }
+    requires { IsEntryRange (W.list words.old) from to }
     ensures from_on { from ≤ result }
-    ensures up_to { result < to }
+    ensures up_to { from < to → result < to }
     ensures cost { steps.new ≤ steps.old + 2 }
-    ensures few { to - from < 8 → steps.new ≡ steps.old }
     ensures list { W.list words.new ≡ W.list words.old }
     ensures reads { W.reads words.new ≡ read_more (W.reads words.old) (steps.new - steps.old) }
     ensures goes { W.goes words.old words.new }

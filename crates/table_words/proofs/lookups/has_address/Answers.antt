@@ -19,9 +19,9 @@ returns-then-at-group g c =
     let word = read.value ∙ ap (λ (ws : List ℕ). first_at ws at) (bounded.list ∙ grouped.list) in
     record {
       answer = λ t h. rw c.from-address.ensures
-          (address_here t words h c.args.v4 from to at grouped.span (grouped.group t h) place c.if-at-group.true c.first_word.result word);
+          (address_here t words c.args.v4 from to at grouped.span (grouped.group t h) place c.if-at-group.true c.first_word.result word);
       bound = λ t h.
-          let cost = address_cost t words h c.args.v4 from to at grouped.span (grouped.group t h) place _ bounded.cost in
+          let cost = address_cost t words c.args.v4 from to at grouped.span (grouped.group t h) place _ bounded.cost in
           omega (arith, cost, grouped.steps, bounded.later, read.steps);
       list = read.list ∙ bounded.list ∙ grouped.list;
       reads = reads_on _ _ _ (c.lower_bound-at.new.steps - c.args.steps.now) 1 _ (omega (arith, read.steps, bounded.later, grouped.steps))
@@ -43,9 +43,9 @@ returns-else-at-group g c =
     (subst (λ (ws : List ℕ). IsBoundary ws from to (c.from-address.result * 4294967296) at) grouped.list bounded.place) in
     record {
       answer = λ t h. rw (le-ltb at to c.if-at-group.false)
-          (sym (address_none t words h c.args.v4 from to at grouped.span (grouped.group t h) place c.if-at-group.false));
+          (sym (address_none t words c.args.v4 from to at grouped.span (grouped.group t h) place c.if-at-group.false));
       bound = λ t h.
-          let cost = address_cost t words h c.args.v4 from to at grouped.span (grouped.group t h) place _ bounded.cost in
+          let cost = address_cost t words c.args.v4 from to at grouped.span (grouped.group t h) place _ bounded.cost in
           omega (arith, cost, grouped.steps, bounded.later);
       list = bounded.list ∙ grouped.list;
       reads = reads_on _ _ _ 2 _ _ (omega (arith, bounded.later, grouped.steps)) grouped.reads bounded.reads;
