@@ -64,6 +64,41 @@ fn reads_no_more_words_than_the_bounds_of_the_table(rt: HostRuntime) -> Result<(
     Ok(())
 }
 
+// Whether a look over each of the words reads as many of them, and finds the same, by either call.
+fn reads_alike(words: &WordList, others: &WordList, v4: V4, want: Want) -> bool
+    requires some { AreCompiled words.now }
+    requires other { AreCompiled others.now }
+{
+    owner(words, v4, want) == owner(others, v4, want)
+        && destination(words, v4, want) == destination(others, v4, want)
+}
+
+#[test]
+fn an_address_of_two_shapes_costs_the_others_nothing(rt: HostRuntime) -> Result<(), Fail> {
+    let alloc = rt.alloc();
+    let mut rows = Vec::new(alloc);
+    for row in ONE_GROUP {
+        rows.push(row)?;
+    }
+    let alone = compile(alloc, &table(alloc, Edition::Two, &rows)?)?;
+    rows.push((0xdfff_ff01, 6, 8, 52))?;
+    rows.push((0xdfff_ff01, 6, 10, 5))?;
+    let beside = compile(alloc, &table(alloc, Edition::Two, &rows)?)?;
+    for (address, _, _, _) in ONE_GROUP {
+        for port in [0, 80, 1024, 1232, 1240, 16_454, 64_016, 65_535] {
+            assert!(rt;
+                reads_alike(&alone, &beside, V4(address), Want::Port(port)),
+                "{address} {port}"
+            );
+        }
+        assert!(rt;
+            reads_alike(&alone, &beside, V4(address), Want::Whole),
+            "{address}"
+        );
+    }
+    Ok(())
+}
+
 #[test]
 fn reads_42_words_at_most_where_65536_bindings_are_in_one_group(
     rt: HostRuntime,

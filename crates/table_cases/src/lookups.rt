@@ -132,21 +132,64 @@ fn finds_the_owner_by_its_ports(rt: HostRuntime) -> Result<(), Fail> {
 }
 
 #[test]
-fn tells_where_an_address_has_two_shapes(rt: HostRuntime) -> Result<(), Fail> {
+fn marks_the_entries_of_an_address_of_two_shapes(rt: HostRuntime) -> Result<(), Fail> {
     let alloc = rt.alloc();
     let shared = SHARED.0;
+    // The shape of the first word of an entry is its bits 31 to 16; the top one is the mark.
     let cases = [
-        ([(shared, 6, 8, 52), (shared, 6, 8, 53)], 0),
-        ([(shared, 6, 8, 52), (shared + 1, 6, 10, 5)], 0),
-        ([(shared, 6, 8, 52), (shared, 6, 10, 5)], 1),
-        ([(shared, 6, 8, 52), (shared, 0, 16, 80)], 1),
+        (
+            [(shared, 6, 8, 52), (shared, 6, 8, 53)],
+            [0xcb00_7101_0608_0034, 0xcb00_7101_0608_0035],
+        ),
+        (
+            [(shared, 6, 8, 52), (shared + 1, 6, 10, 5)],
+            [0xcb00_7101_0608_0034, 0xcb00_7102_060a_0005],
+        ),
+        (
+            [(shared, 6, 8, 52), (shared, 6, 10, 5)],
+            [0xcb00_7101_8608_0034, 0xcb00_7101_860a_0005],
+        ),
+        (
+            [(shared, 6, 8, 52), (shared, 0, 16, 80)],
+            [0xcb00_7101_8010_0050, 0xcb00_7101_8608_0034],
+        ),
     ];
-    for (rows, told) in cases {
+    for (rows, firsts) in cases {
         let words = compile(alloc, &table(alloc, Edition::Two, &rows)?)?;
         let list = words.as_slice();
-        assert_eq!(rt; list.get(5).copied(), Some(told));
-        assert_eq!(rt; list.get(6).copied(), Some(0));
-        assert_eq!(rt; list.get(7).copied(), Some(0));
+        assert_eq!(rt; list.get(65_545).copied(), Some(firsts[0]));
+        assert_eq!(rt; list.get(65_548).copied(), Some(firsts[1]));
+        for j in 5..8 {
+            assert_eq!(rt; list.get(j).copied(), Some(0), "{j}");
+        }
+    }
+    Ok(())
+}
+
+#[test]
+fn marks_no_other_address(rt: HostRuntime) -> Result<(), Fail> {
+    let alloc = rt.alloc();
+    let shared = SHARED.0;
+    let rows = [
+        (shared + 2, 0, 0, 0),
+        (shared + 1, 6, 10, 5),
+        (shared, 6, 8, 52),
+        (shared + 1, 6, 8, 52),
+        (shared + 1, 6, 8, 53),
+        (shared, 6, 8, 53),
+    ];
+    let words = compile(alloc, &table(alloc, Edition::Two, &rows)?)?;
+    let list = words.as_slice();
+    let firsts = [
+        (65_545, 0xcb00_7101_0608_0034),
+        (65_548, 0xcb00_7101_0608_0035),
+        (65_551, 0xcb00_7102_8608_0034),
+        (65_554, 0xcb00_7102_8608_0035),
+        (65_557, 0xcb00_7102_860a_0005),
+        (65_560, 0xcb00_7103_0000_0000),
+    ];
+    for (j, word) in firsts {
+        assert_eq!(rt; list.get(j).copied(), Some(word), "{j}");
     }
     Ok(())
 }
