@@ -12,7 +12,7 @@ use Rattle.port_locate.specs.Keys.{downstream_key}
 use Rattle.verdict_core.specs.Access.{Delivers, GoesTo}
 use Rattle.verdict_core.specs.Fitting.{HasPacket}
 use Rattle.verdict_core.specs.Lines.{verdict_in}
-use Rattle.verdict_core.specs.Verdicts.{access_lines, down_lines, down_refusals, down_ways, hairpin_lines, is_bound_address, outward_lines, owner_end, ttl_lines, up_lines}
+use Rattle.verdict_core.specs.Verdicts.{access_lines, down_lines, down_refusals, down_ways, hairpin_lines, is_bound_address, outward_lines, owner_end, onward_refusals, up_lines}
 use Rattle.verdict_core.specs.declared.verdicts.Verdict.{Verdict}
 use Rattle.verdict_core.specs.declared.verdicts.Verdict.TheVariants as verdict
 use Rattle.verdict_core.proofs.Firsts.{by_ways}
@@ -58,15 +58,15 @@ module _ (t : BindingTable) (lawful : IsLawful t) (v : Verdict) where
     where
       by_end : (end : Option V6) → owner_end t p.dst (downstream_key p) ≡ end →
           verdict_in (access_lines t outer p
-          ++ (ttl_lines t.softwire outer p ++ (hairpin_lines t.softwire outer p (is_bound_address t p.dst) end ++ outward_lines t.softwire outer p))) ≡ Some v →
+          ++ (onward_refusals t.softwire outer p ++ (hairpin_lines t.softwire outer p (is_bound_address t p.dst) end ++ outward_lines t.softwire outer p))) ≡ Some v →
           Delivers t (item.Up outer inner) v
       by_end None is = by_ways (λ w. Delivers t (item.Up outer inner) w) is_drop (of_drop t (item.Up outer inner))
           (access_lines t outer p
-          ++ (ttl_lines t.softwire outer p ++ (hairpin_lines t.softwire outer p (is_bound_address t p.dst) None ++ outward_lines t.softwire outer p))) v refl
+          ++ (onward_refusals t.softwire outer p ++ (hairpin_lines t.softwire outer p (is_bound_address t p.dst) None ++ outward_lines t.softwire outer p))) v refl
           (λ _. tt, tt)
       by_end (Some to) is = by_ways (λ w. Delivers t (item.Up outer inner) w) is_drop (of_drop t (item.Up outer inner))
           (access_lines t outer p
-          ++ (ttl_lines t.softwire outer p ++ (hairpin_lines t.softwire outer p (is_bound_address t p.dst) (Some to) ++ outward_lines t.softwire outer p))) v refl
+          ++ (onward_refusals t.softwire outer p ++ (hairpin_lines t.softwire outer p (is_bound_address t p.dst) (Some to) ++ outward_lines t.softwire outer p))) v refl
           (λ _. goes_to t (item.Up outer inner) p to lawful (inner, refl, read) is, (λ _. tt, tt))
 
   pub up_delivers : (outer : Outer) (inner : List ℕ) (r : Result Packet4 Ip4Bad) → ip4_of inner ≡ r → verdict_in (up_lines t outer r) ≡ Some v →

@@ -6,7 +6,7 @@ use Rattle.std.proofs.lemmas.List.Elements.{All-nil, All-cons, All-head, All-tai
 use Rattle.binding_rules.specs.Tables.{BindingTable}
 use Rattle.ip_codec.specs.declared.items.Item.{Item}
 use Rattle.ip_codec.specs.declared.rules.Rule.{Rule}
-use Rattle.verdict_core.specs.Lines.{Kind, Refusing, Forbidding, Passing, Line, verdict_in}
+use Rattle.verdict_core.specs.Lines.{Kind, Passing, Stopping, Line, verdict_in}
 use Rattle.verdict_core.specs.Verdicts.{Judged, lines}
 use Rattle.verdict_core.specs.declared.verdicts.Reply.TheVariants as reply
 use Rattle.verdict_core.specs.declared.verdicts.Verdict.{Verdict}
@@ -137,8 +137,7 @@ module _ (P : Verdict → Type 0) (of_silent : (why : Rule) → P (verdict.Drop 
 -- what a list can answer besides what keeps a packet, each with whether a line before it is true
 abbrev pub with_way : Kind → Bool → Verdict → List (Bool × Verdict) → List (Bool × Verdict)
 with_way Passing before v ways = (before, v) ∷ ways
-with_way Refusing before v ways = ways
-with_way Forbidding before v ways = ways
+with_way Stopping before v ways = ways
 
 abbrev pub ways_behind : Bool → List Line → List (Bool × Verdict)
 ways_behind before [] = []
@@ -151,8 +150,7 @@ EachWay P (way ∷ ways) = (way.0 ≡ false → P way.1) × EachWay P ways
 -- lines that let nothing pass answer what passes the test
 abbrev pub as_kept : (Verdict → Bool) → Kind → Verdict → Bool
 as_kept test Passing v = true
-as_kept test Refusing v = test v
-as_kept test Forbidding v = test v
+as_kept test Stopping v = test v
 
 -- A property of all that passes a test holds of what decides, where the lines that keep a packet answer such, and where it holds
 -- of each way once no line before it is true.
@@ -160,8 +158,7 @@ module _ (P : Verdict → Type 0) (test : Verdict → Bool) (of_kept : (v : Verd
   by_kind : (k : Kind) (before : Bool) (v : Verdict) (ways : List (Bool × Verdict)) → before ≡ false → as_kept test k v ≡ true →
       EachWay P (with_way k before v ways) → P v × EachWay P ways
   by_kind Passing before v ways none is each = (each.0 none, each.1)
-  by_kind Refusing before v ways none is each = (of_kept v is, each)
-  by_kind Forbidding before v ways none is each = (of_kept v is, each)
+  by_kind Stopping before v ways none is each = (of_kept v is, each)
 
   by_line : (line : Line) (ls : List Line) (v : Verdict) → P line.answer → (line.test ≡ false → verdict_in ls ≡ Some v → P v) → (b : Bool) →
       line.test ≡ b → (if b then Some line.answer else verdict_in ls) ≡ Some v → P v
@@ -193,7 +190,7 @@ none_by : (line : Line) (ls : List Line) → (verdict_in ls ≡ None → is_any 
 none_by line ls rest true none = absurd cc
 none_by line ls rest false none = rest none
 
-none_true : (ls : List Line) → verdict_in ls ≡ None → is_any ls ≡ false
+pub none_true : (ls : List Line) → verdict_in ls ≡ None → is_any ls ≡ false
 none_true [] none = refl
 none_true (line ∷ ls) none = none_by line ls (λ behind. none_true ls behind) line.test none
 

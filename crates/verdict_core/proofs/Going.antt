@@ -17,9 +17,9 @@ use Rattle.port_locate.specs.declared.keys.Key.{Key}
 use Rattle.port_locate.specs.declared.keys.Key.TheVariants as key
 use Rattle.table_words.specs.Answers.{first_b4, has_v4}
 use Rattle.verdict_core.specs.Access.{BringsIn, GoesOn, HasReceiver, IsBroughtIn, IsDeliverable, IsDelivered, IsForwarded, IsFree, IsFreeBack, IsFreeOut, IsOnItsWay, IsSentOn, IsSubscriberAddress, SendsOn}
-use Rattle.verdict_core.specs.Answers.{inward, inward_room, is_too_large, is_used_up}
+use Rattle.verdict_core.specs.Answers.{inward, inward_room, is_too_large, is_expired}
 use Rattle.verdict_core.specs.Lines.{Line, verdict_in}
-use Rattle.verdict_core.specs.Verdicts.{down_lines, down_refusals, down_ways, hairpin_lines, is_bound_address, lines, onward_lines, outward_lines, owner_end, ttl_lines}
+use Rattle.verdict_core.specs.Verdicts.{down_lines, down_refusals, down_ways, hairpin_lines, is_bound_address, lines, onward_lines, outward_lines, owner_end, onward_refusals}
 use Rattle.verdict_core.specs.declared.verdicts.Verdict.{Verdict}
 use Rattle.verdict_core.specs.declared.verdicts.Verdict.TheVariants as verdict
 use Rattle.verdict_core.proofs.Delivering.{is_drop}
@@ -95,7 +95,7 @@ module _ (t : BindingTable) (lawful : IsLawful t) where
     kept_in verdict.Held is delivered = absurd cc
 
     deliverable : (p : Packet4) → ip4_of bytes ≡ Ok p → HasReceiver t p → (p.dst == t.softwire.own.0) ≡ false →
-        ((p.protocol == 1) && not t.softwire.icmp_in) ≡ false → is_used_up p ≡ false → is_too_large (inward_room t.softwire) p ≡ false → IsDeliverable t bytes
+        ((p.protocol == 1) && not t.softwire.icmp_in) ≡ false → is_expired p ≡ false → is_too_large (inward_room t.softwire) p ≡ false → IsDeliverable t bytes
     deliverable p read r own icmp used large = record {
       packet = p;
       read = read;
@@ -115,7 +115,7 @@ module _ (t : BindingTable) (lawful : IsLawful t) where
           λ none delivered.
               deliverable p read (receiver_known t p to lawful is) (not_behind _ (p.dst == t.softwire.own.0) none (λ e. simp (e, or_true)))
               (not_behind _ ((p.protocol == 1) && not t.softwire.icmp_in) none (λ e. simp (e, or_true)))
-              (not_behind _ (is_used_up p) none (λ e. simp (e, or_true)))
+              (not_behind _ (is_expired p) none (λ e. simp (e, or_true)))
               (not_behind _ (is_too_large (inward_room t.softwire) p) none (λ e. simp (e, or_true))),
           tt,
         )
@@ -139,7 +139,7 @@ module _ (t : BindingTable) (lawful : IsLawful t) where
         icmp : ((d.packet.protocol == 1) && not t.softwire.icmp_in) ≡ false
         icmp = no_icmp (d.packet.protocol == 1) t.softwire.icmp_in (λ e. d.icmp (eqb-true d.packet.protocol 1 e))
 
-        used : is_used_up d.packet ≡ false
+        used : is_expired d.packet ≡ false
         used = le-ltb d.packet.ttl 2 d.alive
 
         large : is_too_large (inward_room t.softwire) d.packet ≡ false
@@ -161,7 +161,7 @@ module _ (t : BindingTable) (lawful : IsLawful t) where
   module _ (outer : Outer) (p : Packet4) where
     abbrev onward_by : Option V6 → List Line
     onward_by end =
-        ttl_lines t.softwire outer p ++ (hairpin_lines t.softwire outer p (is_bound_address t p.dst) end ++ outward_lines t.softwire outer p)
+        onward_refusals t.softwire outer p ++ (hairpin_lines t.softwire outer p (is_bound_address t p.dst) end ++ outward_lines t.softwire outer p)
 
     kept_on : (v : Verdict) → is_drop v ≡ true → IsForwarded v → IsFree t p
     kept_on (verdict.Drop why told) is goes = absurd goes
@@ -169,7 +169,7 @@ module _ (t : BindingTable) (lawful : IsLawful t) where
     kept_on (verdict.Inward from to hop mtu back) is goes = absurd cc
     kept_on verdict.Held is goes = absurd cc
 
-    free_out : is_used_up p ≡ false → is_bound_address t p.dst ≡ false → (p.dst == t.softwire.own.0) ≡ false → is_too_large t.softwire.mtu4 p ≡ false →
+    free_out : is_expired p ≡ false → is_bound_address t p.dst ≡ false → (p.dst == t.softwire.own.0) ≡ false → is_too_large t.softwire.mtu4 p ≡ false →
         IsFree t p
     free_out used unbound own large = record {
       alive = ltb-false p.ttl 2 used;
@@ -177,7 +177,7 @@ module _ (t : BindingTable) (lawful : IsLawful t) where
       out = λ _. record { not_own = eqb-false p.dst t.softwire.own.0 own; fits = small p t.softwire.mtu4 large };
     }
 
-    free_back : HasReceiver t p → is_used_up p ≡ false → t.softwire.hairpin ≡ true → is_too_large (inward_room t.softwire) p ≡ false → IsFree t p
+    free_back : HasReceiver t p → is_expired p ≡ false → t.softwire.hairpin ≡ true → is_too_large (inward_room t.softwire) p ≡ false → IsFree t p
     free_back r used hairpin large = record {
       alive = ltb-false p.ttl 2 used;
       back = λ _. record {
@@ -192,7 +192,7 @@ module _ (t : BindingTable) (lawful : IsLawful t) where
     free_by v None is =
         by_ways (λ w. IsForwarded w → IsFree t p) is_drop kept_on (onward_by None) v refl (
           λ none goes.
-              free_out (not_behind _ (is_used_up p) none (λ e. simp (e, or_true)))
+              free_out (not_behind _ (is_expired p) none (λ e. simp (e, or_true)))
               (not_behind _ (is_bound_address t p.dst) none (λ e. simp (e, or_true)))
               (not_behind _ (p.dst == t.softwire.own.0) none (λ e. simp (e, or_true)))
               (not_behind _ (is_too_large t.softwire.mtu4 p) none (λ e. simp (e, or_true))),
@@ -203,7 +203,7 @@ module _ (t : BindingTable) (lawful : IsLawful t) where
         let ours = receiver_has t p r in
         by_ways (λ w. IsForwarded w → IsFree t p) is_drop kept_on (onward_by (Some to)) v refl (
           λ none goes.
-              free_back r (not_behind _ (is_used_up p) none (λ e. simp (e, or_true)))
+              free_back r (not_behind _ (is_expired p) none (λ e. simp (e, or_true)))
               (turned_on t.softwire.hairpin (not_behind _ (not t.softwire.hairpin) none (λ e. simp (e, ours, or_true))))
               (not_behind _ (is_too_large (inward_room t.softwire) p) none (λ e. simp (e, or_true))),
           (λ none goes. absurd (both_ways _ none (simp or_true)), tt),
@@ -213,7 +213,7 @@ module _ (t : BindingTable) (lawful : IsLawful t) where
         verdict_in (onward_lines t outer p) ≡ Some (inward t.softwire true f.receiver.binding.b4)
     back_first ours alive f = ap (λ (end : Option V6). verdict_in (onward_by end)) (receiver_end t p f.receiver) ∙ rw (used, ours, f.hairpin, large) refl
       where
-        used : is_used_up p ≡ false
+        used : is_expired p ≡ false
         used = le-ltb p.ttl 2 alive
 
         large : is_too_large (inward_room t.softwire) p ≡ false
@@ -226,7 +226,7 @@ module _ (t : BindingTable) (lawful : IsLawful t) where
         nobody = none_of (owner_end t p.dst (downstream_key p)) (λ to is.
             both_ways (is_bound_address t p.dst) unbound (receiver_has t p (receiver_known t p to lawful is)))
 
-        used : is_used_up p ≡ false
+        used : is_expired p ≡ false
         used = le-ltb p.ttl 2 alive
 
         own : (p.dst == t.softwire.own.0) ≡ false

@@ -8,10 +8,10 @@ use Rattle.ip_codec.specs.declared.items.Item.{Item}
 use Rattle.ip_codec.specs.declared.items.Item.TheVariants as item
 use Rattle.ip_codec.specs.declared.items.Outer.{Outer}
 use Rattle.port_locate.specs.Keys.{destination_at, downstream_key, source_at}
-use Rattle.verdict_core.specs.Answers.{inward_room, is_too_large, is_used_up}
+use Rattle.verdict_core.specs.Answers.{inward_room, is_too_large, is_expired}
 use Rattle.verdict_core.specs.Fitting.{Fits, HasPacket, HasRoom, IsSendable, IsUp}
 use Rattle.verdict_core.specs.Lines.{verdict_in}
-use Rattle.verdict_core.specs.Verdicts.{access_lines, down_lines, down_refusals, down_ways, hairpin_lines, is_bound_address, onward_lines, outward_lines, owner_end, ttl_lines, up_lines}
+use Rattle.verdict_core.specs.Verdicts.{access_lines, down_lines, down_refusals, down_ways, hairpin_lines, is_bound_address, onward_lines, outward_lines, owner_end, onward_refusals, up_lines}
 use Rattle.verdict_core.specs.declared.verdicts.Reply.{Reply}
 use Rattle.verdict_core.specs.declared.verdicts.Reply.TheVariants as reply
 use Rattle.verdict_core.specs.declared.verdicts.Verdict.{Verdict}
@@ -62,7 +62,7 @@ small p room is whole = by_df p.df is whole
     by_df true less must_stay = ltb-false room (packet_len p) less
     by_df false less must_stay = absurd cc
 
-sendable : (i : Item) (p : Packet4) (room : ℕ) → HasPacket i p → is_fragment p ≡ false → is_used_up p ≡ false → is_too_large room p ≡ false →
+sendable : (i : Item) (p : Packet4) (room : ℕ) → HasPacket i p → is_fragment p ≡ false → is_expired p ≡ false → is_too_large room p ≡ false →
     IsSendable i room
 sendable i p room has whole alive fits =
     record { packet = p; carried = has; whole = whole; alive = ltb-false _ _ alive; fits = small p room fits }
@@ -78,7 +78,7 @@ module _ (t : BindingTable) (lawful : IsLawful t) (p : Packet4) where
     of_down : (v : Verdict) → can_drop false v ≡ true → IsGood down v
     of_down v is = drop_good down p has_down false (λ never. absurd cc) v is
 
-    inward_good : (to : V6) → owner_end t p.dst (downstream_key p) ≡ Some to → is_used_up p ≡ false → is_too_large (inward_room t.softwire) p ≡ false →
+    inward_good : (to : V6) → owner_end t p.dst (downstream_key p) ≡ Some to → is_expired p ≡ false → is_too_large (inward_room t.softwire) p ≡ false →
         IsGood down (verdict.Inward t.softwire.aftr to t.softwire.hop_limit t.softwire.mtu6 false)
     inward_good to is alive fits =
         let owned = owner_known t p.dst (downstream_key p) to lawful is in
@@ -94,7 +94,7 @@ module _ (t : BindingTable) (lawful : IsLawful t) (p : Packet4) where
         by_ways (λ w. IsGood down w) (can_drop false) of_down (down_refusals t.softwire p (downstream_key p) ++ down_ways t.softwire p (Some to)) v
         (simp (tells_or_not, or_true)) (
           λ none.
-              inward_good to is (not_behind _ (is_used_up p) none (λ e. simp (e, or_true)))
+              inward_good to is (not_behind _ (is_expired p) none (λ e. simp (e, or_true)))
               (not_behind _ (is_too_large (inward_room t.softwire) p) none (λ e. simp (e, or_true))),
           tt,
         )
@@ -113,35 +113,35 @@ module _ (t : BindingTable) (lawful : IsLawful t) (p : Packet4) where
     of_up v is = drop_good up p has_up true (λ _. tt) v is
 
     module _ (whole : is_fragment p ≡ false) where
-      back_good : (to : V6) → is_used_up p ≡ false → is_too_large (inward_room t.softwire) p ≡ false →
+      back_good : (to : V6) → is_expired p ≡ false → is_too_large (inward_room t.softwire) p ≡ false →
           IsGood up (verdict.Inward t.softwire.aftr to t.softwire.hop_limit t.softwire.mtu6 true)
       back_good to alive fits = record { fits = (tt, sendable up p (t.softwire.mtu6 - 40) has_up whole alive fits); room = lawful.mtu6 }
 
-      out_good : is_used_up p ≡ false → is_too_large t.softwire.mtu4 p ≡ false → IsGood up (verdict.Outward t.softwire.mtu4)
+      out_good : is_expired p ≡ false → is_too_large t.softwire.mtu4 p ≡ false → IsGood up (verdict.Outward t.softwire.mtu4)
       out_good alive fits = record { fits = (tt, sendable up p t.softwire.mtu4 has_up whole alive fits); room = lawful.mtu4 }
 
       onward_by : (v : Verdict) (end : Option V6) →
-          verdict_in (ttl_lines t.softwire outer p ++ (hairpin_lines t.softwire outer p (is_bound_address t p.dst) end ++ outward_lines t.softwire outer p)) ≡ Some v →
+          verdict_in (onward_refusals t.softwire outer p ++ (hairpin_lines t.softwire outer p (is_bound_address t p.dst) end ++ outward_lines t.softwire outer p)) ≡ Some v →
           IsGood up v
       onward_by v None =
           by_ways (λ w. IsGood up w) (can_drop true) of_up
-          (ttl_lines t.softwire outer p ++ (hairpin_lines t.softwire outer p (is_bound_address t p.dst) None ++ outward_lines t.softwire outer p)) v
+          (onward_refusals t.softwire outer p ++ (hairpin_lines t.softwire outer p (is_bound_address t p.dst) None ++ outward_lines t.softwire outer p)) v
           (simp (tells_or_not, or_true)) (
             λ none.
-                out_good (not_behind _ (is_used_up p) none (λ e. simp (e, or_true)))
+                out_good (not_behind _ (is_expired p) none (λ e. simp (e, or_true)))
                 (not_behind _ (is_too_large t.softwire.mtu4 p) none (λ e. simp (e, or_true))),
             tt,
           )
       onward_by v (Some to) =
           by_ways (λ w. IsGood up w) (can_drop true) of_up
-          (ttl_lines t.softwire outer p ++ (hairpin_lines t.softwire outer p (is_bound_address t p.dst) (Some to) ++ outward_lines t.softwire outer p)) v
+          (onward_refusals t.softwire outer p ++ (hairpin_lines t.softwire outer p (is_bound_address t p.dst) (Some to) ++ outward_lines t.softwire outer p)) v
           (simp (tells_or_not, or_true)) (
             λ none.
-                back_good to (not_behind _ (is_used_up p) none (λ e. simp (e, or_true)))
+                back_good to (not_behind _ (is_expired p) none (λ e. simp (e, or_true)))
                 (not_behind _ (is_too_large (inward_room t.softwire) p) none (λ e. simp (e, or_true))),
             (
               λ none.
-                  out_good (not_behind _ (is_used_up p) none (λ e. simp (e, or_true)))
+                  out_good (not_behind _ (is_expired p) none (λ e. simp (e, or_true)))
                   (not_behind _ (is_too_large t.softwire.mtu4 p) none (λ e. simp (e, or_true))),
               tt,
             ),

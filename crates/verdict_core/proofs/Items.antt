@@ -19,7 +19,7 @@ use Rattle.verdict_core.specs.Access.{Delivers, RelaysOwn}
 use Rattle.verdict_core.specs.Answers.{silent}
 use Rattle.verdict_core.specs.Fitting.{Fits, HasRoom}
 use Rattle.verdict_core.specs.Lines.{Line, verdict_in}
-use Rattle.verdict_core.specs.Verdicts.{access_lines, down_lines, down_refusals, down_ways, error_lines, hairpin_lines, is_bound_address, lines, message_refusals, outward_lines, owner_end, quote_lines, quote_refusals, quoted_destination, quoted_source, receiver_lines, relay_lines, ttl_lines, up_lines, verdict_of}
+use Rattle.verdict_core.specs.Verdicts.{access_lines, down_lines, down_refusals, down_ways, error_lines, hairpin_lines, is_bound_address, lines, message_refusals, outward_lines, owner_end, quote_lines, quote_refusals, quoted_destination, quoted_source, receiver_lines, relay_lines, onward_refusals, up_lines, verdict_of}
 use Rattle.verdict_core.specs.declared.verdicts.Verdict.{Verdict}
 use Rattle.verdict_core.specs.declared.verdicts.Verdict.TheVariants as verdict
 use Rattle.verdict_core.proofs.Delivering.{down_delivers, up_delivers}
@@ -39,7 +39,7 @@ module _ (t : BindingTable) where
   abbrev up_by : Outer → Packet4 → Option V6 → List Line
   up_by outer p end =
       access_lines t outer p
-      ++ (ttl_lines t.softwire outer p ++ (hairpin_lines t.softwire outer p (is_bound_address t p.dst) end ++ outward_lines t.softwire outer p))
+      ++ (onward_refusals t.softwire outer p ++ (hairpin_lines t.softwire outer p (is_bound_address t p.dst) end ++ outward_lines t.softwire outer p))
 
   up_decides : (outer : Outer) (r : Result Packet4 Ip4Bad) → Decides (up_lines t outer r)
   up_decides outer (Err refusal) = some_decides (up_lines t outer (Err refusal)) (simp or_true)

@@ -8,5 +8,6 @@ pub mod Looks
 pub mod Owned
 pub mod Passing
 pub mod Permits
+pub mod Quoting
 pub mod Relaying
 pub mod Sending

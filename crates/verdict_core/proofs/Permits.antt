@@ -45,8 +45,8 @@ may_send t outer inner p lawful read none =
     }
 
 -- the lines on who may send, by what the source asks for and the end of its owner's tunnel
-abbrev asked : Softwire → Outer → Key → Option V6 → List Line
-asked s outer k end = up_refusals s outer k ++ sender_lines s outer end
+abbrev asked : Softwire → Outer → Packet4 → Key → Option V6 → List Line
+asked s outer p k end = up_refusals s outer p k ++ sender_lines s outer end
 
 pub permitted_none : (t : BindingTable) (outer : Outer) (inner : List ℕ) (p : Packet4) → ip4_of inner ≡ Ok p → Permits t outer inner →
     verdict_in (access_lines t outer p) ≡ None
@@ -63,6 +63,6 @@ permitted_none t outer inner p read permitted = subst (λ (q : Packet4). verdict
 
     none : verdict_in (access_lines t outer permitted.packet) ≡ None
     none =
-        ap (λ (k : Key). verdict_in (asked t.softwire outer k (owner_end t permitted.packet.src k))) permitted.key
-        ∙ ap (λ (owners : List Binding). verdict_in (asked t.softwire outer (key.At permitted.want) (first_b4 owners))) permitted.sender.owner
+        ap (λ (k : Key). verdict_in (asked t.softwire outer permitted.packet k (owner_end t permitted.packet.src k))) permitted.key
+        ∙ ap (λ (owners : List Binding). verdict_in (asked t.softwire outer permitted.packet (key.At permitted.want) (first_b4 owners))) permitted.sender.owner
         ∙ rw (ours, ends) refl

@@ -11,8 +11,8 @@ use Rattle.ip_codec.specs.declared.packet4.Ip4Bad.{Ip4Bad}
 use Rattle.ip_codec.specs.declared.rules.Rule.{Rule}
 use Rattle.port_locate.specs.Keys.{downstream_key}
 use Rattle.verdict_core.specs.Access.{Forbids, Forbidden, Forwards, IsForwarded, Permits, Refused, is_forbidding, is_refusal}
-use Rattle.verdict_core.specs.Lines.{Kind, Refusing, Forbidding, Passing, Line, verdict_in}
-use Rattle.verdict_core.specs.Verdicts.{access_lines, hairpin_lines, is_bound_address, lines, onward_lines, outward_lines, owner_end, ttl_lines, up_lines}
+use Rattle.verdict_core.specs.Lines.{Kind, Passing, Stopping, Line, verdict_in}
+use Rattle.verdict_core.specs.Verdicts.{access_lines, hairpin_lines, is_bound_address, lines, onward_lines, outward_lines, owner_end, onward_refusals, up_lines}
 use Rattle.verdict_core.specs.declared.verdicts.Reply.{Reply}
 use Rattle.verdict_core.specs.declared.verdicts.Verdict.{Verdict}
 use Rattle.verdict_core.specs.declared.verdicts.Verdict.TheVariants as verdict
@@ -23,40 +23,36 @@ use Rattle.verdict_core.proofs.Permits.{may_send, one_packet, permitted_none}
 abbrev pub IsDropBy : (Rule → Bool) → Verdict → Type 0
 IsDropBy among v = (why : Rule) × ((among why ≡ true) × ((told : Reply) × (v ≡ verdict.Drop why told)))
 
--- what lines of a kind answer: a refusal one of the six rules, any other line one of the five or a way out
+-- what the lines on who may send answer, and those behind them
 abbrev as_refusal : Kind → Verdict → Bool
-as_refusal Refusing (verdict.Drop why told) = is_refusal why
-as_refusal Refusing (verdict.Outward mtu) = false
-as_refusal Refusing (verdict.Inward from to hop mtu back) = false
-as_refusal Refusing verdict.Held = false
-as_refusal Forbidding v = false
+as_refusal Stopping (verdict.Drop why told) = is_refusal why
+as_refusal Stopping (verdict.Outward mtu) = false
+as_refusal Stopping (verdict.Inward from to hop mtu back) = false
+as_refusal Stopping verdict.Held = false
 as_refusal Passing v = false
 
 abbrev as_onward : Kind → Verdict → Bool
-as_onward Refusing v = false
-as_onward Forbidding (verdict.Drop why told) = is_forbidding why
-as_onward Forbidding (verdict.Outward mtu) = false
-as_onward Forbidding (verdict.Inward from to hop mtu back) = false
-as_onward Forbidding verdict.Held = false
+as_onward Stopping (verdict.Drop why told) = is_forbidding why
+as_onward Stopping (verdict.Outward mtu) = false
+as_onward Stopping (verdict.Inward from to hop mtu back) = false
+as_onward Stopping verdict.Held = false
 as_onward Passing (verdict.Drop why told) = false
 as_onward Passing (verdict.Outward mtu) = true
 as_onward Passing (verdict.Inward from to hop mtu back) = back
 as_onward Passing verdict.Held = false
 
 refusal_is : (k : Kind) (v : Verdict) → as_refusal k v ≡ true → IsDropBy is_refusal v
-refusal_is Refusing (verdict.Drop why told) is = (why, (is, (told, refl)))
-refusal_is Refusing (verdict.Outward mtu) is = absurd cc
-refusal_is Refusing (verdict.Inward from to hop mtu back) is = absurd cc
-refusal_is Refusing verdict.Held is = absurd cc
-refusal_is Forbidding v is = absurd cc
+refusal_is Stopping (verdict.Drop why told) is = (why, (is, (told, refl)))
+refusal_is Stopping (verdict.Outward mtu) is = absurd cc
+refusal_is Stopping (verdict.Inward from to hop mtu back) is = absurd cc
+refusal_is Stopping verdict.Held is = absurd cc
 refusal_is Passing v is = absurd cc
 
 onward_is : (k : Kind) (v : Verdict) → as_onward k v ≡ true → IsDropBy is_forbidding v ⊎ IsForwarded v
-onward_is Refusing v is = absurd cc
-onward_is Forbidding (verdict.Drop why told) is = inl (why, (is, (told, refl)))
-onward_is Forbidding (verdict.Outward mtu) is = absurd cc
-onward_is Forbidding (verdict.Inward from to hop mtu back) is = absurd cc
-onward_is Forbidding verdict.Held is = absurd cc
+onward_is Stopping (verdict.Drop why told) is = inl (why, (is, (told, refl)))
+onward_is Stopping (verdict.Outward mtu) is = absurd cc
+onward_is Stopping (verdict.Inward from to hop mtu back) is = absurd cc
+onward_is Stopping verdict.Held is = absurd cc
 onward_is Passing (verdict.Drop why told) is = absurd cc
 onward_is Passing (verdict.Outward mtu) is = inr tt
 onward_is Passing (verdict.Inward from to hop mtu back) is = inr is
@@ -82,7 +78,7 @@ onward_as_kind : (t : BindingTable) (outer : Outer) (p : Packet4) → list_all (
 onward_as_kind t outer p = by_end (owner_end t p.dst (downstream_key p))
   where
     by_end : (end : Option V6) → list_all (λ line. as_onward line.kind line.answer)
-        (ttl_lines t.softwire outer p ++ (hairpin_lines t.softwire outer p (is_bound_address t p.dst) end ++ outward_lines t.softwire outer p)) ≡ true
+        (onward_refusals t.softwire outer p ++ (hairpin_lines t.softwire outer p (is_bound_address t p.dst) end ++ outward_lines t.softwire outer p)) ≡ true
     by_end None = refl
     by_end (Some to) = refl
 

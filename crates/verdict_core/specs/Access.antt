@@ -89,12 +89,12 @@ abbrev pub Forwards : BindingTable → Item → Verdict → Type 0
 Forwards t i v = IfUp i (λ outer inner.
     IsForwarded v ↔ (Permits t outer inner × ((why : Rule) → Forbids t outer inner why → ⊥)))
 
--- where its sender may send and a named rule keeps it, it is dropped by that rule, one of five
+-- where its sender may send and a named rule keeps it, it is dropped by that rule
 abbrev pub Forbidden : BindingTable → Item → Verdict → Type 0
 Forbidden t i v = IfUp i (λ outer inner. Permits t outer inner → (why : Rule) → Forbids t outer inner why →
     (is_forbidding why ≡ true) × ((told : Reply) × (v ≡ verdict.Drop why told)))
 
--- where its sender may not send, it is dropped by one of six rules
+-- where its sender may not send, it is dropped by a rule that says so
 abbrev pub Refused : BindingTable → Item → Verdict → Type 0
 Refused t i v = IfUp i (λ outer inner. (Permits t outer inner → ⊥) →
     (why : Rule) × ((is_refusal why ≡ true) × ((told : Reply) × (v ≡ verdict.Drop why told))))
@@ -269,3 +269,15 @@ pub record IsPassedOn (t : BindingTable) (src dst : V6) (message : List ℕ) (v 
 
 abbrev pub PassesOn : BindingTable → Item → Verdict → Type 0
 PassesOn t i v = IfMessage i (λ src dst message. IsPassedOn t src dst message v)
+
+-- who may send, who receives, and whom errors reach
+pub record HasAccess (t : BindingTable) (i : Item) (v : Verdict) : Type 0 where
+  pub forwards : Forwards t i v
+  pub forbidden : Forbidden t i v
+  pub refused : Refused t i v
+  pub sends_on : SendsOn t i v
+  pub brings_in : BringsIn t i v
+  pub delivers : Delivers t i v
+  pub relays_own : RelaysOwn t i v
+  pub relays_all : RelaysAll t i v
+  pub passes_on : PassesOn t i v

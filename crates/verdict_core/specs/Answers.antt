@@ -1,5 +1,5 @@
 -- What the lines answer: drops, with what the sender is told, and ways out.
-use Rattle.std.specs.Prelude.{ℕ, ◌-◌, ◌==◌, nat_lt, Bool, true, false, ◌&&◌, min, max, List, [], ◌∷◌, Option, Some, None, if◌then◌else◌}
+use Rattle.std.specs.Prelude.{ℕ, ◌-◌, ◌==◌, nat_lt, Bool, true, false, ◌&&◌, min, max, List, [], ◌∷◌, Option, Some, None, Result, Ok, Err, if◌then◌else◌}
 use Rattle.aftr_base.specs.declared.numbers.V6.{V6}
 use Rattle.binding_rules.specs.declared.settings.Softwire.{Softwire}
 use Rattle.icmp_errors.specs.Answers.{about, gets_answer, gets_answer6}
@@ -7,6 +7,7 @@ use Rattle.ip_codec.specs.Packet4.{Packet4, packet_len}
 use Rattle.ip_codec.specs.declared.items.Outer.{Outer}
 use Rattle.ip_codec.specs.declared.rules.Rule.{Rule}
 use Rattle.ip_codec.specs.declared.rules.Rule.TheVariants as rule
+use Rattle.port_locate.specs.declared.keys.Wants.{Wants}
 use Rattle.verdict_core.specs.Lines.{Line, passes}
 use Rattle.verdict_core.specs.declared.verdicts.Path.{Path}
 use Rattle.verdict_core.specs.declared.verdicts.Path.TheVariants as path
@@ -17,6 +18,11 @@ use Rattle.verdict_core.specs.declared.verdicts.Verdict.TheVariants as verdict
 
 abbrev pub silent : Rule → Verdict
 silent why = verdict.Drop why reply.Silent
+
+-- what lines answer before the table is searched: they drop the packet for a rule, or it asks for something
+abbrev pub refused : Result Wants Rule → Option Verdict
+refused (Ok wants) = None
+refused (Err why) = Some (silent why)
 
 -- dropped, and the sender is told of it where the condition is true
 abbrev pub dropped : Rule → Bool → Reply → Verdict
@@ -41,8 +47,8 @@ abbrev pub no_owner : Softwire → Rule → Path → Packet4 → Verdict
 no_owner s why way p = dropped why (s.errors_down && may_complain p) (reply.Unreachable s.own way)
 
 -- the time to live is used up: time exceeded (RFC 1812, section 5.3.1)
-abbrev pub used_up : Softwire → Path → Packet4 → Verdict
-used_up s way p = dropped rule.Ttl (may_complain p) (reply.Exceeded s.own way)
+abbrev pub time_exceeded : Softwire → Path → Packet4 → Verdict
+time_exceeded s way p = dropped rule.Ttl (may_complain p) (reply.Exceeded s.own way)
 
 -- it is too large for so many bytes and must not be cut: fragmentation needed (RFC 1191, section 4; RFC 2473, section 7.2)
 abbrev pub too_large : Softwire → ℕ → Path → Packet4 → Verdict
@@ -53,8 +59,8 @@ abbrev pub inward_room : Softwire → ℕ
 inward_room s = s.mtu6 - 40
 
 -- the time to live is 0 or 1, and would be used up here
-abbrev pub is_used_up : Packet4 → Bool
-is_used_up p = nat_lt p.ttl 2
+abbrev pub is_expired : Packet4 → Bool
+is_expired p = nat_lt p.ttl 2
 
 -- DF is set, and the packet has more bytes
 abbrev pub is_too_large : ℕ → Packet4 → Bool

@@ -1,11 +1,10 @@
 -- The lines of a judgement: conditions in an order, of which the first true one decides.
-use Rattle.std.specs.Prelude.{Bool, true, List, [], ◌∷◌, Option, Some, None, if◌then◌else◌}
+use Rattle.std.specs.Prelude.{Bool, true, false, List, [], ◌∷◌, Option, Some, None, if◌then◌else◌}
 use Rattle.verdict_core.specs.declared.verdicts.Verdict.{Verdict}
 
--- what a line does with a packet: its sender has no right to send it, a rule keeps it although its sender may send, or it passes
+-- what a line does with a packet: it stops it, or lets it pass
 pub data Kind : Type 0 where
-  Refusing : Kind
-  Forbidding : Kind
+  Stopping : Kind
   Passing : Kind
 
 -- a condition, what kind of line it is, and the verdict where it is the first whose condition is true
@@ -14,11 +13,8 @@ pub record Line : Type 0 where
   pub test : Bool
   pub answer : Verdict
 
-abbrev pub refuses : Bool → Verdict → Line
-refuses test answer = record { kind = Refusing; test = test; answer = answer }
-
-abbrev pub forbids : Bool → Verdict → Line
-forbids test answer = record { kind = Forbidding; test = test; answer = answer }
+abbrev pub stops : Bool → Verdict → Line
+stops test answer = record { kind = Stopping; test = test; answer = answer }
 
 abbrev pub passes : Verdict → Line
 passes answer = record { kind = Passing; test = true; answer = answer }
@@ -27,3 +23,8 @@ passes answer = record { kind = Passing; test = true; answer = answer }
 abbrev pub verdict_in : List Line → Option Verdict
 verdict_in [] = None
 verdict_in (line ∷ ls) = if line.test then Some line.answer else verdict_in ls
+
+-- the same, by whether there is such a line
+abbrev pub decided : Bool → Verdict → Option Verdict
+decided true verdict = Some verdict
+decided false verdict = None

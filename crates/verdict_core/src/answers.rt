@@ -2,7 +2,7 @@
 ghost use Rattle.std.specs.Prelude.{◌≡◌, ◌-◌, ◌≤◌, ◌&&◌, min, max};
 ghost use Rattle.icmp_errors.specs.Answers.{gets_answer6};
 ghost use Rattle.ip_codec.specs.Packet4.{packet4};
-ghost use Rattle.verdict_core.specs.Answers.{dropped, ends_at, inward, inward_room, is_too_large, is_used_up, may_complain, no_owner, not_sender, relayed, relayed_code, relayed_mtu, silent, too_large, used_up, way_back};
+ghost use Rattle.verdict_core.specs.Answers.{dropped, ends_at, inward, inward_room, is_too_large, is_expired, may_complain, no_owner, not_sender, relayed, relayed_code, relayed_mtu, silent, too_large, time_exceeded, way_back};
 
 use crate::verdicts::{Path, Reply, Verdict};
 use aftr_base::V6;
@@ -101,8 +101,8 @@ fn tells_sender(settings: &Softwire, packet: &Ip4View<'_>) -> bool
 }
 
 // The time to live is used up.
-pub fn used_up(settings: &Softwire, path: Path, packet: &Ip4View<'_>) -> Verdict
-    ensures { result ≡ used_up settings.now path (packet4 packet.now) }
+pub fn time_exceeded(settings: &Softwire, path: Path, packet: &Ip4View<'_>) -> Verdict
+    ensures { result ≡ time_exceeded settings.now path (packet4 packet.now) }
 {
     let told = Reply::Exceeded {
         own: settings.own,
@@ -130,8 +130,8 @@ pub fn inward_room(settings: &Softwire) -> u16
     settings.mtu6.saturating_sub(TUNNEL_HEADER_LEN)
 }
 
-pub fn is_used_up(packet: &Ip4View<'_>) -> bool
-    ensures { result ≡ is_used_up (packet4 packet.now) }
+pub fn is_expired(packet: &Ip4View<'_>) -> bool
+    ensures { result ≡ is_expired (packet4 packet.now) }
 {
     packet.ttl < LEAST_TTL
 }

@@ -1,25 +1,28 @@
 // The verdict on a packet from the IPv4 network.
-ghost use Rattle.std.specs.Prelude.{◌≡◌, ℕ, ◌+◌, ◌-◌, ◌==◌, ◌≤◌, not, ◌&&◌, Some, Ok};
+ghost use Rattle.std.specs.Prelude.{◌≡◌, ℕ, ◌+◌, ◌==◌, ◌≤◌, not, ◌&&◌, IfOk, Some, Ok};
 ghost use Rattle.binding_rules.specs.Tables.{BindingTable, binding_table};
 ghost use Rattle.ip_codec.specs.Packet4.{packet4};
-ghost use Rattle.table_words.specs.Layout.{IsCompiled, AreCompiled};
-ghost use Rattle.table_words.specs.Reads.{read_more};
-ghost use Rattle.verdict_core.specs.Answers.{no_owner, too_large, used_up};
-ghost use Rattle.verdict_core.specs.Bounds.{IsLook};
-ghost use Rattle.verdict_core.specs.Lines.{verdict_in};
-ghost use Rattle.verdict_core.specs.Verdicts.{down_lines, down_ways};
-ghost use Rattle.verdict_core.specs.declared.verdicts.Path.TheVariants as path;
 ghost use Rattle.ip_codec.specs.declared.rules.Rule.TheVariants as rule;
+ghost use Rattle.port_locate.specs.Keys.{downstream_key};
+ghost use Rattle.port_locate.specs.declared.keys.Key.TheVariants as key;
+ghost use Rattle.table_words.specs.Layout.{IsCompiled, AreCompiled};
+ghost use Rattle.verdict_core.specs.Answers.{no_owner, refused, too_large, time_exceeded};
+ghost use Rattle.verdict_core.specs.Bounds.{IsWithin, Reads};
+ghost use Rattle.verdict_core.specs.Lines.{verdict_in};
+ghost use Rattle.verdict_core.specs.Verdicts.{down_lines, down_refusals, down_ways};
+ghost use Rattle.verdict_core.specs.declared.verdicts.Path.TheVariants as path;
 
-use crate::answers::{inward, inward_room, is_too_large, is_used_up, no_owner, too_large, used_up};
-use crate::owners::{owner_end, refuse};
+use crate::answers::{
+    inward, inward_room, is_expired, is_too_large, no_owner, time_exceeded, too_large,
+};
+use crate::asking::{refuse, wants_of};
 use crate::verdicts::{Path, Verdict};
 use aftr_base::V6;
 use binding_rules::Softwire;
 use ip_codec::{Ip4View, Rule};
-use port_locate::{Key, key_down};
+use port_locate::Wants;
 use std::sync::ledger::Ledger;
-use table_words::{Steps, Words};
+use table_words::{Steps, Words, look};
 
 const ICMP: u8 = 1;
 
@@ -34,40 +37,34 @@ pub fn judge_down<W: Words, L: Ledger>(
     requires { AreCompiled (W.list words.old) }
     ensures verdict { (t : BindingTable) → IsCompiled t (W.list words.old) →
         verdict_in (down_lines (binding_table t.edition settings.now t.bindings) (Ok (packet4 packet.now))) ≡ Some verdict.new }
-    ensures list { W.list words.new ≡ W.list words.old }
-    ensures reads { W.reads words.new ≡ read_more (W.reads words.old) (steps.new - steps.old) }
-    ensures goes { W.goes words.old words.new }
+    ensures reads { Reads W.Words words.old words.new steps.old steps.new }
     ensures rises { steps.old + 1 ≤ steps.new }
-    ensures bound { (t : BindingTable) → IsCompiled t (W.list words.old) → (n : ℕ) → IsLook t n → steps.new ≤ steps.old + n }
+    ensures bound { IsWithin (λ look. look) (W.list words.old) steps.old steps.new }
 {
-    if is_own(settings, packet) {
-        refuse(words, Rule::ToSelf, verdict, steps);
-        return;
-    }
-    if is_kept_out(settings, packet) {
-        refuse(words, Rule::IcmpOff, verdict, steps);
-        return;
-    }
-    let want = match key_down(packet) {
-        Key::At(want) => want,
-        Key::NoPort => {
-            refuse(words, Rule::NoPort, verdict, steps);
-            return;
-        }
-        Key::IcmpBad => {
-            refuse(words, Rule::IcmpBad, verdict, steps);
+    let wants = match wants_down(settings, packet) {
+        Ok(wants) => wants,
+        Err(why) => {
+            refuse(words, why, verdict, steps);
             return;
         }
     };
-    let end = owner_end(words, packet.dst, Key::At(want), steps);
+    let end = look(words, packet.dst, wants.destination, steps);
     down_way(settings, packet, end, verdict);
 }
 
-// Whether the packet is for the router itself.
-fn is_own(settings: &Softwire, packet: &Ip4View<'_>) -> bool
-    ensures { result ≡ ((packet4 packet.now).dst == settings.now.own.0) }
+// What the packet asks for, or by which rule it is dropped before the table is searched.
+#[inline(always)]
+fn wants_down(settings: &Softwire, packet: &Ip4View<'_>) -> Result<Wants, Rule>
+    ensures lines { verdict_in (down_refusals settings.now (packet4 packet.now) (downstream_key (packet4 packet.now))) ≡ refused result }
+    ensures destination { IfOk result (λ wants. key.At wants.destination ≡ downstream_key (packet4 packet.now)) }
 {
-    packet.dst == settings.own
+    if packet.dst == settings.own {
+        return Err(Rule::ToSelf);
+    }
+    if is_kept_out(settings, packet) {
+        return Err(Rule::IcmpOff);
+    }
+    wants_of(packet)
 }
 
 // ICMP that the table lets not in.
@@ -85,8 +82,8 @@ fn down_way(settings: &Softwire, packet: &Ip4View<'_>, end: Option<V6>, verdict:
         drop_unowned(settings, packet, verdict);
         return;
     };
-    if is_used_up(packet) {
-        drop_used_up(settings, packet, verdict);
+    if is_expired(packet) {
+        drop_expired(settings, packet, verdict);
         return;
     }
     let room = inward_room(settings);
@@ -109,10 +106,10 @@ fn drop_unowned(settings: &Softwire, packet: &Ip4View<'_>, verdict: &mut Verdict
 // The time to live is used up.
 #[cold]
 #[inline(never)]
-fn drop_used_up(settings: &Softwire, packet: &Ip4View<'_>, verdict: &mut Verdict)
-    ensures { verdict.new ≡ used_up settings.now path.Plain (packet4 packet.now) }
+fn drop_expired(settings: &Softwire, packet: &Ip4View<'_>, verdict: &mut Verdict)
+    ensures { verdict.new ≡ time_exceeded settings.now path.Plain (packet4 packet.now) }
 {
-    *verdict = used_up(settings, Path::Plain, packet);
+    *verdict = time_exceeded(settings, Path::Plain, packet);
 }
 
 // The packet is larger than this and must not be cut.

@@ -1,24 +1,21 @@
 // The verdict on an item.
-ghost use Rattle.std.specs.Prelude.{◌≡◌, ℕ, ◌+◌, ◌*◌, ◌-◌, ◌≤◌, false, Some};
+ghost use Rattle.std.specs.Prelude.{◌≡◌, ◌+◌, ◌≤◌, false, Some};
 ghost use Rattle.binding_rules.specs.Tables.{BindingTable, binding_table};
 ghost use Rattle.ip_codec.specs.Seen.{seen};
-ghost use Rattle.ip_codec.specs.declared.items.Item.TheVariants as item;
 ghost use Rattle.table_words.specs.Bounds.{found_bound, look_bound};
 ghost use Rattle.table_words.specs.Layout.{IsCompiled, AreCompiled, has_two_shapes};
-ghost use Rattle.table_words.specs.Reads.{read_more};
-ghost use Rattle.verdict_core.specs.Access.{Delivers, Forbidden, Forwards, Refused, RelaysAll, RelaysOwn};
-ghost use Rattle.verdict_core.specs.Bounds.{IsLook, judge_bound, judge_into_bound};
+ghost use Rattle.verdict_core.specs.Access.{HasAccess};
+ghost use Rattle.verdict_core.specs.Bounds.{IsWithin, Reads, judge_bound, judge_into_bound};
 ghost use Rattle.verdict_core.specs.Fitting.{AsksTable, Fits, HasRoom};
 ghost use Rattle.verdict_core.specs.Lines.{verdict_in};
-ghost use Rattle.verdict_core.specs.Verdicts.{Judged, lines, verdict_of};
+ghost use Rattle.verdict_core.specs.Verdicts.{IsVerdict, lines, verdict_of};
 
 use crate::answers::drop_silently;
+use crate::asking::read_count;
 use crate::downstream::judge_down;
-use crate::messages::{judge_error, judge_six, message_refusal};
-use crate::owners::read_count;
+use crate::messages::{judge_message, judge_six};
 use crate::upstream::{judge_unread, judge_up};
 use crate::verdicts::Verdict;
-use aftr_base::V6;
 use binding_rules::Softwire;
 use ip_codec::ItemView;
 use std::sync::ledger::Ledger;
@@ -33,28 +30,16 @@ pub fn judge<W: Words, L: Ledger>(
 ) -> Verdict
     requires { AreCompiled (W.list words.old) }
 
-    // Which verdict it is.
-    ensures verdict { (t : BindingTable) → IsCompiled t (W.list words.old) → Judged t (seen item.now) result }
-    ensures value { (t : BindingTable) → IsCompiled t (W.list words.old) → result ≡ verdict_of t (seen item.now) }
-    ensures only { (t : BindingTable) → IsCompiled t (W.list words.old) → (v : Verdict) → Judged t (seen item.now) v → v ≡ result }
-
-    // What it can be.
+    // Which verdict it is, and what it can be.
+    ensures verdict { (t : BindingTable) → IsCompiled t (W.list words.old) → IsVerdict t (seen item.now) result }
     ensures fits { Fits (seen item.now) result }
     ensures room { HasRoom result }
 
     // Who may send, who receives, and whom errors reach.
-    ensures forwards { (t : BindingTable) → IsCompiled t (W.list words.old) → Forwards t (seen item.now) result }
-    ensures forbidden { (t : BindingTable) → IsCompiled t (W.list words.old) → Forbidden t (seen item.now) result }
-    ensures refused { (t : BindingTable) → IsCompiled t (W.list words.old) → Refused t (seen item.now) result }
-    ensures delivers { (t : BindingTable) → IsCompiled t (W.list words.old) → Delivers t (seen item.now) result }
-    ensures relays_own { (t : BindingTable) → IsCompiled t (W.list words.old) → RelaysOwn t (seen item.now) result }
-    ensures relays_all { (t : BindingTable) → IsCompiled t (W.list words.old) → RelaysAll t (seen item.now) result }
+    ensures access { (t : BindingTable) → IsCompiled t (W.list words.old) → HasAccess t (seen item.now) result }
 
     // What it reads.
-    ensures list { W.list words.new ≡ W.list words.old }
-    ensures reads { W.reads words.new ≡ read_more (W.reads words.old) (steps.new - steps.old) }
-    ensures goes { W.goes words.old words.new }
-    ensures later { steps.old ≤ steps.new }
+    ensures reads { Reads W.Words words.old words.new steps.old steps.new }
     ensures rises { AsksTable (seen item.now) → steps.old + 1 ≤ steps.new }
     ensures bound { (t : BindingTable) → IsCompiled t (W.list words.old) → steps.new ≤ steps.old + judge_bound (look_bound t.bindings) }
     ensures one_shape { (t : BindingTable) → IsCompiled t (W.list words.old) → has_two_shapes t.bindings ≡ false → steps.new ≤ steps.old + judge_bound (found_bound t.bindings) }
@@ -82,10 +67,7 @@ pub fn judge_into<W: Words, L: Ledger>(
     ensures value { (t : BindingTable) → IsCompiled t (W.list words.old) → verdict.new ≡ verdict_of t (seen item.now) }
 
     // What it reads.
-    ensures list { W.list words.new ≡ W.list words.old }
-    ensures reads { W.reads words.new ≡ read_more (W.reads words.old) (steps.new - steps.old) }
-    ensures goes { W.goes words.old words.new }
-    ensures later { steps.old ≤ steps.new }
+    ensures reads { Reads W.Words words.old words.new steps.old steps.new }
     ensures rises { AsksTable (seen item.now) → steps.old + 1 ≤ steps.new }
     ensures bound { (t : BindingTable) → IsCompiled t (W.list words.old) → steps.new ≤ steps.old + judge_into_bound (look_bound t.bindings) }
     ensures one_shape { (t : BindingTable) → IsCompiled t (W.list words.old) → has_two_shapes t.bindings ≡ false → steps.new ≤ steps.old + judge_into_bound (found_bound t.bindings) }
@@ -105,12 +87,9 @@ fn judge_under<W: Words, L: Ledger>(
     requires { AreCompiled (W.list words.old) }
     ensures verdict { (t : BindingTable) → IsCompiled t (W.list words.old) →
         verdict_in (lines (binding_table t.edition settings.now t.bindings) (seen item.now)) ≡ Some verdict.new }
-    ensures list { W.list words.new ≡ W.list words.old }
-    ensures reads { W.reads words.new ≡ read_more (W.reads words.old) (steps.new - steps.old) }
-    ensures goes { W.goes words.old words.new }
-    ensures later { steps.old ≤ steps.new }
+    ensures reads { Reads W.Words words.old words.new steps.old steps.new }
     ensures rises { AsksTable (seen item.now) → steps.old + 1 ≤ steps.new }
-    ensures bound { (t : BindingTable) → IsCompiled t (W.list words.old) → (n : ℕ) → IsLook t n → steps.new ≤ steps.old + judge_into_bound n }
+    ensures bound { IsWithin judge_into_bound (W.list words.old) steps.old steps.new }
 {
     match item {
         ItemView::Held => *verdict = Verdict::Held,
@@ -132,31 +111,4 @@ fn judge_under<W: Words, L: Ledger>(
             judge_message(words, settings, *src, *dst, message, verdict, steps)
         }
     }
-}
-
-// The verdict on an ICMPv6 message.
-#[inline(never)]
-fn judge_message<W: Words, L: Ledger>(
-    words: &mut W,
-    settings: &Softwire,
-    src: V6,
-    dst: V6,
-    message: &[u8],
-    verdict: &mut Verdict,
-    steps: &mut Steps<L>,
-)
-    requires { AreCompiled (W.list words.old) }
-    ensures verdict { (t : BindingTable) → IsCompiled t (W.list words.old) →
-        verdict_in (lines (binding_table t.edition settings.now t.bindings) (item.Six58 src dst message.now)) ≡ Some verdict.new }
-    ensures list { W.list words.new ≡ W.list words.old }
-    ensures reads { W.reads words.new ≡ read_more (W.reads words.old) (steps.new - steps.old) }
-    ensures goes { W.goes words.old words.new }
-    ensures later { steps.old ≤ steps.new }
-    ensures bound { (t : BindingTable) → IsCompiled t (W.list words.old) → (n : ℕ) → IsLook t n → steps.new ≤ steps.old + 2 * n }
-{
-    if let Some(refused) = message_refusal(settings, dst, message) {
-        *verdict = refused;
-        return;
-    }
-    *verdict = judge_error(words, settings, src, dst, message, steps);
 }

@@ -3,11 +3,11 @@
 #![tactic(auto)]
 
 mod answers;
+mod asking;
 mod downstream;
 mod judging;
 mod laws;
 mod messages;
-mod owners;
 mod upstream;
 mod verdicts;
 

@@ -1,31 +1,31 @@
 // The verdict on an IPv6 packet without an IPv4 packet inside: most are no softwire's, and some are ICMPv6 errors about
 // tunnel packets of the router.
-ghost use Rattle.std.specs.Prelude.{◌≡◌, ℕ, ◌+◌, ◌*◌, ◌-◌, ◌≤◌, if◌then◌else◌, Some, Ok};
+ghost use Rattle.std.specs.Prelude.{◌≡◌, ℕ, ◌*◌, if◌then◌else◌, Some, Ok};
+ghost use Rattle.std.specs.Option.{option_map};
 ghost use Rattle.binding_rules.specs.Tables.{BindingTable, binding_table};
 ghost use Rattle.icmp_codec.specs.Message6.{icmp6_of, message6};
 ghost use Rattle.icmp_errors.specs.Answers.{gets_answer};
 ghost use Rattle.icmp_relay.specs.Quotes.{inner_packet, tunnel_quote};
+ghost use Rattle.ip_codec.specs.declared.items.Item.TheVariants as item;
 ghost use Rattle.ip_codec.specs.declared.rules.Rule.TheVariants as rule;
 ghost use Rattle.port_locate.specs.Keys.{key_of};
 ghost use Rattle.table_words.specs.Answers.{has_binding, tunnel_of};
 ghost use Rattle.table_words.specs.Layout.{IsCompiled, AreCompiled};
-ghost use Rattle.table_words.specs.Reads.{read_more};
 ghost use Rattle.verdict_core.specs.Answers.{relayed, silent};
-ghost use Rattle.verdict_core.specs.Bounds.{IsLook};
+ghost use Rattle.verdict_core.specs.Bounds.{IsWithin, Reads};
 ghost use Rattle.verdict_core.specs.Lines.{verdict_in};
-ghost use Rattle.verdict_core.specs.Verdicts.{error_lines, is_tunnel_error, message_refusals, quote_lines, quote_refusals, receiver_lines, relay_lines, six_lines};
+ghost use Rattle.verdict_core.specs.Verdicts.{error_lines, is_tunnel_error, lines, message_refusals, quote_lines, quote_refusals, quoted_destination, quoted_source, receiver_lines, relay_lines, six_lines};
 
 use crate::answers::{drop_silently, ends_at, relayed, silent};
-use crate::owners::{owner_at, owner_end};
 use crate::verdicts::{Path, Verdict};
 use aftr_base::V6;
-use binding_rules::{Softwire, Want};
+use binding_rules::Softwire;
 use icmp_codec::{Icmp6View, icmp6};
 use icmp_relay::{Quote, may_relay, quote_from, quote_to, read_quote};
 use ip_codec::Rule;
-use port_locate::Key;
+use port_locate::Wants;
 use std::sync::ledger::Ledger;
-use table_words::{Destination, Steps, Words};
+use table_words::{Destination, Steps, Words, destination_of, look};
 
 // The first part of an ICMPv6 message, with its type at 0 (RFC 4443, section 2.1).
 const HEAD_LEN: usize = 8;
@@ -40,8 +40,32 @@ pub fn judge_six(settings: &Softwire, dst: V6, verdict: &mut Verdict)
     }
 }
 
+// The verdict on an ICMPv6 message.
+#[inline(never)]
+pub fn judge_message<W: Words, L: Ledger>(
+    words: &mut W,
+    settings: &Softwire,
+    src: V6,
+    dst: V6,
+    message: &[u8],
+    verdict: &mut Verdict,
+    steps: &mut Steps<L>,
+)
+    requires { AreCompiled (W.list words.old) }
+    ensures verdict { (t : BindingTable) → IsCompiled t (W.list words.old) →
+        verdict_in (lines (binding_table t.edition settings.now t.bindings) (item.Six58 src dst message.now)) ≡ Some verdict.new }
+    ensures reads { Reads W.Words words.old words.new steps.old steps.new }
+    ensures bound { IsWithin (λ look. 2 * look) (W.list words.old) steps.old steps.new }
+{
+    if let Some(refused) = message_refusal(settings, dst, message) {
+        *verdict = refused;
+        return;
+    }
+    *verdict = judge_error(words, settings, src, dst, message, steps);
+}
+
 // What needs no reading of the message but its type.
-pub fn message_refusal(settings: &Softwire, dst: V6, message: &[u8]) -> Option<Verdict>
+fn message_refusal(settings: &Softwire, dst: V6, message: &[u8]) -> Option<Verdict>
     ensures { verdict_in (message_refusals settings.now dst message.now) ≡ result }
 {
     if dst != settings.aftr {
@@ -61,7 +85,7 @@ fn is_tunnel_error(message: &[u8]) -> bool
 }
 
 // The verdict on an error, by what it quotes.
-pub fn judge_error<W: Words, L: Ledger>(
+fn judge_error<W: Words, L: Ledger>(
     words: &mut W,
     settings: &Softwire,
     src: V6,
@@ -72,11 +96,8 @@ pub fn judge_error<W: Words, L: Ledger>(
     requires { AreCompiled (W.list words.old) }
     ensures verdict { (t : BindingTable) → IsCompiled t (W.list words.old) →
         verdict_in (error_lines (binding_table t.edition settings.now t.bindings) (icmp6_of src.0 dst.0 message.now)) ≡ Some result }
-    ensures list { W.list words.new ≡ W.list words.old }
-    ensures reads { W.reads words.new ≡ read_more (W.reads words.old) (steps.new - steps.old) }
-    ensures goes { W.goes words.old words.new }
-    ensures later { steps.old ≤ steps.new }
-    ensures bound { (t : BindingTable) → IsCompiled t (W.list words.old) → (n : ℕ) → IsLook t n → steps.new ≤ steps.old + 2 * n }
+    ensures reads { Reads W.Words words.old words.new steps.old steps.new }
+    ensures bound { IsWithin (λ look. 2 * look) (W.list words.old) steps.old steps.new }
 {
     match icmp6(src, dst, message) {
         Ok(error) => judge_intact(words, settings, &error, steps),
@@ -94,11 +115,8 @@ fn judge_intact<W: Words, L: Ledger>(
     requires { AreCompiled (W.list words.old) }
     ensures verdict { (t : BindingTable) → IsCompiled t (W.list words.old) →
         verdict_in (error_lines (binding_table t.edition settings.now t.bindings) (Ok (message6 error.now))) ≡ Some result }
-    ensures list { W.list words.new ≡ W.list words.old }
-    ensures reads { W.reads words.new ≡ read_more (W.reads words.old) (steps.new - steps.old) }
-    ensures goes { W.goes words.old words.new }
-    ensures later { steps.old ≤ steps.new }
-    ensures bound { (t : BindingTable) → IsCompiled t (W.list words.old) → (n : ℕ) → IsLook t n → steps.new ≤ steps.old + 2 * n }
+    ensures reads { Reads W.Words words.old words.new steps.old steps.new }
+    ensures bound { IsWithin (λ look. 2 * look) (W.list words.old) steps.old steps.new }
 {
     match read_quote(error.rest) {
         Ok(quote) => judge_quote(words, settings, error.kind, error.word, &quote, steps),
@@ -118,32 +136,34 @@ fn judge_quote<W: Words, L: Ledger>(
     requires { AreCompiled (W.list words.old) }
     ensures verdict { (t : BindingTable) → IsCompiled t (W.list words.old) →
         verdict_in (quote_lines (binding_table t.edition settings.now t.bindings) kind word (Ok (tunnel_quote quote.now))) ≡ Some result }
-    ensures list { W.list words.new ≡ W.list words.old }
-    ensures reads { W.reads words.new ≡ read_more (W.reads words.old) (steps.new - steps.old) }
-    ensures goes { W.goes words.old words.new }
-    ensures later { steps.old ≤ steps.new }
-    ensures bound { (t : BindingTable) → IsCompiled t (W.list words.old) → (n : ℕ) → IsLook t n → steps.new ≤ steps.old + 2 * n }
+    ensures reads { Reads W.Words words.old words.new steps.old steps.new }
+    ensures bound { IsWithin (λ look. 2 * look) (W.list words.old) steps.old steps.new }
 {
     if let Some(refused) = quote_refusal(settings, quote) {
         return refused;
     }
-    let wanted = key_of(quote_to(quote));
-    let end = owner_end(words, quote.dst, wanted, steps);
+    let Some(wants) = quote_wants(quote) else {
+        return silent(Rule::RelayNoBinding);
+    };
+    let end = look(words, quote.dst, wants.destination, steps);
     if let Some(refused) = receiver_refusal(quote, end) {
         return refused;
     }
-    let key = key_of(quote_from(quote));
-    let source = owner_at(words, quote.src, key, steps);
+    let source = destination_of(words, quote.src, wants.source, steps);
     relay(settings, kind, word, quote, source)
 }
 
-fn key_of(want: Option<Want>) -> Key
-    ensures { result ≡ key_of want }
+// What the quoted packet asks for at both ends, where it names a port.
+fn quote_wants(quote: &Quote<'_>) -> Option<Wants>
+    ensures source { quoted_source (tunnel_quote quote.now) ≡ key_of (option_map (λ wants. wants.source) result) }
+    ensures destination { quoted_destination (tunnel_quote quote.now) ≡ key_of (option_map (λ wants. wants.destination) result) }
 {
-    match want {
-        Some(want) => Key::At(want),
-        None => Key::NoPort,
-    }
+    let source = quote_from(quote)?;
+    let destination = quote_to(quote)?;
+    Some(Wants {
+        source,
+        destination,
+    })
 }
 
 // The quoted packet is not the router's.

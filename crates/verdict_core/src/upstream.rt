@@ -1,26 +1,28 @@
 // The verdict on a packet from a subscriber.
-ghost use Rattle.std.specs.Prelude.{◌≡◌, ℕ, ◌+◌, ◌-◌, ◌==◌, ◌≤◌, not, true, Some, None, Ok, Err};
+ghost use Rattle.std.specs.Prelude.{◌≡◌, ℕ, ◌+◌, ◌≤◌, true, IfOk, Some, None, Ok, Err};
 ghost use Rattle.binding_rules.specs.Tables.{BindingTable, binding_table};
 ghost use Rattle.ip_codec.specs.Packet4.{packet4};
+ghost use Rattle.ip_codec.specs.declared.rules.Rule.TheVariants as rule;
+ghost use Rattle.port_locate.specs.Keys.{downstream_key, upstream_key};
+ghost use Rattle.port_locate.specs.declared.keys.Key.TheVariants as key;
 ghost use Rattle.table_words.specs.Layout.{IsCompiled, AreCompiled};
-ghost use Rattle.table_words.specs.Reads.{read_more};
-ghost use Rattle.verdict_core.specs.Answers.{ends_at, not_sender, silent, too_large, used_up, way_back};
-ghost use Rattle.verdict_core.specs.Bounds.{IsLook, judge_into_bound};
-ghost use Rattle.verdict_core.specs.Lines.{verdict_in};
-ghost use Rattle.verdict_core.specs.Verdicts.{hairpin_lines, outward_lines, up_lines};
+ghost use Rattle.verdict_core.specs.Answers.{no_owner, not_sender, refused, too_large, time_exceeded, way_back};
+ghost use Rattle.verdict_core.specs.Bounds.{IsWithin, Reads, judge_into_bound};
+ghost use Rattle.verdict_core.specs.Lines.{decided, verdict_in};
+ghost use Rattle.verdict_core.specs.Verdicts.{hairpin_lines, onward_refusals, outward_lines, sender_lines, up_lines, up_refusals};
 
 use crate::answers::{
-    drop_silently, ends_at, inward, inward_room, is_too_large, is_used_up, no_owner, not_sender,
-    silent, too_large, used_up, way_back,
+    drop_silently, ends_at, inward, inward_room, is_expired, is_too_large, no_owner, not_sender,
+    time_exceeded, too_large, way_back,
 };
-use crate::owners::{owner_at, owner_end, refuse};
+use crate::asking::{refuse, wants_of};
 use crate::verdicts::Verdict;
 use aftr_base::V6;
 use binding_rules::Softwire;
 use ip_codec::{Ip4Bad, Ip4View, Outer, Rule};
-use port_locate::{Key, Keys, Wants, keys_of};
+use port_locate::Wants;
 use std::sync::ledger::Ledger;
-use table_words::{Destination, Steps, Words};
+use table_words::{Destination, Steps, Words, destination_of, look};
 
 // Inlined where packets are judged, so that what the words are read through stays in registers from one word to the next.
 #[inline(always)]
@@ -35,41 +37,71 @@ pub fn judge_up<W: Words, L: Ledger>(
     requires { AreCompiled (W.list words.old) }
     ensures verdict { (t : BindingTable) → IsCompiled t (W.list words.old) →
         verdict_in (up_lines (binding_table t.edition settings.now t.bindings) outer.now (Ok (packet4 packet.now))) ≡ Some verdict.new }
-    ensures list { W.list words.new ≡ W.list words.old }
-    ensures reads { W.reads words.new ≡ read_more (W.reads words.old) (steps.new - steps.old) }
-    ensures goes { W.goes words.old words.new }
+    ensures reads { Reads W.Words words.old words.new steps.old steps.new }
     ensures rises { steps.old + 1 ≤ steps.new }
-    ensures bound { (t : BindingTable) → IsCompiled t (W.list words.old) → (n : ℕ) → IsLook t n → steps.new ≤ steps.old + judge_into_bound n }
+    ensures bound { IsWithin judge_into_bound (W.list words.old) steps.old steps.new }
 {
-    if is_not_ours(settings, outer) {
-        refuse(words, Rule::NotOurs, verdict, steps);
-        return;
-    }
-    let wants = match keys_of(packet) {
-        Keys::At(wants) => wants,
-        Keys::NoPort => {
-            refuse(words, Rule::NoPort, verdict, steps);
-            return;
-        }
-        Keys::IcmpBad => {
-            refuse(words, Rule::IcmpBad, verdict, steps);
+    let wants = match wants_up(settings, outer, packet) {
+        Ok(wants) => wants,
+        Err(why) => {
+            refuse(words, why, verdict, steps);
             return;
         }
     };
-    let end = owner_end(words, packet.src, Key::At(wants.source), steps);
-    if is_foreign(outer, end) {
-        drop_foreign(settings, outer, verdict);
+    let end = look(words, packet.src, wants.source, steps);
+    if stops_sender(settings, outer, end, verdict) {
         return;
     }
-    if is_used_up(packet) {
-        drop_used_up(settings, outer, packet, verdict);
+    if stops_onward(settings, outer, packet, verdict) {
         return;
     }
-    match owner_at(words, packet.dst, Key::At(wants.destination), steps) {
+    match destination_of(words, packet.dst, wants.destination, steps) {
         Destination::Unbound => outward(settings, outer, packet, verdict),
-        Destination::Unowned => turned_to_nobody(settings, outer, packet, verdict),
-        Destination::Owned(to) => turned(settings, outer, packet, to, verdict),
+        Destination::Unowned => hairpin_unowned(settings, outer, packet, verdict),
+        Destination::Owned(to) => hairpin_owned(settings, outer, packet, to, verdict),
     }
+}
+
+// What the packet asks for, or by which rule it is dropped before the table is searched.
+#[inline(always)]
+fn wants_up(settings: &Softwire, outer: &Outer, packet: &Ip4View<'_>) -> Result<Wants, Rule>
+    ensures lines { verdict_in (up_refusals settings.now outer.now (packet4 packet.now) (upstream_key (packet4 packet.now))) ≡ refused result }
+    ensures source { IfOk result (λ wants. key.At wants.source ≡ upstream_key (packet4 packet.now)) }
+    ensures destination { IfOk result (λ wants. key.At wants.destination ≡ downstream_key (packet4 packet.now)) }
+{
+    if outer.dst != settings.aftr {
+        return Err(Rule::NotOurs);
+    }
+    wants_of(packet)
+}
+
+// Drops it where its sender may not send, by the tunnel's end of the owner of its source, and tells whether.
+#[inline(always)]
+fn stops_sender(settings: &Softwire, outer: &Outer, end: Option<V6>, verdict: &mut Verdict) -> bool
+    ensures { verdict_in (sender_lines settings.now outer.now end) ≡ decided result verdict.new }
+{
+    if !ends_at(end, outer.src) {
+        drop_denied(settings, outer, verdict);
+        return true;
+    }
+    false
+}
+
+// Drops it where it may not go on although its sender may send, before its destination is searched, and tells whether.
+#[inline(always)]
+fn stops_onward(
+    settings: &Softwire,
+    outer: &Outer,
+    packet: &Ip4View<'_>,
+    verdict: &mut Verdict,
+) -> bool
+    ensures { verdict_in (onward_refusals settings.now outer.now (packet4 packet.now)) ≡ decided result verdict.new }
+{
+    if is_expired(packet) {
+        drop_expired(settings, outer, packet, verdict);
+        return true;
+    }
+    false
 }
 
 // The verdict where the inner bytes are no IPv4 packet.
@@ -86,37 +118,33 @@ pub fn judge_unread(settings: &Softwire, outer: &Outer, refusal: Ip4Bad, verdict
     }
 }
 
-// Whether the packet came for another router's tunnel address.
-fn is_not_ours(settings: &Softwire, outer: &Outer) -> bool
-    ensures { result ≡ not (outer.now.dst.0 == settings.now.aftr.0) }
-{
-    outer.dst != settings.aftr
-}
-
-// Whether the packet came through another tunnel than that of its source's owner.
-fn is_foreign(outer: &Outer, end: Option<V6>) -> bool
-    ensures { result ≡ not (ends_at end outer.now.src.0) }
-{
-    !ends_at(end, outer.src)
-}
-
 // The sender does not own its source. Drops are rare: what makes them stands out of the way of packets that pass, with
 // the words that it needs for itself.
 #[cold]
 #[inline(never)]
-fn drop_foreign(settings: &Softwire, outer: &Outer, verdict: &mut Verdict)
+fn drop_denied(settings: &Softwire, outer: &Outer, verdict: &mut Verdict)
     ensures { verdict.new ≡ not_sender settings.now outer.now }
 {
     *verdict = not_sender(settings, outer);
 }
 
+// Nobody owns the destination.
+#[cold]
+#[inline(never)]
+fn drop_unowned(settings: &Softwire, outer: &Outer, packet: &Ip4View<'_>, verdict: &mut Verdict)
+    ensures { verdict.new ≡ no_owner settings.now rule.HairpinNoBinding (way_back settings.now outer.now) (packet4 packet.now) }
+{
+    let path = way_back(settings, outer);
+    *verdict = no_owner(settings, Rule::HairpinNoBinding, path, packet);
+}
+
 // The time to live is used up.
 #[cold]
 #[inline(never)]
-fn drop_used_up(settings: &Softwire, outer: &Outer, packet: &Ip4View<'_>, verdict: &mut Verdict)
-    ensures { verdict.new ≡ used_up settings.now (way_back settings.now outer.now) (packet4 packet.now) }
+fn drop_expired(settings: &Softwire, outer: &Outer, packet: &Ip4View<'_>, verdict: &mut Verdict)
+    ensures { verdict.new ≡ time_exceeded settings.now (way_back settings.now outer.now) (packet4 packet.now) }
 {
-    *verdict = used_up(settings, way_back(settings, outer), packet);
+    *verdict = time_exceeded(settings, way_back(settings, outer), packet);
 }
 
 // The packet is larger than this and must not be cut.
@@ -137,30 +165,45 @@ fn drop_too_large(
 // From subscriber to subscriber, where nobody owns the destination.
 #[cold]
 #[inline(never)]
-fn turned_to_nobody(settings: &Softwire, outer: &Outer, packet: &Ip4View<'_>, verdict: &mut Verdict)
+fn hairpin_unowned(settings: &Softwire, outer: &Outer, packet: &Ip4View<'_>, verdict: &mut Verdict)
     ensures { verdict_in (hairpin_lines settings.now outer.now (packet4 packet.now) true None) ≡ Some verdict.new }
 {
-    if !settings.hairpin {
-        *verdict = silent(Rule::HairpinOff);
-        return;
-    }
-    *verdict = no_owner(
-        settings,
-        Rule::HairpinNoBinding,
-        way_back(settings, outer),
-        packet,
-    );
+    hairpin(settings, outer, packet, None, verdict);
 }
 
 // The same, where the owner's tunnel ends there.
 #[inline(never)]
-fn turned(settings: &Softwire, outer: &Outer, packet: &Ip4View<'_>, to: V6, verdict: &mut Verdict)
+fn hairpin_owned(
+    settings: &Softwire,
+    outer: &Outer,
+    packet: &Ip4View<'_>,
+    to: V6,
+    verdict: &mut Verdict,
+)
     ensures { verdict_in (hairpin_lines settings.now outer.now (packet4 packet.now) true (Some to)) ≡ Some verdict.new }
+{
+    hairpin(settings, outer, packet, Some(to), verdict);
+}
+
+// By the tunnel's end of the owner of the destination. Inlined, so that either way has its own tests alone.
+#[inline(always)]
+fn hairpin(
+    settings: &Softwire,
+    outer: &Outer,
+    packet: &Ip4View<'_>,
+    end: Option<V6>,
+    verdict: &mut Verdict,
+)
+    ensures { verdict_in (hairpin_lines settings.now outer.now (packet4 packet.now) true end) ≡ Some verdict.new }
 {
     if !settings.hairpin {
         drop_silently(Rule::HairpinOff, verdict);
         return;
     }
+    let Some(to) = end else {
+        drop_unowned(settings, outer, packet, verdict);
+        return;
+    };
     let room = inward_room(settings);
     if is_too_large(room, packet) {
         drop_too_large(settings, room, outer, packet, verdict);

@@ -1,36 +1,28 @@
-use Rattle.std.proofs.Common.{Some, ap, sym, refl, arith, ◌∙◌}
+use Rattle.std.proofs.Common.{Some, ap, sym, arith, ◌∙◌}
 use Rattle.binding_rules.specs.Tables.{binding_table}
 use Rattle.ip_codec.specs.Packet4.{packet4}
-use Rattle.port_locate.specs.declared.keys.Key.TheVariants as key
-use Rattle.verdict_core.proofs.Looks.{looks_once}
-use Rattle.verdict_core.proofs.Joins.{by_key_down, down_led, down_refused, for_itself, icmp_kept_out}
+use Rattle.port_locate.specs.declared.keys.Key.{Key}
+use Rattle.verdict_core.specs.Verdicts.{owner_end}
+use Rattle.verdict_core.proofs.Joins.{down_led, down_refused}
+use Rattle.verdict_core.proofs.Looks.{looks_once, one_look}
 use Rattle.verdict_core.proofs.downstream.judge_down.Goals as goal
 
-pub returns-then-is_own-clause-verdict : goal.returns-then-is_own-clause-verdict
-returns-then-is_own-clause-verdict g c = λ t h.
-    down_refused (binding_table t.edition c.args.settings.now t.bindings) (packet4 c.args.packet.now) _ refl _
-    (for_itself c.args.settings.now (packet4 c.args.packet.now) _ (sym c.is_own.ensures ∙ c.if-is_own.true) ∙ ap Some (sym c.refuse.ensures.verdict))
-
-pub returns-then-is_kept_out-clause-verdict : goal.returns-then-is_kept_out-clause-verdict
-returns-then-is_kept_out-clause-verdict g c = λ t h.
-    down_refused (binding_table t.edition c.args.settings.now t.bindings) (packet4 c.args.packet.now) _ refl _
-    (icmp_kept_out c.args.settings.now (packet4 c.args.packet.now) _ (sym c.is_own.ensures ∙ c.if-is_own.false) (sym c.is_kept_out.ensures ∙ c.if-is_kept_out.true)
-    ∙ ap Some (sym c.refuse-then-is_kept_out.ensures.verdict))
-
-pub returns-in-NoPort-clause-verdict : goal.returns-in-NoPort-clause-verdict
-returns-in-NoPort-clause-verdict g c = λ t h.
-    down_refused (binding_table t.edition c.args.settings.now t.bindings) (packet4 c.args.packet.now) key.NoPort c.in-NoPort.ensures _
-    (by_key_down c.args.settings.now (packet4 c.args.packet.now) key.NoPort (sym c.is_own.ensures ∙ c.if-is_own.false) (sym c.is_kept_out.ensures ∙ c.if-is_kept_out.false)
-    ∙ ap Some (sym c.refuse-in-NoPort.ensures.verdict))
-
-pub returns-in-IcmpBad-clause-verdict : goal.returns-in-IcmpBad-clause-verdict
-returns-in-IcmpBad-clause-verdict g c = λ t h.
-    down_refused (binding_table t.edition c.args.settings.now t.bindings) (packet4 c.args.packet.now) key.IcmpBad c.in-IcmpBad.ensures _
-    (by_key_down c.args.settings.now (packet4 c.args.packet.now) key.IcmpBad (sym c.is_own.ensures ∙ c.if-is_own.false) (sym c.is_kept_out.ensures ∙ c.if-is_kept_out.false)
-    ∙ ap Some (sym c.refuse-in-IcmpBad.ensures.verdict))
+pub returns-in-Err-clause-verdict : goal.returns-in-Err-clause-verdict
+returns-in-Err-clause-verdict g c = λ t h.
+    down_refused (binding_table t.edition c.args.settings.now t.bindings) (packet4 c.args.packet.now) _
+    (c.in-Err.ensures.lines ∙ ap Some (sym c.refuse.ensures.verdict))
 
 pub returns-clause-verdict : goal.returns-clause-verdict
 returns-clause-verdict g c = λ t h.
-    down_led (binding_table t.edition c.args.settings.now t.bindings) (packet4 c.args.packet.now) (key.At c.in-At.want) c.in-At.ensures _
-    (by_key_down c.args.settings.now (packet4 c.args.packet.now) (key.At c.in-At.want) (sym c.is_own.ensures ∙ c.if-is_own.false) (sym c.is_kept_out.ensures ∙ c.if-is_kept_out.false))
-    _ (c.owner_end-end.ensures.answer t h) c.down_way.ensures
+    down_led (binding_table t.edition c.args.settings.now t.bindings) (packet4 c.args.packet.now) _ c.in-Ok.ensures.lines _
+    (c.look-end.ensures.owner t h ∙ ap (λ (k : Key). owner_end t (packet4 c.args.packet.now).dst k) c.in-Ok.ensures.destination) c.down_way.ensures
+
+pub returns-in-Err-clause-bound : goal.returns-in-Err-clause-bound
+returns-in-Err-clause-bound g c = λ t h n w. omega (arith, c.refuse.ensures.steps, looks_once t n w)
+
+pub returns-clause-bound : goal.returns-clause-bound
+returns-clause-bound g c = λ t h n w. one_look c.look-end.ensures.bounds t h n w
+
+pub returns-clause-reads : goal.returns-clause-reads
+returns-clause-reads g c =
+    record { list = c.look-end.ensures.list; reads = c.look-end.ensures.reads; goes = c.look-end.ensures.goes; later = c.look-end.ensures.later }

@@ -2,7 +2,10 @@ use Rattle.std.proofs.Common.{ℕ, List, subst, sym, arith}
 use Rattle.ip_codec.specs.Seen.{seen}
 use Rattle.table_words.specs.Layout.{IsCompiled}
 use Rattle.verdict_core.proofs.Firsts.{judged, only_verdict}
+use Rattle.verdict_core.proofs.Going.{brings_in, sends_on}
 use Rattle.verdict_core.proofs.Items.{fine, first_is}
+use Rattle.verdict_core.proofs.Looks.{reads_so_many, reads_then}
+use Rattle.verdict_core.proofs.Passing.{passes_on}
 use Rattle.verdict_core.proofs.Relaying.{relays_all}
 use Rattle.verdict_core.proofs.Sending.{forbidden, forwards, refused}
 use Rattle.verdict_core.proofs.judging.judge.Goals as goal
@@ -13,20 +16,29 @@ judge_into-requires-clause-settings g c = λ t h.
 
 pub returns-clause-verdict : goal.returns-clause-verdict
 returns-clause-verdict g c = λ t h.
-    let here = subst (λ (ws : List ℕ). IsCompiled t ws) (sym c.softwire-settings.ensures.list) h in
-    judged t (seen c.args.item.now) c.judge_into.new.verdict
-    (first_is t (seen c.args.item.now) c.judge_into.new.verdict (c.judge_into.ensures.value t here))
+    let i = seen c.args.item.now in
+    let v = c.judge_into.new.verdict in
+    let value = c.judge_into.ensures.value t (subst (λ (ws : List ℕ). IsCompiled t ws) (sym c.softwire-settings.ensures.list) h) in
+    let first = first_is t i v value in
+    record { judged = judged t i v first; value = value; only = λ other j. only_verdict t i v other first j }
 
-pub returns-clause-value : goal.returns-clause-value
-returns-clause-value g c = λ t h.
-    let here = subst (λ (ws : List ℕ). IsCompiled t ws) (sym c.softwire-settings.ensures.list) h in
-    c.judge_into.ensures.value t here
-
-pub returns-clause-only : goal.returns-clause-only
-returns-clause-only g c = λ t h v j.
-    let here = subst (λ (ws : List ℕ). IsCompiled t ws) (sym c.softwire-settings.ensures.list) h in
-    only_verdict t (seen c.args.item.now) c.judge_into.new.verdict v
-    (first_is t (seen c.args.item.now) c.judge_into.new.verdict (c.judge_into.ensures.value t here)) j
+pub returns-clause-access : goal.returns-clause-access
+returns-clause-access g c = λ t h.
+    let i = seen c.args.item.now in
+    let v = c.judge_into.new.verdict in
+    let first = first_is t i v (c.judge_into.ensures.value t (subst (λ (ws : List ℕ). IsCompiled t ws) (sym c.softwire-settings.ensures.list) h)) in
+    let is_fine = fine t i v h.lawful first in
+    record {
+      forwards = forwards t i v h.lawful first;
+      forbidden = forbidden t i v h.lawful first;
+      refused = refused t i v h.lawful first;
+      sends_on = sends_on t i v h.lawful first;
+      brings_in = brings_in t i v h.lawful first;
+      delivers = is_fine.delivers;
+      relays_own = is_fine.relays;
+      relays_all = relays_all t i v first;
+      passes_on = passes_on t i v h.lawful first;
+    }
 
 pub returns-clause-fits : goal.returns-clause-fits
 returns-clause-fits g c =
@@ -44,42 +56,6 @@ returns-clause-room g c =
     (fine t (seen c.args.item.now) c.judge_into.new.verdict h.lawful
     (first_is t (seen c.args.item.now) c.judge_into.new.verdict (c.judge_into.ensures.value t here))).room
 
-pub returns-clause-delivers : goal.returns-clause-delivers
-returns-clause-delivers g c = λ t h.
-    let here = subst (λ (ws : List ℕ). IsCompiled t ws) (sym c.softwire-settings.ensures.list) h in
-    (fine t (seen c.args.item.now) c.judge_into.new.verdict h.lawful
-    (first_is t (seen c.args.item.now) c.judge_into.new.verdict (c.judge_into.ensures.value t here))).delivers
-
-pub returns-clause-relays_own : goal.returns-clause-relays_own
-returns-clause-relays_own g c = λ t h.
-    let here = subst (λ (ws : List ℕ). IsCompiled t ws) (sym c.softwire-settings.ensures.list) h in
-    (fine t (seen c.args.item.now) c.judge_into.new.verdict h.lawful
-    (first_is t (seen c.args.item.now) c.judge_into.new.verdict (c.judge_into.ensures.value t here))).relays
-
-pub returns-clause-relays_all : goal.returns-clause-relays_all
-returns-clause-relays_all g c = λ t h.
-    let here = subst (λ (ws : List ℕ). IsCompiled t ws) (sym c.softwire-settings.ensures.list) h in
-    relays_all t (seen c.args.item.now) c.judge_into.new.verdict
-    (first_is t (seen c.args.item.now) c.judge_into.new.verdict (c.judge_into.ensures.value t here))
-
-pub returns-clause-forwards : goal.returns-clause-forwards
-returns-clause-forwards g c = λ t h.
-    let here = subst (λ (ws : List ℕ). IsCompiled t ws) (sym c.softwire-settings.ensures.list) h in
-    forwards t (seen c.args.item.now) c.judge_into.new.verdict h.lawful
-    (first_is t (seen c.args.item.now) c.judge_into.new.verdict (c.judge_into.ensures.value t here))
-
-pub returns-clause-forbidden : goal.returns-clause-forbidden
-returns-clause-forbidden g c = λ t h.
-    let here = subst (λ (ws : List ℕ). IsCompiled t ws) (sym c.softwire-settings.ensures.list) h in
-    forbidden t (seen c.args.item.now) c.judge_into.new.verdict h.lawful
-    (first_is t (seen c.args.item.now) c.judge_into.new.verdict (c.judge_into.ensures.value t here))
-
-pub returns-clause-refused : goal.returns-clause-refused
-returns-clause-refused g c = λ t h.
-    let here = subst (λ (ws : List ℕ). IsCompiled t ws) (sym c.softwire-settings.ensures.list) h in
-    refused t (seen c.args.item.now) c.judge_into.new.verdict h.lawful
-    (first_is t (seen c.args.item.now) c.judge_into.new.verdict (c.judge_into.ensures.value t here))
-
 pub returns-clause-bound : goal.returns-clause-bound
 returns-clause-bound g c = λ t h.
     let here = subst (λ (ws : List ℕ). IsCompiled t ws) (sym c.softwire-settings.ensures.list) h in
@@ -90,5 +66,8 @@ returns-clause-one_shape g c = λ t h one.
     let here = subst (λ (ws : List ℕ). IsCompiled t ws) (sym c.softwire-settings.ensures.list) h in
     omega (arith, c.judge_into.ensures.one_shape t here one, c.softwire-settings.ensures.steps)
 
-pub returns-clause-goes : goal.returns-clause-goes
-returns-clause-goes g c = g.met.W.Words.goes_on _ _ _ c.softwire-settings.ensures.goes c.judge_into.ensures.goes
+pub returns-clause-reads : goal.returns-clause-reads
+returns-clause-reads g c =
+    reads_then g.W.Words c.args.words.now c.softwire-settings.new.words c.args.steps.now c.softwire-settings.new.steps g.met.W.Words.goes_on _ _
+    (reads_so_many g.W.Words _ _ _ _ 4 c.softwire-settings.ensures.list c.softwire-settings.ensures.reads c.softwire-settings.ensures.goes
+    c.softwire-settings.ensures.steps) c.judge_into.ensures.reads

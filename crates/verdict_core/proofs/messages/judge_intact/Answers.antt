@@ -3,6 +3,7 @@ use Rattle.binding_rules.specs.Tables.{binding_table}
 use Rattle.icmp_relay.specs.Quotes.{ReadsQuote, quote_of}
 use Rattle.verdict_core.specs.Lines.{verdict_in}
 use Rattle.verdict_core.specs.Verdicts.{quote_lines}
+use Rattle.verdict_core.proofs.Looks.{reads_none}
 use Rattle.verdict_core.proofs.messages.judge_intact.Goals as goal
 
 pub returns-in-Ok-clause-verdict : goal.returns-in-Ok-clause-verdict
@@ -17,5 +18,5 @@ returns-in-Err-clause-verdict g c = λ t h.
     (subst (λ r. ReadsQuote r (quote_of c.args.error.now.rest.now)) c.in-Err.is c.read_quote.ensures.reads)
     ∙ ap Some (sym c.silent.ensures)
 
-pub returns-in-Err-clause-goes : goal.returns-in-Err-clause-goes
-returns-in-Err-clause-goes g c = g.met.W.Words.stays _
+pub returns-in-Err-clause-reads : goal.returns-in-Err-clause-reads
+returns-in-Err-clause-reads g c = reads_none g.W.Words g.met.W.Words.stays _ _
