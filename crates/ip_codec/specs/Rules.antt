@@ -1,37 +1,7 @@
--- The numbers and printed names of the rules.
+-- The printed names of the rules.
 use Rattle.std.specs.Prelude.{ℕ, List, codes}
 use Rattle.ip_codec.specs.declared.rules.Rule.{Rule}
 use Rattle.ip_codec.specs.declared.rules.Rule.TheVariants.{FrameShort, FrameType, Ip4Malformed, Ip4Checksum, Ip6Malformed, Ip6Chain, FragOdd, FragLong, FragOverlap, FragMany, FragFull, NotOurs, NotSoftwire, InnerMalformed, InnerChecksum, ToSelf, IcmpOff, IcmpBad, NoPort, NoBinding, Ttl, TooBig, HairpinOff, HairpinNoBinding, Relayed, RelayBad, RelayNoBinding, RelayMute}
-
-abbrev pub rule_number : Rule → ℕ
-rule_number FrameShort = 1
-rule_number FrameType = 2
-rule_number Ip4Malformed = 3
-rule_number Ip4Checksum = 4
-rule_number Ip6Malformed = 5
-rule_number Ip6Chain = 6
-rule_number FragOdd = 7
-rule_number FragLong = 8
-rule_number FragOverlap = 9
-rule_number FragMany = 10
-rule_number FragFull = 11
-rule_number NotOurs = 12
-rule_number NotSoftwire = 13
-rule_number InnerMalformed = 14
-rule_number InnerChecksum = 15
-rule_number ToSelf = 16
-rule_number IcmpOff = 17
-rule_number IcmpBad = 18
-rule_number NoPort = 19
-rule_number NoBinding = 20
-rule_number Ttl = 21
-rule_number TooBig = 22
-rule_number HairpinOff = 23
-rule_number HairpinNoBinding = 24
-rule_number Relayed = 25
-rule_number RelayBad = 26
-rule_number RelayNoBinding = 27
-rule_number RelayMute = 28
 
 abbrev pub name_of : Rule → List ℕ
 name_of FrameShort = codes "frame-short"

@@ -1,10 +1,11 @@
 // The rules by which packets are dropped.
 ghost use Rattle.std.specs.Prelude.{◌≡◌, Some};
-ghost use Rattle.ip_codec.specs.Rules.{rule_number, name_of};
+ghost use Rattle.std.specs.Str.{IsAscii};
+ghost use Rattle.ip_codec.specs.Rules.{name_of};
 
 use std::fmt;
 
-/// Why a packet is dropped. Each rule has a number and a printed name.
+/// Why a packet is dropped. Each rule has a printed name.
 #[derive(Clone, Copy, Debug, PartialEq, Eq)]
 pub enum Rule {
     /// A record has too few bytes for the frame header of its link type.
@@ -66,45 +67,10 @@ pub enum Rule {
 }
 
 impl Rule {
-    /// The rule's number, from 1 to 28.
-    pub fn number(&self) -> u8
-        ensures { result ≡ rule_number self.now }
-    {
-        match self {
-            Rule::FrameShort => 1,
-            Rule::FrameType => 2,
-            Rule::Ip4Malformed => 3,
-            Rule::Ip4Checksum => 4,
-            Rule::Ip6Malformed => 5,
-            Rule::Ip6Chain => 6,
-            Rule::FragOdd => 7,
-            Rule::FragLong => 8,
-            Rule::FragOverlap => 9,
-            Rule::FragMany => 10,
-            Rule::FragFull => 11,
-            Rule::NotOurs => 12,
-            Rule::NotSoftwire => 13,
-            Rule::InnerMalformed => 14,
-            Rule::InnerChecksum => 15,
-            Rule::ToSelf => 16,
-            Rule::IcmpOff => 17,
-            Rule::IcmpBad => 18,
-            Rule::NoPort => 19,
-            Rule::NoBinding => 20,
-            Rule::Ttl => 21,
-            Rule::TooBig => 22,
-            Rule::HairpinOff => 23,
-            Rule::HairpinNoBinding => 24,
-            Rule::Relayed => 25,
-            Rule::RelayBad => 26,
-            Rule::RelayNoBinding => 27,
-            Rule::RelayMute => 28,
-        }
-    }
-
     /// The rule's printed name: lower-case words of ASCII letters and digits, joined by `-`.
     pub fn name(&self) -> &'static str
-        ensures { result.now ≡ name_of self.now }
+        ensures value { result.now ≡ name_of self.now }
+        ensures ascii { IsAscii result.now }
     {
         match self {
             Rule::FrameShort => "frame-short",
