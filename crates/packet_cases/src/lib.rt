@@ -6,6 +6,8 @@
 #[cfg(test)]
 mod down_verdicts;
 #[cfg(test)]
+mod hairpin_verdicts;
+#[cfg(test)]
 mod keys;
 #[cfg(test)]
 mod lines;
@@ -21,8 +23,6 @@ mod replying;
 mod sending;
 #[cfg(test)]
 mod stages;
-#[cfg(test)]
-mod turned_verdicts;
 #[cfg(test)]
 mod under_tables;
 #[cfg(test)]

@@ -1,5 +1,5 @@
 // The lines of verdicts, of tables and of the summary.
-use aftr_text::{Totals, ended_line, initial_line, summary, verdict_line};
+use aftr_text::{Totals, ended_line, initial_line, push_verdict_line, summary, verdict_line};
 use case_data::{AFTR, SUBSCRIBER};
 use ip_codec::Rule;
 use std::test::Fail;
@@ -53,10 +53,15 @@ fn verdicts_have_lines(rt: HostRuntime) -> Result<(), Fail> {
             "4294967295 4294967295 drop hairpin-no-binding 4294967295\n",
         ),
     ];
+    let mut pushed = Vec::new(rt.alloc());
+    let mut expected = String::new(rt.alloc());
     for (number, version, verdict, packets, line) in cases {
         let written = verdict_line(rt.alloc(), number, version, verdict, packets)?;
         assert_eq!(rt; written.as_str(), line);
+        push_verdict_line(&mut pushed, number, version, &verdict, packets)?;
+        expected.push_str(line)?;
     }
+    assert_eq!(rt; pushed.as_slice(), expected.as_bytes());
     Ok(())
 }
 

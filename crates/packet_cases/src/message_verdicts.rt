@@ -39,7 +39,7 @@ const RELAYED_MUTE: &[u8; 80] =
     b"\x02\0\xef\xbf\0\0\x05x`\0\0\0\0 \x04@ \x01\x0d\xb8\0\0\0\0\0\0\0\0\0\0\0\x01 \x01\x0d\xb8\0\x01\0\0\0\0\0\0\0\0\0\x01E\0\0 \0\x01\0\0?\x11_\xc9\xe0\0\0\x01\xcb\0q\x01\05\x04\xd0\0\x0c\0\0test";
 
 // Packet too big, 100 bytes, about a packet from port 1232 to port 1236 of the shared address.
-const RELAYED_TURNED: &[u8; 80] =
+const RELAYED_HAIRPIN: &[u8; 80] =
     b"\x02\0\xf03\0\0\0d`\0\0\0\0 \x04@ \x01\x0d\xb8\0\0\0\0\0\0\0\0\0\0\0\x01 \x01\x0d\xb8\0\x01\0\0\0\0\0\0\0\0\0\x02E\0\0 \0\x01\0\0?\x11\x03\xc9\xcb\0q\x01\xcb\0q\x01\x04\xd0\x04\xd4\0\x0c\0\0test";
 
 // The same from a port that nobody owns.
@@ -101,7 +101,7 @@ fn passes_errors_about_its_own_packets_on(rt: HostRuntime) -> Result<(), Fail> {
         (RELAYED_HUGE, relayed(4, 65_535, Path::Plain)),
         (RELAYED_1, relayed(1, 0, Path::Plain)),
         // Of the subscriber that sent it, and raised to 1,280 before the header of the tunnel comes off.
-        (RELAYED_TURNED, relayed(4, 1240, tunnel(1))),
+        (RELAYED_HAIRPIN, relayed(4, 1240, tunnel(1))),
         (RELAYED_BAD, dropped(Rule::RelayBad)),
         (RELAYED_FOREIGN, dropped(Rule::RelayBad)),
         (RELAYED_ELSEWHERE, dropped(Rule::RelayNoBinding)),

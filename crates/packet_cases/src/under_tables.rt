@@ -5,7 +5,7 @@ ghost use Rattle.table_words.specs.Layout.{AreCompiled};
 use aftr_base::{OutOfMemory, V6, WordList};
 use binding_rules::{Binding, Edition, Softwire, Table, TableError, table_of};
 use case_data::{AFTR, OWN, SETTINGS, SHARED, subscriber};
-use ip_codec::{ItemView, Outer, Rule, read_packet};
+use ip_codec::{Ip4Bad, ItemView, Outer, Rule, read_packet};
 use std::alloc::Global;
 use std::marker::Brand;
 use std::sync::ledger::{Blank, Ledger};
@@ -150,11 +150,15 @@ pub fn sent_by(number: u32, inner: &[u8]) -> ItemView<'_> {
     up(subscriber(number), AFTR, inner)
 }
 
-// A downstream packet, whose bytes are one.
+// A downstream packet; of bytes that are none, what a record of them is.
 pub fn down(packet: &[u8]) -> ItemView<'_> {
     match read_packet(packet) {
         Ok(packet) => ItemView::Down { packet },
-        Err(_) => ItemView::Held,
+        Err(unread) => ItemView::Bad(if unread.why == Ip4Bad::Checksum {
+            Rule::Ip4Checksum
+        } else {
+            Rule::Ip4Malformed
+        }),
     }
 }
 
