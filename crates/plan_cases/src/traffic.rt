@@ -3,6 +3,7 @@ ghost use Rattle.std.specs.Prelude.{◌≡◌, ◌≤◌};
 
 use aftr_base::{V4, V6};
 use std::alloc::Global;
+use std::test::Fail;
 use traffic_gen::{Traffic, traffic_of};
 
 // One packet from a port that nobody owns.
@@ -89,14 +90,13 @@ fn has(traffic: &Traffic, second: bool, at: usize, b4: u128, v4: u32, psid: u16)
 }
 
 #[test]
-fn tables_have_the_subscribers(rt: HostRuntime) {
+fn tables_have_the_subscribers(rt: HostRuntime) -> Result<(), Fail> {
     let prefix: u128 = 0x2001_0db8_0001_0000_0000_0000_0000_0000;
-    let Ok(traffic) = traffic_of(rt.alloc(), 0, 1) else {
-        return;
-    };
+    let traffic = traffic_of(rt.alloc(), 0, 1)?;
     assert!(rt; traffic.first.bindings().len() == 256 && traffic.second.bindings().len() == 192);
     assert!(rt; has(&traffic, false, 0, prefix, 0xcb00_7100, 0));
     assert!(rt; has(&traffic, false, 255, prefix + 255, 0xcb00_710f, 15));
     assert!(rt; has(&traffic, true, 0, prefix + 64, 0xcb00_7104, 0));
     assert!(rt; has(&traffic, true, 191, prefix + 255, 0xcb00_710f, 15));
+    Ok(())
 }
