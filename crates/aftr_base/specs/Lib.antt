@@ -1,3 +1,4 @@
+pub mod Appended
 pub mod Entries
 pub mod FailedCall
 pub mod Known

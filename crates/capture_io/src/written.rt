@@ -1,5 +1,6 @@
 // Captures that are written: their headers, and what stands round each packet.
-ghost use Rattle.std.specs.Prelude.{◌≡◌, ℕ, ◌/◌, ◌%◌, ◌^◌, ◌≤◌, ◌++◌, List, IfOk, IsErr};
+ghost use Rattle.std.specs.Prelude.{◌≡◌, ◌/◌, ◌%◌, ◌^◌, ◌≤◌, ◌++◌, IfOk, IsErr};
+ghost use Rattle.aftr_base.specs.Appended.{Extends};
 ghost use Rattle.capture_io.specs.Packets.{block_head, block_len, block_tail, block_words, file_head, packet_head, packet_tail, padding, record_head, section_bytes, ticks};
 
 use crate::put_header;
@@ -38,7 +39,7 @@ impl Written {
     ) -> Result<(), OutOfMemory>
         requires { count ≤ 262144 }
         ensures bytes { IfOk result (λ _. out.new.items ≡ out.old.items ++ packet_head self seconds fraction count) }
-        ensures kept { IsErr result → (more : List ℕ) × (out.new.items ≡ out.old.items ++ more) }
+        ensures kept { IsErr result → Extends out.old.items out.new.items }
     {
         match self {
             Written::Classic { .. } => push_record_head(out, seconds, fraction, count),
@@ -51,7 +52,7 @@ impl Written {
     pub fn push_tail(self, out: &mut Vec<u8>, count: u32) -> Result<(), OutOfMemory>
         requires { count ≤ 262144 }
         ensures bytes { IfOk result (λ _. out.new.items ≡ out.old.items ++ packet_tail self count) }
-        ensures kept { IsErr result → (more : List ℕ) × (out.new.items ≡ out.old.items ++ more) }
+        ensures kept { IsErr result → Extends out.old.items out.new.items }
     {
         match self {
             Written::Classic { .. } => Ok(()),
@@ -80,7 +81,7 @@ fn push_record_head(
     count: u32,
 ) -> Result<(), OutOfMemory>
     ensures bytes { IfOk result (λ _. out.new.items ≡ out.old.items ++ record_head seconds fraction count) }
-    ensures kept { IsErr result → (more : List ℕ) × (out.new.items ≡ out.old.items ++ more) }
+    ensures kept { IsErr result → Extends out.old.items out.new.items }
 {
     let [s0, s1, s2, s3] = seconds.to_le_bytes();
     let [f0, f1, f2, f3] = fraction.to_le_bytes();
@@ -145,7 +146,7 @@ fn push_block_head(
 ) -> Result<(), OutOfMemory>
     requires { count ≤ 262144 }
     ensures bytes { IfOk result (λ _. out.new.items ≡ out.old.items ++ block_head seconds fraction count) }
-    ensures kept { IsErr result → (more : List ℕ) × (out.new.items ≡ out.old.items ++ more) }
+    ensures kept { IsErr result → Extends out.old.items out.new.items }
 {
     let time = ticks_of(seconds, fraction);
     let head = head_words(block_len_of(count), high_half(time), low_half(time), count);
@@ -157,7 +158,7 @@ fn push_block_head(
 fn push_block_tail(out: &mut Vec<u8>, count: u32) -> Result<(), OutOfMemory>
     requires { count ≤ 262144 }
     ensures bytes { IfOk result (λ _. out.new.items ≡ out.old.items ++ block_tail count) }
-    ensures kept { IsErr result → (more : List ℕ) × (out.new.items ≡ out.old.items ++ more) }
+    ensures kept { IsErr result → Extends out.old.items out.new.items }
 {
     let [l0, l1, l2, l3] = block_len_of(count).to_le_bytes();
     match padding_of(count) {

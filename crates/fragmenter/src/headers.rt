@@ -1,6 +1,6 @@
 // The headers of fragments, appended to what is written.
 ghost use Rattle.std.specs.Prelude.{◌≡◌, ◌+◌, ◌≤◌, ◌++◌, length, IfOk, IsErr};
-ghost use Rattle.ip_codec.specs.Appended.{Extends};
+ghost use Rattle.aftr_base.specs.Appended.{Extends};
 ghost use Rattle.ip_codec.specs.Packet6.{packet6};
 ghost use Rattle.fragmenter.specs.Pieces6.{piece6, fragment_bytes, fragment_head};
 

@@ -38,9 +38,9 @@ pub struct Cuts4<'a> {
 }
 
 impl<'a> Cuts4<'a> {
+    ghost use Rattle.aftr_base.specs.Appended.{Extends};
     ghost use Rattle.fragmenter.specs.Cutting.{HasFirst, IsWritten, part_len};
     ghost use Rattle.fragmenter.specs.Left4.{left4};
-    ghost use Rattle.ip_codec.specs.Appended.{Extends};
 
     /// The pieces of a packet that does not fit a link, for links that take 576 bytes or more. `packet` is one that `ip4`
     /// reads, and no fragment; of its header nothing but the options is taken from the bytes, so its time to live may be

@@ -32,9 +32,9 @@ pub struct Cuts6<'a> {
 }
 
 impl<'a> Cuts6<'a> {
+    ghost use Rattle.aftr_base.specs.Appended.{Extends};
     ghost use Rattle.fragmenter.specs.Cutting.{HasFirst, IsWritten, part_len};
     ghost use Rattle.fragmenter.specs.Left6.{left6};
-    ghost use Rattle.ip_codec.specs.Appended.{Extends};
 
     /// The fragments of a packet that does not fit a link, for links that take 1,280 bytes or more. `packet` is one that `ip6`
     /// reads, without extension headers; `rest` is what its body has behind that of the view, so that a body in two parts is

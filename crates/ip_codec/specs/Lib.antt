@@ -1,4 +1,3 @@
-pub mod Appended
 pub mod Packet4
 pub mod Packet6
 pub mod Rules

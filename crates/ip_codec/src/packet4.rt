@@ -1,8 +1,8 @@
 // IPv4 packets, read and written.
 ghost use Rattle.std.specs.Prelude.{◌≡◌, ◌≢◌, ◌==◌, ◌+◌, ◌-◌, ◌%◌, ◌^◌, ◌<◌, ◌≤◌, ◌++◌, length, take, IfOk, IsErr, Ok, [], false};
+ghost use Rattle.aftr_base.specs.Appended.{Extends};
 ghost use Rattle.aftr_base.specs.Numbers.{big_endian, span};
 ghost use Rattle.aftr_base.specs.Sums.{checksum, folded, word_sum};
-ghost use Rattle.ip_codec.specs.Appended.{Extends};
 ghost use Rattle.ip_codec.specs.Packet4.{ip4_of, packet4, Reads4, IsBounded4, fields4, header4, fixed4, flags_of, flag_worth, made4, is_fragment, is_plain, packet_len, starts_plain};
 
 use aftr_base::{Bytes, OutOfMemory, V4, be16, be32, patch16, put_be16, put_checksum, sum16};

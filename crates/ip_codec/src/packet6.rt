@@ -1,7 +1,7 @@
 // IPv6 packets, read and written.
 ghost use Rattle.std.specs.Prelude.{◌≡◌, ◌+◌, ◌^◌, ◌<◌, ◌≤◌, ◌++◌, length, IfOk, IsErr, Ok, is_ok, true};
 ghost use Rattle.std.specs.Int.{w128, to_be_bytes};
-ghost use Rattle.ip_codec.specs.Appended.{Extends};
+ghost use Rattle.aftr_base.specs.Appended.{Extends};
 ghost use Rattle.ip_codec.specs.Packet6.{ip6_of, packet6, Reads6, IsBounded6, version6, bytes6, fields6, header6, made6, payload_len};
 
 use aftr_base::{Bytes, OutOfMemory, V6, be16, be32, be128};

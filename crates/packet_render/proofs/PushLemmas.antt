@@ -1,8 +1,8 @@
 -- Lemmas on packets that are recorded behind what a list holds.
 use Rattle.std.proofs.Common.{◌≡◌, ℕ, ◌+◌, List, [], ◌∷◌, ◌++◌, length, flat_map, Option, Some, refl, sym, ◌∙◌, ap, subst, append_assoc, append-nil}
+use Rattle.aftr_base.specs.Appended.{Extends}
 use Rattle.capture_io.specs.Packets.{packet_bytes, packet_head, packet_tail}
 use Rattle.capture_io.specs.declared.written.Written.{Written}
-use Rattle.ip_codec.specs.Appended.{Extends}
 use Rattle.packet_render.specs.Pushed.{ArePushed}
 use Rattle.packet_render.specs.Sent.{made_of}
 

@@ -1,9 +1,9 @@
 // Packets that go on.
 ghost use Rattle.std.specs.Prelude.{◌≡◌, ◌∷◌, ◌≤◌, [], IfOk, IsErr, IfSome};
+ghost use Rattle.aftr_base.specs.Appended.{Extends};
 ghost use Rattle.capture_io.specs.Packets.{packet_bytes};
 ghost use Rattle.fragmenter.specs.Pieces4.{fragments4};
 ghost use Rattle.fragmenter.specs.Pieces6.{fragments6};
-ghost use Rattle.ip_codec.specs.Appended.{Extends};
 ghost use Rattle.ip_codec.specs.Packet4.{packet4, IsBounded4};
 ghost use Rattle.ip_codec.specs.Seen.{seen};
 ghost use Rattle.packet_render.specs.Pushed.{ArePushed, one_hop_on};

@@ -1,9 +1,9 @@
 // Packets that do not fit, in pieces.
 ghost use Rattle.std.specs.Prelude.{◌≡◌, ◌+◌, ◌≤◌, length, IfOk, IsErr};
+ghost use Rattle.aftr_base.specs.Appended.{Extends};
 ghost use Rattle.capture_io.specs.Packets.{packet_bytes};
 ghost use Rattle.fragmenter.specs.Pieces4.{fragments4};
 ghost use Rattle.fragmenter.specs.Pieces6.{fragments6, with_rest};
-ghost use Rattle.ip_codec.specs.Appended.{Extends};
 ghost use Rattle.ip_codec.specs.Packet4.{packet4, IsBounded4};
 ghost use Rattle.ip_codec.specs.Packet6.{packet6};
 ghost use Rattle.packet_render.specs.Pushed.{ArePushed};

@@ -1,10 +1,10 @@
 // What the sender of a dropped packet is told.
 ghost use Rattle.std.specs.Prelude.{◌≡◌, ◌∷◌, ◌≤◌, ◌++◌, ℕ, List, [], length, if◌then◌else◌, is_ok, IfOk, IsErr};
+ghost use Rattle.aftr_base.specs.Appended.{Extends};
 ghost use Rattle.capture_io.specs.Packets.{packet_bytes, packet_head};
 ghost use Rattle.icmp_errors.specs.Errors4.{error_len};
 ghost use Rattle.icmp_errors.specs.Policy6.{policy6};
 ghost use Rattle.icmp_relay.specs.Relayed.{relayed};
-ghost use Rattle.ip_codec.specs.Appended.{Extends};
 ghost use Rattle.ip_codec.specs.Packet4.{packet4, packet_len, whole4};
 ghost use Rattle.ip_codec.specs.Seen.{seen};
 ghost use Rattle.packet_render.specs.Pushed.{ArePushed};

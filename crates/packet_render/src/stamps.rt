@@ -1,7 +1,7 @@
 // What every packet of a record is recorded with.
 ghost use Rattle.std.specs.Prelude.{◌≡◌, ◌≤◌, ◌++◌, IfOk, IsErr};
+ghost use Rattle.aftr_base.specs.Appended.{Extends};
 ghost use Rattle.capture_io.specs.Packets.{packet_head, packet_tail};
-ghost use Rattle.ip_codec.specs.Appended.{Extends};
 
 use aftr_base::OutOfMemory;
 use capture_io::Written;

@@ -1,7 +1,7 @@
 // Packets that are passed on.
 ghost use Rattle.std.specs.Prelude.{◌≡◌, ℕ, ◌+◌, ◌-◌, ◌≤◌, ◌++◌, drop, length, take, IfOk, IsErr, Ok};
+ghost use Rattle.aftr_base.specs.Appended.{Extends};
 ghost use Rattle.aftr_base.specs.Sums.{patched};
-ghost use Rattle.ip_codec.specs.Appended.{Extends};
 ghost use Rattle.ip_codec.specs.Packet4.{ip4_of, packet4, packet_len};
 ghost use Rattle.softwire_encap.specs.Passing.{lowered, lowered_header, passed};
 

@@ -1,6 +1,6 @@
 // IPv4 packets in IPv6 packets.
 ghost use Rattle.std.specs.Prelude.{◌≡◌, ℕ, ◌+◌, ◌*◌, ◌≤◌, ◌++◌, List, length, IfOk, IsErr, Ok};
-ghost use Rattle.ip_codec.specs.Appended.{Extends};
+ghost use Rattle.aftr_base.specs.Appended.{Extends};
 ghost use Rattle.ip_codec.specs.Packet4.{ip4_of, packet4, packet_len};
 ghost use Rattle.ip_codec.specs.Packet6.{Packet6, ip6_of, packet6};
 ghost use Rattle.softwire_encap.specs.Passing.{lowered};

@@ -1,9 +1,9 @@
 -- The pieces that are recorded, and those that are left, are those of the packet.
 use Rattle.std.proofs.Common.{◌≤◌, length}
+use Rattle.aftr_base.specs.Appended.{Extends}
 use Rattle.capture_io.specs.Packets.{packet_bytes}
 use Rattle.fragmenter.specs.Left4.{left4}
 use Rattle.fragmenter.specs.Pieces4.{fragments4}
-use Rattle.ip_codec.specs.Appended.{Extends}
 use Rattle.ip_codec.specs.Packet4.{packet4}
 use Rattle.packet_render.proofs.PushLemmas.{IsUnderWay}
 use Rattle.packet_render.proofs.pieces.push_pieces4.Given as goal

@@ -1,9 +1,9 @@
 -- The fragments that are recorded, and those that are left, are those of the packet.
 use Rattle.std.proofs.Common.{◌≤◌, length}
+use Rattle.aftr_base.specs.Appended.{Extends}
 use Rattle.capture_io.specs.Packets.{packet_bytes}
 use Rattle.fragmenter.specs.Left6.{left6}
 use Rattle.fragmenter.specs.Pieces6.{fragments6, with_rest}
-use Rattle.ip_codec.specs.Appended.{Extends}
 use Rattle.ip_codec.specs.Packet6.{packet6}
 use Rattle.packet_render.proofs.PushLemmas.{IsUnderWay}
 use Rattle.packet_render.proofs.pieces.push_pieces6.Given as goal
