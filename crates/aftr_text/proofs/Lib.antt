@@ -10,4 +10,3 @@ mod PartLemmas
 mod RunLemmas
 mod DigitLemmas
 mod Windows
-mod TextLemmas

@@ -1,6 +1,6 @@
 //! The texts of a run: the command words that it is asked by, the lines of its verdicts, the lines of the tables in force, and
-//! the summary. Each line comes as a text of its own and as a call that puts it behind others: those of records and of datagrams
-//! as bytes, the others at the end of a text.
+//! the summary. Each line comes as a text of its own; those of which there are many also by a call that puts them behind others: of
+//! records and of datagrams as bytes, of loads at the end of a text.
 #![tactic(auto)]
 
 mod commands;
@@ -27,9 +27,9 @@ pub use lines::{
 pub use messages::{fault_line, usage_line};
 pub use parts::Slot;
 pub use said::{file_line, output_line};
-pub use summaries::{Totals, migrated_line, push_migrated_line, push_summary, summary};
+pub use summaries::{Totals, migrated_line, summary};
 pub use tables::{
-    initial_line, point_line, push_initial_line, push_point_line, push_refused_line,
-    push_unreached_line, refused_line, unreached_line,
+    initial_line, point_line, push_point_line, push_refused_line, push_unreached_line,
+    refused_line, unreached_line,
 };
 pub use words::{read_job, read_words};

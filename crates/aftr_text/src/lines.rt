@@ -1,6 +1,5 @@
 // The lines of records and of datagrams.
 ghost use Rattle.std.specs.Prelude.{◌≡◌, ◌++◌, IfOk, codes, decimal};
-ghost use Rattle.std.specs.Str.{IsUtf8};
 ghost use Rattle.ip_codec.specs.Rules.{name_of};
 ghost use Rattle.aftr_text.specs.Lines.{ended_text, judged_text, limited_text, outcome, verdict_text};
 
@@ -14,13 +13,6 @@ use verdict_core::Verdict;
 /// More bytes than a record's number and a version have, with a blank between them.
 const JUDGED_ROOM: usize = 24;
 
-/// More bytes than the longest line of a verdict has: three numbers of ten digits and the longest rule's name. So has the
-/// line of a limited record.
-const VERDICT_ROOM: usize = 72;
-
-/// More bytes than the longest line of an unfinished datagram has.
-const ENDED_ROOM: usize = 24;
-
 /// The line of a record: its number, the version of the table that judged it, what became of it (`held`, `up`, `down`,
 /// `hairpin`, or `drop` and the rule's name), and how many packets were written for it.
 pub fn verdict_line(
@@ -32,9 +24,20 @@ pub fn verdict_line(
 ) -> Result<Text, OutOfMemory>
     ensures { IfOk result (λ line. line ≡ verdict_text number version verdict packets) }
 {
-    let mut line = Vec::with_capacity(alloc, VERDICT_ROOM)?;
-    push_verdict_line(&mut line, number, version, &verdict, packets)?;
-    Ok(text_of(line))
+    let line = match verdict {
+        Verdict::Held => format!(in alloc; "{number} {version} held {packets}\n")?,
+        Verdict::Outward { .. } => format!(in alloc; "{number} {version} up {packets}\n")?,
+        Verdict::Inward { back: false, .. } => {
+            format!(in alloc; "{number} {version} down {packets}\n")?
+        }
+        Verdict::Inward { back: true, .. } => {
+            format!(in alloc; "{number} {version} hairpin {packets}\n")?
+        }
+        Verdict::Drop { why, .. } => {
+            format!(in alloc; "{number} {version} drop {why} {packets}\n")?
+        }
+    };
+    Ok(Text::of(line))
 }
 
 /// Puts the line of `verdict_line` behind others. After an error a part of the line may stand there.
@@ -119,9 +122,10 @@ pub fn limited_line(
 ) -> Result<Text, OutOfMemory>
     ensures { IfOk result (λ line. line ≡ limited_text number version why) }
 {
-    let mut line = Vec::with_capacity(alloc, VERDICT_ROOM)?;
-    push_limited_line(&mut line, number, version, why)?;
-    Ok(text_of(line))
+    let mut line = format!(in alloc; "{number} {version} drop ")?;
+    line.push_str(why.name())?;
+    line.push_str(" limited 0\n")?;
+    Ok(Text::of(line))
 }
 
 /// Puts the line of `limited_line` behind others. After an error a part of the line may stand there.
@@ -144,9 +148,9 @@ pub fn push_limited_line(
 pub fn ended_line(alloc: Global, expired: bool, number: u32) -> Result<Text, OutOfMemory>
     ensures { IfOk result (λ line. line ≡ ended_text expired number) }
 {
-    let mut line = Vec::with_capacity(alloc, ENDED_ROOM)?;
-    push_ended_line(&mut line, expired, number)?;
-    Ok(text_of(line))
+    let ending = if expired { "expired" } else { "unfinished" };
+    let line = format!(in alloc; "{ending} {number}\n")?;
+    Ok(Text::of(line))
 }
 
 /// Puts the line of `ended_line` behind others. After an error a part of the line may stand there.
@@ -158,12 +162,4 @@ pub fn push_ended_line(lines: &mut Vec<u8>, expired: bool, number: u32) -> Resul
     push_digits(lines, number)?;
     lines.extend_from_slice(b"\n")?;
     Ok(())
-}
-
-// A line as a text.
-fn text_of(line: Vec<u8>) -> Text
-    requires { IsUtf8 line.items }
-    ensures { result ≡ line.items }
-{
-    Text::of(String::from_utf8(line).unwrap())
 }

@@ -13,14 +13,13 @@ const SHORT: usize = 24;
 /// it begins, by a few instructions.
 const TWICE: usize = 2 * SHORT;
 
-/// What ends a short line behind the version, and where it begins; none of a record that was dropped.
+/// What ends a short line behind the version, and where it begins; none of a record that went nowhere.
 #[inline(always)]
 pub(crate) fn short_ending(verdict: &Verdict) -> Option<(&'static [u8; TWICE], usize)>
     ensures text { IfSome result (λ e. take (24 - e.1) (drop e.1 e.0.now) ≡ codes " " ++ outcome verdict.now ++ codes " " ++ codes "1\n") }
     ensures room { IfSome result (λ e. (12 ≤ e.1) × (e.1 ≤ 24)) }
 {
     match *verdict {
-        Verdict::Held => Some((b"                 held 1\n                        ", 16)),
         Verdict::Outward { .. } => Some((b"                   up 1\n                        ", 18)),
         Verdict::Inward { back: false, .. } => {
             Some((b"                 down 1\n                        ", 16))
@@ -28,7 +27,7 @@ pub(crate) fn short_ending(verdict: &Verdict) -> Option<(&'static [u8; TWICE], u
         Verdict::Inward { back: true, .. } => {
             Some((b"              hairpin 1\n                        ", 13))
         }
-        Verdict::Drop { .. } => None,
+        Verdict::Held | Verdict::Drop { .. } => None,
     }
 }
 

@@ -9,9 +9,6 @@ use std::alloc::Global;
 /// More bytes than the longest summary has: six words, five numbers of ten digits and one of twenty.
 const SUMMARY_ROOM: usize = 128;
 
-/// More bytes than the longest line of a table in its newer edition has.
-const MIGRATED_ROOM: usize = 32;
-
 /// What a run counted.
 #[derive(Clone, Copy, Debug, PartialEq, Eq)]
 pub struct Totals {
@@ -38,8 +35,7 @@ pub fn summary(alloc: Global, totals: Totals) -> Result<Text, OutOfMemory>
     Ok(Text::of(line))
 }
 
-/// Puts the line of `summary` at the end of a text. After an error a part of the line may stand there.
-pub fn push_summary(text: &mut String, totals: Totals) -> Result<(), OutOfMemory>
+fn push_summary(text: &mut String, totals: Totals) -> Result<(), OutOfMemory>
     ensures { IfOk result (λ _. string_bytes text.new ≡ string_bytes text.old ++ summary_text totals) }
 {
     push_count(text, "records ", u64::from(totals.records))?;
@@ -56,16 +52,6 @@ pub fn push_summary(text: &mut String, totals: Totals) -> Result<(), OutOfMemory
 pub fn migrated_line(alloc: Global, count: u32) -> Result<Text, OutOfMemory>
     ensures { IfOk result (λ line. line ≡ migrated_text count) }
 {
-    let mut line = String::with_capacity(alloc, MIGRATED_ROOM)?;
-    push_migrated_line(&mut line, count)?;
+    let line = format!(in alloc; "migrated {count} bindings\n")?;
     Ok(Text::of(line))
-}
-
-/// Puts the line of `migrated_line` at the end of a text. After an error a part of the line may stand there.
-pub fn push_migrated_line(text: &mut String, count: u32) -> Result<(), OutOfMemory>
-    ensures { IfOk result (λ _. string_bytes text.new ≡ string_bytes text.old ++ migrated_text count) }
-{
-    push_count(text, "migrated ", u64::from(count))?;
-    text.push_str(" bindings\n")?;
-    Ok(())
 }

@@ -14,19 +14,8 @@ const ROOM: usize = 32;
 pub fn initial_line(alloc: Global, name: &str) -> Result<Text, OutOfMemory>
     ensures { IfOk result (λ line. line ≡ initial_text name.now) }
 {
-    let mut line = String::with_capacity(alloc, name.len().saturating_add(ROOM))?;
-    push_initial_line(&mut line, name)?;
+    let line = format!(in alloc; "0 {name} initial\n")?;
     Ok(Text::of(line))
-}
-
-/// Puts the line of `initial_line` at the end of a text. After an error a part of the line may stand there.
-pub fn push_initial_line(text: &mut String, name: &str) -> Result<(), OutOfMemory>
-    ensures { IfOk result (λ _. string_bytes text.new ≡ string_bytes text.old ++ initial_text name.now) }
-{
-    text.push_str("0 ")?;
-    text.push_str(name)?;
-    text.push_str(" initial\n")?;
-    Ok(())
 }
 
 /// The line of a load whose table came into force as `version`, once `point` records were drawn.

@@ -1,8 +1,7 @@
 // The lines that only some runs write: a limited record, loads, a table in its newer edition; and lines behind others.
 use aftr_text::{
-    Totals, limited_line, migrated_line, point_line, push_ended_line, push_initial_line,
-    push_limited_line, push_migrated_line, push_point_line, push_refused_line, push_summary,
-    push_unreached_line, push_verdict_line, refused_line, unreached_line,
+    limited_line, migrated_line, point_line, push_ended_line, push_limited_line, push_point_line,
+    push_refused_line, push_unreached_line, push_verdict_line, refused_line, unreached_line,
 };
 use binding_file::{FileRefused, Name, Place};
 use binding_rules::Refused;
@@ -19,9 +18,9 @@ fn a_limited_record(rt: HostRuntime) -> Result<(), Fail> {
     Ok(())
 }
 
-// Each rule by its name, in the order in which FORMATS lists them.
+// The rules by their names, in the order in which FORMATS lists them.
 #[test]
-fn each_rule_has_its_name(rt: HostRuntime) -> Result<(), Fail> {
+fn rules_have_their_names(rt: HostRuntime) -> Result<(), Fail> {
     let rules = [
         (Rule::FrameShort, "frame-short"),
         (Rule::FrameType, "frame-type"),
@@ -96,6 +95,10 @@ fn a_newer_edition(rt: HostRuntime) -> Result<(), Fail> {
         migrated_line(rt.alloc(), 1)?.as_str(),
         "migrated 1 bindings\n"
     );
+    assert_eq!(rt;
+        migrated_line(rt.alloc(), 65_536)?.as_str(),
+        "migrated 65536 bindings\n"
+    );
     Ok(())
 }
 
@@ -113,20 +116,9 @@ fn lines_of_records_behind_others(rt: HostRuntime) -> Result<(), Fail> {
 
 fn other_lines(alloc: Global) -> Result<String, Fail> {
     let mut text = String::from_str(alloc, "#\n")?;
-    push_initial_line(&mut text, "t0")?;
     push_point_line(&mut text, 255, "t1", 2_147_483_648)?;
     push_refused_line(alloc, &mut text, "t2", FileRefused::TooBig)?;
     push_unreached_line(&mut text, "t3")?;
-    push_migrated_line(&mut text, 65_536)?;
-    let totals = Totals {
-        records: 9,
-        held: 1,
-        forwarded: 2,
-        dropped: 3,
-        packets: 4,
-        version: 5,
-    };
-    push_summary(&mut text, totals)?;
     Ok(text)
 }
 
@@ -134,12 +126,9 @@ fn other_lines(alloc: Global) -> Result<String, Fail> {
 fn lines_behind_others(rt: HostRuntime) -> Result<(), Fail> {
     let text = other_lines(rt.alloc())?;
     let expected = "#
-0 t0 initial
 255 t1 at 2147483648
 - t2 refused too-big
 - t3 not-reached
-migrated 65536 bindings
-records 9 held 1 forwarded 2 dropped 3 packets 4 version 5
 ";
     assert_eq!(rt; text.as_str(), expected);
     Ok(())
