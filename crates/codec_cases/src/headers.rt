@@ -187,7 +187,8 @@ fn headers_are_put_behind_what_is_there(rt: HostRuntime) -> Result<(), Fail> {
     assert_eq!(rt; &out[1..41], UP_TUNNEL.as_slice());
     assert!(rt; head6_bytes(tunnel, 32) == *UP_TUNNEL);
     assert_eq!(rt; head4_bytes(inner, 12).as_slice(), &UP[..20]);
-    assert_eq!(rt; sum_of_both(&UP[..8], &UP[8..20]), 0);
+    let packet = UP;
+    assert_eq!(rt; sum_of_both(&packet[..8], &packet[8..20]), 0);
     Ok(())
 }
 
