@@ -1,7 +1,7 @@
 #!/usr/bin/env bash
-# Times reading captures of 1,000,000 records, of 80 and of 390 bytes, classic and of blocks, by the real files, in rounds and
-# one by one: builds the program in a temporary repository, takes the least processor time of 25 turns, and counts system calls
-# and allocations where strace and valgrind are there.
+# Times reading captures of 1,000,000 records, of 80 and of 390 bytes, classic and of blocks, by the real files, in rounds of
+# 262,144 captured bytes (as one worker has) and of 1,048,576 (as several have), and one by one: builds the program in a temporary
+# repository, takes the least processor time of 25 turns, and counts system calls and allocations where strace and valgrind are there.
 #     bench/capture_records/run.sh [REPOSITORY]
 set -e
 here="$(cd "$(dirname "$0")" && pwd)"
@@ -76,8 +76,8 @@ for size in 80 390; do
         file="records_$size.$form"
         cat "$file" > /dev/null
         echo "$file, cat: $(processor cat "$file")"
-        for way in "" records; do
-            echo "$file, ${way:-rounds}: $(processor "$program" "$file" $way), $("$program" "$file" $way)"
+        for way in 262144 1048576 records; do
+            echo "$file, $way: $(processor "$program" "$file" $way), $("$program" "$file" $way)"
             if command -v strace > /dev/null; then
                 strace -f -c -o calls.txt "$program" "$file" $way > /dev/null
                 echo "    $(awk '$NF == "read" || $NF == "pread64" { n += $4 } END { print n }' calls.txt) reads of the system"

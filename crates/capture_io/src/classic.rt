@@ -205,9 +205,9 @@ impl CaptureReader for ClassicReader {
         most_bytes: usize,
         room: Records,
     ) -> Result<Round, OutOfMemory> {
-        let (buffer, mut places) = room.into_room()?;
+        let (mut buffer, mut places) = room.into_room()?;
         let piece = piece_of(most_bytes).min(self.fits).max(1);
-        self.window.make_ready(piece)?;
+        self.window.begin_round(piece, &mut buffer)?;
         let next = Upcoming {
             big: self.form.big,
             at: self.at,

@@ -14,6 +14,9 @@ use std::mem;
 /// The least room of a round.
 pub const ROOM: usize = 524_288;
 
+// So many bytes are copied once more for a smaller cost than another buffer has.
+const FEW: usize = 4_096;
+
 /// The bytes of a file from a place on that were read and are not used yet, and whether nothing stands behind them. They stand at
 /// the front of one buffer.
 #[derive(Drop)]
@@ -88,6 +91,21 @@ impl Window {
         Ok(())
     }
 
+    /// Begins a round, with the room of an earlier one: there is room for so many bytes, and what stands behind those that are there is
+    /// asked for. Where these are few, they go over into that room, so that a caller who judges a round before the next one has
+    /// always the same buffer read into, and a processor's cache keeps it.
+    pub fn begin_round(&mut self, size: usize, room: &mut Vec<u8>) -> Result<(), OutOfMemory>
+        ensures { IfOk result (λ _. self.new ≡ record { bytes = self.old.bytes; last = false }) }
+    {
+        if self.filled <= FEW {
+            make_room(room, self.filled)?;
+            put_front(room, &self.buffer[..self.filled]);
+            mem::swap(&mut self.buffer, room);
+        }
+        self.make_ready(size)?;
+        Ok(())
+    }
+
     /// Lets the first bytes go, so many of them.
     pub fn pass(&mut self, count: usize)
         requires { count ≤ length self.old.bytes }
@@ -158,7 +176,7 @@ impl Window {
             return Ok(Records::of(buffer, places));
         }
         let rest = &self.buffer[used..self.filled];
-        make_room(&mut next, rest.len().max(ROOM))?;
+        make_room(&mut next, rest.len())?;
         put_front(&mut next, rest);
         self.filled -= used;
         let buffer = mem::replace(&mut self.buffer, next);

@@ -27,11 +27,11 @@ returns-clause-placed g c =
 
 pub returns-clause-told : goal.returns-clause-told
 returns-clause-told g c =
-    let given = c.make_ready.new.self in
+    let given = c.begin_round.new.self in
     let window = c.fetch.new.window in
     let taken = c.take-taken.result in
     let rest = c.hand_out.new.self.bytes in
-    let same : given.bytes ≡ c.args.self.now.window.bytes = ap (λ (a : Ahead). a.bytes) c.in_ok-make_ready.ensures in
+    let same : given.bytes ≡ c.args.self.now.window.bytes = ap (λ (a : Ahead). a.bytes) c.in_ok-begin_round.ensures in
     round_told c.args.self.now.form.big window c.in_ok-failed.failed c.args.self.now.at c.args.number c.args.most_bytes
     c.take-taken.new.places.items taken c.in_ok-records.records c.take-taken.ensures c.in_ok-records.ensures.records
     (g.F.Files.outside c.args.files.now).held c.args.name.now c.args.self.now.window.bytes rest given same
@@ -39,13 +39,13 @@ returns-clause-told g c =
 
 pub returns-clause-reads : goal.returns-clause-reads
 returns-clause-reads g c =
-    let given = c.make_ready.new.self in
+    let given = c.begin_round.new.self in
     let window = c.fetch.new.window in
     let taken = c.take-taken.result in
     let held = (g.F.Files.outside c.args.files.now).held in
     let at = c.args.self.now.at in
     let big = c.args.self.now.form.big in
-    let same : given.bytes ≡ c.args.self.now.window.bytes = ap (λ (a : Ahead). a.bytes) c.in_ok-make_ready.ensures in
+    let same : given.bytes ≡ c.args.self.now.window.bytes = ap (λ (a : Ahead). a.bytes) c.in_ok-begin_round.ensures in
     round_reads (is_cut taken.ending) c.in_ok-failed.failed c.args.name.now (λ place. place ≡ at + length window.bytes)
     (IsInNext c.args.name.now (λ bytes. IsStart c.args.self.now.window.bytes (drop at bytes)) (left_at big (at + taken.used)) (at + taken.used) held taken.number)
     (g.F.Files.outside c.args.files.now) (g.F.Files.outside c.fetch.new.files) c.take-taken.ensures.cut
