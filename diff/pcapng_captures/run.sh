@@ -4,6 +4,7 @@
 # built and proved first.
 #     diff/pcapng_captures/run.sh [REPOSITORY]      compares
 #     diff/pcapng_captures/run.sh REPOSITORY time       reads files of 100 MB that are costly to read
+#     diff/pcapng_captures/run.sh REPOSITORY far        sets a reader near place 2^62, where no block is read any more (nothing is proved)
 set -e
 python="${PYTHON:-python3}"
 here="$(cd "$(dirname "$0")" && pwd)"
@@ -20,6 +21,12 @@ for name in aftr_base capture_io pcapng_io; do
     grep "^$name:" "$top/crates.txt"
 done > "$repository/crates.txt"
 echo "pcapng_captures: aftr_base capture_io pcapng_io" >> "$repository/crates.txt"
+if [ "$2" = far ]; then
+    cp "$here/program/far.rt.txt" "$repository/crates/pcapng_io/src/far.rt"
+    printf '\n#[cfg(test)]\nmod far;\n' >> "$repository/crates/pcapng_io/src/lib.rt"
+    cd "$repository/crates/pcapng_io"
+    exec rt try --test
+fi
 cp "$here/program/main.rt.txt" "$crate/src/main.rt"
 cp "$here/program/Invariants.antt.txt" "$crate/proofs/tell/Invariants.antt"
 rm -f "$program"
