@@ -1,48 +1,68 @@
-// Captures in pieces of each size up to 64 bytes, in rounds and one by one, and with each read failing in turn: they say what they say
-// whole. And a section of as many interfaces as it may have.
+// Captures in pieces of each size up to 64 bytes and whole, in rounds and one by one, with no read failing and with each in turn: they say
+// what they say whole, and where a read failed the records before its place and then the fault.
+use crate::block_rounds::ODD;
 use crate::blocks::{
-    BIG_INTERFACE, BIG_SECTION, HEAD, IN_NANOS, INTERFACE, SECTION, SIMPLE_HEAD, SIMPLE_TAIL, TAIL,
-    joined, reads_as,
+    BIG_INTERFACE, BIG_SECTION, ETHERNET, HEAD, IN_NANOS, INTERFACE, OTHER, SECTION, SIMPLE_HEAD,
+    SIMPLE_TAIL, TAIL, joined, reads_as,
 };
-use crate::pipes::{gives, joined_rounds, piped};
-use crate::rounds::Sparing;
-use aftr_base::MemFiles;
-use capture_io::{CaptureError, Next, next_record, read_header};
+use crate::captures::{BY_SCAPY, BY_TEXT2PCAP, CAPTURED, is_first};
+use crate::pipes::{Pipe, gives, joined_rounds, pipe_of, told_of};
+use crate::rounds::{MOST, SECOND, THIRD, TOO_LONG};
+use capture_io::{CaptureError, CaptureReader, Next, Records, next_record, read_header};
 use case_data::{CAPTURE, UP, UP_TUNNEL};
-use pcapng_io::NgReader;
+use pcapng_io::{NgReader, Reader};
 use std::alloc::Global;
 use std::test::Fail;
 
 /// More than any place of these captures.
 const FAR: u64 = 1_000_000;
 
-// No call of the files.
-const NO_CALL: u64 = 1_000_000;
+/// As many bytes as the longest of them and more.
+const WHOLE: usize = 400;
 
-// A classic capture, blocks of one packet, the same in nanoseconds, and a simple packet in the other order.
-fn base(alloc: Global, kind: u32) -> Result<Vec<u8>, Fail> {
-    match kind {
-        0 => Ok(CAPTURE.to_vec(alloc)?),
-        1 => joined(alloc, &[SECTION, INTERFACE, HEAD, UP_TUNNEL, UP, TAIL]),
-        2 => joined(alloc, &[SECTION, IN_NANOS, HEAD, UP_TUNNEL, UP, TAIL]),
-        _ => joined(
-            alloc,
-            &[
-                BIG_SECTION,
-                BIG_INTERFACE,
-                SIMPLE_HEAD,
-                UP_TUNNEL,
-                UP,
-                b"abcdefgh",
-                SIMPLE_TAIL,
-            ],
-        ),
+// What a capture has, by a letter: a capture of the classic format, parts of blocks, and the parts of a packet.
+fn part(letter: u8) -> &'static [u8] {
+    match letter {
+        b'c' => CAPTURE,
+        b'x' => &BY_TEXT2PCAP,
+        b'y' => &BY_SCAPY,
+        b'2' => &SECOND,
+        b'3' => &THIRD,
+        b'l' => &TOO_LONG,
+        b's' => SECTION,
+        b'S' => BIG_SECTION,
+        b'i' => INTERFACE,
+        b'n' => IN_NANOS,
+        b'e' => ETHERNET,
+        b'I' => BIG_INTERFACE,
+        b'N' => b"\0\0\0\x01\0\0\0\x14\0\x65\0\0\0\0\0\0\0\0\0\x14",
+        b'h' => HEAD,
+        b'H' => SIMPLE_HEAD,
+        b't' => UP_TUNNEL,
+        b'u' => UP,
+        b'8' => b"abcdefgh",
+        b'r' => TAIL,
+        b'R' => SIMPLE_TAIL,
+        b'o' => OTHER,
+        b'd' => ODD,
+        b'L' => b"\0\0\0\x03\0\0\0\x10\0\x04\0\x01\0\0\0\x10",
+        b'b' => b"\0\0\0\x03\0\0\0\x0c\0\0\0\x0c",
+        _ => b"",
     }
 }
 
-// The first bytes of it, so many, with one byte changed.
-fn changed(alloc: Global, kind: u32, size: usize, place: usize, byte: u8) -> Result<Vec<u8>, Fail> {
-    let mut bytes = base(alloc, kind)?;
+// The first bytes of these parts, so many, with one byte changed.
+fn changed(
+    alloc: Global,
+    parts: &str,
+    size: usize,
+    place: usize,
+    byte: u8,
+) -> Result<Vec<u8>, Fail> {
+    let mut bytes = Vec::new(alloc);
+    'parts: for letter in parts.bytes() {
+        bytes.extend_from_slice(part(letter))?;
+    }
     bytes.truncate(size);
     if let Some(there) = bytes.get_mut(place) {
         *there = byte;
@@ -78,15 +98,15 @@ fn push_next(
     }
 }
 
-fn classic_records(alloc: Global, files: &mut Sparing) -> Result<String, Fail> {
-    let form = match read_header(alloc, files, "in") {
+fn classic_records(alloc: Global, pipe: &mut Pipe) -> Result<String, Fail> {
+    let form = match read_header(alloc, pipe, "in") {
         Ok(form) => form,
         Err(error) => return Ok(format!(in alloc; "{error}")?),
     };
     let mut told = String::new(alloc);
     let mut at = 24;
     'records: for number in 0..9 {
-        let found = next_record(alloc, files, "in", form, at.min(FAR), number);
+        let found = next_record(alloc, pipe, "in", form, at.min(FAR), number);
         match push_next(alloc, &mut told, found)? {
             Some(next_at) => at = next_at,
             None => return Ok(told),
@@ -95,14 +115,14 @@ fn classic_records(alloc: Global, files: &mut Sparing) -> Result<String, Fail> {
     Ok(told)
 }
 
-fn packets(alloc: Global, files: &mut Sparing) -> Result<String, Fail> {
-    let mut reader = match NgReader::open(alloc, files, "in") {
+fn packets(alloc: Global, pipe: &mut Pipe) -> Result<String, Fail> {
+    let mut reader = match NgReader::open(alloc, pipe, "in") {
         Ok(reader) => reader,
         Err(error) => return Ok(format!(in alloc; "{error}")?),
     };
     let mut told = String::new(alloc);
     'packets: for number in 0..9 {
-        let found = reader.next(alloc, files, "in", number);
+        let found = reader.next(alloc, pipe, "in", number);
         if push_next(alloc, &mut told, found)?.is_none() {
             return Ok(told);
         }
@@ -110,113 +130,229 @@ fn packets(alloc: Global, files: &mut Sparing) -> Result<String, Fail> {
     Ok(told)
 }
 
-// What is told of a file that gives at most so many bytes a read, of which one call fails.
-fn told(
-    alloc: Global,
-    in_rounds: bool,
-    bytes: &[u8],
-    most: usize,
-    call: u64,
-) -> Result<String, Fail> {
-    if in_rounds {
-        let told = piped(alloc, bytes, most, call)?;
-        return joined_rounds(alloc, &told);
-    }
-    let mut files = MemFiles::new(alloc);
-    files.set(alloc, "in", bytes)?;
-    files.fail_at(alloc, call)?;
-    let mut sparing = Sparing { files, most };
-    if bytes.starts_with(SECTION.get(..1).unwrap_or(SECTION)) {
-        return packets(alloc, &mut sparing);
-    }
-    classic_records(alloc, &mut sparing)
+// How a capture is read.
+#[derive(Clone, Copy)]
+enum Way {
+    Rounds,
+    Records,
+    Packets,
 }
 
-// Whether this is a front of the text, and then the fault.
-fn is_front(told: &str, text: &str) -> bool {
-    if let Some(front) = told.strip_suffix("fault") {
-        return text.starts_with(front);
+fn told(alloc: Global, way: Way, pipe: &mut Pipe) -> Result<String, Fail> {
+    match way {
+        Way::Rounds => {
+            let told = told_of(alloc, pipe)?;
+            joined_rounds(alloc, &told)
+        }
+        Way::Records => classic_records(alloc, pipe),
+        Way::Packets => packets(alloc, pipe),
     }
-    match told.strip_suffix("a read failed") {
-        Some(front) => text.starts_with(front),
+}
+
+// Where a record ends of which this is told.
+fn end_of(record: &str) -> u64 {
+    match record.rsplit_once(' ') {
+        Some((_, end)) => end.parse().unwrap_or(FAR),
+        None => FAR,
+    }
+}
+
+// Of the records of this text those that end at the place or before it.
+fn records_by(alloc: Global, text: &str, place: u64) -> Result<String, Fail> {
+    let mut records = String::new(alloc);
+    let Some((all, _)) = text.rsplit_once("; ") else {
+        return Ok(records);
+    };
+    'records: for record in all.split("; ") {
+        if end_of(record) <= place {
+            records.push_str(record)?;
+            records.push_str("; ")?;
+        }
+    }
+    Ok(records)
+}
+
+// Whether a fault is told behind these records.
+fn is_fault(told: &str, records: &str) -> bool {
+    match told.strip_prefix(records) {
+        Some(fault) => fault == "fault" || fault == "a read failed",
         None => false,
     }
 }
 
-// Whether this is told where no read fails, and a front of it where one of the reads before that does.
-fn tells(
+// Whether the reads went on, and a fault was told of the one that failed; nothing where something else was told than is right.
+fn has_failed(
     alloc: Global,
-    in_rounds: bool,
+    way: Way,
     bytes: &[u8],
     most: usize,
+    call: u64,
     text: &str,
-) -> Result<bool, Fail> {
-    'calls: for call in 0..200 {
-        let told = told(alloc, in_rounds, bytes, most, call)?;
-        if told.as_str() == text {
-            return Ok(call > 0);
-        }
-        if !is_front(told.as_str(), text) {
-            return Ok(false);
+) -> Result<Option<bool>, Fail> {
+    let mut pipe = pipe_of(alloc, bytes, most, call)?;
+    let told = told(alloc, way, &mut pipe)?;
+    let right = if pipe.failed {
+        let records = records_by(alloc, text, pipe.at)?;
+        is_fault(told.as_str(), records.as_str())
+    } else {
+        told.as_str() == text
+    };
+    Ok((right && pipe.strays == 0).then_some(pipe.failed))
+}
+
+// Whether this is told where no read fails, and what is right where one does, each in turn.
+fn tells(alloc: Global, way: Way, bytes: &[u8], most: usize, text: &str) -> Result<bool, Fail> {
+    'calls: for call in 0..FAR {
+        match has_failed(alloc, way, bytes, most, call, text)? {
+            Some(true) => {}
+            Some(false) => return Ok(call > 0),
+            None => return Ok(false),
         }
     }
     Ok(false)
 }
 
-// Whether this is told in pieces of each size, and in some sizes with each read failing. In rounds each size with each read failing is
-// tried in `full_rounds`.
 fn tells_in_all_pieces(alloc: Global, bytes: &[u8], text: &str) -> Result<bool, Fail> {
-    'sizes: for most in 1..=64 {
-        let one_by_one = told(alloc, false, bytes, most, NO_CALL)?;
-        if one_by_one.as_str() != text || !gives(alloc, bytes, most, text)? {
+    let alone = if bytes.starts_with(b"\n") {
+        Way::Packets
+    } else {
+        Way::Records
+    };
+    'sizes: for size in 1..=65 {
+        let most = if size == 65 { WHOLE } else { size };
+        if !tells(alloc, Way::Rounds, bytes, most, text)?
+            || !tells(alloc, alone, bytes, most, text)?
+        {
             return Ok(false);
         }
     }
-    Ok(
-        tells(alloc, false, bytes, 1, text)?
-            && tells(alloc, false, bytes, 7, text)?
-            && tells(alloc, true, bytes, 24, text)?,
-    )
+    Ok(true)
 }
 
-// The kind of a capture, how many bytes of it, the byte that is changed, and what it is then.
-type Case = (u32, usize, usize, u8, &'static str);
+// A number, and what stands behind it.
+fn number_of(line: &str) -> Result<(usize, &str), Fail> {
+    let (number, rest) = line.split_once(' ').ok_or("a number")?;
+    Ok((number.parse()?, rest))
+}
 
-fn tells_case(alloc: Global, case: Case) -> Result<bool, Fail> {
-    let (kind, size, place, byte, text) = case;
-    let bytes = changed(alloc, kind, size, place, byte)?;
+// Whether a line is right: the parts of a capture, how many bytes of it, the place of the byte that is changed, what it is then, and
+// what is told of it.
+fn is_right(alloc: Global, line: &str) -> Result<bool, Fail> {
+    let (parts, rest) = line.split_once(' ').ok_or("parts")?;
+    let (size, rest) = number_of(rest)?;
+    let (place, rest) = number_of(rest)?;
+    let (byte, text) = rest.split_once(' ').ok_or("a byte")?;
+    let bytes = changed(alloc, parts, size, place, byte.parse()?)?;
     tells_in_all_pieces(alloc, &bytes, text)
+}
+
+// The first line that is not right.
+fn first_wrong(alloc: Global, lines: &'static str) -> Result<&'static str, Fail> {
+    'lines: for line in lines.lines() {
+        if !is_right(alloc, line)? {
+            return Ok(line);
+        }
+    }
+    Ok("")
 }
 
 #[test]
 fn classic_captures_say_in_pieces_what_they_say_whole(rt: HostRuntime) -> Result<(), Fail> {
-    let cases = [
-        (0, 112, 0, 0xd4, "1.0 72 112; end"),
-        (0, 112, 4, 3, "version"),
-        (0, 111, 0, 0xd4, "cut record at 24"),
-        (0, 112, 34, 4, "too long at 24"),
-    ];
-    for case in cases {
-        assert!(rt; tells_case(rt.alloc(), case)?, "{}", case.4);
-    }
+    let lines = "c 112 0 212 1.0 72 112; end
+c 23 0 212 cut header at 0
+c 112 0 31 magic
+c 112 4 3 version
+c 112 20 113 link 113
+c 24 0 212 end
+c 30 0 212 cut header at 24
+c 111 0 212 cut record at 24
+c 112 34 4 too long at 24
+x 112 0 77 1795739461.1000 72 112; end
+y 90 0 161 1700000000.123456789 50 90; end
+c23 147 0 212 1.0 72 112; 2.5 3 131; 3.6 0 147; end
+cl 128 0 212 1.0 72 112; too long at 112";
+    assert_eq!(rt; first_wrong(rt.alloc(), lines)?, "");
     Ok(())
 }
 
 #[test]
 fn blocks_say_in_pieces_what_they_say_whole(rt: HostRuntime) -> Result<(), Fail> {
-    let cases = [
-        (1, 152, 36, 113, "ng link 28 113"),
-        (1, 152, 48, 2, "ng old 48"),
-        (1, 152, 48, 5, "end"),
-        (1, 151, 0, 0x0a, "ng cut 48"),
-        (1, 152, 63, 0xff, "ng time 48"),
-        (2, 164, 46, 200, "ng options 28"),
-        (2, 164, 44, 8, "1.0 72 164; end"),
-        (3, 144, 43, 80, "0.0 80 144; end"),
-        (3, 144, 43, 81, "ng captured 48"),
-    ];
-    for case in cases {
-        assert!(rt; tells_case(rt.alloc(), case)?, "{}", case.4);
+    let lines = "sihtur 152 0 10 1.0 72 152; end
+siohtur 164 0 10 1.0 72 164; end
+sihtur 151 0 10 ng cut 48
+siehtur 172 0 10 ng mixed-links 48
+sishtur 180 0 10 ng interface 76
+shturi 152 0 10 ng interface 28
+so 40 0 10 end
+sihturd 164 0 10 1.0 72 152; ng length 152
+sihturoSIHtu8R 308 0 10 1.0 72 152; 1.0 80 308; end
+sihturSIHtu8R 296 0 10 1.0 72 152; 1.0 80 296; end
+sihtur 152 8 78 ng order 0
+sihtur 152 4 29 ng length 0
+sihtur 152 24 32 ng length 0
+sihtur 152 12 2 ng version 0
+sihtur 152 36 113 ng link 28 113
+sihtur 152 48 2 ng old 48
+sihtur 152 48 5 end
+sihtur 152 52 100 ng length 48
+sihtur 152 53 1 ng cut 48
+sihtur 152 56 1 ng interface 48
+sihtur 152 63 255 ng time 48
+sihtur 152 68 73 ng captured 48
+sihtur 152 70 4 ng too-long 48";
+    assert_eq!(rt; first_wrong(rt.alloc(), lines)?, "");
+    Ok(())
+}
+
+#[test]
+fn simple_packets_and_resolutions_are_so_in_pieces(rt: HostRuntime) -> Result<(), Fail> {
+    let lines = "SIHtu8R 144 43 80 0.0 80 144; end
+SIHtu8R 144 43 0 ng captured 48
+SIHtu8R 144 43 81 ng captured 48
+SIHtu8R 144 31 5 ng interface 48
+SNL 64 43 0 ng too-long 48
+SIb 60 43 80 ng length 48
+snhtur 164 48 0 1000000.0 72 164; end
+snhtur 164 48 6 1.0 72 164; end
+snhtur 164 48 9 0.1000000 72 164; end
+snhtur 164 48 19 0.0 72 164; end
+snhtur 164 48 20 ng resolution 28
+snhtur 164 48 148 0.953674316 72 164; end
+snhtur 164 48 191 0.0 72 164; end
+snhtur 164 48 192 ng resolution 28
+snhtur 164 46 2 ng options 28
+snhtur 164 46 200 ng options 28
+snhtur 164 44 8 1.0 72 164; end
+snhtur 164 44 0 1.0 72 164; end";
+    assert_eq!(rt; first_wrong(rt.alloc(), lines)?, "");
+    Ok(())
+}
+
+// Whether the first record of a capture is the first datagram in its tunnel, one by one and in a round.
+fn begins_with_datagram(alloc: Global, bytes: &[u8], most: usize) -> Result<bool, Fail> {
+    let mut pipe = pipe_of(alloc, bytes, most, FAR)?;
+    let found = if bytes.starts_with(SECTION) {
+        let mut reader = NgReader::open(alloc, &mut pipe, "in")?;
+        reader.next(alloc, &mut pipe, "in", 0)?
+    } else {
+        next_record(alloc, &mut pipe, "in", CAPTURED, 24, 0)?
+    };
+    let alone = match found {
+        Next::Rec(record) => is_first(record.bytes.as_slice()),
+        Next::End => false,
+    };
+    let mut pipe = pipe_of(alloc, bytes, most, FAR)?;
+    let mut reader = Reader::open(alloc, &mut pipe, "in")?;
+    let round = reader.read_round(alloc, &mut pipe, "in", 0, MOST, Records::new(alloc))?;
+    Ok(alone && !round.records.is_empty() && is_first(round.records.get(0).bytes))
+}
+
+#[test]
+fn records_have_their_bytes_in_pieces(rt: HostRuntime) -> Result<(), Fail> {
+    let blocks = joined(rt.alloc(), &[SECTION, INTERFACE, HEAD, UP_TUNNEL, UP, TAIL])?;
+    for most in 1..=64 {
+        assert!(rt; begins_with_datagram(rt.alloc(), CAPTURE, most)?, "{most}");
+        assert!(rt; begins_with_datagram(rt.alloc(), &blocks, most)?, "{most}");
     }
     Ok(())
 }

@@ -13,6 +13,9 @@ use pcapng_io::NgReader;
 use std::alloc::Global;
 use std::test::Fail;
 
+/// A block whose length is no multiple of 4.
+pub(crate) const ODD: &[u8; 12] = b"\x05\0\0\0\x0d\0\0\0\x0d\0\0\0";
+
 // No call of the files.
 const NO_CALL: u64 = 1_000_000;
 
@@ -129,8 +132,7 @@ fn the_packets_before_a_fault_are_handed_up(rt: HostRuntime) -> Result<(), Fail>
 fn a_bad_block_is_told_where_no_read_failed(rt: HostRuntime) -> Result<(), Fail> {
     let alloc = rt.alloc();
     let first = packet(alloc)?;
-    let odd = b"\x05\0\0\0\x0d\0\0\0\x0d\0\0\0";
-    let bytes = joined(alloc, &[SECTION, INTERFACE, &first, odd])?;
+    let bytes = joined(alloc, &[SECTION, INTERFACE, &first, ODD])?;
     let cases = [
         (1_000, NO_CALL, "1.0 72 152; ng length 152"),
         (1_000, 4, "fault"),

@@ -1,5 +1,5 @@
-// Captures that other tools wrote, each refusal, and files that answer little or fail.
-use aftr_base::{Fault, Files, MemFiles, OutOfMemory, QuietFiles};
+// Captures that other tools wrote, frames, and what is written.
+use aftr_base::{OutOfMemory, QuietFiles};
 use capture_io::{
     CaptureBad, CaptureError, Form, Frame, Next, frame_of, next_record, put_header, put_record,
     read_header, time_of,
@@ -9,7 +9,7 @@ use std::alloc::Global;
 use std::test::Fail;
 
 /// The first datagram in its tunnel, as `text2pcap -F nsecpcap -l 101` wrote it (Wireshark 4.0.17).
-const BY_TEXT2PCAP: [u8; 112] = [
+pub(crate) const BY_TEXT2PCAP: [u8; 112] = [
     0x4d, 0x3c, 0xb2, 0xa1, 0x02, 0x00, 0x04, 0x00, 0x00, 0x00, 0x00, 0x00, 0x00, 0x00, 0x00, 0x00,
     0x00, 0x00, 0x04, 0x00, 0x65, 0x00, 0x00, 0x00, 0x45, 0xcf, 0x08, 0x6b, 0xe8, 0x03, 0x00, 0x00,
     0x48, 0x00, 0x00, 0x00, 0x48, 0x00, 0x00, 0x00, 0x60, 0x00, 0x00, 0x00, 0x00, 0x20, 0x04, 0x40,
@@ -20,7 +20,7 @@ const BY_TEXT2PCAP: [u8; 112] = [
 ];
 
 /// A packet behind a VLAN tag, as `PcapWriter(linktype=1, endianness=">", nano=True)` of scapy 2.5.0 wrote it.
-const BY_SCAPY: [u8; 90] = [
+pub(crate) const BY_SCAPY: [u8; 90] = [
     0xa1, 0xb2, 0x3c, 0x4d, 0x00, 0x02, 0x00, 0x04, 0x00, 0x00, 0x00, 0x00, 0x00, 0x00, 0x00, 0x00,
     0x00, 0x00, 0xff, 0xff, 0x00, 0x00, 0x00, 0x01, 0x65, 0x53, 0xf1, 0x00, 0x07, 0x5b, 0xcd, 0x15,
     0x00, 0x00, 0x00, 0x32, 0x00, 0x00, 0x00, 0x32, 0x02, 0x00, 0x00, 0x00, 0x00, 0x02, 0x02, 0x00,
@@ -29,7 +29,7 @@ const BY_SCAPY: [u8; 90] = [
     0x04, 0xd0, 0x00, 0x0c, 0x00, 0x00, 0x74, 0x65, 0x73, 0x74,
 ];
 
-const CAPTURED: Form = Form {
+pub(crate) const CAPTURED: Form = Form {
     big: false,
     nano: false,
     link: 101,
@@ -41,8 +41,8 @@ fn files_with(alloc: Global, bytes: &[u8]) -> Result<QuietFiles, OutOfMemory> {
     Ok(files)
 }
 
-// The bytes are the first datagram in its tunnel.
-fn is_first(bytes: &[u8]) -> bool {
+/// The bytes are the first datagram in its tunnel.
+pub(crate) fn is_first(bytes: &[u8]) -> bool {
     bytes.len() == 72 && bytes.starts_with(UP_TUNNEL) && bytes.ends_with(UP)
 }
 
@@ -104,45 +104,10 @@ fn what_scapy_wrote_is_read(rt: HostRuntime) -> Result<(), Fail> {
     Ok(())
 }
 
-fn refusal_of(
-    alloc: Global,
-    size: usize,
-    place: usize,
-    byte: u8,
-) -> Result<Option<CaptureError>, Fail> {
-    let mut bytes = CAPTURE.to_vec(alloc)?;
-    bytes.truncate(size);
-    if let Some(there) = bytes.get_mut(place) {
-        *there = byte;
-    }
-    let mut files = files_with(alloc, &bytes)?;
-    match read_header(alloc, &mut files, "in") {
-        Ok(form) => Ok(next_record(alloc, &mut files, "in", form, 24, 0).err()),
-        Err(error) => Ok(Some(error)),
-    }
-}
-
+// Others stand in `all_pieces`.
 #[test]
-fn each_refusal_has_its_place(rt: HostRuntime) -> Result<(), Fail> {
+fn a_capture_has_so_many_records_at_most(rt: HostRuntime) -> Result<(), Fail> {
     let alloc = rt.alloc();
-    let refusals = [
-        (23, 0, 0xd4, Some(CaptureBad::CutHeader { at: 0 })),
-        (112, 0, 0x1f, Some(CaptureBad::Magic)),
-        (112, 4, 3, Some(CaptureBad::Version)),
-        (112, 20, 113, Some(CaptureBad::Link { number: 113 })),
-        (24, 0, 0xd4, None),
-        (30, 0, 0xd4, Some(CaptureBad::CutHeader { at: 24 })),
-        (111, 0, 0xd4, Some(CaptureBad::CutRecord { at: 24 })),
-        (112, 34, 4, Some(CaptureBad::TooLong { at: 24 })),
-    ];
-    for (size, place, byte, refusal) in refusals {
-        let answer = refusal_of(alloc, size, place, byte)?;
-        assert_eq!(rt;
-            answer,
-            refusal.map(CaptureError::Bad),
-            "{size} bytes, {byte} at {place}"
-        );
-    }
     let mut files = files_with(alloc, CAPTURE)?;
     let answer = next_record(alloc, &mut files, "in", CAPTURED, 111, 0x8000_0000);
     assert_eq!(rt;
@@ -151,63 +116,6 @@ fn each_refusal_has_its_place(rt: HostRuntime) -> Result<(), Fail> {
     );
     let answer = next_record(alloc, &mut files, "in", CAPTURED, 112, 0x8000_0000)?;
     assert!(rt; matches!(answer, Next::End));
-    Ok(())
-}
-
-/// Files that read one byte at a time, and count the reads that failed.
-#[derive(Drop)]
-struct Slow {
-    files: MemFiles,
-    failed: u32,
-}
-
-impl Files for Slow {
-    ghost outside = { λ slow. ⟦<MemFiles as Files>⟧.outside slow.files };
-
-    fn read(
-        &mut self,
-        alloc: Global,
-        name: &str,
-        at: u64,
-        into: &mut [u8],
-    ) -> Result<usize, Fault> {
-        let count = into.len().min(1);
-        let answer = self.files.read(alloc, name, at, &mut into[..count]);
-        if answer.is_err() {
-            self.failed = self.failed.saturating_add(1);
-        }
-        answer
-    }
-
-    fn create(&mut self, alloc: Global, name: &str) -> Result<(), Fault> {
-        self.files.create(alloc, name)
-    }
-
-    fn append(&mut self, alloc: Global, name: &str, bytes: &[u8]) -> Result<usize, Fault> {
-        self.files.append(alloc, name, bytes)
-    }
-}
-
-#[test]
-fn slow_files_give_the_record_or_the_fault(rt: HostRuntime) -> Result<(), Fail> {
-    let alloc = rt.alloc();
-    for call in 0..90 {
-        let mut files = MemFiles::new(alloc);
-        files.set(alloc, "in", CAPTURE)?;
-        files.fail_at(alloc, call)?;
-        let mut slow = Slow { files, failed: 0 };
-        match next_record(alloc, &mut slow, "in", CAPTURED, 24, 0) {
-            Ok(Next::Rec(record)) => {
-                assert!(rt; call >= 88 && slow.failed == 0, "call {call}");
-                assert!(rt; is_first(record.bytes.as_slice()));
-            }
-            Ok(Next::End) => assert!(rt; false, "call {call}"),
-            Err(error) => {
-                assert_eq!(rt; error, CaptureError::ReadFault);
-                assert!(rt; call < 88 && slow.failed == 1, "call {call}");
-            }
-        }
-    }
     Ok(())
 }
 

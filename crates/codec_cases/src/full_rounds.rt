@@ -1,9 +1,7 @@
 // Rounds that are full, and the pieces that readers ask for.
 ghost use Rattle.std.specs.Prelude.{◌≤◌};
 
-use crate::block_rounds::two_sections;
 use crate::blocks::{INTERFACE, SECTION, joined};
-use crate::pipes::piped;
 use crate::rounds::text_of_ending;
 use aftr_base::{Files, MemFiles};
 use capture_io::{CaptureReader, Records, piece_of};
@@ -11,8 +9,6 @@ use case_data::CAPTURE;
 use pcapng_io::Reader;
 use std::alloc::Global;
 use std::test::Fail;
-
-const NO_CALL: u64 = 1_000_000;
 
 #[test]
 fn pieces_stay_in_a_cache_or_have_what_a_round_has(rt: HostRuntime) -> Result<(), Fail> {
@@ -94,46 +90,5 @@ fn a_round_has_16384_records_at_most(rt: HostRuntime) -> Result<(), Fail> {
         counted(alloc, &blocks, 262_144)?.as_str(),
         "8192 8192 3616 0 end"
     );
-    Ok(())
-}
-
-// Whether what is told of a pipe, of which one read fails, is the front of what is told of all, and then the fault.
-fn fails_behind_a_front(
-    alloc: Global,
-    bytes: &[u8],
-    most: usize,
-    call: u64,
-    all: &str,
-) -> Result<bool, Fail> {
-    let told = piped(alloc, bytes, most, call)?;
-    if told.as_str() == "a read failed" || told.as_str() == all {
-        return Ok(true);
-    }
-    match told.as_str().strip_suffix("fault") {
-        Some(front) => Ok(all.starts_with(front)),
-        None => Ok(false),
-    }
-}
-
-fn fails_at_each_read(alloc: Global, bytes: &[u8], most: usize) -> Result<bool, Fail> {
-    let all = piped(alloc, bytes, most, NO_CALL)?;
-    let calls = (bytes.len() / most.max(1)) as u64;
-    'calls: for call in 0..calls.saturating_add(3) {
-        if !fails_behind_a_front(alloc, bytes, most, call, all.as_str())? {
-            return Ok(false);
-        }
-    }
-    Ok(true)
-}
-
-// Single bytes are tried in `pipes`.
-#[test]
-fn each_read_of_each_size_may_fail(rt: HostRuntime) -> Result<(), Fail> {
-    let alloc = rt.alloc();
-    let blocks = two_sections(alloc)?;
-    for most in 2..=64 {
-        assert!(rt; fails_at_each_read(alloc, CAPTURE, most)?, "{most}");
-        assert!(rt; fails_at_each_read(alloc, &blocks, most)?, "{most}");
-    }
     Ok(())
 }

@@ -11,15 +11,15 @@ use std::test::Fail;
 pub(crate) const MOST: usize = 500_000;
 
 /// A record of three bytes, cut from nine, at 2 seconds and 5 microseconds.
-const SECOND: [u8; 19] = [
+pub(crate) const SECOND: [u8; 19] = [
     2, 0, 0, 0, 5, 0, 0, 0, 3, 0, 0, 0, 9, 0, 0, 0, 0x61, 0x62, 0x63,
 ];
 
 /// A record of no bytes, at 3 seconds and 6 microseconds.
-const THIRD: [u8; 16] = [3, 0, 0, 0, 6, 0, 0, 0, 0, 0, 0, 0, 0, 0, 0, 0];
+pub(crate) const THIRD: [u8; 16] = [3, 0, 0, 0, 6, 0, 0, 0, 0, 0, 0, 0, 0, 0, 0, 0];
 
 /// The header of a record of 262,145 bytes.
-const TOO_LONG: [u8; 16] = [3, 0, 0, 0, 6, 0, 0, 0, 1, 0, 4, 0, 1, 0, 4, 0];
+pub(crate) const TOO_LONG: [u8; 16] = [3, 0, 0, 0, 6, 0, 0, 0, 1, 0, 4, 0, 1, 0, 4, 0];
 
 /// Files that read at most so many bytes at a time.
 #[derive(Drop)]
