@@ -35,7 +35,7 @@ pub(crate) fn owner_near<W: Words, L: Ledger>(
     ensures later { steps.old ≤ steps.new }
 {
     if spot.first / MIXED % 2 == 1 {
-        return owner_mixed(words, spot, want, steps);
+        return owner_mixed(words, spot.low, spot.high, spot.first, want, steps);
     }
     owner_alike(words, spot, want, steps)
 }
@@ -65,36 +65,39 @@ fn owner_alike<W: Words, L: Ledger>(
     Some(tunnel_end(words, owner.at, steps))
 }
 
-/// The same where the entries of the address have several shapes: each of them is tried in turn.
+/// The same where the entries of the address have several shapes: each of them is tried in turn. `found` is the first word that was
+/// found. All of it fits into registers, so that a search for an address of one shape keeps nothing in memory.
 fn owner_mixed<W: Words, L: Ledger>(
     words: &mut W,
-    spot: Spot,
+    low: u32,
+    high: u32,
+    found: u64,
     want: Want,
     steps: &mut Steps<L>,
 ) -> Option<V6>
-    requires span { IsEntryRange (W.list words.old) spot.low spot.high }
-    requires marked { AreMarked (W.list words.old) spot.low spot.high (spot.first / 4294967296) }
-    ensures owner { IfSome result (λ b4. IsTunnelOfOwner (W.list words.old) spot.low spot.high (spot.first / 4294967296) want b4.0) }
-    ensures none { IfNone result (HasNoOwner (W.list words.old) spot.low spot.high (spot.first / 4294967296) want) }
-    ensures bound { IsTryingBounded (W.list words.old) spot.low spot.high result steps.old steps.new }
+    requires span { IsEntryRange (W.list words.old) low high }
+    requires marked { AreMarked (W.list words.old) low high (found / 4294967296) }
+    ensures owner { IfSome result (λ b4. IsTunnelOfOwner (W.list words.old) low high (found / 4294967296) want b4.0) }
+    ensures none { IfNone result (HasNoOwner (W.list words.old) low high (found / 4294967296) want) }
+    ensures bound { IsTryingBounded (W.list words.old) low high result steps.old steps.new }
     ensures list { W.list words.new ≡ W.list words.old }
     ensures reads { W.reads words.new ≡ read_more (W.reads words.old) (steps.new - steps.old) }
     ensures goes { W.goes words.old words.new }
     ensures later { steps.old ≤ steps.new }
 {
-    let address = spot.first / 0x1_0000_0000;
-    let mut from = spot.low;
+    let address = found / 0x1_0000_0000;
+    let mut from = low;
     let mut least = address * 0x1_0000_0000;
     'shapes: loop {
-        from = lower_bound(words, from, spot.high, least, steps);
-        if from >= spot.high {
+        from = lower_bound(words, from, high, least, steps);
+        if from >= high {
             return None;
         }
         let first = first_word(words, from, steps);
         if first / 0x1_0000_0000 != address {
             return None;
         }
-        if let Some(end) = owner_like(words, from, spot.high, first, want, steps) {
+        if let Some(end) = owner_like(words, from, high, first, want, steps) {
             return Some(end);
         }
         least = first - first % 0x1_0000 + 0x1_0000;

@@ -11,11 +11,10 @@ none_spent n = omega arith
 
 pub shapes-init : goal.shapes-init
 shapes-init g c =
-    let spot = c.args.spot in
     record {
       span = c.requires.span;
-      tried = subst (λ (n : ℕ). AreTried (g.W.Words.list c.args.words.now) (spot.first / 4294967296) c.args.want spot.low spot.high spot.low
-          (spot.first / 4294967296 * 4294967296) n)
+      tried = subst (λ (n : ℕ). AreTried (g.W.Words.list c.args.words.now) (c.args.found / 4294967296) c.args.want c.args.low c.args.high c.args.low
+          ((c.args.found / 4294967296) * 4294967296) n)
           (none_spent c.args.steps.now) (tried_none _ _ _ _ _);
       list = refl;
       reads = search rules;
@@ -25,43 +24,43 @@ shapes-init g c =
 
 pub lower_bound-from-requires : goal.lower_bound-from-requires
 lower_bound-from-requires g c =
-    subst (λ (ws : List ℕ). IsEntryRange ws c.shapes.from c.args.spot.high) (sym c.shapes.invariant.list) c.shapes.invariant.span
+    subst (λ (ws : List ℕ). IsEntryRange ws c.shapes.from c.args.high) (sym c.shapes.invariant.list) c.shapes.invariant.span
 
 pub first_word-first-requires-clause-within : goal.first_word-first-requires-clause-within
 first_word-first-requires-clause-within g c =
     let i = c.shapes.invariant in
     let size = ap length (c.lower_bound-from.ensures.list ∙ i.list) in
-    omega (arith, size, i.span.within, c.if-from-spot.false)
+    omega (arith, size, i.span.within, c.if-from-high.false)
 
 pub owner_like-requires-clause-span : goal.owner_like-requires-clause-span
 owner_like-requires-clause-span g c =
     let i = c.shapes.invariant in
     let list = c.first_word-first.ensures.list ∙ c.lower_bound-from.ensures.list ∙ i.list in
-    subst (λ (ws : List ℕ). IsEntryRange ws c.lower_bound-from.result c.args.spot.high) (sym list)
-    (span_rest _ c.shapes.from _ _ i.span (omega (arith, c.if-from-spot.false)))
+    subst (λ (ws : List ℕ). IsEntryRange ws c.lower_bound-from.result c.args.high) (sym list)
+    (span_rest _ c.shapes.from _ _ i.span (omega (arith, c.if-from-high.false)))
 
-pub returns-then-from-spot-clause-none : goal.returns-then-from-spot-clause-none
-returns-then-from-spot-clause-none g c =
+pub returns-then-from-high-clause-none : goal.returns-then-from-high-clause-none
+returns-then-from-high-clause-none g c =
     let i = c.shapes.invariant in
     let bounded = c.lower_bound-from.ensures in
     let words = g.W.Words.list c.args.words.now in
-    let a = c.args.spot.first / 4294967296 in
-    let low = c.args.spot.low in
-    let high = c.args.spot.high in
+    let a = c.args.found / 4294967296 in
+    let low = c.args.low in
+    let high = c.args.high in
     let at = c.lower_bound-from.result in
     let spent = c.shapes.steps - c.args.steps.now in
     let place = subst (λ (ws : List ℕ). IsBoundary ws c.shapes.from high c.shapes.least at) i.list bounded.place in
     none_left words a c.args.want low high c.shapes.from c.shapes.least spent at i.tried i.span place
-    (λ e l m. absurd (omega (arith, c.if-from-spot.true, l, m)))
+    (λ e l m. absurd (omega (arith, c.if-from-high.true, l, m)))
 
-pub returns-then-from-spot-clause-bound : goal.returns-then-from-spot-clause-bound
-returns-then-from-spot-clause-bound g c =
+pub returns-then-from-high-clause-bound : goal.returns-then-from-high-clause-bound
+returns-then-from-high-clause-bound g c =
     let i = c.shapes.invariant in
     let bounded = c.lower_bound-from.ensures in
     let words = g.W.Words.list c.args.words.now in
-    let a = c.args.spot.first / 4294967296 in
-    let low = c.args.spot.low in
-    let high = c.args.spot.high in
+    let a = c.args.found / 4294967296 in
+    let low = c.args.low in
+    let high = c.args.high in
     let at = c.lower_bound-from.result in
     let spent = c.shapes.steps - c.args.steps.now in
     let place = subst (λ (ws : List ℕ). IsBoundary ws c.shapes.from high c.shapes.least at) i.list bounded.place in
@@ -79,9 +78,9 @@ returns-then-first-address-clause-none g c =
     let i = c.shapes.invariant in
     let bounded = c.lower_bound-from.ensures in
     let words = g.W.Words.list c.args.words.now in
-    let a = c.args.spot.first / 4294967296 in
-    let low = c.args.spot.low in
-    let high = c.args.spot.high in
+    let a = c.args.found / 4294967296 in
+    let low = c.args.low in
+    let high = c.args.high in
     let at = c.lower_bound-from.result in
     let spent = c.shapes.steps - c.args.steps.now in
     let place = subst (λ (ws : List ℕ). IsBoundary ws c.shapes.from high c.shapes.least at) i.list bounded.place in
@@ -90,16 +89,16 @@ returns-then-first-address-clause-none g c =
     let word_is : word ≡ first_at words at = read.value ∙ ap (λ (ws : List ℕ). first_at ws at) (bounded.list ∙ i.list) in
     none_left words a c.args.want low high c.shapes.from c.shapes.least spent at i.tried i.span place
     (λ e l m. above_address (first_at words at) (first_at words e) a c.shapes.least (i.span.ascending at e l m)
-    (place.above at (omega arith) c.if-from-spot.false) i.tried.at_least (subst (λ (n : ℕ). n / 4294967296 ≢ a) word_is c.if-first-address.true))
+    (place.above at (omega arith) c.if-from-high.false) i.tried.at_least (subst (λ (n : ℕ). n / 4294967296 ≢ a) word_is c.if-first-address.true))
 
 pub returns-then-first-address-clause-bound : goal.returns-then-first-address-clause-bound
 returns-then-first-address-clause-bound g c =
     let i = c.shapes.invariant in
     let bounded = c.lower_bound-from.ensures in
     let words = g.W.Words.list c.args.words.now in
-    let a = c.args.spot.first / 4294967296 in
-    let low = c.args.spot.low in
-    let high = c.args.spot.high in
+    let a = c.args.found / 4294967296 in
+    let low = c.args.low in
+    let high = c.args.high in
     let at = c.lower_bound-from.result in
     let spent = c.shapes.steps - c.args.steps.now in
     let place = subst (λ (ws : List ℕ). IsBoundary ws c.shapes.from high c.shapes.least at) i.list bounded.place in
@@ -118,9 +117,9 @@ returns-in-Some-clause-owner g c =
     let i = c.shapes.invariant in
     let bounded = c.lower_bound-from.ensures in
     let words = g.W.Words.list c.args.words.now in
-    let a = c.args.spot.first / 4294967296 in
-    let low = c.args.spot.low in
-    let high = c.args.spot.high in
+    let a = c.args.found / 4294967296 in
+    let low = c.args.low in
+    let high = c.args.high in
     let at = c.lower_bound-from.result in
     let spent = c.shapes.steps - c.args.steps.now in
     let place = subst (λ (ws : List ℕ). IsBoundary ws c.shapes.from high c.shapes.least at) i.list bounded.place in
@@ -139,9 +138,9 @@ returns-in-Some-clause-bound g c =
     let i = c.shapes.invariant in
     let bounded = c.lower_bound-from.ensures in
     let words = g.W.Words.list c.args.words.now in
-    let a = c.args.spot.first / 4294967296 in
-    let low = c.args.spot.low in
-    let high = c.args.spot.high in
+    let a = c.args.found / 4294967296 in
+    let low = c.args.low in
+    let high = c.args.high in
     let at = c.lower_bound-from.result in
     let spent = c.shapes.steps - c.args.steps.now in
     let place = subst (λ (ws : List ℕ). IsBoundary ws c.shapes.from high c.shapes.least at) i.list bounded.place in
@@ -152,15 +151,15 @@ returns-in-Some-clause-bound g c =
     let list = read.list ∙ bounded.list ∙ i.list in
     let address : word / 4294967296 ≡ a = c.if-first-address.false in
     let marked : mark_of word ≡ 1 = ap (λ (n : ℕ). mark_of n) word_is
-    ∙ c.requires.marked at (omega (arith, i.tried.within, place.from_on)) c.if-from-spot.false (ap (λ (n : ℕ). n / 4294967296) (sym word_is) ∙ address) in
+    ∙ c.requires.marked at (omega (arith, i.tried.within, place.from_on)) c.if-from-high.false (ap (λ (n : ℕ). n / 4294967296) (sym word_is) ∙ address) in
     let found = λ (bindings : List Binding) (d : ℕ) (entries : AreEntriesOf bindings words low high) (size : high - low < 2 ^ d).
     let cost = search_cost words a c.args.want low high c.shapes.from c.shapes.least spent at i.tried i.span place _ d size bounded.cost in
     let tries = tested.bound d (rest_small words a c.args.want low high c.shapes.from c.shapes.least spent at i.tried i.span place d size) in
-    found_cost words a c.args.want low high c.shapes.from c.shapes.least spent at i.tried i.span place c.if-from-spot.false word word_is address marked bindings entries d (c.owner_like.new.steps - c.args.steps.now) size
+    found_cost words a c.args.want low high c.shapes.from c.shapes.least spent at i.tried i.span place c.if-from-high.false word word_is address marked bindings entries d (c.owner_like.new.steps - c.args.steps.now) size
     (omega (arith, cost, tries, bounded.later, i.later, read.steps, tested.later)) in
     record {
       bound = λ bindings d entries size.
-          let digits = some_digits (high - at) d (omega (arith, c.if-from-spot.false))
+          let digits = some_digits (high - at) d (omega (arith, c.if-from-high.false))
           (rest_small words a c.args.want low high c.shapes.from c.shapes.least spent at i.tried i.span place d size) in
           omega (arith, found bindings d entries size, digits, bounded.later, i.later, read.steps, tested.later);
       found = λ bindings d entries size. omega (arith, found bindings d entries size, bounded.later, i.later, read.steps, tested.later);
@@ -176,9 +175,9 @@ shapes-preserved g c =
     let i = c.shapes.invariant in
     let bounded = c.lower_bound-from.ensures in
     let words = g.W.Words.list c.args.words.now in
-    let a = c.args.spot.first / 4294967296 in
-    let low = c.args.spot.low in
-    let high = c.args.spot.high in
+    let a = c.args.found / 4294967296 in
+    let low = c.args.low in
+    let high = c.args.high in
     let at = c.lower_bound-from.result in
     let spent = c.shapes.steps - c.args.steps.now in
     let place = subst (λ (ws : List ℕ). IsBoundary ws c.shapes.from high c.shapes.least at) i.list bounded.place in
@@ -189,12 +188,12 @@ shapes-preserved g c =
     let list = read.list ∙ bounded.list ∙ i.list in
     let address : word / 4294967296 ≡ a = c.if-first-address.false in
     let marked : mark_of word ≡ 1 = ap (λ (n : ℕ). mark_of n) word_is
-    ∙ c.requires.marked at (omega (arith, i.tried.within, place.from_on)) c.if-from-spot.false (ap (λ (n : ℕ). n / 4294967296) (sym word_is) ∙ address) in
+    ∙ c.requires.marked at (omega (arith, i.tried.within, place.from_on)) c.if-from-high.false (ap (λ (n : ℕ). n / 4294967296) (sym word_is) ∙ address) in
     let not_found : IsNotFound words at high word c.args.want =
     subst (λ (ws : List ℕ). IsNotFound ws at high word c.args.want) list c.in_default.ensures.none in
     record {
-      span = span_rest _ c.shapes.from _ _ i.span (omega (arith, c.if-from-spot.false));
-      tried = tried_more words a c.args.want low high c.shapes.from c.shapes.least spent at i.tried i.span place c.if-from-spot.false word word_is address marked (c.owner_like.new.steps - c.args.steps.now)
+      span = span_rest _ c.shapes.from _ _ i.span (omega (arith, c.if-from-high.false));
+      tried = tried_more words a c.args.want low high c.shapes.from c.shapes.least spent at i.tried i.span place c.if-from-high.false word word_is address marked (c.owner_like.new.steps - c.args.steps.now)
           (λ d size.
           let cost = search_cost words a c.args.want low high c.shapes.from c.shapes.least spent at i.tried i.span place _ d size bounded.cost in
           let tries = c.in_default.ensures.bound_none d
