@@ -9,4 +9,5 @@ mod OneJob
 mod PartLemmas
 mod RunLemmas
 mod DigitLemmas
+mod Raising
 mod Windows

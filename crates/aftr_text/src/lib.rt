@@ -12,6 +12,7 @@ mod lines;
 mod messages;
 mod numbers;
 mod parts;
+mod record_number;
 mod said;
 mod short_lines;
 mod summaries;
@@ -22,10 +23,12 @@ pub use faults::{Fault, JobError};
 pub use help::{HELP, VERSION};
 pub use jobs::{Job, LoadList, LoadWords, RunJob, UsageError};
 pub use lines::{
-    ended_line, limited_line, push_ended_line, push_limited_line, push_verdict_line, verdict_line,
+    ended_line, limited_line, push_counted_line, push_ended_line, push_limited_line,
+    push_verdict_line, verdict_line,
 };
 pub use messages::{fault_line, usage_line};
 pub use parts::Slot;
+pub use record_number::RecordNumber;
 pub use said::{file_line, output_line};
 pub use summaries::{Totals, migrated_line, summary};
 pub use tables::{

@@ -4,6 +4,7 @@ ghost use Rattle.ip_codec.specs.Rules.{name_of};
 ghost use Rattle.aftr_text.specs.Lines.{ended_text, judged_text, limited_text, outcome, verdict_text};
 
 use crate::numbers::{push_digits, write_judged};
+use crate::record_number::RecordNumber;
 use crate::short_lines::{push_short, short_ending};
 use aftr_base::{OutOfMemory, Text};
 use ip_codec::Rule;
@@ -50,6 +51,20 @@ pub fn push_verdict_line(
 ) -> Result<(), OutOfMemory>
     ensures { IfOk result (λ _. lines.new.items ≡ lines.old.items ++ verdict_text number version verdict.now packets) }
 {
+    push_counted_line(lines, &RecordNumber::of(number), version, verdict, packets)
+}
+
+/// The same of a record whose number is at hand with its digits.
+#[inline(always)]
+pub fn push_counted_line(
+    lines: &mut Vec<u8>,
+    number: &RecordNumber,
+    version: u32,
+    verdict: &Verdict,
+    packets: u32,
+) -> Result<(), OutOfMemory>
+    ensures { IfOk result (λ _. lines.new.items ≡ lines.old.items ++ verdict_text number.now version verdict.now packets) }
+{
     if packets == 1 && version < 10 {
         if let Some((ending, end)) = short_ending(verdict) {
             return push_short(lines, number, version, ending, end);
@@ -62,12 +77,12 @@ pub fn push_verdict_line(
 #[inline(never)]
 fn push_long_line(
     lines: &mut Vec<u8>,
-    number: u32,
+    number: &RecordNumber,
     version: u32,
     verdict: &Verdict,
     packets: u32,
 ) -> Result<(), OutOfMemory>
-    ensures { IfOk result (λ _. lines.new.items ≡ lines.old.items ++ verdict_text number version verdict.now packets) }
+    ensures { IfOk result (λ _. lines.new.items ≡ lines.old.items ++ verdict_text number.now version verdict.now packets) }
 {
     push_judged(lines, number, version)?;
     push_outcome(lines, verdict)?;
@@ -77,8 +92,8 @@ fn push_long_line(
 }
 
 // Which record was judged, and by which version of the table.
-fn push_judged(lines: &mut Vec<u8>, number: u32, version: u32) -> Result<(), OutOfMemory>
-    ensures { IfOk result (λ _. lines.new.items ≡ lines.old.items ++ judged_text number version) }
+fn push_judged(lines: &mut Vec<u8>, number: &RecordNumber, version: u32) -> Result<(), OutOfMemory>
+    ensures { IfOk result (λ _. lines.new.items ≡ lines.old.items ++ judged_text number.now version) }
 {
     let mut judged = [0; JUDGED_ROOM];
     let start = write_judged(number, version, &mut judged, JUDGED_ROOM);
@@ -136,6 +151,17 @@ pub fn push_limited_line(
     why: Rule,
 ) -> Result<(), OutOfMemory>
     ensures { IfOk result (λ _. lines.new.items ≡ lines.old.items ++ limited_text number version why) }
+{
+    push_limited(lines, &RecordNumber::of(number), version, why)
+}
+
+fn push_limited(
+    lines: &mut Vec<u8>,
+    number: &RecordNumber,
+    version: u32,
+    why: Rule,
+) -> Result<(), OutOfMemory>
+    ensures { IfOk result (λ _. lines.new.items ≡ lines.old.items ++ limited_text number.now version why) }
 {
     push_judged(lines, number, version)?;
     push_rule(lines, why)?;

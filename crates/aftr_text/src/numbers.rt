@@ -2,6 +2,7 @@
 ghost use Rattle.std.specs.Prelude.{◌≡◌, ◌+◌, ◌<◌, ◌≤◌, ◌++◌, IfOk, codes, decimal, drop, length, string_bytes};
 ghost use Rattle.aftr_text.specs.Lines.{judged_text};
 
+use crate::record_number::RecordNumber;
 use aftr_base::OutOfMemory;
 use itoa::{Buffer, write_digits};
 
@@ -35,13 +36,18 @@ pub(crate) fn push_digits(lines: &mut Vec<u8>, number: u32) -> Result<(), OutOfM
 
 /// Writes which record was judged, and by which version of the table, so that it ends at an index, and tells where it begins.
 #[inline(always)]
-pub(crate) fn write_judged(number: u32, version: u32, line: &mut [u8], end: usize) -> usize
+pub(crate) fn write_judged(
+    number: &RecordNumber,
+    version: u32,
+    line: &mut [u8],
+    end: usize,
+) -> usize
     requires room { length (decimal version) + 11 ≤ end }
     requires inside { end ≤ length line.old }
-    ensures start { result + length (judged_text number version) ≡ end }
-    ensures written { drop result line.new ≡ judged_text number version ++ drop end line.old }
+    ensures start { result + length (judged_text number.now version) ≡ end }
+    ensures written { drop result line.new ≡ judged_text number.now version ++ drop end line.old }
 {
     let blank = write_digits(u64::from(version), line, end) - 1;
     line[blank] = b' ';
-    write_digits(u64::from(number), line, blank)
+    number.write(line, blank)
 }

@@ -3,6 +3,7 @@ ghost use Rattle.std.specs.Prelude.{◌≡◌, ◌-◌, ◌<◌, ◌≤◌, ◌+
 ghost use Rattle.aftr_text.specs.Lines.{judged_text, outcome};
 
 use crate::numbers::write_judged;
+use crate::record_number::RecordNumber;
 use aftr_base::OutOfMemory;
 use verdict_core::Verdict;
 
@@ -35,14 +36,14 @@ pub(crate) fn short_ending(verdict: &Verdict) -> Option<(&'static [u8; TWICE], u
 #[inline(always)]
 pub(crate) fn push_short(
     lines: &mut Vec<u8>,
-    number: u32,
+    number: &RecordNumber,
     version: u32,
     ending: &[u8; TWICE],
     end: usize,
 ) -> Result<(), OutOfMemory>
     requires version { version < 10 }
     requires room { (12 ≤ end) × (end ≤ 24) }
-    ensures { IfOk result (λ _. lines.new.items ≡ lines.old.items ++ (judged_text number version ++ take (24 - end) (drop end ending.now))) }
+    ensures { IfOk result (λ _. lines.new.items ≡ lines.old.items ++ (judged_text number.now version ++ take (24 - end) (drop end ending.now))) }
 {
     let mut line = *ending;
     let start = write_judged(number, version, &mut line, end);

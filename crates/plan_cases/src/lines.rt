@@ -1,7 +1,10 @@
 // The lines that only some runs write: a limited record, loads, a table in its newer edition; and lines behind others.
+ghost use Rattle.std.specs.Prelude.{◌+◌, ◌<◌};
+
 use aftr_text::{
-    limited_line, migrated_line, point_line, push_ended_line, push_limited_line, push_point_line,
-    push_refused_line, push_unreached_line, push_verdict_line, refused_line, unreached_line,
+    RecordNumber, limited_line, migrated_line, point_line, push_counted_line, push_ended_line,
+    push_limited_line, push_point_line, push_refused_line, push_unreached_line, push_verdict_line,
+    refused_line, unreached_line,
 };
 use binding_file::{FileRefused, Name, Place};
 use binding_rules::Refused;
@@ -111,6 +114,35 @@ fn lines_of_records_behind_others(rt: HostRuntime) -> Result<(), Fail> {
     push_verdict_line(&mut lines, 9, 1, &Verdict::Held, 1)?;
     let expected = b"#\n7 1 held 0\n8 1 drop too-big limited 0\nexpired 7\n9 1 held 1\n";
     assert_eq!(rt; lines.as_slice(), expected.as_slice());
+    Ok(())
+}
+
+// The line of a number, and that of the next one with its digits kept.
+fn put_two(lines: &mut Vec<u8>, expected: &mut String, first: u32) -> Result<(), Fail>
+    requires { first + 1 < 4294967296 }
+{
+    let mut number = RecordNumber::of(first);
+    push_counted_line(lines, &number, 3, &Verdict::Outward { mtu: 1500 }, 1)?;
+    number.rise();
+    push_counted_line(lines, &number, 12, &Verdict::Held, 0)?;
+    let next = number.get();
+    write!(expected, "{first} 3 up 1\n{next} 12 held 0\n")?;
+    Ok(())
+}
+
+// A number rises where its last digit alone changes, and where others do.
+#[test]
+fn numbers_rise(rt: HostRuntime) -> Result<(), Fail> {
+    let mut lines = Vec::new(rt.alloc());
+    let mut expected = String::new(rt.alloc());
+    put_two(&mut lines, &mut expected, 0)?;
+    put_two(&mut lines, &mut expected, 8)?;
+    put_two(&mut lines, &mut expected, 9)?;
+    put_two(&mut lines, &mut expected, 1_998)?;
+    put_two(&mut lines, &mut expected, 1_999)?;
+    put_two(&mut lines, &mut expected, 999_999_999)?;
+    put_two(&mut lines, &mut expected, 4_294_967_294)?;
+    assert_eq!(rt; lines.as_slice(), expected.as_bytes());
     Ok(())
 }
 
