@@ -124,6 +124,16 @@ is_empty w p packets lines counts =
     let none : IsWithin no_totals 0 = record { records = refl; held = omega arith; forwarded = omega arith; dropped = omega arith; packets = omega arith } in
     record { packets = packets; lines = lines; counts = counts; within = subst (λ (t : Totals). IsWithin t 0) (sym counts) none }
 
+-- what a part holds is not the room that it has
+pub same_written : (w : Written) (cs : List Cell) (p q : Part) → q.packets.items ≡ p.packets.items → q.lines.items ≡ p.lines.items → q.counted ≡ p.counted →
+    IsPart w cs p → IsPart w cs q
+same_written w cs p q packets lines counts part = record {
+  packets = packets ∙ part.packets;
+  lines = lines ∙ part.lines;
+  counts = counts ∙ part.counts;
+  within = subst (λ (t : Totals). IsWithin t (length cs)) (sym counts) part.within;
+}
+
 -- whether memory was wanted is no part of what a part holds
 pub same_part : (w : Written) (cs : List Cell) (p : Part) (failed : Bool) → IsPart w cs p →
     IsPart w cs (record { packets = p.packets; lines = p.lines; counted = p.counted; failed = failed })

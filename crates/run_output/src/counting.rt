@@ -19,10 +19,9 @@ pub(crate) fn count_record(totals: &mut Totals, verdict: &Verdict, packets: u64)
     totals.records += 1;
     totals.packets += packets;
     match *verdict {
-        Verdict::Held => totals.held += 1,
+        Verdict::Outward { .. } | Verdict::Inward { .. } => totals.forwarded += 1,
         Verdict::Drop { .. } => totals.dropped += 1,
-        Verdict::Inward { .. } => totals.forwarded += 1,
-        Verdict::Outward { .. } => totals.forwarded += 1,
+        Verdict::Held => totals.held += 1,
     }
 }
 

@@ -4,7 +4,7 @@ ghost use Rattle.aftr_text.specs.Lines.{ended_text};
 ghost use Rattle.run_output.specs.Outputs.{record_text};
 
 use aftr_base::OutOfMemory;
-use aftr_text::{push_ended_line, push_limited_line, push_verdict_line};
+use aftr_text::{RecordNumber, push_counted_line, push_ended_line, push_limited_line};
 use verdict_core::Verdict;
 
 /// Puts the lines of datagrams that ended unfinished behind others: those whose time was up, or those that the capture's
@@ -27,17 +27,17 @@ pub fn push_ended_lines(
 pub(crate) fn push_record_line(
     lines: &mut Vec<u8>,
     limited: bool,
-    number: u32,
+    number: &RecordNumber,
     version: u32,
     verdict: &Verdict,
     packets: u32,
 ) -> Result<(), OutOfMemory>
-    ensures { IfOk result (λ _. lines.new.items ≡ lines.old.items ++ record_text limited number version verdict.now packets) }
+    ensures { IfOk result (λ _. lines.new.items ≡ lines.old.items ++ record_text limited number.now version verdict.now packets) }
 {
     if limited {
         if let Verdict::Drop { why, .. } = *verdict {
-            return push_limited_line(lines, number, version, why);
+            return push_limited_line(lines, number.get(), version, why);
         }
     }
-    push_verdict_line(lines, number, version, verdict, packets)
+    push_counted_line(lines, number, version, verdict, packets)
 }

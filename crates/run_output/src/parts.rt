@@ -1,11 +1,16 @@
 // The room of a round.
-ghost use Rattle.std.specs.Prelude.{◌≡◌, ◌<◌, ◌≤◌, [], IfOk, length};
+ghost use Rattle.std.specs.Prelude.{◌≡◌, ◌<◌, ◌≤◌, ◌^◌, [], IfOk, length};
 ghost use Rattle.run_output.specs.Counting.{no_totals};
 
 use aftr_base::OutOfMemory;
 use aftr_text::Totals;
 use std::alloc::Global;
 use std::marker::Model;
+
+/// How many bytes the packet of a small record has, with what stands in front of it, and how many its line.
+const PACKET_ROOM: usize = 256;
+
+const LINE_ROOM: usize = 24;
 
 /// What neighbouring records write. Its room is kept when it is cleared.
 #[derive(Drop)]
@@ -58,6 +63,19 @@ impl Part {
             version: 0,
         };
         self.failed = false;
+    }
+
+    /// Room for what so many records write, if their packets are small ones: where rooms grow step by step, what stands in them is
+    /// copied at each step.
+    pub(crate) fn reserve(&mut self, records: usize) -> Result<(), OutOfMemory>
+        requires { records ≤ 2 ^ 31 }
+        ensures packets { self.new.packets.items ≡ self.old.packets.items }
+        ensures lines { self.new.lines.items ≡ self.old.lines.items }
+        ensures counted { self.new.counted ≡ self.old.counted }
+    {
+        self.packets.reserve(records * PACKET_ROOM)?;
+        self.lines.reserve(records * LINE_ROOM)?;
+        Ok(())
     }
 }
 

@@ -21,7 +21,7 @@ use crate::lines::{push_ended_lines, push_record_line};
 use crate::parts::{Part, Rendered};
 use crate::rounds::Round;
 use aftr_base::OutOfMemory;
-use aftr_text::Totals;
+use aftr_text::{RecordNumber, Totals};
 use capture_io::{Form, RecordView, Records, Written};
 use error_limit::{Limiter, one_marking};
 use item_stage::{Items, RoundItems};
@@ -198,20 +198,24 @@ fn render_records(
     requires empty { IsPart round.now.written [] part.old }
     ensures { IfOk result (λ _. IsPart round.now.written (take (to - from) (drop from (cells_in round.now))) part.new) }
 {
+    part.reserve(to - from)?;
+    let mut number = RecordNumber::of(round.start + from as u32);
     let mut i = from;
     'records: while i < to {
         let record = round.records.get(i);
         let outcome = round.outcomes.get(i);
-        render_record(round, i, &record, outcome, part)?;
+        render_record(round, i, &number, &record, outcome, part)?;
+        number.rise();
         i += 1;
     }
     Ok(())
 }
 
-// Puts what the record at an index of its round writes behind what a part holds, and counts it.
+// Puts what the record at an index of its round writes, under its number, behind what a part holds, and counts it.
 fn render_record(
     round: &Round<'_>,
     index: usize,
+    number: &RecordNumber,
     rec: &RecordView<'_>,
     outcome: &Outcome,
     part: &mut Part,
@@ -222,15 +226,14 @@ fn render_record(
     requires within { IsWithin part.old.counted part.old.counted.records }
     requires few { part.old.counted.records < 2 ^ 31 }
     ensures more { IfOk result (λ _. (entry : Entry) → slice_get round.now.items.now index ≡ Some entry →
-        IsMore round.now.written (shown (round.now.start + index) rec.now entry outcome.now (slice_index_or round.now.limited.now index false)) part.old part.new) }
+        IsMore round.now.written (shown number.now rec.now entry outcome.now (slice_index_or round.now.limited.now index false)) part.old part.new) }
     ensures within { IfOk result (λ _. IsWithin part.new.counted part.new.counted.records) }
 {
-    let number = round.start + index as u32;
     let limited = round.limited[index];
     let count = push_sent(
         &mut part.packets,
         round,
-        number,
+        number.get(),
         index,
         rec,
         &outcome.verdict,

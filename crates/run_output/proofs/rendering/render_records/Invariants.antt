@@ -1,4 +1,4 @@
-use Rattle.std.proofs.Common.{◌-◌, ◌≤◌}
+use Rattle.std.proofs.Common.{◌≡◌, ◌+◌, ◌-◌, ◌≤◌}
 use Rattle.run_output.specs.Cells.{cells_in}
 use Rattle.run_output.proofs.PartLemmas.{HasBegun}
 use Rattle.run_output.proofs.rendering.render_records.Given as goal
@@ -7,6 +7,7 @@ abbrev pub invariant-records : goal.invariant-records
 invariant-records l = record {
   after : l.from ≤ l.i;
   before : l.i ≤ l.to;
+  number : l.number ≡ l.round.start + l.i;
   begun : HasBegun l.round.written (cells_in l.round) l.from l.to l.i l.part;
 }
 
