@@ -1,186 +1,98 @@
 -- When datagrams began, through a step of the lane.
-use Rattle.std.proofs.Common.{◌≡◌, ℕ, ◌+◌, ◌≤◌, min, Bool, true, false, not, cond, List, [], ◌∷◌, length, map, filter, refl, sym, ◌∙◌, ap, subst, arith, Option, Some, None}
-use Rattle.std.specs.Prelude.{nat_le, if◌then◌else◌}
-use Rattle.std.specs.List.{list_any}
+use Rattle.std.proofs.Common.{◌≡◌, ℕ, ◌+◌, ◌≤◌, min, Bool, true, false, not, cond, List, [], ◌∷◌, map, filter, refl, sym, ◌∙◌, ap, subst, arith, Option, Some, None}
+use Rattle.std.specs.List.{All}
+use Rattle.std.specs.Option.{IfSome, option_map}
 use Rattle.std.specs.declared.cmp.Ordering.{Ordering}
-use Rattle.std.specs.declared.cmp.Ordering.TheVariants.{Less, Equal, Greater}
-use Rattle.std.specs.Ordering.{match_ordering}
-use Rattle.std.specs.Map.{lookup, set_value, remove_entry}
-use Rattle.std.specs.BTreeMap.{is_at, insert_entry}
+use Rattle.std.specs.Map.{lookup, values_of}
+use Rattle.std.specs.BTreeMap.{insert_entry, is_at}
 use Rattle.std.proofs.lemmas.Bool.{le-leb, leb-true, false≢true}
+use Rattle.std.proofs.lemmas.List.Elements.{All-cons, All-head, All-nil, All-tail, All-weaker}
+use Rattle.std.proofs.lemmas.Map.Views.{IfSome-lookup_from_All}
 use Rattle.reassembly_lane.specs.declared.answer.Answer.{Answer}
-use Rattle.reassembly_lane.specs.declared.answer.Answer.TheVariants as answer
-use Rattle.reassembly_lane.specs.declared.answer.FragBad.{FragBad}
-use Rattle.reassembly_lane.specs.declared.answer.FragBad.TheVariants as bad
+use Rattle.reassembly_lane.specs.declared.context.Turn.{Turn}
+use Rattle.reassembly_lane.specs.declared.context.Turn.TheVariants as turn
 use Rattle.reassembly_lane.specs.declared.parts.Part.{Part}
-use Rattle.reassembly_lane.specs.Contexts.{Partial, staying, refusing, finished, unless_refused, with_part, placed, most_parts}
-use Rattle.reassembly_lane.specs.Lanes.{Arrival, waits, waiting_time, answering, open_at, late_numbers, most_contexts, is_odd, is_long, fresh, put_back, put_new, beginning, found, among, fed, LaneOutcome}
-use Rattle.reassembly_lane.specs.Parts.{is_same, clash, whole_end}
-use Rattle.reassembly_lane.specs.Since.{EachBegun, Since}
+use Rattle.reassembly_lane.specs.Contexts.{Outcome, Partial, with_part}
+use Rattle.reassembly_lane.specs.Lanes.{Arrival, LaneOutcome, waits, waiting_time, answering, open_at, late_numbers, fresh, going_on, among, fed}
+use Rattle.reassembly_lane.specs.Since.{Since}
+use Rattle.reassembly_lane.specs.Sound.{IsSoundPart}
+use Rattle.reassembly_lane.specs.Turns.{outcome}
+use Rattle.reassembly_lane.proofs.Each.{Stays, comes_with, each_among, each_open, each_put_back, each_put_new}
 
--- ---- a datagram keeps its beginning
-abbrev LeftBegun : ℕ → Option Partial → Type 0
-LeftBegun begun None = Unit {0}
-LeftBegun begun (Some partial) = partial.begun ≡ begun
+-- what is true of each beginning
+abbrev Begun : (ℕ → Type 0) → Partial → Type 0
+Begun P partial = P partial.begun
 
-left_finished : (partial : Partial) (parts : List Part) (o : Option ℕ) → LeftBegun partial.begun (finished partial parts o).left
-left_finished partial parts None = refl
-left_finished partial parts (Some end) = tt
-
-left_by_tests : (partial : Partial) (parts : List Part) (o : Option ℕ) (a b c : Bool) → LeftBegun partial.begun (if a then staying partial answer.Held else if b then refusing partial bad.Overlap else if c then refusing partial bad.Many else finished partial parts o).left
-left_by_tests partial parts o true b c = refl
-left_by_tests partial parts o false true c = refl
-left_by_tests partial parts o false false true = refl
-left_by_tests partial parts o false false false = left_finished partial parts o
-
-left_unless : (r : Option FragBad) (partial : Partial) (part : Part) → LeftBegun partial.begun (unless_refused r partial part).left
-left_unless (Some why) partial part = refl
-left_unless None partial part = left_by_tests partial (placed part partial.parts) (whole_end (placed part partial.parts)) (list_any (λ other. is_same other part) partial.parts) (list_any (clash part) partial.parts) (nat_le most_parts (length partial.parts))
-
-left_begun : (partial : Partial) (part : Part) → LeftBegun partial.begun (with_part partial part).left
-left_begun partial part = left_unless partial.refused partial part
-
--- ---- through an edit
-module _ {K : Type 0} (P : ℕ → Type 0) where
-  each_lookup : (test : K → Bool) (es : List (K × Partial)) (x : Partial) → EachBegun P es → lookup test es ≡ Some x → P x.begun
-  each_lookup test [] x h e = cc
-  each_lookup test (a ∷ es) x h e = by_test (test a.0) e (each_lookup test es x h.1)
-    where
-      by_test : (b : Bool) → cond b (Some a.1) (lookup test es) ≡ Some x → (lookup test es ≡ Some x → P x.begun) → P x.begun
-      by_test true f ih = let same : a.1 ≡ x = cc in subst (λ (y : Partial). P y.begun) same h.0
-      by_test false f ih = ih f
-
-  each_remove : (test : K → Bool) (es : List (K × Partial)) → EachBegun P es → EachBegun P (remove_entry test es)
-  each_remove test [] h = tt
-  each_remove test (a ∷ es) h = by_test (test a.0) (each_remove test es h.1)
-    where
-      by_test : (b : Bool) → EachBegun P (remove_entry test es) → EachBegun P (cond b es (a ∷ remove_entry test es))
-      by_test true ih = h.1
-      by_test false ih = (h.0, ih)
-
-  each_set : (test : K → Bool) (es : List (K × Partial)) (w : Partial) → EachBegun P es → P w.begun → EachBegun P (set_value test es w)
-  each_set test [] w h p = tt
-  each_set test (a ∷ es) w h p = by_test (test a.0) (each_set test es w h.1 p)
-    where
-      by_test : (b : Bool) → EachBegun P (set_value test es w) → EachBegun P (cond b ((a.0, w) ∷ es) (a ∷ set_value test es w))
-      by_test true ih = (p, h.1)
-      by_test false ih = (h.0, ih)
-
-  each_insert : (cmp : K → K → Ordering) (es : List (K × Partial)) (key : K) (w : Partial) → EachBegun P es → P w.begun → EachBegun P (insert_entry cmp es key w)
-  each_insert cmp [] key w h p = (p, tt)
-  each_insert cmp (a ∷ es) key w h p = by_order (cmp key a.0) (each_insert cmp es key w h.1 p)
-    where
-      by_order : (o : Ordering) → EachBegun P (insert_entry cmp es key w) → EachBegun P (match_ordering o ((key, w) ∷ a ∷ es) ((a.0, w) ∷ es) (a ∷ insert_entry cmp es key w))
-      by_order Less ih = (p, (h.0, h.1))
-      by_order Equal ih = (p, h.1)
-      by_order Greater ih = (h.0, ih)
-
-  each_put_back : (cmp : K → K → Ordering) (es : List (K × Partial)) (key : K) (begun : ℕ) (o : Option Partial) → EachBegun P es → P begun → LeftBegun begun o → EachBegun P (put_back cmp es key o)
-  each_put_back cmp es key begun None h p e = each_remove (is_at (cmp key)) es h
-  each_put_back cmp es key begun (Some w) h p e = each_set (is_at (cmp key)) es w h (subst P (sym e) p)
-
-  each_put_new : (cmp : K → K → Ordering) (es : List (K × Partial)) (key : K) (begun : ℕ) (o : Option Partial) → EachBegun P es → P begun → LeftBegun begun o → EachBegun P (put_new cmp es key o)
-  each_put_new cmp es key begun None h p e = h
-  each_put_new cmp es key begun (Some w) h p e = each_insert cmp es key w h (subst P (sym e) p)
-
-  each_open : (time : ℕ) (es : List (K × Partial)) → EachBegun P es → EachBegun P (open_at time es)
-  each_open time [] h = tt
-  each_open time (a ∷ es) h = by_test (waits time a.1.begun) (each_open time es h.1)
-    where
-      by_test : (b : Bool) → EachBegun P (open_at time es) → EachBegun P (cond b (a ∷ open_at time es) (open_at time es))
-      by_test true ih = (h.0, ih)
-      by_test false ih = ih
-
-  each_found : (cmp : K → K → Ordering) (es : List (K × Partial)) (piece : Arrival K) (o : Option Partial) → EachBegun P es → P piece.time → lookup (is_at (cmp piece.key)) (open_at piece.time es) ≡ o → EachBegun P (found cmp es piece o).contexts
-  each_found cmp es piece (Some partial) h p e =
-      each_put_back cmp es piece.key partial.begun (with_part partial piece.part).left h (each_lookup (is_at (cmp piece.key)) (open_at piece.time es) partial (each_open piece.time es h) e) (left_begun partial piece.part)
-  each_found cmp es piece None h p e =
-      by_room (nat_le most_contexts (length (open_at piece.time es)))
-    where
-      by_room : (b : Bool) → EachBegun P (if b then answering (answer.Refused bad.Full) es else beginning cmp es piece.key (with_part (fresh piece.time piece.number) piece.part)).contexts
-      by_room true = h
-      by_room false = each_put_new cmp es piece.key piece.time (with_part (fresh piece.time piece.number) piece.part).left h p (left_begun (fresh piece.time piece.number) piece.part)
-
-  pub each_among : (cmp : K → K → Ordering) (es : List (K × Partial)) (piece : Arrival K) → EachBegun P es → P piece.time → EachBegun P (among cmp es piece).contexts
-  each_among cmp es piece h p = by_tests (is_odd piece.part) (is_long piece.part)
-    where
-      by_tests : (a b : Bool) → EachBegun P (if a then answering (answer.Refused bad.Odd) es else if b then answering (answer.Refused bad.Long) es else found cmp es piece (lookup (is_at (cmp piece.key)) (open_at piece.time es))).contexts
-      by_tests true b = h
-      by_tests false true = h
-      by_tests false false = each_found cmp es piece (lookup (is_at (cmp piece.key)) (open_at piece.time es)) h p refl
+-- a datagram keeps its beginning
+begun_stays : (P : ℕ → Type 0) (part : Part) → Stays (Begun P) (λ _. Unit {0}) part
+begun_stays P part = record {
+  held = tt;
+  refused = λ why. tt;
+  emptied = λ partial why h. h;
+  longer = λ sound partial h. h;
+  whole = λ sound partial end h e. tt;
+}
 
 pub waits_now : (time : ℕ) → waits time time ≡ true
 waits_now time = le-leb time (time + waiting_time) (omega arith)
 
 -- ---- beginnings and whether they wait
-module _ {K : Type 0} where
-  pub each_weaker : (P Q : ℕ → Type 0) → ((begun : ℕ) → P begun → Q begun) → (es : List (K × Partial)) → EachBegun P es → EachBegun Q es
-  each_weaker P Q f [] h = tt
-  each_weaker P Q f (a ∷ es) h = (f a.1.begun h.0, each_weaker P Q f es h.1)
+abbrev WaitsAt : ℕ → Partial → Type 0
+WaitsAt time partial = waits time partial.begun ≡ true
 
-  pub all_open : (time : ℕ) (es : List (K × Partial)) → EachBegun (λ begun. waits time begun ≡ true) es → open_at time es ≡ es
+-- where a datagram waits, it did not begin before a time
+abbrev IfWaits : ℕ → ℕ → Partial → Type 0
+IfWaits time bound partial = waits time partial.begun ≡ true → bound ≤ partial.begun
+
+module _ {K : Type 0} where
+  all_open : (time : ℕ) (es : List (K × Partial)) → All (WaitsAt time) (values_of es) → open_at time es ≡ es
   all_open time [] h = refl
   all_open time (a ∷ es) h =
-      ap (λ (b : Bool). cond b (a ∷ open_at time es) (open_at time es)) h.0
-      ∙ ap (λ (l : List (K × Partial)). a ∷ l) (all_open time es h.1)
+      ap (λ (b : Bool). cond b (a ∷ open_at time es) (open_at time es)) (All-head (WaitsAt time) a.1 (values_of es) h)
+      ∙ ap (λ (l : List (K × Partial)). a ∷ l) (all_open time es (All-tail (WaitsAt time) a.1 (values_of es) h))
 
-  pub none_late : (time : ℕ) (es : List (K × Partial)) → EachBegun (λ begun. waits time begun ≡ true) es → late_numbers time es ≡ []
+  none_late : (time : ℕ) (es : List (K × Partial)) → All (WaitsAt time) (values_of es) → late_numbers time es ≡ []
   none_late time [] h = refl
   none_late time (a ∷ es) h =
-      ap (λ (b : Bool). map (λ e. e.1.number) (cond (not b) (a ∷ filter (λ e. not (waits time e.1.begun)) es) (filter (λ e. not (waits time e.1.begun)) es))) h.0
-      ∙ none_late time es h.1
+      ap (λ (b : Bool). map (λ e. e.1.number) (cond (not b) (a ∷ filter (λ e. not (waits time e.1.begun)) es) (filter (λ e. not (waits time e.1.begun)) es))) (All-head (WaitsAt time) a.1 (values_of es) h)
+      ∙ none_late time es (All-tail (WaitsAt time) a.1 (values_of es) h)
 
   -- where none is late, each waits
-  pub each_waits : (time : ℕ) (es : List (K × Partial)) → late_numbers time es ≡ [] → EachBegun (λ begun. waits time begun ≡ true) es
-  each_waits time [] h = tt
+  each_waits : (time : ℕ) (es : List (K × Partial)) → late_numbers time es ≡ [] → All (WaitsAt time) (values_of es)
+  each_waits time [] h = All-nil (WaitsAt time)
   each_waits time (a ∷ es) h = by_test (waits time a.1.begun) refl h (each_waits time es)
     where
-      by_test : (b : Bool) → waits time a.1.begun ≡ b → map (λ e. e.1.number) (cond (not b) (a ∷ filter (λ e. not (waits time e.1.begun)) es) (filter (λ e. not (waits time e.1.begun)) es)) ≡ [] → (late_numbers time es ≡ [] → EachBegun (λ begun. waits time begun ≡ true) es) → (waits time a.1.begun ≡ true) × EachBegun (λ begun. waits time begun ≡ true) es
-      by_test true e k ih = (e, ih k)
+      by_test : (b : Bool) → waits time a.1.begun ≡ b → map (λ e. e.1.number) (cond (not b) (a ∷ filter (λ e. not (waits time e.1.begun)) es) (filter (λ e. not (waits time e.1.begun)) es)) ≡ [] → (late_numbers time es ≡ [] → All (WaitsAt time) (values_of es)) → All (WaitsAt time) (values_of (a ∷ es))
+      by_test true e k ih = All-cons (WaitsAt time) a.1 (values_of es) e (ih k)
       by_test false e k ih = cc
 
-  pub waits_since : (time bound : ℕ) (es : List (K × Partial)) → Since bound es → waits time bound ≡ true → EachBegun (λ begun. waits time begun ≡ true) es
-  waits_since time bound es h w = each_weaker (λ begun. bound ≤ begun) (λ begun. waits time begun ≡ true) (λ begun l. later time bound begun w l) es h
+  waits_since : (time bound : ℕ) (es : List (K × Partial)) → Since bound es → waits time bound ≡ true → All (WaitsAt time) (values_of es)
+  waits_since time bound es h w = All-weaker (λ partial. bound ≤ partial.begun) (WaitsAt time) (λ partial l. later time bound partial.begun w l) (values_of es) h
     where
       later : (time bound begun : ℕ) → waits time bound ≡ true → bound ≤ begun → waits time begun ≡ true
       later time bound begun w l = let t : time ≤ bound + waiting_time = leb-true time (bound + waiting_time) w in le-leb time (begun + waiting_time) (omega arith)
 
   -- those that wait, by all of them, and the other way round
-  pub since_open : (time bound : ℕ) (es : List (K × Partial)) → EachBegun (λ begun. waits time begun ≡ true → bound ≤ begun) es → Since bound (open_at time es)
-  since_open time bound [] h = tt
-  since_open time bound (a ∷ es) h = by_test (waits time a.1.begun) refl (since_open time bound es h.1)
+  since_open : (time bound : ℕ) (es : List (K × Partial)) → All (IfWaits time bound) (values_of es) → Since bound (open_at time es)
+  since_open time bound [] h = All-nil (λ partial. bound ≤ partial.begun)
+  since_open time bound (a ∷ es) h = by_test (waits time a.1.begun) refl (since_open time bound es (All-tail (IfWaits time bound) a.1 (values_of es) h))
     where
       by_test : (b : Bool) → waits time a.1.begun ≡ b → Since bound (open_at time es) → Since bound (cond b (a ∷ open_at time es) (open_at time es))
-      by_test true e ih = (h.0 e, ih)
+      by_test true e ih = All-cons (λ partial. bound ≤ partial.begun) a.1 (values_of (open_at time es)) (All-head (IfWaits time bound) a.1 (values_of es) h e) ih
       by_test false e ih = ih
 
-  pub if_open_since : (time bound : ℕ) (es : List (K × Partial)) → Since bound (open_at time es) → EachBegun (λ begun. waits time begun ≡ true → bound ≤ begun) es
-  if_open_since time bound [] h = tt
+  if_open_since : (time bound : ℕ) (es : List (K × Partial)) → Since bound (open_at time es) → All (IfWaits time bound) (values_of es)
+  if_open_since time bound [] h = All-nil (IfWaits time bound)
   if_open_since time bound (a ∷ es) h = by_test (waits time a.1.begun) refl h (if_open_since time bound es)
     where
-      by_test : (b : Bool) → waits time a.1.begun ≡ b → Since bound (cond b (a ∷ open_at time es) (open_at time es)) → (Since bound (open_at time es) → EachBegun (λ begun. waits time begun ≡ true → bound ≤ begun) es) → (waits time a.1.begun ≡ true → bound ≤ a.1.begun) × EachBegun (λ begun. waits time begun ≡ true → bound ≤ begun) es
-      by_test true e k ih = ((λ w. k.0), ih k.1)
-      by_test false e k ih = ((λ w. absurd (false≢true (sym e ∙ w))), ih k)
+      by_test : (b : Bool) → waits time a.1.begun ≡ b → Since bound (cond b (a ∷ open_at time es) (open_at time es)) → (Since bound (open_at time es) → All (IfWaits time bound) (values_of es)) → All (IfWaits time bound) (values_of (a ∷ es))
+      by_test true e k ih = All-cons (IfWaits time bound) a.1 (values_of es) (λ w. All-head (λ partial. bound ≤ partial.begun) a.1 (values_of (open_at time es)) k) (ih (All-tail (λ partial. bound ≤ partial.begun) a.1 (values_of (open_at time es)) k))
+      by_test false e k ih = All-cons (IfWaits time bound) a.1 (values_of es) (λ w. absurd (false≢true (sym e ∙ w))) (ih k)
 
--- ---- what the lane keeps
-pub since_in_time : {K : Type 0} (cmp : K → K → Ordering) (es : List (K × Partial)) (piece : Arrival K) (oldest : ℕ) → Since oldest es → Since (min oldest piece.time) (among cmp es piece).contexts
-since_in_time cmp es piece oldest h =
-    each_among (λ begun. min oldest piece.time ≤ begun) cmp es piece
-    (each_weaker (λ begun. oldest ≤ begun) (λ begun. min oldest piece.time ≤ begun) (λ begun l. omega arith) es h)
-    (omega arith)
-
-pub open_in_time : {K : Type 0} (cmp : K → K → Ordering) (es : List (K × Partial)) (piece : Arrival K) → late_numbers piece.time es ≡ [] → open_at piece.time (among cmp es piece).contexts ≡ (among cmp es piece).contexts
-open_in_time cmp es piece h = all_open piece.time (among cmp es piece).contexts (each_among (λ begun. waits piece.time begun ≡ true) cmp es piece (each_waits piece.time es h) (waits_now piece.time))
-
-pub since_late : {K : Type 0} (cmp : K → K → Ordering) (es : List (K × Partial)) (piece : Arrival K) (oldest : ℕ) → Since oldest (open_at piece.time es) → Since (min oldest piece.time) (open_at piece.time (among cmp es piece).contexts)
-since_late cmp es piece oldest h =
-    since_open piece.time (min oldest piece.time) (among cmp es piece).contexts
-    (each_among (λ begun. waits piece.time begun ≡ true → min oldest piece.time ≤ begun) cmp es piece
-    (each_weaker (λ begun. waits piece.time begun ≡ true → oldest ≤ begun) (λ begun. waits piece.time begun ≡ true → min oldest piece.time ≤ begun) (λ begun f w. le_of_min oldest piece.time begun (f w)) es (if_open_since piece.time oldest es h))
-    (λ w. omega arith))
-  where
-    le_of_min : (a b c : ℕ) → a ≤ c → min a b ≤ c
-    le_of_min a b c l = omega arith
+open_in_time : {K : Type 0} (cmp : K → K → Ordering) (es : List (K × Partial)) (piece : Arrival K) → late_numbers piece.time es ≡ [] → open_at piece.time (among cmp es piece).contexts ≡ (among cmp es piece).contexts
+open_in_time cmp es piece h =
+    all_open piece.time (among cmp es piece).contexts
+    (each_among (WaitsAt piece.time) (λ _. Unit {0}) cmp es piece (begun_stays (λ begun. waits piece.time begun ≡ true) piece.part) (waits_now piece.time) (each_waits piece.time es h)).each
 
 -- ---- as the code reads them: `es` are the contexts before, and `new` behind what the piece did among them
 module _ {K : Type 0} (cmp : K → K → Ordering) (es new : List (K × Partial)) (piece : Arrival K) (said : Answer) (fed_so : answering said new ≡ among cmp es piece) where
@@ -190,17 +102,56 @@ module _ {K : Type 0} (cmp : K → K → Ordering) (es new : List (K × Partial)
   said_is : said ≡ (among cmp es piece).answer
   said_is = ap (λ (o : LaneOutcome K). o.answer) fed_so
 
-  pub reads_since_in_time : (oldest least : ℕ) → least ≡ min oldest piece.time → Since oldest es → Since least new
-  reads_since_in_time oldest least m h = rw (m, new_is) (since_in_time cmp es piece oldest h)
+  stays_open : (old : List (K × Partial)) → es ≡ old → late_numbers piece.time old ≡ [] → new ≡ open_at piece.time (among cmp es piece).contexts
+  stays_open old e h = new_is ∙ sym (open_in_time cmp es piece (ap (late_numbers piece.time) e ∙ h))
+
+  pub reads_since_in_time : (old : List (K × Partial)) (oldest : ℕ) → es ≡ old → late_numbers piece.time old ≡ [] → Since oldest (open_at piece.time new) → Since oldest new
+  reads_since_in_time old oldest e h since =
+      subst (λ (l : List (K × Partial)). Since oldest l) (ap (open_at piece.time) new_is ∙ sym (stays_open old e h)) since
 
   pub reads_fed_in_time : (old : List (K × Partial)) → es ≡ old → late_numbers piece.time old ≡ [] → answering said new ≡ fed cmp old piece
   reads_fed_in_time old e h =
-      ap (answering said) (new_is ∙ sym (open_in_time cmp es piece (ap (late_numbers piece.time) e ∙ h)))
+      ap (answering said) (stays_open old e h)
       ∙ ap (λ (a : Answer). answering a (open_at piece.time (among cmp es piece).contexts)) said_is
       ∙ ap (λ (l : List (K × Partial)). fed cmp l piece) e
 
-  pub reads_since_late : (oldest least : ℕ) (left : List (K × Partial)) → least ≡ min oldest piece.time → left ≡ open_at piece.time new → Since oldest (open_at piece.time es) → Since least left
-  reads_since_late oldest least left m e h = rw (m, e, new_is) (since_late cmp es piece oldest h)
-
 pub reads_none_late : {K : Type 0} (time oldest : ℕ) (es old : List (K × Partial)) → es ≡ old → Since oldest es → true ≡ waits time oldest → late_numbers time old ≡ []
 reads_none_late time oldest es old e h w = ap (late_numbers time) (sym e) ∙ none_late time es (waits_since time oldest es h (sym w))
+
+pub reads_since_open : {K : Type 0} (time oldest : ℕ) (es : List (K × Partial)) → Since oldest es → Since oldest (open_at time es)
+reads_since_open time oldest es h = each_open (λ partial. oldest ≤ partial.begun) time es h
+
+-- ---- one piece more of a datagram keeps the bound
+module _ {K : Type 0} (cmp : K → K → Ordering) (time oldest : ℕ) (es new : List (K × Partial)) (key : K) (part : Part) (sound : IsSoundPart part) (since : Since oldest (open_at time es)) where
+  pub since_going_on : (said : Answer) (o : Option Partial) → lookup (is_at (cmp key)) (open_at time es) ≡ o →
+      option_map (λ (says : Answer). answering says new) (Some said) ≡ option_map (λ (partial : Partial). going_on cmp es key (with_part partial part)) o → Since oldest (open_at time new)
+  since_going_on said None f e = absurd cc
+  since_going_on said (Some partial) f e =
+      let new_is : new ≡ (going_on cmp es key (with_part partial part)).contexts = new_by (answering said new) (going_on cmp es key (with_part partial part)) e in
+      let each = if_open_since time oldest es since in
+      let waiting : IfWaits time oldest partial =
+      subst (λ (o : Option Partial). IfSome o (IfWaits time oldest)) f (IfSome-lookup_from_All (IfWaits time oldest) (is_at (cmp key)) (open_at time es) (each_open (IfWaits time oldest) time es each)) in
+      subst (λ (l : List (K × Partial)). Since oldest (open_at time l)) (sym new_is)
+      (since_open time oldest (going_on cmp es key (with_part partial part)).contexts
+      (each_put_back (IfWaits time oldest) cmp es key (with_part partial part).left each
+      (comes_with (IfWaits time oldest) (λ _. Unit {0}) part (begun_stays (λ begun. waits time begun ≡ true → oldest ≤ begun) part) sound partial waiting).left))
+    where
+      new_by : (a b : LaneOutcome K) → Some a ≡ Some b → a.contexts ≡ b.contexts
+      new_by a b e = let same : a ≡ b = cc in ap (λ (o : LaneOutcome K). o.contexts) same
+
+  -- and the first one of a datagram lowers it
+  pub since_begun : (number least : ℕ) (partial : Partial) (t : Turn) (said : Answer) → outcome t partial ≡ with_part (fresh time number) part → t ≡ turn.Stays said →
+      new ≡ insert_entry cmp es key partial → least ≡ min oldest time → Since least (open_at time new)
+  since_begun number least partial t said comes stays new_is least_is =
+      let left : (with_part (fresh time number) part).left ≡ Some partial =
+      ap (λ (o : Outcome). o.left) (sym comes) ∙ ap (λ (y : Turn). (outcome y partial).left) stays in
+      let begun : IfWaits time least partial =
+      subst (λ (o : Option Partial). IfSome o (IfWaits time least)) left
+      (comes_with (IfWaits time least) (λ _. Unit {0}) part (begun_stays (λ begun. waits time begun ≡ true → least ≤ begun) part) sound (fresh time number) (λ w. omega (arith, least_is))).left in
+      subst (λ (l : List (K × Partial)). Since least (open_at time l)) (sym new_is)
+      (since_open time least (insert_entry cmp es key partial)
+      (each_put_new (IfWaits time least) cmp es key (Some partial)
+      (All-weaker (IfWaits time oldest) (IfWaits time least) (λ p f w. lower_le p.begun (f w)) (values_of es) (if_open_since time oldest es since)) begun))
+    where
+      lower_le : (b : ℕ) → oldest ≤ b → least ≤ b
+      lower_le b l = omega (arith, l, least_is)

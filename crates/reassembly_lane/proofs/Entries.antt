@@ -1,15 +1,15 @@
 -- Contexts as lists of keys and what is kept.
-use Rattle.std.proofs.Common.{◌≡◌, ℕ, ◌+◌, ◌≤◌, Bool, true, false, not, cond, List, [], ◌∷◌, ◌++◌, length, map, filter, refl, sym, ◌∙◌, ap, subst, Option, Some, None}
-use Rattle.std.specs.Prelude.{is_some}
+use Rattle.std.proofs.Common.{◌≡◌, ℕ, ◌+◌, ◌≤◌, Bool, true, false, not, cond, List, [], ◌∷◌, ◌++◌, length, map, filter, refl, sym, ◌∙◌, ap, subst, Some, None}
 use Rattle.std.specs.declared.cmp.Ordering.{Ordering}
 use Rattle.std.specs.Cmp.{IsTotalOrder}
-use Rattle.std.specs.Map.{lookup, set_value, remove_entry, keys_of}
+use Rattle.std.specs.Map.{lookup, set_value, remove_entry, keys_of, values_of}
 use Rattle.std.specs.BTreeMap.{is_at}
 use Rattle.std.specs.List.Sorted.{IsStrictlySortedBy}
 use Rattle.std.proofs.lemmas.Cmp.{eq_by_cmp_equiv}
 use Rattle.std.proofs.lemmas.Map.Keys.{IsDistinct-from_sorted}
 use Rattle.std.proofs.lemmas.Map.Entries.{option_filter, lookup-filter-values}
 use Rattle.std.proofs.lemmas.Map.Steps.{set_value_same}
+use Rattle.std.proofs.lemmas.List.Elements.{All-cons}
 use Rattle.std.proofs.lemmas.List.{append_assoc, length-map}
 use Rattle.std.proofs.lemmas.List.Filters.{length-filter_both}
 use Rattle.reassembly_lane.specs.Contexts.{Partial}
@@ -20,29 +20,14 @@ abbrev pub still : ℕ → Partial → Bool
 still time partial = waits time partial.begun
 
 -- ---- what a look-up finds among those that wait
-pub lookup_open : {K : Type 0} {R : K → K → Ordering} → IsTotalOrder R → (time : ℕ) (q : K) (es : List (K × Partial)) → IsStrictlySortedBy R (keys_of es) → lookup (is_at (R q)) (open_at time es) ≡ option_filter (still time) (lookup (is_at (R q)) es)
+lookup_open : {K : Type 0} {R : K → K → Ordering} → IsTotalOrder R → (time : ℕ) (q : K) (es : List (K × Partial)) → IsStrictlySortedBy R (keys_of es) → lookup (is_at (R q)) (open_at time es) ≡ option_filter (still time) (lookup (is_at (R q)) es)
 lookup_open {R = R} o time q es s = lookup-filter-values (eq_by_cmp_equiv o) (still time) q es (IsDistinct-from_sorted R (keys_of es) s)
 
-is_some_filter : (p : Partial → Bool) (x : Partial) → is_some (option_filter p (Some x)) ≡ p x
-is_some_filter p x = elim (p x) as (λ (b : Bool). is_some (cond b (Some x) None) ≡ b) [ true ↦ refl | false ↦ refl ]
+pub open_found : {K : Type 0} {R : K → K → Ordering} → IsTotalOrder R → (time : ℕ) (q : K) (es : List (K × Partial)) (x : Partial) (b : Bool) → IsStrictlySortedBy R (keys_of es) → Some x ≡ lookup (is_at (R q)) es → b ≡ waits time x.begun → lookup (is_at (R q)) (open_at time es) ≡ cond b (Some x) None
+open_found o time q es x b s e w = lookup_open o time q es s ∙ ap (option_filter (still time)) (sym e) ∙ ap (λ (t : Bool). cond t (Some x) None) (sym w)
 
-pub open_found : {K : Type 0} {R : K → K → Ordering} → IsTotalOrder R → (time : ℕ) (q : K) (es : List (K × Partial)) (x : Partial) → IsStrictlySortedBy R (keys_of es) → Some x ≡ lookup (is_at (R q)) es → waits time x.begun ≡ is_some (lookup (is_at (R q)) (open_at time es))
-open_found o time q es x s e = sym (ap is_some (lookup_open o time q es s ∙ ap (option_filter (still time)) (sym e)) ∙ is_some_filter (still time) x)
-
-pub open_missing : {K : Type 0} {R : K → K → Ordering} → IsTotalOrder R → (time : ℕ) (q : K) (es : List (K × Partial)) → IsStrictlySortedBy R (keys_of es) → None ≡ lookup (is_at (R q)) es → false ≡ is_some (lookup (is_at (R q)) (open_at time es))
-open_missing o time q es s e = sym (ap is_some (lookup_open o time q es s ∙ ap (option_filter (still time)) (sym e)))
-
--- what is found among them is found among all
-pub found_in_all : {K : Type 0} {R : K → K → Ordering} → IsTotalOrder R → (time : ℕ) (q : K) (es : List (K × Partial)) (x : Partial) → IsStrictlySortedBy R (keys_of es) → lookup (is_at (R q)) (open_at time es) ≡ Some x → lookup (is_at (R q)) es ≡ Some x
-found_in_all {R = R} o time q es x s e = by_all (lookup (is_at (R q)) es) refl (sym (lookup_open o time q es s) ∙ e)
-  where
-    by_still : (y : Partial) (b : Bool) → cond b (Some y) None ≡ Some x → Some y ≡ Some x
-    by_still y true h = h
-    by_still y false h = cc
-
-    by_all : (r : Option Partial) → lookup (is_at (R q)) es ≡ r → option_filter (still time) r ≡ Some x → lookup (is_at (R q)) es ≡ Some x
-    by_all None h k = h ∙ k
-    by_all (Some y) h k = h ∙ by_still y (still time y) k
+pub open_missing : {K : Type 0} {R : K → K → Ordering} → IsTotalOrder R → (time : ℕ) (q : K) (es : List (K × Partial)) → IsStrictlySortedBy R (keys_of es) → None ≡ lookup (is_at (R q)) es → lookup (is_at (R q)) (open_at time es) ≡ None
+open_missing o time q es s e = lookup_open o time q es s ∙ ap (option_filter (still time)) (sym e)
 
 -- ---- how many wait
 pub late_and_open : {K : Type 0} (time : ℕ) (es : List (K × Partial)) → length (open_at time es) + length (late_numbers time es) ≡ length es
@@ -70,7 +55,8 @@ reads_waits time begun partial b w e = w ∙ ap (waits time) e
 
 pub since_open_step : {K : Type 0} (time bound : ℕ) (e : K × Partial) (s t : List (K × Partial)) → s ≡ e ∷ t → true ≡ waits time e.1.begun → bound ≤ e.1.begun → Since bound (open_at time t) → Since bound (open_at time s)
 since_open_step time bound e s t h w le since =
-    subst (Since bound) (sym (ap (open_at time) h ∙ ap (λ (b : Bool). cond b (e ∷ open_at time t) (open_at time t)) (sym w))) (le, since)
+    subst (Since bound) (sym (ap (open_at time) h ∙ ap (λ (b : Bool). cond b (e ∷ open_at time t) (open_at time t)) (sym w)))
+    (All-cons (λ partial. bound ≤ partial.begun) e.1 (values_of (open_at time t)) le since)
 
 pub since_late_step : {K : Type 0} (time bound : ℕ) (e : K × Partial) (s t : List (K × Partial)) → s ≡ e ∷ t → false ≡ waits time e.1.begun → Since bound (open_at time t) → Since bound (open_at time s)
 since_late_step time bound e s t h w since =

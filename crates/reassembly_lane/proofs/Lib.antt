@@ -6,6 +6,8 @@ pub mod Wholes
 pub mod Steps
 pub mod Entries
 pub mod GoesOn
+pub mod Each
+pub mod Laws
 pub mod Begins
 pub mod Distincts
 pub mod Orders

@@ -89,9 +89,7 @@ impl<K: Ord + Copy + Drop> Lane<K> {
         ensures answer { IfOk result (λ said. answering said.answer self.new ≡ fed K.cmp self.old (arrival piece.entry)) }
         ensures err { OnErr result (self.new ≡ self.old) }
     {
-        let time = piece.time;
-        let answer = feed_among(alloc, &mut self.contexts, 0, piece)?;
-        self.oldest = self.oldest.min(time);
+        let answer = feed_among(alloc, &mut self.contexts, &mut self.oldest, 0, piece)?;
         Ok(Fed {
             ended: Numbers::of(Vec::new(alloc)),
             answer,
@@ -105,9 +103,16 @@ impl<K: Ord + Copy + Drop> Lane<K> {
     {
         let time = piece.time;
         let late = late_at(alloc, &self.contexts, time)?;
-        let answer = feed_among(alloc, &mut self.contexts, late.numbers.len(), piece)?;
+        let mut oldest = late.oldest;
+        let answer = feed_among(
+            alloc,
+            &mut self.contexts,
+            &mut oldest,
+            late.numbers.len(),
+            piece,
+        )?;
         forget(&mut self.contexts, time);
-        self.oldest = late.oldest.min(time);
+        self.oldest = oldest;
         Ok(Fed {
             ended: ascending(late.numbers),
             answer,

@@ -4,16 +4,16 @@
 #![tactic(auto)]
 
 mod answer;
+mod consequences;
 mod context;
 mod contexts;
 mod lane;
 mod late;
-mod laws;
 mod parts;
 mod piece;
 mod whole;
 
 pub use answer::{Answer, Fed, FragBad};
+pub use consequences::{datagrams_hold_their_pieces, histories_join};
 pub use lane::Lane;
-pub use laws::{datagrams_hold_their_pieces, histories_join};
 pub use piece::Piece;

@@ -1,4 +1,5 @@
-use Rattle.std.proofs.Common.{◌≡◌, true, false, sym, subst, arith}
+use Rattle.std.proofs.Common.{◌≡◌, ◌≤◌, true, false, sym, subst, arith}
+use Rattle.std.proofs.lemmas.List.Elements.{All-nil}
 use Rattle.reassembly_lane.specs.Lanes.{late_numbers, open_at, waits}
 use Rattle.reassembly_lane.specs.Since.{Since}
 use Rattle.reassembly_lane.proofs.Entries.{late_push, late_step, reads_waits, since_late_step, since_open_step}
@@ -24,4 +25,4 @@ loop-context-preserved g c =
     }
 
 pub returns-clause-oldest : goal.returns-clause-oldest
-returns-clause-oldest g c = c.loop-context.invariant.since c.loop-context.oldest (omega arith) (subst (λ s. Since c.loop-context.oldest (open_at c.args.time s)) (sym c.in-None.ensures.steps.0) tt)
+returns-clause-oldest g c = c.loop-context.invariant.since c.loop-context.oldest (omega arith) (subst (λ s. Since c.loop-context.oldest (open_at c.args.time s)) (sym c.in-None.ensures.steps.0) (All-nil (λ partial. c.loop-context.oldest ≤ partial.begun)))
