@@ -1,15 +1,15 @@
 -- What a look at a few bytes says of all of them.
-use Rattle.std.proofs.Common.{◌≡◌, ℕ, ◌%◌, ◌≤◌, Bool, true, false, not, ◌||◌, ◌==◌, List, [], length, take, drop, refl, sym, ◌∙◌, ap, arith, Result, Ok, Err, slice_index, subst, Option, None}
+use Rattle.std.proofs.Common.{◌≡◌, ℕ, ◌+◌, ◌%◌, ◌≤◌, Bool, true, false, not, ◌||◌, ◌==◌, List, [], length, take, drop, refl, sym, ◌∙◌, ap, arith, Result, Ok, Err, slice_index, subst, Option, None}
 use Rattle.std.specs.Prelude.{nat_lt}
 use Rattle.std.proofs.lemmas.Bool.{le-ltb, eqb-true, or_parts}
-use Rattle.std.proofs.lemmas.List.{length-append, take-append-drop, take_all}
+use Rattle.std.proofs.lemmas.Bool.Decides.{nat_tests}
+use Rattle.std.proofs.lemmas.List.{length-append, length-take-le, take-append-drop, take_all}
 use Rattle.capture_io.specs.Record.{nanoseconds}
 use Rattle.capture_io.specs.declared.forms.Form.{Form}
 use Rattle.capture_io.specs.declared.forms.Rec.{Rec}
 use Rattle.aftr_base.proofs.FirstLemmas.{first_true-Ok}
 use Rattle.aftr_base.specs.Numbers.{big_endian, span}
-use Rattle.ip_codec.proofs.FieldLemmas.{span-append, span-take}
-use Rattle.ip_codec.proofs.Packet4Lemmas.{ip4_of-Ok, no_bits}
+use Rattle.ip_codec.proofs.Laws.{ip4_of-Ok, span-append}
 use Rattle.ip_codec.specs.Packet4 as four
 use Rattle.ip_codec.specs.Packet6 as six
 use Rattle.ip_codec.specs.declared.items.Outer.{Outer}
@@ -17,7 +17,7 @@ use Rattle.ip_codec.specs.declared.packet4.Ip4Bad.{Ip4Bad}
 use Rattle.ip_codec.specs.declared.packet6.Ip6Bad.{Ip6Bad}
 use Rattle.ipv6_chain.specs.Chains.{chain_of, is_skipped}
 use Rattle.ipv6_chain.specs.declared.headers.Start.TheVariants as start
-use Rattle.item_stage.specs.Alone.{alone_of, item_of, Alone, Ready, Downstream, Outside, Carries, Told, Fragment, behind_headers, by_chain, from_outside, from_tunnel, in_tunnel, is_piece, item_alone, needs_lane, outer_of}
+use Rattle.item_stage.specs.Alone.{alone_of, item_of, Alone, Ready, Downstream, CutPart, Carries, Settled, Fragment, behind_headers, by_chain, from_network, from_tunnel, in_tunnel, is_piece, item_alone, needs_lane, outer_of}
 use Rattle.item_stage.specs.Looks.{is_extension, is_uncut}
 use Rattle.item_stage.specs.Marks.{entry_by, turning}
 use Rattle.item_stage.specs.Turns.{turn, turn_of, turned}
@@ -28,14 +28,19 @@ pub not-true : (test : Bool) → not test ≡ true → test ≡ false
 not-true true is = absurd cc
 not-true false is = refl
 
+-- no bit of MF and the offset
+no_bits : (word : ℕ) → word % 16384 ≡ 0 → (four.bit word 8192 || not (word % 8192 == 0)) ≡ false
+no_bits word none = grind (arith, nat_tests)
+
 -- what was read is a fragment
 abbrev is_cut : Result four.Packet4 Ip4Bad → Bool
 is_cut (Ok packet) = four.is_fragment packet
 is_cut (Err why) = false
 
-span_of_front : (count : ℕ) (bytes : List ℕ) → 8 ≤ length (take count bytes) → span (take count bytes) 6 2 ≡ span bytes 6 2
-span_of_front count bytes enough =
-    sym (span-append (take count bytes) (drop count bytes) 6 2 enough) ∙ ap (λ (l : List ℕ). span l 6 2) (take-append-drop count bytes)
+-- two bytes of a front
+pub span_of_front : (count : ℕ) (bytes : List ℕ) (at : ℕ) → at + 2 ≤ length (take count bytes) → span (take count bytes) at 2 ≡ span bytes at 2
+span_of_front count bytes at enough =
+    sym (span-append (take count bytes) (drop count bytes) at 2 enough) ∙ ap (λ (l : List ℕ). span l at 2) (take-append-drop count bytes)
 
 front_fits : (count : ℕ) (bytes : List ℕ) → length (take count bytes) ≤ length bytes
 front_fits count bytes =
@@ -53,19 +58,19 @@ front_uncut count bytes uncut = by_reading (four.ip4_of (take count bytes)) refl
         let many : nat_lt (length bytes) 20 ≡ false = le-ltb (length bytes) 20 enough in
         let none : (four.word bytes 6 % 16384 == 0) ≡ true = sym (ap (λ (few : Bool). few || (four.word bytes 6 % 16384 == 0)) many) ∙ uncut in
         let word_is : four.word (take len front) 6 ≡ four.word bytes 6 =
-        ap big_endian (span-take front len 6 2 (omega (arith, spells.least)) (omega (arith, spells.order, spells.within))
-        ∙ span_of_front count bytes (omega (arith, spells.least, spells.order, spells.within))) in
+        ap big_endian (span_of_front len front 6 (omega (arith, length-take-le len front (omega (arith, spells.order, spells.within)), spells.least))
+        ∙ span_of_front count bytes 6 (omega (arith, spells.least, spells.order, spells.within))) in
         ap four.is_fragment spells.is
         ∙ (ap (λ (w : ℕ). four.bit w 8192 || not (w % 8192 == 0)) word_is
         ∙ no_bits (four.word bytes 6) (eqb-true (four.word bytes 6 % 16384) 0 none))
     by_reading (Err why) is = refl
 
--- ---- from outside
-pub outside_uncut : (bytes : List ℕ) → is_uncut bytes ≡ true → needs_lane (from_outside (four.ip4_of bytes)) ≡ false
-outside_uncut bytes uncut =
+-- ---- from the IPv4 network
+pub network_uncut : (bytes : List ℕ) → is_uncut bytes ≡ true → needs_lane (from_network (four.ip4_of bytes)) ≡ false
+network_uncut bytes uncut =
     by_reading (four.ip4_of bytes) (ap (λ (l : List ℕ). is_cut (four.ip4_of l)) (sym (take_all (length bytes) bytes (omega arith))) ∙ front_uncut (length bytes) bytes uncut)
   where
-    by_reading : (read : Result four.Packet4 Ip4Bad) → is_cut read ≡ false → needs_lane (from_outside read) ≡ false
+    by_reading : (read : Result four.Packet4 Ip4Bad) → is_cut read ≡ false → needs_lane (from_network read) ≡ false
     by_reading (Ok packet) whole = rw (whole) refl
     by_reading (Err why) whole = refl
 
@@ -108,8 +113,8 @@ tunnel_whole bytes other uncut = by_reading (six.ip6_of bytes) refl
 pub stays : (rows : Rows) (time number : ℕ) (alone : Alone) → needs_lane alone ≡ false → turn_of rows time number alone ≡ turned rows [] (item_alone alone)
 stays rows time number (Ready ready) none = refl
 stays rows time number (Downstream key part) none = absurd cc
-stays rows time number (Outside outer key part) none = absurd cc
-stays rows time number (Carries (Told told)) none = refl
+stays rows time number (CutPart outer key part) none = absurd cc
+stays rows time number (Carries (Settled ready)) none = refl
 stays rows time number (Carries (Fragment outer key part)) none = absurd cc
 
 pub looked_at : (form : Form) (rows : Rows) (number : ℕ) (r : Rec) (slot : Option Mark) → slot ≡ None → needs_lane (alone_of form r.bytes) ≡ false →

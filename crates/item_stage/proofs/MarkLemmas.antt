@@ -8,7 +8,7 @@ use Rattle.capture_io.specs.declared.forms.Rec.{Rec}
 use Rattle.ip_codec.specs.declared.items.Item.{Item}
 use Rattle.item_stage.specs.Alone.{item_of}
 use Rattle.item_stage.specs.Items.{items_in}
-use Rattle.item_stage.specs.Marks.{entries_by, entry_by, item_became}
+use Rattle.item_stage.specs.Marks.{entries_by, entry_by, outcome_item}
 use Rattle.item_stage.specs.declared.entries.Entry.{Entry}
 use Rattle.item_stage.specs.declared.marks.Mark.{Mark}
 
@@ -83,11 +83,11 @@ module _ (form : Form) (records : List Rec) (marks : List (Option Mark)) (es : L
 
   pub ended_by_mark : (slot : Option Mark) (mark : Mark) (ended : List ℕ) → index < length es → slot ≡ get_or marks index slot → Some mark ≡ slot → ended ≡ mark.ended →
       option_map (λ (entry : Entry). entry.ended) (slice_get es index) ≡ Some ended
-  ended_by_mark slot mark ended l read is_mark told =
+  ended_by_mark slot mark ended l read is_mark what =
       let there = entry_there slot l read in
       ap (λ (o : Option Entry). option_map (λ (entry : Entry). entry.ended) o) there
       ∙ (ap (λ (m : Option Mark). Some (entry_by (item_of form (get_or records index blank).bytes) m).ended) (sym is_mark)
-      ∙ ap (λ (n : List ℕ). Some n) (sym told))
+      ∙ ap (λ (n : List ℕ). Some n) (sym what))
 
   pub none_ended : (slot : Option Mark) → index < length es → slot ≡ get_or marks index slot → None ≡ slot →
       option_map (λ (entry : Entry). entry.ended) (slice_get es index) ≡ Some []
@@ -100,16 +100,16 @@ module _ (form : Form) (records : List Rec) (marks : List (Option Mark)) (es : L
   item_there slot l read =
       slice_get-map (λ (entry : Entry). entry.item) es index ∙ ap (λ (o : Option Entry). option_map (λ (entry : Entry). entry.item) o) (entry_there slot l read)
 
-  pub item_by_mark : (slot : Option Mark) (mark : Mark) (told : Item) → index < length es → slot ≡ get_or marks index slot → Some mark ≡ slot → told ≡ item_became mark.became →
-      slice_get (items_in es) index ≡ Some told
-  item_by_mark slot mark told l read is_mark said =
+  pub item_by_mark : (slot : Option Mark) (mark : Mark) (what : Item) → index < length es → slot ≡ get_or marks index slot → Some mark ≡ slot → what ≡ outcome_item mark.outcome →
+      slice_get (items_in es) index ≡ Some what
+  item_by_mark slot mark what l read is_mark said =
       item_there slot l read
       ∙ (ap (λ (m : Option Mark). Some (entry_by (item_of form (get_or records index blank).bytes) m).item) (sym is_mark)
       ∙ ap (λ (x : Item). Some x) (sym said))
 
-  pub item_alone_there : (slot : Option Mark) (r : Rec) (told : Item) → index < length es → slot ≡ get_or marks index slot → None ≡ slot → slice_get records index ≡ Some r →
-      told ≡ item_of form r.bytes → slice_get (items_in es) index ≡ Some told
-  item_alone_there slot r told l read is_none there said =
+  pub item_alone_there : (slot : Option Mark) (r : Rec) (what : Item) → index < length es → slot ≡ get_or marks index slot → None ≡ slot → slice_get records index ≡ Some r →
+      what ≡ item_of form r.bytes → slice_get (items_in es) index ≡ Some what
+  item_alone_there slot r what l read is_none there said =
       let same : get_or records index blank ≡ r =
       some_same (get_or records index blank) r (sym (slice_get-get_or records index blank (within_records l)) ∙ there) in
       item_there slot l read

@@ -123,8 +123,8 @@ ascending_is numbers sorted moved up =
     same_order sorted (ascending numbers) (up_from sorted up) (up_ascending numbers)
     (λ x. sym (times_is x sorted) ∙ (sum_by-IsPermutation (one x) numbers sorted moved ∙ (times_is x numbers ∙ sym (times_ascending x numbers))))
 
-pub ascending_told : (numbers sorted : List ℕ) → IsAscending numbers sorted → sorted ≡ ascending numbers
-ascending_told numbers sorted h = ascending_is numbers sorted h.same h.ascending
+pub ascending_only : (numbers sorted : List ℕ) → IsAscending numbers sorted → sorted ≡ ascending numbers
+ascending_only numbers sorted h = ascending_is numbers sorted h.same h.ascending
 
 -- numbers in another order ascend alike
 pub ascending_same : (numbers others : List ℕ) → IsPermutation numbers others → ascending others ≡ ascending numbers

@@ -16,7 +16,7 @@ use Rattle.ip_codec.specs.declared.packet4.Head4.{Head4}
 use Rattle.item_stage.specs.Rejoined.{rejoined, whole_head}
 use Rattle.item_stage.specs.Turns.{all_waiting}
 use Rattle.item_stage.specs.declared.rows.Rows.{Rows}
-use Rattle.item_stage.proofs.OrderLemmas.{ascending_same, ascending_told}
+use Rattle.item_stage.proofs.OrderLemmas.{ascending_same, ascending_only}
 
 module _ {K : Type 0} where
   abbrev made : Waiting K → Answer → List ℕ → RowTurn K
@@ -26,17 +26,17 @@ module _ {K : Type 0} where
       made r a e ≡ made q b f
   same_turn r q a b e f x y z = λ i. record { row = x i; answer = y i; ended = z i }
 
-  pub row_told : (cmp : K → K → Ordering) (row seen : Waiting K) (lane : ℕ) (piece : Arrival K) (said : Fed) (old new : List (K × Partial)) → lane < length row → row ≡ seen →
+  pub row_is : (cmp : K → K → Ordering) (row seen : Waiting K) (lane : ℕ) (piece : Arrival K) (said : Fed) (old new : List (K × Partial)) → lane < length row → row ≡ seen →
       old ≡ get_or row lane old → answering said.answer new ≡ fed cmp old piece → IsAscending (late_numbers piece.time old) said.ended →
       row_turn said (slice_set row lane new) ≡ row_fed cmp seen lane piece
-  row_told cmp row seen lane piece said old new within view read answers ends =
+  row_is cmp row seen lane piece said old new within view read answers ends =
       let here : old ≡ lane_at row lane = read ∙ get_or_default row lane old [] within in
       let contexts : new ≡ (fed cmp (lane_at row lane) piece).contexts =
       ap (λ (t : LaneOutcome K). t.contexts) answers ∙ ap (λ (x : List (K × Partial)). (fed cmp x piece).contexts) here in
       let says : said.answer ≡ (fed cmp (lane_at row lane) piece).answer =
       ap (λ (t : LaneOutcome K). t.answer) answers ∙ ap (λ (x : List (K × Partial)). (fed cmp x piece).answer) here in
       let ended : said.ended ≡ ascending (late_numbers piece.time (lane_at row lane)) =
-      ascending_told (late_numbers piece.time old) said.ended ends ∙ ap (λ (x : List (K × Partial)). ascending (late_numbers piece.time x)) here in
+      ascending_only (late_numbers piece.time old) said.ended ends ∙ ap (λ (x : List (K × Partial)). ascending (late_numbers piece.time x)) here in
       same_turn (slice_set row lane new) (slice_set row lane (fed cmp (lane_at row lane) piece).contexts) said.answer (fed cmp (lane_at row lane) piece).answer said.ended
       (ascending (late_numbers piece.time (lane_at row lane))) (ap (λ (x : List (K × Partial)). slice_set row lane x) contexts) says ended
       ∙ ap (λ (x : Waiting K). row_fed cmp x lane piece) view
@@ -48,18 +48,18 @@ module _ {K : Type 0} where
   left_at (a ∷ row) (suc index) lane within read = left_at row index lane (omega (arith, within)) read
 
   -- those of one lane more
-  pub numbers_more : (row : Waiting K) (index next : ℕ) (lane : List (K × Partial)) (all out told new : List ℕ) → index < length row → lane ≡ get_or row index lane → next ≡ index + 1 →
-      IsPermutation all (out ++ numbers_in (drop index row)) → IsPermutation (first_numbers lane) told → new ≡ out ++ told → IsPermutation all (new ++ numbers_in (drop next row))
-  numbers_more row index next lane all out told new within read next_is so_far here new_is =
+  pub numbers_more : (row : Waiting K) (index next : ℕ) (lane : List (K × Partial)) (all out more new : List ℕ) → index < length row → lane ≡ get_or row index lane → next ≡ index + 1 →
+      IsPermutation all (out ++ numbers_in (drop index row)) → IsPermutation (first_numbers lane) more → new ≡ out ++ more → IsPermutation all (new ++ numbers_in (drop next row))
+  numbers_more row index next lane all out more new within read next_is so_far here new_is =
       let later : suc index ≡ next = omega (arith, next_is) in
       let opened : out ++ numbers_in (drop index row) ≡ (out ++ first_numbers lane) ++ numbers_in (drop next row) =
       ap (λ (r : Waiting K). out ++ numbers_in r) (left_at row index lane within read)
       ∙ (sym (append_assoc out (first_numbers lane) (numbers_in (drop (suc index) row)))
       ∙ ap (λ (n : ℕ). (out ++ first_numbers lane) ++ numbers_in (drop n row)) later) in
-      let moved : IsPermutation all ((out ++ told) ++ numbers_in (drop next row)) =
-      IsPermutation-trans all ((out ++ first_numbers lane) ++ numbers_in (drop next row)) ((out ++ told) ++ numbers_in (drop next row))
+      let moved : IsPermutation all ((out ++ more) ++ numbers_in (drop next row)) =
+      IsPermutation-trans all ((out ++ first_numbers lane) ++ numbers_in (drop next row)) ((out ++ more) ++ numbers_in (drop next row))
       (subst (λ (l : List ℕ). IsPermutation all l) opened so_far)
-      (IsPermutation-append_left (numbers_in (drop next row)) (out ++ first_numbers lane) (out ++ told) (IsPermutation-append_right out (first_numbers lane) told here)) in
+      (IsPermutation-append_left (numbers_in (drop next row)) (out ++ first_numbers lane) (out ++ more) (IsPermutation-append_right out (first_numbers lane) more here)) in
       subst (λ (l : List ℕ). IsPermutation all (l ++ numbers_in (drop next row))) (sym new_is) moved
 
 -- the numbers of three rows

@@ -51,14 +51,14 @@ module _ (form : Form) (number : ℕ) (failed : Bool) (rows : Rows) (records : L
 
   pub staged_entries : (view : Staged) (start : ℕ) (es : List Entry) → opened ≡ view → start ≡ view.number → Stands view taken → es ≡ entries_from form rows start records →
       entries_of view.form (taken ++ records) ≡ entries_of view.form taken ++ es
-  staged_entries view start es is first stands told =
+  staged_entries view start es is first stands has =
       subst (λ (v : Staged). Stands v taken → start ≡ v.number → entries_of v.form (taken ++ records) ≡ entries_of v.form taken ++ es) is by_opened stands first
     where
       by_opened : Stands opened taken → start ≡ number → entries_of form (taken ++ records) ≡ entries_of form taken ++ es
       by_opened s f =
           entries_go_on form rows number taken records s.rows s.number
           ∙ (ap (λ (n : ℕ). entries_of form taken ++ entries_from form rows n records) (sym f)
-          ∙ ap (λ (l : List Entry). entries_of form taken ++ l) (sym told))
+          ∙ ap (λ (l : List Entry). entries_of form taken ++ l) (sym has))
 
   pub staged_stands : (view : Staged) (start behind : ℕ) (after : Rows) → opened ≡ view → start ≡ view.number → Stands view taken → behind ≡ start + length records →
       after ≡ rows_after form rows start records → Stands (record { form = form; number = behind; failed = failed; rows = after }) (taken ++ records)

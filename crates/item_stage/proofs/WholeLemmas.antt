@@ -1,8 +1,11 @@
 -- Records that carry a packet that is no fragment.
-use Rattle.std.proofs.Common.{◌≡◌, ◌==◌, ℕ, Bool, true, false, not, List, length, refl, sym, ◌∙◌, ap, Option, Some, None, is_some, drop, if◌then◌else◌, Result, Ok, Err, is_ok, slice_get}
+use Rattle.std.proofs.Common.{◌≡◌, ◌==◌, ℕ, ◌*◌, ◌/◌, ◌%◌, arith, slice_index, take, Bool, true, false, not, List, length, refl, sym, ◌∙◌, ap, Option, Some, None, is_some, drop, if◌then◌else◌, Result, Ok, Err, is_ok, slice_get}
 use Rattle.std.specs.Prelude.{option_and_then}
 use Rattle.std.proofs.lemmas.Bool.{and_parts, eqb-true}
-use Rattle.ip_codec.proofs.Packet4Lemmas.{ip4_of-alone}
+use Rattle.std.proofs.lemmas.List.{get_or-take, length-take-le}
+use Rattle.aftr_base.specs.Numbers.{big_endian}
+use Rattle.aftr_base.specs.Sums.{checksum}
+use Rattle.ip_codec.proofs.Laws.{ip4_of-joined, ip4_of-Ok, ip4_of-shaped}
 use Rattle.ip_codec.specs.Packet4 as four
 use Rattle.ip_codec.specs.Packet6 as six
 use Rattle.ip_codec.specs.declared.items.Item.{Item}
@@ -14,37 +17,37 @@ use Rattle.ipv6_chain.specs.Chains.{chain_of}
 use Rattle.ipv6_chain.specs.declared.headers.Chain.{Chain}
 use Rattle.ipv6_chain.specs.declared.headers.ChainBad.{ChainBad}
 use Rattle.ipv6_chain.specs.declared.headers.Start.TheVariants as start
-use Rattle.item_stage.specs.Alone.{at_end, behind_fragment, behind_headers, by_chain, by_inner_chain, from_outside, from_tunnel, in_tunnel, item_alone, outer_of, told_item}
-use Rattle.item_stage.specs.Alone.Inside.{Told}
+use Rattle.item_stage.specs.Alone.{at_end, behind_fragment, behind_headers, by_chain, by_inner_chain, from_network, from_tunnel, in_tunnel, item_alone, outer_of, item_inside}
+use Rattle.item_stage.specs.Alone.Inside.{Settled}
 use Rattle.item_stage.specs.Items.{items_in}
 use Rattle.item_stage.specs.Looks.{carries_plain, is_extension}
 use Rattle.item_stage.specs.declared.entries.Entry.{Entry}
 use Rattle.item_stage.specs.Packets.{if_packet, packet_at, packet_in}
-use Rattle.item_stage.proofs.LookLemmas.{ends_at_once, not-true}
+use Rattle.item_stage.proofs.LookLemmas.{ends_at_once, not-true, span_of_front}
 
 uncut : (packet : four.Packet4) (read : Result four.Packet4 Ip4Bad) → read ≡ Ok packet → four.is_plain read ≡ true → four.is_fragment packet ≡ false
 uncut packet read is plain =
     not-true (four.is_fragment packet) (and_parts (not (four.is_fragment packet)) (length packet.header == 20) (sym (ap four.is_plain is) ∙ plain)).0
 
 -- ---- its item
-pub outside_plain : (packet : four.Packet4) (read : Result four.Packet4 Ip4Bad) → read ≡ Ok packet → four.is_plain read ≡ true →
-    item_alone (from_outside read) ≡ item.Down (four.whole4 packet)
-outside_plain packet read is plain =
-    ap (λ (r : Result four.Packet4 Ip4Bad). item_alone (from_outside r)) is ∙ rw (uncut packet read is plain) refl
+pub network_plain : (packet : four.Packet4) (read : Result four.Packet4 Ip4Bad) → read ≡ Ok packet → four.is_plain read ≡ true →
+    item_alone (from_network read) ≡ item.Down (four.whole4 packet)
+network_plain packet read is plain =
+    ap (λ (r : Result four.Packet4 Ip4Bad). item_alone (from_network r)) is ∙ rw (uncut packet read is plain) refl
 
 carried_plain : (outer : Outer) (bytes : List ℕ) (packet : four.Packet4) (read : Result four.Packet4 Ip4Bad) → read ≡ Ok packet → four.is_plain read ≡ true →
-    told_item (in_tunnel outer bytes read) ≡ item.Up outer (four.whole4 packet)
+    item_inside (in_tunnel outer bytes read) ≡ item.Up outer (four.whole4 packet)
 carried_plain outer bytes packet read is plain =
-    ap (λ (r : Result four.Packet4 Ip4Bad). told_item (in_tunnel outer bytes r)) is ∙ rw (uncut packet read is plain) refl
+    ap (λ (r : Result four.Packet4 Ip4Bad). item_inside (in_tunnel outer bytes r)) is ∙ rw (uncut packet read is plain) refl
 
 -- an IPv4 packet at once behind the fixed header
 at_once : (outer : Outer) (next : ℕ) (body : List ℕ) → next ≡ 4 →
-    item_alone (by_chain outer body (chain_of next body start.Packet)) ≡ told_item (in_tunnel outer body (four.ip4_of body))
+    item_alone (by_chain outer body (chain_of next body start.Packet)) ≡ item_inside (in_tunnel outer body (four.ip4_of body))
 at_once outer next body is =
-    ap item_alone (ends_at_once outer next body (ap is_extension is)) ∙ ap (λ (n : ℕ). told_item (behind_headers outer n body)) is
+    ap item_alone (ends_at_once outer next body (ap is_extension is)) ∙ ap (λ (n : ℕ). item_inside (behind_headers outer n body)) is
 
 pub tunnel_at_once : (outer : six.Packet6) (read : Result six.Packet6 Ip6Bad) → read ≡ Ok outer → outer.next ≡ 4 →
-    item_alone (from_tunnel read) ≡ told_item (in_tunnel (outer_of outer) outer.body (four.ip4_of outer.body))
+    item_alone (from_tunnel read) ≡ item_inside (in_tunnel (outer_of outer) outer.body (four.ip4_of outer.body))
 tunnel_at_once outer read is next =
     ap (λ (r : Result six.Packet6 Ip6Bad). item_alone (from_tunnel r)) is ∙ at_once (outer_of outer) outer.next outer.body next
 
@@ -64,15 +67,35 @@ tunnel_plain_item outer packet read is carries inner =
     tunnel_at_once outer read is parts.0 ∙ carried_plain (outer_of outer) outer.body packet (four.ip4_of outer.body) inner parts.1
 
 -- ---- an item that is known to have a packet
-own : (bytes : List ℕ) (packet : four.Packet4) → four.ip4_of bytes ≡ Ok packet → if_packet (four.ip4_of (four.whole4 packet)) ≡ Some packet
-own bytes packet is = ap if_packet (ip4_of-alone bytes packet is)
 
-pub outside_known : (bytes : List ℕ) → is_some (packet_in (item_alone (from_outside (four.ip4_of bytes)))) ≡ true →
-    packet_in (item_alone (from_outside (four.ip4_of bytes))) ≡ if_packet (four.ip4_of bytes)
-outside_known bytes known = by_reading (four.ip4_of bytes) refl known
+-- a packet that was read is the same by its header and payload alone
+alone : (bytes : List ℕ) (packet : four.Packet4) → four.ip4_of bytes ≡ Ok packet → four.ip4_of (four.whole4 packet) ≡ Ok packet
+alone bytes packet is =
+    let spelt = ip4_of-Ok bytes packet is in
+    let shaped = ip4_of-shaped bytes packet is in
+    let len = four.header_len_of bytes in
+    let header_is : packet.header ≡ take len bytes = ap (λ (p : four.Packet4). p.header) spelt.is in
+    let size : length (take len bytes) ≡ len = length-take-le len bytes (omega (arith, spelt.order, spelt.within)) in
+    let first : slice_index packet.header 0 ≡ slice_index bytes 0 =
+    ap (λ (l : List ℕ). slice_index l 0) header_is
+    ∙ get_or-take len bytes 0 0 (omega (arith, spelt.least)) in
+    let total : four.total_len_of packet.header ≡ four.total_len_of bytes =
+    ap (λ (l : List ℕ). four.total_len_of l) header_is ∙ ap big_endian (span_of_front len bytes 2 (omega (arith, size, spelt.least))) in
+    let fields : four.fields4 packet.header packet.payload ≡ packet =
+    (λ i. four.fields4 (spelt.is i).header (spelt.is i).payload) ∙ sym spelt.is in
+    ip4_of-joined packet.header packet.payload shaped.least_header (ap (λ (n : ℕ). n / 16) first ∙ spelt.version)
+    (ap (λ (n : ℕ). 4 * (n % 16)) first ∙ sym shaped.header_len) (total ∙ sym shaped.total_len) (ap checksum header_is ∙ spelt.sum)
+    ∙ ap Ok fields
+
+own : (bytes : List ℕ) (packet : four.Packet4) → four.ip4_of bytes ≡ Ok packet → if_packet (four.ip4_of (four.whole4 packet)) ≡ Some packet
+own bytes packet is = ap if_packet (alone bytes packet is)
+
+pub network_known : (bytes : List ℕ) → is_some (packet_in (item_alone (from_network (four.ip4_of bytes)))) ≡ true →
+    packet_in (item_alone (from_network (four.ip4_of bytes))) ≡ if_packet (four.ip4_of bytes)
+network_known bytes known = by_reading (four.ip4_of bytes) refl known
   where
     found : Result four.Packet4 Ip4Bad → Option four.Packet4
-    found read = packet_in (item_alone (from_outside read))
+    found read = packet_in (item_alone (from_network read))
 
     by_fragment : (packet : four.Packet4) → four.ip4_of bytes ≡ Ok packet → (cut : Bool) → four.is_fragment packet ≡ cut → is_some (found (Ok packet)) ≡ true →
         found (Ok packet) ≡ Some packet
@@ -83,12 +106,12 @@ outside_known bytes known = by_reading (four.ip4_of bytes) refl known
     by_reading (Ok packet) is some = by_fragment packet is (four.is_fragment packet) refl some
     by_reading (Err why) is some = absurd (cc some)
 
-pub tunnel_known : (outer : Outer) (bytes : List ℕ) → is_some (packet_in (told_item (in_tunnel outer bytes (four.ip4_of bytes)))) ≡ true →
-    packet_in (told_item (in_tunnel outer bytes (four.ip4_of bytes))) ≡ if_packet (four.ip4_of bytes)
+pub tunnel_known : (outer : Outer) (bytes : List ℕ) → is_some (packet_in (item_inside (in_tunnel outer bytes (four.ip4_of bytes)))) ≡ true →
+    packet_in (item_inside (in_tunnel outer bytes (four.ip4_of bytes))) ≡ if_packet (four.ip4_of bytes)
 tunnel_known outer bytes known = by_reading (four.ip4_of bytes) refl known
   where
     found : Result four.Packet4 Ip4Bad → Option four.Packet4
-    found read = packet_in (told_item (in_tunnel outer bytes read))
+    found read = packet_in (item_inside (in_tunnel outer bytes read))
 
     by_fragment : (packet : four.Packet4) → four.ip4_of bytes ≡ Ok packet → (cut : Bool) → four.is_fragment packet ≡ cut → is_some (found (Ok packet)) ≡ true →
         found (Ok packet) ≡ Some packet
@@ -101,13 +124,13 @@ tunnel_known outer bytes known = by_reading (four.ip4_of bytes) refl known
         let none : is_some (found (Err why)) ≡ false = ap (λ (r : Result four.Packet4 Ip4Bad). is_some (if_packet r)) is in absurd (cc (none, some))
 
 -- what stands behind the last header
-headers_known : (outer : Outer) (next : ℕ) (bytes : List ℕ) → is_some (packet_in (told_item (behind_headers outer next bytes))) ≡ true →
-    packet_in (told_item (behind_headers outer next bytes)) ≡ if_packet (four.ip4_of bytes)
+headers_known : (outer : Outer) (next : ℕ) (bytes : List ℕ) → is_some (packet_in (item_inside (behind_headers outer next bytes))) ≡ true →
+    packet_in (item_inside (behind_headers outer next bytes)) ≡ if_packet (four.ip4_of bytes)
 headers_known outer next bytes known = by_number (next == 4) (next == 58) known
   where
     found : Bool → Bool → Option four.Packet4
     found four_in_six icmp =
-        packet_in (told_item (if four_in_six then in_tunnel outer bytes (four.ip4_of bytes) else if icmp then Told (item.Six58 outer.src outer.dst bytes) else Told (item.Six outer.dst)))
+        packet_in (item_inside (if four_in_six then in_tunnel outer bytes (four.ip4_of bytes) else if icmp then Settled (item.Six58 outer.src outer.dst bytes) else Settled (item.Six outer.dst)))
 
     by_number : (four_in_six icmp : Bool) → is_some (found four_in_six icmp) ≡ true → found four_in_six icmp ≡ if_packet (four.ip4_of bytes)
     by_number true icmp some = tunnel_known outer bytes some
@@ -116,9 +139,9 @@ headers_known outer next bytes known = by_number (next == 4) (next == 58) known
 
 -- what a Fragment header carried, whole
 pub fragment_known : (outer : Outer) (next : ℕ) (body bytes : List ℕ) (end : Chain) → chain_of next body start.AfterFragment ≡ Ok end → bytes ≡ drop end.at body →
-    is_some (packet_in (told_item (behind_fragment outer next body))) ≡ true → packet_in (told_item (behind_fragment outer next body)) ≡ if_packet (four.ip4_of bytes)
+    is_some (packet_in (item_inside (behind_fragment outer next body))) ≡ true → packet_in (item_inside (behind_fragment outer next body)) ≡ if_packet (four.ip4_of bytes)
 fragment_known outer next body bytes end walked is known =
-    let found : Result Chain ChainBad → Option four.Packet4 = λ chain. packet_in (told_item (by_inner_chain outer body chain)) in
+    let found : Result Chain ChainBad → Option four.Packet4 = λ chain. packet_in (item_inside (by_inner_chain outer body chain)) in
     ap found walked
     ∙ headers_known outer end.next (drop end.at body) (sym (ap (λ (chain : Result Chain ChainBad). is_some (found chain)) walked) ∙ known)
     ∙ ap (λ (l : List ℕ). if_packet (four.ip4_of l)) (sym is)

@@ -11,7 +11,7 @@ use Rattle.item_stage.specs.declared.keys.InnerKey.{InnerKey}
 use Rattle.item_stage.specs.declared.keys.OuterKey.{OuterKey}
 use Rattle.reassembly_lane.specs.declared.parts.Part.{Part}
 
--- a datagram from outside, by its addresses, protocol and identification (RFC 791, section 3.2)
+-- a datagram from the IPv4 network, by its addresses, protocol and identification (RFC 791, section 3.2)
 abbrev pub down_key : four.Packet4 → DownKey
 down_key packet = record { src = record { 0 = packet.src }; dst = record { 0 = packet.dst }; protocol = packet.protocol; id = packet.id }
 

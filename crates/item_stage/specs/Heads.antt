@@ -1,5 +1,7 @@
 -- What is true of all that waits in lanes of IPv4 fragments.
-use Rattle.std.specs.Prelude.{◌≡◌, ℕ, ◌+◌, ◌%◌, ◌<◌, ◌≤◌, List, [], ◌∷◌, length}
+use Rattle.std.specs.Prelude.{◌≡◌, ℕ, ◌+◌, ◌%◌, ◌<◌, ◌≤◌, List, length}
+use Rattle.std.specs.List.{All}
+use Rattle.std.specs.Map.{values_of}
 use Rattle.reassembly_lane.specs.Contexts.{Partial}
 use Rattle.reassembly_lane.specs.declared.answer.Answer.{Answer}
 use Rattle.reassembly_lane.specs.declared.answer.Answer.TheVariants as answer
@@ -22,17 +24,15 @@ pub record IsKept (part : Part) : Type 0 where
   pub filled : 0 < length part.body
   pub headed : HasHeader part
 
-abbrev pub EachPart : List Part → Type 0
-EachPart [] = Unit {0}
-EachPart (part ∷ parts) = IsKept part × EachPart parts
+-- each part of what is kept of a datagram
+abbrev pub PartsKept : Partial → Type 0
+PartsKept partial = All IsKept partial.parts
 
 abbrev pub EachContext : {K : Type 0} → List (K × Partial) → Type 0
-EachContext [] = Unit {0}
-EachContext (e ∷ es) = EachPart e.1.parts × EachContext es
+EachContext es = All PartsKept (values_of es)
 
 abbrev pub EachLane : {K : Type 0} → List (List (K × Partial)) → Type 0
-EachLane [] = Unit {0}
-EachLane (lane ∷ lanes) = EachContext lane × EachLane lanes
+EachLane lanes = All EachContext lanes
 
 -- the rows of IPv4 fragments
 pub record HaveHeaders (rows : Rows) : Type 0 where

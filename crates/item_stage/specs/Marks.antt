@@ -4,23 +4,23 @@ use Rattle.capture_io.specs.declared.forms.Form.{Form}
 use Rattle.capture_io.specs.declared.forms.Rec.{Rec}
 use Rattle.ip_codec.specs.declared.items.Item.{Item}
 use Rattle.ip_codec.specs.declared.items.Item.TheVariants as item
-use Rattle.item_stage.specs.Alone.{behind_fragment, item_of, told_item}
+use Rattle.item_stage.specs.Alone.{behind_fragment, item_of, item_inside}
 use Rattle.item_stage.specs.Turns.{Turn, turn}
 use Rattle.item_stage.specs.declared.entries.Entry.{Entry}
-use Rattle.item_stage.specs.declared.marks.Became.{Became}
-use Rattle.item_stage.specs.declared.marks.Became.TheVariants as became
+use Rattle.item_stage.specs.declared.marks.Outcome.{Outcome}
+use Rattle.item_stage.specs.declared.marks.Outcome.TheVariants as outcome
 use Rattle.item_stage.specs.declared.marks.Mark.{Mark}
 use Rattle.item_stage.specs.declared.rows.Rows.{Rows}
 
-abbrev pub item_became : Became → Item
-item_became became.Held = item.Held
-item_became (became.Bad why) = item.Bad why
-item_became (became.Down datagram) = item.Down datagram.bytes
-item_became (became.Up outer datagram) = item.Up outer datagram.bytes
-item_became (became.Carries outer next body) = told_item (behind_fragment outer next body)
+abbrev pub outcome_item : Outcome → Item
+outcome_item outcome.Held = item.Held
+outcome_item (outcome.Bad why) = item.Bad why
+outcome_item (outcome.Down datagram) = item.Down datagram.bytes
+outcome_item (outcome.Up outer datagram) = item.Up outer datagram.bytes
+outcome_item (outcome.Carries outer next body) = item_inside (behind_fragment outer next body)
 
 abbrev pub marked : Mark → Entry
-marked mark = record { ended = mark.ended; item = item_became mark.became }
+marked mark = record { ended = mark.ended; item = outcome_item mark.outcome }
 
 -- a record with no mark is what it is by itself
 abbrev pub entry_by : Item → Option Mark → Entry

@@ -14,7 +14,7 @@ use Rattle.reassembly_lane.specs.declared.answer.Answer.TheVariants as answer
 use Rattle.reassembly_lane.specs.declared.answer.FragBad.{FragBad}
 use Rattle.reassembly_lane.specs.declared.answer.FragBad.TheVariants as bad
 use Rattle.reassembly_lane.specs.declared.parts.Part.{Part}
-use Rattle.item_stage.specs.Alone.{Alone, Inside, Told, Fragment, Ready, Downstream, Outside, Carries, alone_of, behind_fragment}
+use Rattle.item_stage.specs.Alone.{Alone, Inside, Settled, Fragment, Ready, Downstream, CutPart, Carries, alone_of, behind_fragment}
 use Rattle.item_stage.specs.Fragments.{by_down_key, by_inner_key, by_outer_key, lane_of}
 use Rattle.item_stage.specs.Ordered.{ascending}
 use Rattle.item_stage.specs.Rejoined.{rejoined}
@@ -37,7 +37,7 @@ rule_of bad.Overlap = rule.FragOverlap
 rule_of bad.Many = rule.FragMany
 rule_of bad.Full = rule.FragFull
 
--- what becomes of a fragment from outside, by its lane's answer
+-- what becomes of a fragment from the IPv4 network, by its lane's answer
 abbrev pub down_item : Answer → Item
 down_item answer.Held = item.Held
 down_item (answer.Whole head body) = item.Down (rejoined head body)
@@ -55,7 +55,7 @@ pub record Turn : Type 0 where
   pub entry : Entry
 
 abbrev pub turned : Rows → List ℕ → Item → Turn
-turned rows ended told = record { rows = rows; entry = record { ended = ended; item = told } }
+turned rows ended what = record { rows = rows; entry = record { ended = ended; item = what } }
 
 abbrev pub arriving : {K : Type 0} → K → ℕ → ℕ → Part → Arrival K
 arriving key time number part = record { key = key; time = time; number = number; part = part }
@@ -76,12 +76,12 @@ with_inner rows row = record rows { inner = row }
 abbrev pub down_turn : Rows → RowTurn DownKey → Turn
 down_turn rows turn = turned (record rows { down = turn.row }) turn.ended (down_item turn.answer)
 
--- what ended with a tunnel packet's fragment is told with what ends with the fragment that the packet carries
+-- what ended with a tunnel packet's fragment stands with what ends with the fragment that the packet carries
 abbrev pub inner_turn : Rows → List ℕ → Outer → RowTurn InnerKey → Turn
 inner_turn rows ended outer turn = turned (with_inner rows turn.row) (ascending (ended ++ turn.ended)) (up_item outer turn.answer)
 
 abbrev pub inside_turn : Rows → ℕ → ℕ → List ℕ → Inside → Turn
-inside_turn rows time number ended (Told told) = turned rows ended told
+inside_turn rows time number ended (Settled ready) = turned rows ended ready
 inside_turn rows time number ended (Fragment outer key part) =
     inner_turn rows ended outer (inner_fed rows.inner time number key part)
 
@@ -95,16 +95,16 @@ outer_turn rows time number ended outer answer.Held = turned rows ended item.Hel
 outer_turn rows time number ended outer (answer.Whole head body) = inside_turn rows time number ended (behind_fragment outer (first_next head) body)
 outer_turn rows time number ended outer (answer.Refused why) = turned rows ended (item.Bad (rule_of why))
 
-abbrev pub outside_turn : Rows → ℕ → ℕ → Outer → RowTurn OuterKey → Turn
-outside_turn rows time number outer turn = outer_turn (record rows { outer = turn.row }) time number turn.ended outer turn.answer
+abbrev pub cut_turn : Rows → ℕ → ℕ → Outer → RowTurn OuterKey → Turn
+cut_turn rows time number outer turn = outer_turn (record rows { outer = turn.row }) time number turn.ended outer turn.answer
 
 -- what a record of this time and number does, by what it is by itself
 abbrev pub turn_of : Rows → ℕ → ℕ → Alone → Turn
 turn_of rows time number (Ready ready) = turned rows [] ready
 turn_of rows time number (Downstream key part) =
     down_turn rows (down_fed rows.down time number key part)
-turn_of rows time number (Outside outer key part) =
-    outside_turn rows time number outer (outer_fed rows.outer time number key part)
+turn_of rows time number (CutPart outer key part) =
+    cut_turn rows time number outer (outer_fed rows.outer time number key part)
 turn_of rows time number (Carries inside) = inside_turn rows time number [] inside
 
 abbrev pub turn : Form → Rows → ℕ → Rec → Turn

@@ -3,7 +3,7 @@ ghost use Rattle.std.specs.Prelude.{◌≡◌};
 ghost use Rattle.capture_io.specs.Frames.{said};
 ghost use Rattle.ip_codec.specs.Packet4.{ip4_of, packet4};
 ghost use Rattle.ip_codec.specs.Packet6.{ip6_of, packet6};
-ghost use Rattle.item_stage.specs.Alone.{alone_of, at_end, behind_fragment, behind_headers, by_chain, from_outside, from_tunnel, in_frame, in_tunnel, outer_of, refused_outside};
+ghost use Rattle.item_stage.specs.Alone.{alone_of, at_end, behind_fragment, behind_headers, by_chain, from_network, from_tunnel, in_frame, in_tunnel, outer_of, refused_from_network};
 ghost use Rattle.item_stage.specs.Shown.{shown, shown_inside};
 ghost use Rattle.ipv6_chain.specs.Chains.{chain_of};
 ghost use Rattle.ipv6_chain.specs.declared.headers.Start.TheVariants.{Packet};
@@ -22,7 +22,7 @@ const ICMPV6: u8 = 58;
 #[derive(Clone, Copy)]
 pub(crate) enum Inside<'a> {
     /// An item of its own.
-    Told(ItemView<'a>),
+    Settled(ItemView<'a>),
     /// A fragment of an IPv4 datagram, in the tunnel with these outer fields.
     Fragment {
         outer: Outer,
@@ -48,10 +48,10 @@ pub(crate) struct Cut<'a> {
 pub(crate) enum Alone<'a> {
     /// An item of its own.
     Ready(ItemView<'a>),
-    /// A fragment of an IPv4 datagram from outside.
+    /// A fragment of an IPv4 datagram from the IPv4 network.
     Downstream(ReadPacket<'a>),
     /// A fragment of a tunnel packet.
-    Outside(Cut<'a>),
+    Cut(Cut<'a>),
     /// What an IPv6 packet carries.
     Carries(Inside<'a>),
 }
@@ -67,16 +67,16 @@ fn read_frame<'a>(frame: Frame<'a>) -> Alone<'a>
     ensures { shown result ≡ in_frame (said frame.entry) }
 {
     match frame {
-        Frame::V4(packet) => read_outside(packet),
+        Frame::V4(packet) => read_network(packet),
         Frame::V6(packet) => read_tunnel(packet),
         Frame::Short => Alone::Ready(ItemView::Bad(Rule::FrameShort)),
         Frame::Kind => Alone::Ready(ItemView::Bad(Rule::FrameType)),
     }
 }
 
-/// An IPv4 packet from outside.
-pub(crate) fn read_outside(bytes: &[u8]) -> Alone<'_>
-    ensures { shown result ≡ from_outside (ip4_of bytes.now) }
+/// An IPv4 packet from the IPv4 network.
+pub(crate) fn read_network(bytes: &[u8]) -> Alone<'_>
+    ensures { shown result ≡ from_network (ip4_of bytes.now) }
 {
     match read_packet(bytes) {
         Ok(packet) => {
@@ -90,7 +90,7 @@ pub(crate) fn read_outside(bytes: &[u8]) -> Alone<'_>
 }
 
 fn rule_of_refusal(why: Ip4Bad) -> Rule
-    ensures { refused_outside why ≡ result }
+    ensures { refused_from_network why ≡ result }
 {
     match why {
         Ip4Bad::Checksum => Rule::Ip4Checksum,
@@ -137,7 +137,7 @@ fn read_end(outer: Outer, chain: Chain, bytes: &[u8]) -> Alone<'_>
     match chain.fragment {
         Some(fragment) => {
             if fragment.offset != 0 || fragment.more {
-                return Alone::Outside(Cut {
+                return Alone::Cut(Cut {
                     outer,
                     id: fragment.id,
                     offset: fragment.offset,
@@ -158,7 +158,7 @@ pub(crate) fn behind_fragment(outer: Outer, next: u8, body: &[u8]) -> Inside<'_>
 {
     match walk(next, body, Start::AfterFragment) {
         Ok(chain) => behind_headers(outer, chain.next, &body[chain.at..]),
-        Err(_) => Inside::Told(ItemView::Bad(Rule::Ip6Chain)),
+        Err(_) => Inside::Settled(ItemView::Bad(Rule::Ip6Chain)),
     }
 }
 
@@ -168,12 +168,12 @@ fn behind_headers(outer: Outer, next: u8, bytes: &[u8]) -> Inside<'_>
 {
     match next {
         IPV4_IN_IPV6 => in_tunnel(outer, bytes),
-        ICMPV6 => Inside::Told(ItemView::Six58 {
+        ICMPV6 => Inside::Settled(ItemView::Six58 {
             src: outer.src,
             dst: outer.dst,
             message: bytes,
         }),
-        _ => Inside::Told(ItemView::Six { dst: outer.dst }),
+        _ => Inside::Settled(ItemView::Six { dst: outer.dst }),
     }
 }
 
@@ -186,11 +186,11 @@ fn in_tunnel(outer: Outer, bytes: &[u8]) -> Inside<'_>
             if packet.view.is_fragment() {
                 return Inside::Fragment { outer, packet };
             }
-            Inside::Told(ItemView::Up {
+            Inside::Settled(ItemView::Up {
                 outer,
                 inner: packet,
             })
         }
-        Err(inner) => Inside::Told(ItemView::UpUnread { outer, inner }),
+        Err(inner) => Inside::Settled(ItemView::UpUnread { outer, inner }),
     }
 }

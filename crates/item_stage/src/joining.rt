@@ -4,12 +4,10 @@ ghost use Rattle.ip_codec.specs.Packet4.{fields4};
 ghost use Rattle.item_stage.specs.Heads.{IsHeader};
 ghost use Rattle.item_stage.specs.Rejoined.{IsPacket, rejoined, whole_head};
 
+use crate::looking::HEADER4;
 use aftr_base::{Bytes, OutOfMemory, V4, be16, be32};
 use ip_codec::{Head4, put4};
 use std::alloc::Global;
-
-/// How many bytes of a header stand before its options (RFC 791, section 3.1).
-const FIXED_HEADER: usize = 20;
 
 /// An IPv4 packet in memory of its own.
 #[derive(Debug, Drop)]
@@ -34,7 +32,7 @@ fn options_of(head: &[u8]) -> &[u8]
     requires { 20 ≤ length head.now }
     ensures { result.now ≡ drop 20 head.now }
 {
-    &head[FIXED_HEADER..]
+    &head[HEADER4..]
 }
 
 // The fields of a header whose datagram is whole.

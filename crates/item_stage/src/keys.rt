@@ -29,7 +29,7 @@ pub(crate) struct InnerKey {
     pub(crate) id: u16,
 }
 
-/// A datagram from outside: its addresses, protocol and identification (RFC 791, section 3.2).
+/// A datagram from the IPv4 network: its addresses, protocol and identification (RFC 791, section 3.2).
 #[derive(Clone, Copy, Debug, PartialEq, Eq, PartialOrd, Ord)]
 pub(crate) struct DownKey {
     pub(crate) src: V4,

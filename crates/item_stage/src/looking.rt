@@ -2,7 +2,7 @@
 ghost use Rattle.std.specs.Prelude.{◌≡◌, true, false};
 ghost use Rattle.ip_codec.specs.Packet4.{ip4_of};
 ghost use Rattle.ip_codec.specs.Packet6.{ip6_of};
-ghost use Rattle.item_stage.specs.Alone.{alone_of, from_outside, from_tunnel, needs_lane};
+ghost use Rattle.item_stage.specs.Alone.{alone_of, from_network, from_tunnel, needs_lane};
 ghost use Rattle.item_stage.specs.Looks.{is_extension, is_uncut};
 
 use crate::alone::IPV4_IN_IPV6;
@@ -10,7 +10,7 @@ use aftr_base::be16;
 use capture_io::{Form, Frame, frame_of};
 
 /// How many bytes a header has at least: IPv4's without options (RFC 791, section 3.1), and IPv6's (RFC 8200, section 3).
-const HEADER4: usize = 20;
+pub(crate) const HEADER4: usize = 20;
 
 const HEADER6: usize = 40;
 
@@ -28,9 +28,9 @@ pub(crate) fn needs_no_lane(form: Form, bytes: &[u8]) -> bool
     }
 }
 
-// An IPv4 packet from outside that is no fragment.
+// An IPv4 packet from the IPv4 network that is no fragment.
 fn is_whole(packet: &[u8]) -> bool
-    ensures { result ≡ true → needs_lane (from_outside (ip4_of packet.now)) ≡ false }
+    ensures { result ≡ true → needs_lane (from_network (ip4_of packet.now)) ≡ false }
 {
     is_uncut(packet)
 }

@@ -2,8 +2,8 @@
 ghost use Rattle.std.specs.Prelude.{◌≡◌, None, true};
 ghost use Rattle.ip_codec.specs.Seen.{seen};
 ghost use Rattle.ip_codec.specs.declared.items.Item.TheVariants as item;
-ghost use Rattle.item_stage.specs.Alone.{told_item};
-ghost use Rattle.item_stage.specs.Marks.{entry_by, item_became, marked};
+ghost use Rattle.item_stage.specs.Alone.{item_inside};
+ghost use Rattle.item_stage.specs.Marks.{entry_by, outcome_item, marked};
 ghost use Rattle.item_stage.specs.Shown.{shown_inside};
 
 use crate::alone::{Inside, behind_fragment};
@@ -15,12 +15,12 @@ use std::marker::Model;
 
 /// What became of such a record.
 #[derive(Debug, Drop)]
-pub(crate) enum Became {
+pub(crate) enum Outcome {
     /// Its fragment waits.
     Held,
     /// Its fragment was refused.
     Bad(Rule),
-    /// A datagram from outside is whole with it.
+    /// A datagram from the IPv4 network is whole with it.
     Down(Datagram),
     /// A datagram in the tunnel is whole with it.
     Up { outer: Outer, packet: Datagram },
@@ -34,7 +34,7 @@ pub(crate) enum Became {
 pub(crate) struct Mark {
     /// The first record's number of each datagram whose time was up with it, ascending.
     pub(crate) ended: Numbers,
-    pub(crate) became: Became,
+    pub(crate) outcome: Outcome,
 }
 
 impl Mark {
@@ -42,21 +42,21 @@ impl Mark {
     #[cold]
     #[inline(never)]
     pub(crate) fn item_into<'a>(&'a self, item: &mut ItemView<'a>)
-        ensures { seen item.new ≡ item_became self.now.became }
+        ensures { seen item.new ≡ outcome_item self.now.outcome }
     {
-        *item = self.became.item();
+        *item = self.outcome.item();
     }
 
     /// Whether its fragment waits, and nothing ended with it.
     pub(crate) fn only_waits(&self) -> bool
         ensures { result ≡ true → marked self.now ≡ entry_by item.Held None }
     {
-        match &self.became {
-            Became::Held => self.ended.as_slice().is_empty(),
-            Became::Bad(_) => false,
-            Became::Down(_) => false,
-            Became::Up { .. } => false,
-            Became::Carries { .. } => false,
+        match &self.outcome {
+            Outcome::Held => self.ended.as_slice().is_empty(),
+            Outcome::Bad(_) => false,
+            Outcome::Down(_) => false,
+            Outcome::Up { .. } => false,
+            Outcome::Carries { .. } => false,
         }
     }
 }
@@ -106,18 +106,18 @@ impl Slot {
     }
 }
 
-impl Became {
+impl Outcome {
     /// The item.
     pub(crate) fn item(&self) -> ItemView<'_>
-        ensures { seen result ≡ item_became self.now }
+        ensures { seen result ≡ outcome_item self.now }
     {
         match self {
-            Became::Held => ItemView::Held,
-            Became::Bad(why) => ItemView::Bad(*why),
-            Became::Down(datagram) => down_view(datagram),
-            Became::Up { outer, packet } => up_view(*outer, packet),
-            Became::Carries { outer, next, body } => {
-                told_view(behind_fragment(*outer, *next, body.as_slice()))
+            Outcome::Held => ItemView::Held,
+            Outcome::Bad(why) => ItemView::Bad(*why),
+            Outcome::Down(datagram) => down_view(datagram),
+            Outcome::Up { outer, packet } => up_view(*outer, packet),
+            Outcome::Carries { outer, next, body } => {
+                view_inside(behind_fragment(*outer, *next, body.as_slice()))
             }
         }
     }
@@ -142,11 +142,11 @@ fn up_view(outer: Outer, datagram: &Datagram) -> ItemView<'_>
 }
 
 /// The item of what an IPv6 packet carries, where each fragment waits.
-pub(crate) fn told_view<'a>(inside: Inside<'a>) -> ItemView<'a>
-    ensures { seen result ≡ told_item (shown_inside inside.entry) }
+pub(crate) fn view_inside<'a>(inside: Inside<'a>) -> ItemView<'a>
+    ensures { seen result ≡ item_inside (shown_inside inside.entry) }
 {
     match inside {
-        Inside::Told(item) => item,
+        Inside::Settled(item) => item,
         Inside::Fragment { .. } => ItemView::Held,
     }
 }

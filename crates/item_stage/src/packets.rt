@@ -4,18 +4,18 @@ ghost use Rattle.capture_io.specs.Frames.{said};
 ghost use Rattle.ip_codec.specs.Packet4.{ip4_of};
 ghost use Rattle.ip_codec.specs.Packet6.{ip6_of};
 ghost use Rattle.ip_codec.specs.declared.items.Outer.{Outer as OuterFields};
-ghost use Rattle.item_stage.specs.Alone.{at_end, behind_fragment, from_outside, from_tunnel, in_frame, item_alone, item_of, told_item};
-ghost use Rattle.item_stage.specs.Marks.{item_became};
+ghost use Rattle.item_stage.specs.Alone.{at_end, behind_fragment, from_network, from_tunnel, in_frame, item_alone, item_of, item_inside};
+ghost use Rattle.item_stage.specs.Marks.{outcome_item};
 ghost use Rattle.item_stage.specs.Packets.{if_packet, packet_in};
 
 use crate::alone::IPV4_IN_IPV6;
-use crate::marks::{Became, Mark};
+use crate::marks::{Mark, Outcome};
 use capture_io::{Form, Frame, frame_of};
 use ip_codec::known_ip6;
 use ipv6_chain::{Chain, Start, walk};
 
 /// The bytes that the IPv4 packet of a record's item is read from, where the item is known to have one: whether they read is not
-/// tested again. They are found without a call where the packet stands at once behind the fixed header of its tunnel, or came from outside.
+/// tested again. They are found without a call where the packet stands at once behind the fixed header of its tunnel, or came from the IPv4 network.
 #[inline(always)]
 pub(crate) fn bytes_known(form: Form, bytes: &[u8]) -> &[u8]
     requires { is_some (packet_in (item_of form bytes.now)) ≡ true }
@@ -30,18 +30,18 @@ fn bytes_in_frame<'a>(frame: Frame<'a>) -> &'a [u8]
     ensures { packet_in (item_alone (in_frame (said frame.entry))) ≡ if_packet (ip4_of result.now) }
 {
     match frame {
-        Frame::V4(packet) => bytes_outside(packet),
+        Frame::V4(packet) => bytes_from_network(packet),
         Frame::V6(packet) => bytes_in_tunnel(packet),
         Frame::Short => unreachable!(),
         Frame::Kind => unreachable!(),
     }
 }
 
-// Those of a packet from outside.
+// Those of a packet from the IPv4 network.
 #[inline(always)]
-fn bytes_outside(bytes: &[u8]) -> &[u8]
-    requires { is_some (packet_in (item_alone (from_outside (ip4_of bytes.now)))) ≡ true }
-    ensures { packet_in (item_alone (from_outside (ip4_of bytes.now))) ≡ if_packet (ip4_of result.now) }
+fn bytes_from_network(bytes: &[u8]) -> &[u8]
+    requires { is_some (packet_in (item_alone (from_network (ip4_of bytes.now)))) ≡ true }
+    ensures { packet_in (item_alone (from_network (ip4_of bytes.now))) ≡ if_packet (ip4_of result.now) }
 {
     bytes
 }
@@ -86,8 +86,8 @@ fn bytes_at_end(chain: Chain, bytes: &[u8]) -> &[u8]
 
 // What stands behind all headers that a Fragment header carried, whole.
 fn bytes_behind_fragment(next: u8, body: &[u8]) -> &[u8]
-    ensures { (outer : OuterFields) → is_some (packet_in (told_item (behind_fragment outer next body.now))) ≡ true →
-        packet_in (told_item (behind_fragment outer next body.now)) ≡ if_packet (ip4_of result.now) }
+    ensures { (outer : OuterFields) → is_some (packet_in (item_inside (behind_fragment outer next body.now))) ≡ true →
+        packet_in (item_inside (behind_fragment outer next body.now)) ≡ if_packet (ip4_of result.now) }
 {
     match walk(next, body, Start::AfterFragment) {
         Ok(chain) => &body[chain.at..],
@@ -99,14 +99,14 @@ fn bytes_behind_fragment(next: u8, body: &[u8]) -> &[u8]
 #[cold]
 #[inline(never)]
 pub(crate) fn bytes_marked(mark: &Mark) -> &[u8]
-    requires { is_some (packet_in (item_became mark.now.became)) ≡ true }
-    ensures { packet_in (item_became mark.now.became) ≡ if_packet (ip4_of result.now) }
+    requires { is_some (packet_in (outcome_item mark.now.outcome)) ≡ true }
+    ensures { packet_in (outcome_item mark.now.outcome) ≡ if_packet (ip4_of result.now) }
 {
-    match &mark.became {
-        Became::Down(datagram) => datagram.bytes.as_slice(),
-        Became::Up { packet, .. } => packet.bytes.as_slice(),
-        Became::Carries { next, body, .. } => bytes_behind_fragment(*next, body.as_slice()),
-        Became::Held => unreachable!(),
-        Became::Bad(_) => unreachable!(),
+    match &mark.outcome {
+        Outcome::Down(datagram) => datagram.bytes.as_slice(),
+        Outcome::Up { packet, .. } => packet.bytes.as_slice(),
+        Outcome::Carries { next, body, .. } => bytes_behind_fragment(*next, body.as_slice()),
+        Outcome::Held => unreachable!(),
+        Outcome::Bad(_) => unreachable!(),
     }
 }

@@ -3,12 +3,12 @@ ghost use Rattle.std.specs.Prelude.{◌≡◌, true};
 ghost use Rattle.ip_codec.specs.Packet4.{ip4_of, is_plain};
 ghost use Rattle.ip_codec.specs.Packet6.{ip6_of};
 ghost use Rattle.ip_codec.specs.Seen.{seen};
-ghost use Rattle.item_stage.specs.Alone.{from_outside, from_tunnel, item_alone, item_of};
+ghost use Rattle.item_stage.specs.Alone.{from_network, from_tunnel, item_alone, item_of};
 ghost use Rattle.item_stage.specs.Looks.{carries_plain};
 ghost use Rattle.item_stage.specs.Shown.{shown};
 
 use crate::alone::{Alone, IPV4_IN_IPV6, outer_fields, read_alone};
-use crate::marks::told_view;
+use crate::marks::view_inside;
 use capture_io::{Form, Frame, frame_of};
 use ip_codec::{ItemView, is_ip6, is_plain4, known_ip6, plain_packet};
 
@@ -31,7 +31,7 @@ pub(crate) fn read_item_into<'a>(form: Form, bytes: &'a [u8], item: &mut ItemVie
 {
     match frame_of(form.link, bytes) {
         Frame::V6(packet) if carries_plain(packet) => plain_in_tunnel(packet, item),
-        Frame::V4(packet) if is_plain4(packet) => plain_outside(packet, item),
+        Frame::V4(packet) if is_plain4(packet) => plain_from_network(packet, item),
         _ => other_item(form, bytes, item),
     }
 }
@@ -52,16 +52,16 @@ pub(crate) fn alone_view<'a>(alone: Alone<'a>) -> ItemView<'a>
     match alone {
         Alone::Ready(item) => item,
         Alone::Downstream(_) => ItemView::Held,
-        Alone::Outside(_) => ItemView::Held,
-        Alone::Carries(inside) => told_view(inside),
+        Alone::Cut(_) => ItemView::Held,
+        Alone::Carries(inside) => view_inside(inside),
     }
 }
 
-// An IPv4 packet from outside: no fragment, and without options.
+// An IPv4 packet from the IPv4 network: no fragment, and without options.
 #[inline(always)]
-fn plain_outside<'a>(bytes: &'a [u8], item: &mut ItemView<'a>)
+fn plain_from_network<'a>(bytes: &'a [u8], item: &mut ItemView<'a>)
     requires { is_plain (ip4_of bytes.now) ≡ true }
-    ensures { seen item.new ≡ item_alone (from_outside (ip4_of bytes.now)) }
+    ensures { seen item.new ≡ item_alone (from_network (ip4_of bytes.now)) }
 {
     *item = ItemView::Down {
         packet: plain_packet(bytes),

@@ -15,7 +15,7 @@ pub(crate) struct Rows {
     pub(crate) outer: Row<OuterKey>,
     /// For fragments of IPv4 datagrams in the tunnel.
     pub(crate) inner: Row<InnerKey>,
-    /// For fragments of IPv4 datagrams from outside.
+    /// For fragments of IPv4 datagrams from the IPv4 network.
     pub(crate) down: Row<DownKey>,
 }
 

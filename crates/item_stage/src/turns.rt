@@ -2,13 +2,13 @@
 ghost use Rattle.std.specs.Prelude.{◌≡◌, ◌<◌, [], ◌++◌, IfOk};
 ghost use Rattle.ip_codec.specs.Packet4.{packet4};
 ghost use Rattle.ip_codec.specs.declared.items.Item.TheVariants as item;
-ghost use Rattle.item_stage.specs.Alone.{behind_fragment, item_alone, told_item};
+ghost use Rattle.item_stage.specs.Alone.{behind_fragment, item_alone, item_inside};
 ghost use Rattle.item_stage.specs.Fragments.{down_key, inner_key, lane_count, outer_key, part_of4, part_of6};
 ghost use Rattle.item_stage.specs.Heads.{CanBeJoined, EachLane, HaveHeaders};
-ghost use Rattle.item_stage.specs.Marks.{entry_by, item_became, marked, turning};
+ghost use Rattle.item_stage.specs.Marks.{entry_by, outcome_item, marked, turning};
 ghost use Rattle.item_stage.specs.Ordered.{ascending};
 ghost use Rattle.item_stage.specs.Shown.{shown, shown_inside};
-ghost use Rattle.item_stage.specs.Turns.{arriving, down_fed, down_item, inner_fed, inside_turn, outer_fed, outer_turn, outside_turn, rule_of, turn_of, up_item, with_inner};
+ghost use Rattle.item_stage.specs.Turns.{arriving, down_fed, down_item, inner_fed, inside_turn, outer_fed, outer_turn, cut_turn, rule_of, turn_of, up_item, with_inner};
 ghost use Rattle.item_stage.specs.Waiting.{row_fed, row_turn};
 ghost use Rattle.item_stage.specs.declared.rows.Rows.{Rows as AllRows};
 ghost use Rattle.reassembly_lane.specs.Lanes.{arrival};
@@ -16,7 +16,7 @@ ghost use Rattle.reassembly_lane.specs.Lanes.{arrival};
 use crate::alone::{Alone, Cut, Inside, behind_fragment};
 use crate::joining::rejoin;
 use crate::keys::{DownKey, InnerKey, OuterKey, lane_of};
-use crate::marks::{Became, Mark};
+use crate::marks::{Mark, Outcome};
 use crate::row::{Row, merged};
 use crate::rows::Rows;
 use aftr_base::{Bytes, Numbers, OutOfMemory};
@@ -33,7 +33,7 @@ pub(crate) struct Moment {
     pub(crate) number: u32,
 }
 
-/// Gives what a record is by itself to the lanes. What comes of it is told where a lane took a fragment.
+/// Gives what a record is by itself to the lanes. A mark says what comes of it where a lane took a fragment.
 pub(crate) fn take(
     alloc: Global,
     rows: &mut Rows,
@@ -47,12 +47,12 @@ pub(crate) fn take(
     match alone {
         Alone::Ready(_) => Ok(None),
         Alone::Downstream(packet) => Ok(noted(take_down(alloc, &mut rows.down, at, packet)?)),
-        Alone::Outside(cut) => Ok(noted(take_outside(alloc, rows, at, cut)?)),
+        Alone::Cut(cut) => Ok(noted(take_cut(alloc, rows, at, cut)?)),
         Alone::Carries(inside) => take_carried(alloc, &mut rows.inner, at, inside),
     }
 }
 
-// A mark, unless its fragment waits and nothing ended with it: a fragment alone is told so without one.
+// A mark, unless its fragment waits and nothing ended with it: a fragment alone says so without one.
 fn noted(mark: Mark) -> Option<Mark>
     ensures { entry_by item.Held result ≡ marked mark }
 {
@@ -62,7 +62,7 @@ fn noted(mark: Mark) -> Option<Mark>
     Some(mark)
 }
 
-// A fragment from outside.
+// A fragment from the IPv4 network.
 fn take_down(
     alloc: Global,
     row: &mut Row<DownKey>,
@@ -73,26 +73,26 @@ fn take_down(
     ensures headers { IfOk result (λ _. EachLane row.new) }
     ensures row { IfOk result (λ _. row.new ≡ (down_fed row.old at.time at.number (down_key (packet4 packet.now.view)) (part_of4 (packet4 packet.now.view))).row) }
     ensures ended { IfOk result (λ mark. mark.ended ≡ (down_fed row.old at.time at.number (down_key (packet4 packet.now.view)) (part_of4 (packet4 packet.now.view))).ended) }
-    ensures became { IfOk result (λ mark. item_became mark.became ≡ down_item (down_fed row.old at.time at.number (down_key (packet4 packet.now.view)) (part_of4 (packet4 packet.now.view))).answer) }
+    ensures outcome { IfOk result (λ mark. outcome_item mark.outcome ≡ down_item (down_fed row.old at.time at.number (down_key (packet4 packet.now.view)) (part_of4 (packet4 packet.now.view))).answer) }
 {
     let key = DownKey::of(&packet.view);
     let said = feed4(alloc, row, lane_of(u32::from(key.id)), key, at, packet)?;
     Ok(Mark {
         ended: said.ended,
-        became: down_became(alloc, said.answer)?,
+        outcome: down_outcome(alloc, said.answer)?,
     })
 }
 
-fn down_became(alloc: Global, answer: Answer) -> Result<Became, OutOfMemory>
+fn down_outcome(alloc: Global, answer: Answer) -> Result<Outcome, OutOfMemory>
     requires { CanBeJoined answer }
-    ensures item { IfOk result (λ became. item_became became ≡ down_item answer) }
+    ensures item { IfOk result (λ outcome. outcome_item outcome ≡ down_item answer) }
 {
     match answer {
-        Answer::Held => Ok(Became::Held),
+        Answer::Held => Ok(Outcome::Held),
         Answer::Whole { head, body } => {
-            Ok(Became::Down(rejoin(alloc, head.as_slice(), body.as_slice())?))
+            Ok(Outcome::Down(rejoin(alloc, head.as_slice(), body.as_slice())?))
         }
-        Answer::Refused(why) => Ok(Became::Bad(rule_of(why))),
+        Answer::Refused(why) => Ok(Outcome::Bad(rule_of(why))),
     }
 }
 
@@ -105,10 +105,10 @@ fn take_carried(
 ) -> Result<Option<Mark>, OutOfMemory>
     requires { EachLane row.old }
     ensures headers { IfOk result (λ _. EachLane row.new) }
-    ensures turn { IfOk result (λ mark. (rows : AllRows) → rows.inner ≡ row.old → turning (with_inner rows row.new) (entry_by (told_item (shown_inside inside.now)) mark) ≡ inside_turn rows at.time at.number [] (shown_inside inside.now)) }
+    ensures turn { IfOk result (λ mark. (rows : AllRows) → rows.inner ≡ row.old → turning (with_inner rows row.new) (entry_by (item_inside (shown_inside inside.now)) mark) ≡ inside_turn rows at.time at.number [] (shown_inside inside.now)) }
 {
     match inside {
-        Inside::Told(_) => Ok(None),
+        Inside::Settled(_) => Ok(None),
         Inside::Fragment { outer, packet } => {
             let none = Numbers::of(Vec::new(alloc));
             Ok(noted(take_inside(alloc, row, at, none, *outer, packet)?))
@@ -129,40 +129,35 @@ fn take_inside(
     ensures headers { IfOk result (λ _. EachLane row.new) }
     ensures row { IfOk result (λ _. row.new ≡ (inner_fed row.old at.time at.number (inner_key outer (packet4 packet.now.view)) (part_of4 (packet4 packet.now.view))).row) }
     ensures ended { IfOk result (λ mark. mark.ended ≡ ascending (ended ++ (inner_fed row.old at.time at.number (inner_key outer (packet4 packet.now.view)) (part_of4 (packet4 packet.now.view))).ended)) }
-    ensures became { IfOk result (λ mark. item_became mark.became ≡ up_item outer (inner_fed row.old at.time at.number (inner_key outer (packet4 packet.now.view)) (part_of4 (packet4 packet.now.view))).answer) }
+    ensures outcome { IfOk result (λ mark. outcome_item mark.outcome ≡ up_item outer (inner_fed row.old at.time at.number (inner_key outer (packet4 packet.now.view)) (part_of4 (packet4 packet.now.view))).answer) }
 {
     let key = InnerKey::of(&outer, &packet.view);
     let said = feed4(alloc, row, lane_of(u32::from(key.id)), key, at, packet)?;
     Ok(Mark {
         ended: merged(ended, &said.ended)?,
-        became: up_became(alloc, outer, said.answer)?,
+        outcome: up_outcome(alloc, outer, said.answer)?,
     })
 }
 
-fn up_became(alloc: Global, outer: Outer, answer: Answer) -> Result<Became, OutOfMemory>
+fn up_outcome(alloc: Global, outer: Outer, answer: Answer) -> Result<Outcome, OutOfMemory>
     requires { CanBeJoined answer }
-    ensures item { IfOk result (λ became. item_became became ≡ up_item outer answer) }
+    ensures item { IfOk result (λ outcome. outcome_item outcome ≡ up_item outer answer) }
 {
     match answer {
-        Answer::Held => Ok(Became::Held),
-        Answer::Whole { head, body } => Ok(Became::Up {
+        Answer::Held => Ok(Outcome::Held),
+        Answer::Whole { head, body } => Ok(Outcome::Up {
             outer,
             packet: rejoin(alloc, head.as_slice(), body.as_slice())?,
         }),
-        Answer::Refused(why) => Ok(Became::Bad(rule_of(why))),
+        Answer::Refused(why) => Ok(Outcome::Bad(rule_of(why))),
     }
 }
 
 // A fragment of a tunnel packet.
-fn take_outside(
-    alloc: Global,
-    rows: &mut Rows,
-    at: Moment,
-    cut: &Cut<'_>,
-) -> Result<Mark, OutOfMemory>
+fn take_cut(alloc: Global, rows: &mut Rows, at: Moment, cut: &Cut<'_>) -> Result<Mark, OutOfMemory>
     requires { HaveHeaders rows.old }
     ensures headers { IfOk result (λ _. HaveHeaders rows.new) }
-    ensures turn { IfOk result (λ mark. turning rows.new (marked mark) ≡ outside_turn rows.old at.time at.number cut.now.outer (outer_fed rows.old.outer at.time at.number (outer_key cut.now.outer cut.now.id) (part_of6 cut.now.offset cut.now.more cut.now.next cut.now.body.now))) }
+    ensures turn { IfOk result (λ mark. turning rows.new (marked mark) ≡ cut_turn rows.old at.time at.number cut.now.outer (outer_fed rows.old.outer at.time at.number (outer_key cut.now.outer cut.now.id) (part_of6 cut.now.offset cut.now.more cut.now.next cut.now.body.now))) }
 {
     let head = [cut.next];
     let piece = Piece {
@@ -195,11 +190,11 @@ fn go_on(
     match answer {
         Answer::Held => Ok(Mark {
             ended,
-            became: Became::Held,
+            outcome: Outcome::Held,
         }),
         Answer::Refused(why) => Ok(Mark {
             ended,
-            became: Became::Bad(rule_of(why)),
+            outcome: Outcome::Bad(rule_of(why)),
         }),
         Answer::Whole { head, body } => {
             let next = head.as_slice().first().copied().unwrap_or(0);
@@ -226,11 +221,11 @@ fn take_whole(
         Inside::Fragment { outer, packet } => {
             return take_inside(alloc, row, at, ended, outer, &packet);
         }
-        Inside::Told(_) => {}
+        Inside::Settled(_) => {}
     }
     Ok(Mark {
         ended,
-        became: Became::Carries { outer, next, body },
+        outcome: Outcome::Carries { outer, next, body },
     })
 }
 

@@ -1,4 +1,4 @@
-// Fragments of tunnel packets, of datagrams in the tunnel, and of datagrams from outside.
+// Fragments of tunnel packets, of datagrams in the tunnel, and of datagrams from the IPv4 network.
 use crate::lines::goes;
 use std::test::Fail;
 
@@ -28,7 +28,7 @@ const LATE: &str = "\
     61.000001 6000000000202c40 S A 040000080000000140111490cb007101c633640704d00035000c000074657374 = held / 0
     unfinished 1";
 
-const FROM_OUTSIDE: &str = "\
+const FROM_THE_NETWORK: &str = "\
     1 45000018000900014011148fc6336407cb00710174657374000000000000 = held
     1 4500001c000920004011f48bc6336407cb007101003504d0000c0000706164646564 = down 450000200009000040111488c6336407cb007101003504d0000c000074657374
     1 46100020000a20003d116272c6336407cb00710194040000003504d0000c0000 = held
@@ -108,8 +108,8 @@ fn a_piece_after_more_than_sixty_seconds(rt: HostRuntime) -> Result<(), Fail> {
 }
 
 #[test]
-fn fragments_from_outside_with_padding_and_options(rt: HostRuntime) -> Result<(), Fail> {
-    assert!(rt; goes(&rt, PLAIN, FROM_OUTSIDE)?);
+fn fragments_from_the_network_with_padding_and_options(rt: HostRuntime) -> Result<(), Fail> {
+    assert!(rt; goes(&rt, PLAIN, FROM_THE_NETWORK)?);
     Ok(())
 }
 

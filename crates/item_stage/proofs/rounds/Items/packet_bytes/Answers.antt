@@ -2,7 +2,7 @@ use Rattle.std.proofs.Common.{◌∙◌, ap, arith, refl, sym}
 use Rattle.std.specs.Option.{option_map}
 use Rattle.capture_io.specs.Records as records
 use Rattle.item_stage.specs.Alone.{item_of}
-use Rattle.item_stage.specs.Marks.{item_became}
+use Rattle.item_stage.specs.Marks.{outcome_item}
 use Rattle.item_stage.proofs.MarkLemmas.{item_alone_there, item_by_mark, within_marks, within_records}
 use Rattle.item_stage.proofs.WholeLemmas.{known_by, packet_by}
 use Rattle.item_stage.proofs.rounds.Items.packet_bytes.Goals as goal
@@ -20,18 +20,18 @@ get-requires-in-None c =
 pub bytes_marked-requires : goal.bytes_marked-requires
 bytes_marked-requires c =
     let inside = c.self.inside in
-    let told = item_became c.in-Some.mark.now.became in
-    known_by c.args.self.now c.args.index told
-    (item_by_mark inside.form inside.records.now inside.marks.items c.args.self.now c.self.view_is c.self.invariant c.args.index c.index.result.now c.in-Some.mark.now told
+    let known = outcome_item c.in-Some.mark.now.outcome in
+    known_by c.args.self.now c.args.index known
+    (item_by_mark inside.form inside.records.now inside.marks.items c.args.self.now c.self.view_is c.self.invariant c.args.index c.index.result.now c.in-Some.mark.now known
     c.requires.inside c.index.ensures (sym (ap (λ o. option_map (λ mark. mark.now) o) c.in-Some.is) ∙ c.get.ensures) refl)
     c.requires.known
 
 pub returns-in-Some : goal.returns-in-Some
 returns-in-Some c =
     let inside = c.self.inside in
-    let told = item_became c.in-Some.mark.now.became in
-    packet_by c.args.self.now c.args.index told
-    (item_by_mark inside.form inside.records.now inside.marks.items c.args.self.now c.self.view_is c.self.invariant c.args.index c.index.result.now c.in-Some.mark.now told
+    let known = outcome_item c.in-Some.mark.now.outcome in
+    packet_by c.args.self.now c.args.index known
+    (item_by_mark inside.form inside.records.now inside.marks.items c.args.self.now c.self.view_is c.self.invariant c.args.index c.index.result.now c.in-Some.mark.now known
     c.requires.inside c.index.ensures (sym (ap (λ o. option_map (λ mark. mark.now) o) c.in-Some.is) ∙ c.get.ensures) refl)
     ∙ c.bytes_marked.ensures
 
