@@ -18,6 +18,5 @@ mod stage;
 mod turns;
 
 pub use entries::Entry;
-pub use reading::read_item;
 pub use rounds::{Items, RoundItems};
 pub use stage::Stage;

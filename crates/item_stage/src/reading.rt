@@ -12,17 +12,8 @@ use crate::marks::view_inside;
 use capture_io::{Form, Frame, frame_of};
 use ip_codec::{ItemView, is_ip6, is_plain4, known_ip6, plain_packet};
 
-/// The item of a record's bytes where no other record came, in a capture of this form: a fragment is `Held`. What it
-/// carries is read once, and stands where it was.
-pub fn read_item(form: Form, bytes: &[u8]) -> ItemView<'_>
-    ensures { seen result ≡ item_of form bytes.now }
-{
-    let mut item = ItemView::Held;
-    read_item_into(form, bytes, &mut item);
-    item
-}
-
-/// The same, written where the caller keeps it.
+/// The item of a record's bytes where no other record came, in a capture of this form, written where the caller keeps it: a
+/// fragment is `Held`. What it carries is read once, and stands where it was.
 //
 // Most records are one of two kinds, which a few tests tell. Their fields are then read where the item is made: what is handed
 // on as a value is copied word by word, and its place is cleared first.

@@ -142,7 +142,7 @@ const BEHIND_OPTIONS: &[u8; 48] =
 #[test]
 fn extension_headers_are_left_out_of_a_quote(rt: HostRuntime) -> Result<(), Fail> {
     let alloc = rt.alloc();
-    let told = policy_about(alloc, &joined(alloc, BEHIND_OPTIONS, UP)?)?;
+    let told = policy_about(&rt, alloc, &joined(alloc, BEHIND_OPTIONS, UP)?)?;
     assert!(rt; is_just(&told, &[POLICY, OTHER_TUNNEL, UP]), "120 bytes");
     Ok(())
 }

@@ -5,16 +5,18 @@ ghost use Rattle.ip_codec.specs.Packet4.{is_fragment, packet4, packet_len};
 ghost use Rattle.ip_codec.specs.Seen.{seen};
 ghost use Rattle.verdict_core.specs.Fitting.{Fits, HasRoom};
 
+use crate::stages::{PLAIN, form, records_of};
 use aftr_base::{OutOfMemory, V4, V6};
-use capture_io::{Form, Written};
+use capture_io::Written;
 use case_data::{AFTR, SUBSCRIBER};
 use icmp_codec::icmp6;
 use icmp_relay::read_quote;
 use ip_codec::{ItemView, Outer, ReadPacket, Rule, read_packet};
-use item_stage::read_item;
+use item_stage::{RoundItems, Stage};
 use packet_render::push_packets;
 use std::alloc::Global;
 use std::test::Fail;
+use std::thread::Threads;
 use verdict_core::{Path, Reply, Verdict};
 
 // The form and the time of every record in these tests.
@@ -227,14 +229,19 @@ pub fn policy(alloc: Global, bytes: &[u8], end: V6) -> Result<Recorded, Fail> {
     policy_on(alloc, outer(end), inner)
 }
 
-// The same of a tunnel packet, as it is read from a record without a frame.
-pub fn policy_about(alloc: Global, bytes: &[u8]) -> Result<Recorded, Fail> {
-    let form = Form {
-        big: false,
-        nano: false,
-        link: 101,
-    };
-    match read_item(form, bytes) {
+// The same of a tunnel packet, as a stage takes it from a record without a frame.
+pub fn policy_about<R: Threads + Sync>(
+    rt: &R,
+    alloc: Global,
+    bytes: &[u8],
+) -> Result<Recorded, Fail> {
+    let mut stage = Stage::new(alloc, form(PLAIN))?;
+    let records = records_of(alloc, &[bytes])?;
+    let items = stage.items(rt, alloc, &records, 0)?;
+    if items.len() != 1 {
+        return Err("one record".into());
+    }
+    match items.item(0) {
         ItemView::Up { outer, inner } => policy_on(alloc, outer, inner),
         _ => Err("a packet in a tunnel".into()),
     }

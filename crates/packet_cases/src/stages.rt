@@ -5,9 +5,10 @@ use aftr_base::OutOfMemory;
 use capture_io::{Form, Place, Records};
 use case_data::{AFTR, SUBSCRIBER, UP, UP_TUNNEL};
 use ip_codec::{Ip4Bad, ItemView, Outer, Rule};
-use item_stage::{RoundItems, Stage, read_item};
+use item_stage::{RoundItems, Stage};
 use std::alloc::Global;
 use std::test::Fail;
+use std::thread::Threads;
 
 // An Ethernet header with one VLAN tag, for IPv6.
 const TAGGED: &[u8; 18] = b"\x02\0\0\0\0\x02\x02\0\0\0\0\x01\x81\0\0\x07\x86\xdd";
@@ -22,9 +23,9 @@ const ICMP: &[u8; 20] = b"\x45\0\0\x20\0\x01\0\0\x40\x01\x14\xa0\xcb\0\x71\x01\x
 
 const ETHERNET: u32 = 1;
 
-const PLAIN: u32 = 101;
+pub const PLAIN: u32 = 101;
 
-fn form(link: u32) -> Form {
+pub fn form(link: u32) -> Form {
     Form {
         big: false,
         nano: false,
@@ -81,21 +82,91 @@ fn is_bad(item: &ItemView<'_>, rule: Rule) -> bool {
     }
 }
 
+fn waits(item: &ItemView<'_>) -> bool {
+    match item {
+        ItemView::Held => true,
+        _ => false,
+    }
+}
+
+// What one record becomes.
+#[derive(Clone, Copy)]
+enum Wanted<'a> {
+    Up(&'a [u8]),
+    Unread(&'a [u8], Ip4Bad),
+    Bad(Rule),
+    Held,
+}
+
+fn is_wanted(item: &ItemView<'_>, wanted: Wanted<'_>) -> bool {
+    match wanted {
+        Wanted::Up(bytes) => goes_up(item, bytes),
+        Wanted::Unread(bytes, why) => goes_up_unread(item, bytes, why),
+        Wanted::Bad(rule) => is_bad(item, rule),
+        Wanted::Held => waits(item),
+    }
+}
+
+// Records that stand one behind the other in a buffer.
+pub fn records_of(alloc: Global, packets: &[&[u8]]) -> Result<Records, OutOfMemory>
+    ensures { IfOk result (λ records. length records ≡ length packets.now) }
+{
+    let mut buffer = Vec::new(alloc);
+    let mut places = Vec::new(alloc);
+    'packets: for packet in packets {
+        let place = Place {
+            seconds: 1,
+            fraction: 0,
+            from: buffer.len(),
+            count: packet.len(),
+            next_at: 24,
+        };
+        buffer.extend_from_slice(packet)?;
+        places.push(place)?;
+    }
+    Ok(Records::of(buffer, places))
+}
+
+// Whether a stage to which nothing else came makes just this of a record with these bytes.
+fn becomes<R: Threads + Sync>(
+    rt: &R,
+    alloc: Global,
+    link: u32,
+    bytes: &[u8],
+    wanted: Wanted<'_>,
+) -> Result<bool, OutOfMemory> {
+    let mut stage = Stage::new(alloc, form(link))?;
+    let records = records_of(alloc, &[bytes])?;
+    let items = stage.items(rt, alloc, &records, 0)?;
+    Ok(items.len() == 1 && is_wanted(&items.item(0), wanted))
+}
+
 #[test]
 fn packets_in_the_tunnel_go_up(rt: HostRuntime) -> Result<(), Fail> {
     let alloc = rt.alloc();
     let framed = joined(alloc, &[TAGGED, UP_TUNNEL, UP, b"padded"])?;
-    let in_frame = read_item(form(ETHERNET), &framed);
-    assert!(rt; goes_up(&in_frame, UP), "padding behind the frame's packet");
+    assert!(rt;
+        becomes(&rt, alloc, ETHERNET, &framed, Wanted::Up(UP))?,
+        "padding behind the frame's packet"
+    );
     let text = b"no packet of 32 bytes, but bytes";
     let other = joined(alloc, &[UP_TUNNEL, text])?;
-    let unread = read_item(form(PLAIN), &other);
-    assert!(rt; goes_up_unread(&unread, text, Ip4Bad::Version));
+    assert!(rt;
+        becomes(
+            &rt,
+            alloc,
+            PLAIN,
+            &other,
+            Wanted::Unread(text, Ip4Bad::Version)
+        )?
+    );
     let mut longer = *UP_TUNNEL;
     longer[5] = 0x24;
     let padded = joined(alloc, &[&longer, UP, b"more"])?;
-    let cut = read_item(form(PLAIN), &padded);
-    assert!(rt; goes_up(&cut, UP), "padding behind the inner packet");
+    assert!(rt;
+        becomes(&rt, alloc, PLAIN, &padded, Wanted::Up(UP))?,
+        "padding behind the inner packet"
+    );
     Ok(())
 }
 
@@ -114,16 +185,9 @@ fn other_records_are_bad(rt: HostRuntime) -> Result<(), Fail> {
     ];
     for (link, pieces, rule) in cases {
         let bytes = joined(rt.alloc(), &pieces)?;
-        assert!(rt; is_bad(&read_item(form(link), &bytes), rule));
+        assert!(rt; becomes(&rt, rt.alloc(), link, &bytes, Wanted::Bad(rule))?);
     }
     Ok(())
-}
-
-fn waits(item: &ItemView<'_>) -> bool {
-    match item {
-        ItemView::Held => true,
-        _ => false,
-    }
 }
 
 #[test]
@@ -131,33 +195,16 @@ fn fragments_wait_and_messages_do_not(rt: HostRuntime) -> Result<(), Fail> {
     let alloc = rt.alloc();
     let behind = b"\x04\xd0\0\x35\0\x0c\0\0test";
     let first = joined(alloc, &[UP_TUNNEL, FIRST_FRAGMENT, behind])?;
-    assert!(rt; waits(&read_item(form(PLAIN), &first)));
+    assert!(rt;
+        becomes(&rt, alloc, PLAIN, &first, Wanted::Bad(Rule::FragOdd))?,
+        "12 bytes before others"
+    );
     let later = joined(alloc, &[UP_TUNNEL, LATER_FRAGMENT, behind])?;
-    assert!(rt; waits(&read_item(form(PLAIN), &later)));
+    assert!(rt; becomes(&rt, alloc, PLAIN, &later, Wanted::Held)?);
     let message = joined(alloc, &[ICMP, behind])?;
     let bytes = joined(alloc, &[UP_TUNNEL, &message])?;
-    assert!(rt; goes_up(&read_item(form(PLAIN), &bytes), &message));
+    assert!(rt; becomes(&rt, alloc, PLAIN, &bytes, Wanted::Up(&message))?);
     Ok(())
-}
-
-// Records that stand one behind the other in a buffer.
-fn records_of(alloc: Global, packets: &[&[u8]]) -> Result<Records, OutOfMemory>
-    ensures { IfOk result (λ records. length records ≡ length packets.now) }
-{
-    let mut buffer = Vec::new(alloc);
-    let mut places = Vec::new(alloc);
-    'packets: for packet in packets {
-        let place = Place {
-            seconds: 1,
-            fraction: 0,
-            from: buffer.len(),
-            count: packet.len(),
-            next_at: 24,
-        };
-        buffer.extend_from_slice(packet)?;
-        places.push(place)?;
-    }
-    Ok(Records::of(buffer, places))
 }
 
 // Whether three items are those of a packet that goes up, of an empty record, and of a packet that goes up.
