@@ -14,13 +14,14 @@ use swap_core::Window;
 use table_words::compile;
 
 /// A table without bindings.
-const EMPTY_TABLE: &str = "version = 1
+pub const EMPTY_TABLE: &str = "version = 1
 [softwire]
 aftr = \"2001:db8::1\"
 own = \"192.0.2.1\"
 ";
 
-fn words_of(alloc: Global, text: &str) -> Result<WordList, Fail>
+/// The words of the table that this text spells.
+pub fn words_of(alloc: Global, text: &str) -> Result<WordList, Fail>
     ensures { IfOk result (λ words. AreCompiled words) }
 {
     let table = read_table(alloc, text.as_bytes())?;
