@@ -19,6 +19,8 @@ mod held_area;
 #[cfg(test)]
 mod lanes;
 #[cfg(test)]
+mod loads;
+#[cfg(test)]
 mod long_faults;
 #[cfg(test)]
 mod outside;

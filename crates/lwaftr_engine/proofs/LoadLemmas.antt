@@ -1,25 +1,28 @@
--- Loads that are read one after another.
-use Rattle.std.proofs.Common.{◌≡◌, ℕ, suc, ◌+◌, false, List, [], ◌∷◌, ◌++◌, take, get_or, Option, Some, None, sym, ◌∙◌, ap, subst, arith}
-use Rattle.std.specs.List.{slice_get}
-use Rattle.std.proofs.Math.Seq.{take-suc}
+-- Loads that are read in batches.
+use Rattle.std.proofs.Common.{◌≡◌, ℕ, suc, ◌+◌, Bool, false, true, List, [], ◌∷◌, ◌++◌, take, drop, get_or, Option, Some, None, Ok, Err, sym, ◌∙◌, ap, subst, arith}
+use Rattle.std.specs.List.{AllZip, Contains, slice_get}
+use Rattle.std.specs.Prelude.{map}
+use Rattle.std.proofs.Math.Seq.{take-add, take-suc}
+use Rattle.std.proofs.lemmas.List.{map-append, take-append-drop}
+use Rattle.std.proofs.lemmas.List.Elements.{Contains-append_left, Contains-append_right}
 use Rattle.std.proofs.lemmas.Option.{get_or_from_slice_get, slice_get_within}
-use Rattle.aftr_base.specs.Contents.{Contents, Told}
+use Rattle.std.proofs.lemmas.Slice.Zip.{all_zipped_more}
+use Rattle.aftr_base.specs.Contents.{Contents, Told, content}
 use Rattle.aftr_base.specs.Outside.{OnlyReads, Outside}
 use Rattle.aftr_text.specs.declared.jobs.LoadWords.{LoadWords}
-use Rattle.lwaftr_engine.specs.Loads.{AreFitFor, AreLoadsOf, IsFitFor, IsLoadOf}
+use Rattle.binding_file.specs.Files.{TableOf}
+use Rattle.lwaftr_engine.specs.Loads.{AreFitFor, AreLoadsOf, FailsAmong, HasWindowOf, IsFileOf, IsFitFor, IsLoadOf, OnlyReadsAmong}
+use Rattle.lwaftr_engine.specs.Tables.{Answer}
+use Rattle.reload_plan.specs.Accepted.{IsSound}
+use Rattle.load_files.specs.Texts.{IsLoadOfFile, IsLoadedAs}
 use Rattle.reload_plan.specs.declared.loads.Load.{Load}
+use Rattle.reload_plan.specs.declared.loads.Loaded.{Loaded}
+use Rattle.reload_plan.specs.declared.loads.Loaded.TheVariants as loaded
+use Rattle.load_files.specs.declared.files.LoadFile.{LoadFile}
+use Rattle.lwaftr_engine.proofs.FrontLemmas.{table_of_front}
 
-of_more : (m : Contents) (ws : List LoadWords) (ls : List Load) (w : LoadWords) (l : Load) → AreLoadsOf m ws ls → IsLoadOf m w l → AreLoadsOf m (ws ++ w ∷ []) (ls ++ l ∷ [])
-of_more m [] [] w l h x = (x, tt)
-of_more m [] (k ∷ ls) w l h x = absurd h
-of_more m (v ∷ ws) [] w l h x = absurd h
-of_more m (v ∷ ws) (k ∷ ls) w l h x = (h.0, of_more m ws ls w l h.1 x)
-
-fit_more : (ws : List LoadWords) (ls : List Load) (w : LoadWords) (l : Load) → AreFitFor ws ls → IsFitFor w l → AreFitFor (ws ++ w ∷ []) (ls ++ l ∷ [])
-fit_more [] [] w l h x = (x, tt)
-fit_more [] (k ∷ ls) w l h x = absurd h
-fit_more (v ∷ ws) [] w l h x = absurd h
-fit_more (v ∷ ws) (k ∷ ls) w l h x = (h.0, fit_more ws ls w l h.1 x)
+abbrev pub names_of : List LoadWords → List (List ℕ)
+names_of words = map (λ (load : LoadWords). load.name) words
 
 one_more : {A : Type 0} (xs : List A) (at : ℕ) (x : A) → slice_get xs at ≡ Some x → take at xs ++ x ∷ [] ≡ take (at + 1) xs
 one_more {A} xs at x is =
@@ -28,20 +31,93 @@ one_more {A} xs at x is =
     let place : suc at ≡ at + 1 = omega arith in
     ap (λ (y : A). take at xs ++ y ∷ []) (sym here) ∙ (sym next ∙ ap (λ (n : ℕ). take n xs) place)
 
-pub loads_more : (a b : Option Contents) (ws : List LoadWords) (ls more : List Load) (at : ℕ) (w : LoadWords) (l : Load) → b ≡ a → slice_get ws at ≡ Some w → more ≡ ls ++ l ∷ [] →
-    Told a (λ m. AreLoadsOf m (take at ws) ls) → Told b (λ m. IsLoadOf m w l) → Told a (λ m. AreLoadsOf m (take (at + 1) ws) more)
-loads_more None b ws ls more at w l same is pushed told one = tt
-loads_more (Some m) b ws ls more at w l same is pushed told one =
-    let here : IsLoadOf m w l = subst (λ (o : Option Contents). Told o (λ m. IsLoadOf m w l)) same one in
-    let both : AreLoadsOf m (take at ws ++ w ∷ []) (ls ++ l ∷ []) = of_more m (take at ws) ls w l told here in
-    subst (λ (k : List Load). AreLoadsOf m (take (at + 1) ws) k) (sym pushed)
-    (subst (λ (v : List LoadWords). AreLoadsOf m v (ls ++ l ∷ [])) (one_more ws at w is) both)
+joined : {A B : Type 0} (R : A → B → Type 0) (xs vs : List A) (ys zs : List B) → AllZip R xs ys → AllZip R vs zs → AllZip R (xs ++ vs) (ys ++ zs)
+joined R [] vs [] zs h k = k
+joined R [] vs (y ∷ ys) zs h k = absurd h
+joined R (x ∷ xs) vs [] zs h k = absurd h
+joined R (x ∷ xs) vs (y ∷ ys) zs h k = (h.0, joined R xs vs ys zs h.1 k)
 
-pub fits_more : (ws : List LoadWords) (ls more : List Load) (at : ℕ) (w : LoadWords) (l : Load) → slice_get ws at ≡ Some w → more ≡ ls ++ l ∷ [] →
-    AreFitFor (take at ws) ls → IsFitFor w l → AreFitFor (take (at + 1) ws) more
-fits_more ws ls more at w l is pushed fit one =
-    subst (λ (k : List Load). AreFitFor (take (at + 1) ws) k) (sym pushed)
-    (subst (λ (v : List LoadWords). AreFitFor v (ls ++ l ∷ [])) (one_more ws at w is) (fit_more (take at ws) ls w l fit one))
+through : {A B D : Type 0} (P : A → B → Type 0) (Q : B → D → Type 0) (R : A → D → Type 0) → ((a : A) (b : B) (d : D) → P a b → Q b d → R a d) →
+    (xs : List A) (ys : List B) (zs : List D) → AllZip P xs ys → AllZip Q ys zs → AllZip R xs zs
+through P Q R one [] [] [] h k = tt
+through P Q R one [] [] (z ∷ zs) h k = absurd k
+through P Q R one [] (y ∷ ys) zs h k = absurd h
+through P Q R one (x ∷ xs) [] zs h k = absurd h
+through P Q R one (x ∷ xs) (y ∷ ys) [] h k = absurd k
+through P Q R one (x ∷ xs) (y ∷ ys) (z ∷ zs) h k = (one x y z h.0 k.0, through P Q R one xs ys zs h.1 k.1)
+
+-- one element more on either side
+pub zipped_more : {A B : Type 0} (R : A → B → Type 0) (xs : List A) (ys more : List B) (at : ℕ) (x : A) (y : B) → slice_get xs at ≡ Some x → more ≡ ys ++ y ∷ [] →
+    AllZip R (take at xs) ys → R x y → AllZip R (take (at + 1) xs) more
+zipped_more {A} {B} R xs ys more at x y is pushed before one =
+    subst (λ (l : List B). AllZip R (take (at + 1) xs) l) (sym pushed)
+    (subst (λ (l : List A). AllZip R l (ys ++ y ∷ [])) (one_more xs at x is) (all_zipped_more R (take at xs) ys x y before one))
+
+-- so many elements more on either side
+pub zipped_on : {A B : Type 0} (R : A → B → Type 0) (xs : List A) (ys zs more : List B) (at count n : ℕ) → n ≡ count → more ≡ ys ++ zs →
+    AllZip R (take at xs) ys → AllZip R (take n (drop at xs)) zs → AllZip R (take (at + count) xs) more
+zipped_on {A} {B} R xs ys zs more at count n many is before next =
+    let behind : AllZip R (take count (drop at xs)) zs = subst (λ (k : ℕ). AllZip R (take k (drop at xs)) zs) many next in
+    subst (λ (l : List B). AllZip R (take (at + count) xs) l) (sym is)
+    (subst (λ (l : List A). AllZip R l (ys ++ zs)) (sym (take-add at count xs)) (joined R (take at xs) (take count (drop at xs)) ys zs before behind))
+
+pub told_more : {A B : Type 0} (R : Contents → A → B → Type 0) (a b : Option Contents) (xs : List A) (ys more : List B) (at : ℕ) (x : A) (y : B) → b ≡ a → slice_get xs at ≡ Some x → more ≡ ys ++ y ∷ [] →
+    Told a (λ m. AllZip (R m) (take at xs) ys) → Told b (λ m. R m x y) → Told a (λ m. AllZip (R m) (take (at + 1) xs) more)
+told_more R None b xs ys more at x y same is pushed told one = tt
+told_more R (Some m) b xs ys more at x y same is pushed told one =
+    zipped_more (R m) xs ys more at x y is pushed told (subst (λ (o : Option Contents). Told o (λ m. R m x y)) same one)
+
+pub told_on : {A B : Type 0} (R : Contents → A → B → Type 0) (a b : Option Contents) (xs : List A) (ys zs more : List B) (at count n : ℕ) → b ≡ a → n ≡ count → more ≡ ys ++ zs →
+    Told a (λ m. AllZip (R m) (take at xs) ys) → Told b (λ m. AllZip (R m) (take n (drop at xs)) zs) → Told a (λ m. AllZip (R m) (take (at + count) xs) more)
+told_on R None b xs ys zs more at count n same many is told next = tt
+told_on {A} R (Some m) b xs ys zs more at count n same many is told next =
+    zipped_on (R m) xs ys zs more at count n many is told (subst (λ (o : Option Contents). Told o (λ m. AllZip (R m) (take n (drop at xs)) zs)) same next)
+
+said : (m : Contents) (w : LoadWords) (f : LoadFile) (l : Load) → IsFileOf m w f → IsLoadOfFile f l → IsLoadOf m w l
+said m w f l file load = record {
+  answer = load.said.answer;
+  says = table_of_front (content m w.name) load.said.answer (subst (λ b. TableOf b load.said.answer) file.text load.said.says);
+  is = load.said.is;
+}
+
+-- the loads of files are those of the words that the files were read for
+pub loads_told : (h : Option Contents) (ws : List LoadWords) (fs : List LoadFile) (ls : List Load) → Told h (λ m. AllZip (IsFileOf m) ws fs) → AllZip IsLoadOfFile fs ls → Told h (λ m. AreLoadsOf m ws ls)
+loads_told None ws fs ls read loads = tt
+loads_told (Some m) ws fs ls read loads = through (IsFileOf m) IsLoadOfFile (IsLoadOf m) (said m) ws fs ls read loads
+
+sound_by : (answer : Answer) (l : Loaded) → IsLoadedAs answer l → IsSound l
+sound_by (Ok t) (loaded.Words words) is = record { table = t; of_table = is }
+sound_by (Ok t) (loaded.Refused cause) is = absurd is
+sound_by (Err refusal) (loaded.Words words) is = absurd is
+sound_by (Err refusal) (loaded.Refused cause) is = tt
+
+fits : (w : LoadWords) (f : LoadFile) (l : Load) → HasWindowOf w f → IsLoadOfFile f l → IsFitFor w l
+fits w f l window load = record { window = load.window ∙ window; sound = sound_by load.said.answer l.loaded load.said.is }
+
+pub loads_fit : (ws : List LoadWords) (fs : List LoadFile) (ls : List Load) → AllZip HasWindowOf ws fs → AllZip IsLoadOfFile fs ls → AreFitFor ws ls
+loads_fit ws fs ls windows loads = through HasWindowOf IsLoadOfFile IsFitFor fits ws fs ls windows loads
+
+-- what is among the names of some of the words is among those of all
+among_all_names : (ws : List LoadWords) (at count : ℕ) (name : List ℕ) → Contains (names_of (take count (drop at ws))) name → Contains (names_of ws) name
+among_all_names ws at count name among =
+    let rest = drop count (drop at ws) in
+    let whole : names_of (take at ws) ++ (names_of (take count (drop at ws)) ++ names_of rest) ≡ names_of ws =
+    ap (λ (l : List (List ℕ)). names_of (take at ws) ++ l) (sym (map-append (λ (load : LoadWords). load.name) (take count (drop at ws)) rest) ∙ ap (λ (l : List LoadWords). names_of l) (take-append-drop count (drop at ws)))
+    ∙ (sym (map-append (λ (load : LoadWords). load.name) (take at ws) (drop at ws)) ∙ ap (λ (l : List LoadWords). names_of l) (take-append-drop at ws)) in
+    subst (λ (l : List (List ℕ)). Contains l name) whole
+    (Contains-append_right (names_of (take at ws)) (names_of (take count (drop at ws)) ++ names_of rest) name
+    (Contains-append_left (names_of (take count (drop at ws))) (names_of rest) name among))
+
+fails_among : (failed : Bool) (ws : List LoadWords) (at count : ℕ) (before now : Option (List ℕ × ℕ)) → FailsAmong failed (names_of (take count (drop at ws))) before now → FailsAmong failed (names_of ws) before now
+fails_among false ws at count before now same = same
+fails_among true ws at count before now failed = record { name = failed.name; place = failed.place; among = among_all_names ws at count failed.name failed.among; last_is = failed.last_is }
+
+-- what reads the files of some of the words reads among those of all
+pub reads_within : (failed : Bool) (ws : List LoadWords) (at count : ℕ) (a b d : Outside) → b ≡ a → OnlyReadsAmong failed (names_of (take count (drop at ws))) b d → OnlyReadsAmong failed (names_of ws) a d
+reads_within failed ws at count a b d same only =
+    let some : OnlyReadsAmong failed (names_of (take count (drop at ws))) a d =
+    subst (λ (o : Outside). OnlyReadsAmong failed (names_of (take count (drop at ws))) o d) same only in
+    record { held = some.held; faults = some.faults; lost = some.lost; spoiled = some.spoiled; last = fails_among failed ws at count a.last d.last some.last }
 
 -- a read that went well changes nothing that is known
 pub read_well : (a b d : Outside) (name : List ℕ) → b ≡ a → OnlyReads false name (λ _. Unit {0}) b d → d ≡ a
@@ -57,3 +133,8 @@ read_well a b d name same only = is_same ∙ same where
 
   is_same : d ≡ b
   is_same = by_parts d.held d.faults d.lost d.spoiled d.last only.held only.faults only.lost only.spoiled only.last
+
+-- reads of many files that went well change nothing that is known
+pub read_all : (a b d : Outside) (names : List (List ℕ)) → b ≡ a → OnlyReadsAmong false names b d → d ≡ a
+read_all a b d names same only =
+    read_well a b d [] same (record { held = only.held; faults = only.faults; lost = only.lost; spoiled = only.spoiled; last = only.last })

@@ -9,11 +9,12 @@ use Rattle.std.proofs.lemmas.List.Sums.{sum_by-cons}
 use Rattle.aftr_text.specs.declared.jobs.RunJob.{RunJob}
 use Rattle.lwaftr_engine.specs.Ended.{AreNumbered, AreSlotsOf}
 use Rattle.lwaftr_engine.specs.Fronts.{is_table}
-use Rattle.lwaftr_engine.specs.Loads.{AreFitFor, AreLoadsOf, IsLoadedAs}
+use Rattle.lwaftr_engine.specs.Loads.{AreFitFor, AreLoadsOf}
 use Rattle.lwaftr_engine.specs.Planned.{some_slot_refused}
 use Rattle.lwaftr_engine.specs.Runs.{IsPlanOf}
 use Rattle.lwaftr_engine.specs.Tables.{Answer, AreAnswers, slots_in, some_refused, table_by, tables_in, windows_in}
 use Rattle.reload_plan.specs.Accepted.{accepted, slot_of, slots_from, window_in, windows_read, words_in, words_read}
+use Rattle.load_files.specs.Texts.{IsLoadedAs}
 use Rattle.reload_plan.specs.declared.loads.Load.{Load}
 use Rattle.reload_plan.specs.declared.loads.Loaded.{Loaded}
 use Rattle.reload_plan.specs.declared.loads.Loaded.TheVariants as loaded

@@ -23,14 +23,9 @@ use Rattle.reload_plan.specs.declared.loads.Load.{Load}
 use Rattle.reload_plan.specs.declared.loads.Made.{Made}
 use Rattle.lwaftr_engine.proofs.DueLemmas.{AreSingle, due_told}
 use Rattle.lwaftr_engine.proofs.LeaveLemmas.{among_all, leaves_told, load_read, table_read, unread_tables}
-use Rattle.lwaftr_engine.proofs.LoadLemmas.{read_well}
+use Rattle.lwaftr_engine.proofs.LoadLemmas.{read_all, read_well}
 use Rattle.lwaftr_engine.proofs.ReadLemmas.{fails_behind}
 use Rattle.lwaftr_engine.proofs.UnopenedLemmas.{others_same}
-
--- reads of many files that went well change nothing that is known
-read_all : (a b d : Outside) (names : List (List ℕ)) → b ≡ a → OnlyReadsAmong false names b d → d ≡ a
-read_all a b d names same only =
-    read_well a b d [] same (record { held = only.held; faults = only.faults; lost = only.lost; spoiled = only.spoiled; last = only.last })
 
 named_table : (h : Option Contents) (k name : List ℕ) (t : BindingTable) → k ≡ name → Told h (λ m. TableOf (content m k) (Ok t)) → Told h (λ m. TableOf (content m name) (Ok t))
 named_table h k name t is told = let T : List ℕ → Type 0 = λ q. Told h (λ m. TableOf (content m q) (Ok t)) in subst T is told

@@ -1,5 +1,6 @@
 -- The loads of a run as they are read.
-use Rattle.std.specs.Prelude.{◌≡◌, ℕ, Bool, true, false, List, [], ◌∷◌, Option, Ok, Err}
+use Rattle.std.specs.Prelude.{◌≡◌, ℕ, Bool, true, false, List, Option, take}
+use Rattle.std.specs.List.{AllZip}
 use Rattle.aftr_base.specs.Contents.{Contents, content}
 use Rattle.aftr_base.specs.Outside.{Outside, Rises}
 use Rattle.aftr_text.specs.declared.jobs.LoadWords.{LoadWords}
@@ -7,16 +8,9 @@ use Rattle.binding_file.specs.Files.{TableOf}
 use Rattle.lwaftr_engine.specs.Causes.{IsReadOf}
 use Rattle.lwaftr_engine.specs.Tables.{Answer}
 use Rattle.reload_plan.specs.Accepted.{IsSound}
+use Rattle.load_files.specs.Texts.{IsLoadedAs}
 use Rattle.reload_plan.specs.declared.loads.Load.{Load}
-use Rattle.reload_plan.specs.declared.loads.Loaded.{Loaded}
-use Rattle.reload_plan.specs.declared.loads.Loaded.TheVariants as loaded
-use Rattle.table_words.specs.Layout.{IsCompiled}
-
--- the words of the table, or its refusal
-abbrev pub IsLoadedAs : Answer → Loaded → Type 0
-IsLoadedAs (Ok t) (loaded.Words words) = IsCompiled t words
-IsLoadedAs (Err refusal) (loaded.Refused cause) = cause ≡ refusal
-IsLoadedAs _ _ = ⊥
+use Rattle.load_files.specs.declared.files.LoadFile.{LoadFile}
 
 -- what the load's file says, and the load by it
 pub record IsLoadOf (m : Contents) (words : LoadWords) (load : Load) : Type 0 where
@@ -25,9 +19,7 @@ pub record IsLoadOf (m : Contents) (words : LoadWords) (load : Load) : Type 0 wh
   pub is : IsLoadedAs answer load.loaded
 
 abbrev pub AreLoadsOf : Contents → List LoadWords → List Load → Type 0
-AreLoadsOf m [] [] = Unit {0}
-AreLoadsOf m (w ∷ ws) (l ∷ ls) = IsLoadOf m w l × AreLoadsOf m ws ls
-AreLoadsOf m _ _ = ⊥
+AreLoadsOf m words loads = AllZip (IsLoadOf m) words loads
 
 -- each load has its window, and the words of a table or a refusal
 pub record IsFitFor (words : LoadWords) (load : Load) : Type 0 where
@@ -35,9 +27,14 @@ pub record IsFitFor (words : LoadWords) (load : Load) : Type 0 where
   pub sound : IsSound load.loaded
 
 abbrev pub AreFitFor : List LoadWords → List Load → Type 0
-AreFitFor [] [] = Unit {0}
-AreFitFor (w ∷ ws) (l ∷ ls) = IsFitFor w l × AreFitFor ws ls
-AreFitFor _ _ = ⊥
+AreFitFor words loads = AllZip IsFitFor words loads
+
+-- the load's file as it is read: as much of it as is enough to judge it
+pub record IsFileOf (m : Contents) (words : LoadWords) (file : LoadFile) : Type 0 where
+  pub text : file.text ≡ take 16777217 (content m words.name)
+
+abbrev pub HasWindowOf : LoadWords → LoadFile → Type 0
+HasWindowOf words file = file.window ≡ words.window
 
 -- where a call failed, a read of a file with one of these names did
 abbrev pub FailsAmong : Bool → List (List ℕ) → Option (List ℕ × ℕ) → Option (List ℕ × ℕ) → Type 0

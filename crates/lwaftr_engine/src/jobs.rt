@@ -1,6 +1,7 @@
 // The run that the command words ask for.
 ghost use Rattle.std.specs.Prelude.{◌≡◌, [], ◌∷◌, All, IfOk, None, length};
 ghost use Rattle.aftr_base.specs.Contents.{Moves, Told, content};
+ghost use Rattle.binding_rules.specs.Tables.{BindingTable};
 ghost use Rattle.lwaftr_engine.specs.Causes.{FailsIn, HasCause, MayFailIn};
 ghost use Rattle.lwaftr_engine.specs.Loads.{AreFitFor};
 ghost use Rattle.lwaftr_engine.specs.Planned.{IsAtFirst, IsMade, IsRunJob, LeavesMade, done_status, ended_status, some_slot_refused, unopened_status};
@@ -8,18 +9,17 @@ ghost use Rattle.lwaftr_engine.specs.Progress.{spot};
 ghost use Rattle.lwaftr_engine.specs.Promises.{HasHistory, KeepsRun};
 ghost use Rattle.lwaftr_engine.specs.Runs.{OthersKept};
 ghost use Rattle.lwaftr_engine.specs.Worlds.{world};
-ghost use Rattle.table_words.specs.Layout.{AreCompiled};
+ghost use Rattle.table_words.specs.Layout.{AreCompiled, IsCompiled};
 
 use crate::loads::loads_in;
 use crate::run::run_capture;
 use crate::status::Status;
 use crate::table_file::{NoTable, table_in};
 use crate::tasks::Task;
-use aftr_base::{Fault, Files, OutOfMemory, Sink};
+use aftr_base::{Fault, Files, OutOfMemory, Sink, WordList};
 use aftr_text::RunJob;
 use area_swap::History;
 use binding_file::one_table;
-use binding_rules::Table;
 use capture_io::{CaptureError, CaptureReader, Ending, Written, one_reading};
 use pcapng_io::{NgReader, Reader};
 use reload_plan::{Load, Made, Slot, plan};
@@ -29,21 +29,21 @@ use std::thread::Threads;
 use table_words::compile;
 use worker_gate::Gate;
 
-// The plan of a table and loads.
+// The plan of a first table, by its words, and loads.
 fn made_of(
     alloc: Global,
-    first: &Table,
+    first: WordList,
     loads: Vec<Load>,
     job: &RunJob,
 ) -> Result<Made, OutOfMemory>
     requires job { IsRunJob job.now }
+    requires first { AreCompiled first }
     requires fit { AreFitFor job.now.loads loads.items }
-    ensures made { IfOk result (λ made. IsMade first.now loads.items made) }
+    ensures made { (t : BindingTable) → IsCompiled t first → IfOk result (λ made. IsMade t loads.items made) }
     ensures compiled { IfOk result (λ made. All AreCompiled made.plan.tables) }
     ensures count { IfOk result (λ made. length made.slots ≡ length job.now.loads) }
 {
-    let words = compile(alloc, first)?;
-    plan(alloc, words, loads)
+    plan(alloc, first, loads)
 }
 
 // Whether some load was refused.
@@ -203,12 +203,16 @@ pub fn run_job<R: Threads + Wait + Sync, F: Files, O: Sink, G: Gate + Sync>(
         Err(NoTable::Refused(refusal)) => return Status::BadTable(refusal),
         Err(NoTable::OutOfMemory) => return Status::OutOfMemory,
     };
-    let loads = match loads_in(alloc, files, job.loads.as_slice()) {
+    let Ok(first) = compile(alloc, &table) else {
+        return Status::OutOfMemory;
+    };
+    drop(table);
+    let loads = match loads_in(rt, alloc, files, job.loads.as_slice(), job.workers) {
         Ok(loads) => loads,
         Err(Fault::Failed) => return Status::ReadFault,
         Err(Fault::OutOfMemory) => return Status::OutOfMemory,
     };
-    let Ok(made) = made_of(alloc, &table, loads, job) else {
+    let Ok(made) = made_of(alloc, first, loads, job) else {
         return Status::OutOfMemory;
     };
     run_made(rt, alloc, files, out, job, made, gate, history)

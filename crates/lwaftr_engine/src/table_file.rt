@@ -11,7 +11,7 @@ use binding_rules::Table;
 use std::alloc::Global;
 
 /// How many bytes are enough to judge a table file: one more than it may have.
-const ENOUGH: usize = 16_777_217;
+pub const ENOUGH: usize = 16_777_217;
 
 /// How many bytes are asked for at first.
 const PIECE: usize = 65_536;
@@ -47,7 +47,7 @@ pub fn table_in<F: Files>(alloc: Global, files: &mut F, name: &str) -> Result<Ta
 }
 
 /// The first bytes of a file, at most so many, in pieces that double.
-fn file_front<F: Files>(
+pub fn file_front<F: Files>(
     alloc: Global,
     files: &mut F,
     name: &str,

@@ -12,7 +12,7 @@ pub returns : goal.returns
 returns g c =
     let f = g.F.Files in
     let o = g.O.Sink in
-    keeps_run (record { table = c.one_table.ensures.answer; capture = c.one_reading.ensures; blocks_left = λ seen. c.one_left.ensures (record { seen = seen; ahead = [] }) }) c.args.job.now c.in-Ok.table c.in-Ok-loads_in.loads.items c.in-Ok-made_of.made c.in-Ok-made_of.ensures.made
+    keeps_run (record { table = c.one_table.ensures.answer; capture = c.one_reading.ensures; blocks_left = λ seen. c.one_left.ensures (record { seen = seen; ahead = [] }) }) c.args.job.now c.in-Ok.table c.in-Ok-loads_in.loads.items c.in-Ok-made_of.made (c.in-Ok-made_of.ensures.made c.in-Ok.table c.in-Ok-compile.ensures.words)
     c.as_str.result.now c.as_slice.result.now c.as_str.ensures c.as_slice.ensures (f.outside c.args.files.now) (f.outside c.table_in.new.files) (f.outside c.loads_in.new.files) (f.outside c.run_made.new.files)
     (o.out c.args.out.now) (o.out c.run_made.new.out) (o.faults c.args.out.now) (o.faults c.run_made.new.out) c.run_made.result c.run_made.new.history
     c.in-Ok.ensures.reads c.in-Ok-loads_in.ensures.reads c.in-Ok.ensures.table c.in-Ok-loads_in.ensures.loads c.in-Ok-loads_in.ensures.fit

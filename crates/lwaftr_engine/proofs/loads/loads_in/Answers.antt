@@ -1,18 +1,33 @@
-use Rattle.std.proofs.Common.{ap, arith, length, refl}
-use Rattle.std.proofs.lemmas.Option.{slice_get_read}
-use Rattle.aftr_base.specs.Outside.{Outside}
-use Rattle.lwaftr_engine.proofs.LoadLemmas.{fits_more, loads_more, read_well}
+use Rattle.std.proofs.Common.{◌≡◌, ◌+◌, ◌-◌, Bool, Err, drop, take, sym, ◌∙◌, ap, subst, arith}
+use Rattle.std.proofs.lemmas.Result.{err_from_is_err_and}
+use Rattle.aftr_base.specs.Outside.{Outside, has_failed}
+use Rattle.lwaftr_engine.specs.Loads.{IsFitFor, IsLoadOf, OnlyReadsAmong}
+use Rattle.lwaftr_engine.proofs.LoadLemmas.{names_of, read_all, reads_within, told_on, zipped_on}
 use Rattle.lwaftr_engine.proofs.loads.loads_in.Goals as goal
 
-pub loads-preserved : goal.loads-preserved
-loads-preserved g c =
+pub batches-preserved : goal.batches-preserved
+batches-preserved g c =
     let f = g.F.Files in
     let ws = c.args.words.now in
-    let there = slice_get_read ws (length ws) c.loads.at c.index-words-at.result refl (omega (arith, c.loads-test.true)) c.index-words-at.is in
+    let at = c.batches.at in
+    let count = c.min-count.result in
+    let n = at + count - at in
+    let many : n ≡ count = omega arith in
     record {
-      within = omega (arith, c.loads-test.true);
-      loads = loads_more (f.outside c.args.files.now).held (f.outside c.loads.files).held ws c.loads.loads.items c.push.new.self.items c.loads.at c.index-words-at.result c.in_ok-load.load
-          (ap (λ (o : Outside). o.held) c.loads.invariant.outside) there c.in_ok-push.ensures.items c.loads.invariant.loads c.in_ok-load.ensures.load;
-      fit = fits_more ws c.loads.loads.items c.push.new.self.items c.loads.at c.index-words-at.result c.in_ok-load.load there c.in_ok-push.ensures.items c.loads.invariant.fit c.in_ok-load.ensures.fit;
-      outside = read_well (f.outside c.args.files.now) (f.outside c.loads.files) (f.outside c.load_in.new.files) c.index-words-at.result.name c.loads.invariant.outside c.in_ok-load.ensures.reads;
+      within = omega (arith, c.batches.invariant.within, c.min-count.ensures);
+      loads = told_on IsLoadOf (f.outside c.args.files.now).held (f.outside c.batches.files).held ws c.batches.loads.items c.in_ok-batch.batch.items c.append.new.self.items at count n
+          (ap (λ (o : Outside). o.held) c.batches.invariant.outside) many c.in_ok-append.ensures.items c.batches.invariant.loads c.in_ok-batch.ensures.loads;
+      fit = zipped_on IsFitFor ws c.batches.loads.items c.in_ok-batch.batch.items c.append.new.self.items at count n many c.in_ok-append.ensures.items c.batches.invariant.fit c.in_ok-batch.ensures.fit;
+      outside = read_all (f.outside c.args.files.now) (f.outside c.batches.files) (f.outside c.batch_in.new.files) (names_of (take n (drop at ws))) c.batches.invariant.outside c.in_ok-batch.ensures.reads;
     }
+
+pub returns-in_err-batch-clause-reads : goal.returns-in_err-batch-clause-reads
+returns-in_err-batch-clause-reads g c =
+    let f = g.F.Files in
+    let ws = c.args.words.now in
+    let at = c.batches.at in
+    let a = f.outside c.args.files.now in
+    let d = f.outside c.batch_in.new.files in
+    let e = err_from_is_err_and c.from_residual-in_err-batch.result c.from_residual-in_err-batch.ensures.1 in
+    subst (λ (b : Bool). OnlyReadsAmong b (names_of ws) a d) (sym (ap (λ r. has_failed r) (e.1 ∙ ap Err e.2)))
+    (reads_within _ ws at (at + c.min-count.result - at) a (f.outside c.batches.files) d c.batches.invariant.outside c.in_err-batch.ensures.reads)

@@ -3,13 +3,13 @@ use Rattle.aftr_base.specs.Contents.{Told}
 use Rattle.lwaftr_engine.specs.Loads.{AreFitFor, AreLoadsOf}
 use Rattle.lwaftr_engine.proofs.loads.loads_in.Given as goal
 
-abbrev pub invariant-loads : goal.invariant-loads
-invariant-loads g l = let f = g.F.Files in record {
+abbrev pub invariant-batches : goal.invariant-batches
+invariant-batches g l = let f = g.F.Files in record {
   within : l.at ≤ length l.words;
   loads : Told (f.outside l.initial.files).held (λ m. AreLoadsOf m (take l.at l.words) l.loads.items);
   fit : AreFitFor (take l.at l.words) l.loads.items;
   outside : f.outside l.files ≡ f.outside l.initial.files;
 }
 
-abbrev pub decreases-loads : goal.decreases-loads
-decreases-loads g l = length l.words - l.at
+abbrev pub decreases-batches : goal.decreases-batches
+decreases-batches g l = length l.words - l.at
