@@ -1,14 +1,13 @@
 -- What a run leaves, in the words of the whole files.
 use Rattle.std.proofs.Common.{◌≡◌, ℕ, ◌<◌, nat_lt, Bool, true, false, not, List, [], ◌∷◌, ◌++◌, length, Option, Some, None, Result, Ok, Err, inl, inr, refl, sym, ◌∙◌, ap, subst, arith}
 use Rattle.aftr_base.specs.Contents.{Contents, content, Moves, Told}
-use Rattle.aftr_base.specs.Outside.{FailsAt, Outside, Rises, has_failed}
+use Rattle.aftr_base.specs.Outside.{FailsAt, Outside}
 use Rattle.std.specs.Prelude.{IfOk}
 use Rattle.capture_io.specs.Refusals.{EndsInRecords, IsOfRecord}
 use Rattle.capture_io.specs.Rounds.{is_cut}
-use Rattle.lwaftr_engine.specs.Causes.{FailsIn, HasCause}
+use Rattle.lwaftr_engine.specs.Causes.{FailsIn}
 use Rattle.lwaftr_engine.specs.Finishing.{HasHistoryBy}
 use Rattle.lwaftr_engine.specs.Promises.{GoesWithRead, GoesWithRefusal, HasHistory, HasSummary}
-use Rattle.lwaftr_engine.specs.Worlds.{World}
 use Rattle.aftr_base.specs.declared.outside.Fault.{Fault}
 use Rattle.aftr_base.specs.declared.outside.Fault.TheVariants as fault
 use Rattle.aftr_text.specs.declared.jobs.RunJob.{RunJob}
@@ -30,7 +29,7 @@ use Rattle.lwaftr_engine.specs.Endings.{IsWhole}
 use Rattle.lwaftr_engine.specs.Fronts.{AreTaken, IsBroken, IsFront, Stop, stop_by}
 use Rattle.lwaftr_engine.specs.Inputs.{Header, IsInputBy, blocks_of, classic_of, header_by, in_blocks, in_classic}
 use Rattle.lwaftr_engine.specs.Planned.{IsAtFirst, IsEarly, LeavesBy, LeavesMade, ended_status, some_slot_refused}
-use Rattle.lwaftr_engine.specs.Progress.{OneRises, ReadsOf, Setup, Spot, spot}
+use Rattle.lwaftr_engine.specs.Progress.{ReadsOf, Setup, Spot, spot}
 use Rattle.lwaftr_engine.specs.Runs.{IsRun}
 use Rattle.lwaftr_engine.specs.declared.status.Status.{Status}
 use Rattle.pcapng_io.specs.Answers.{EndsBehind, IsInHeader}
@@ -181,22 +180,6 @@ has_history input ended refused result before after said now history is by in_re
       by_end (Ok ending.ReadFault) summed in_records reads = with_read input after.last said now history (reads.last.0, reads.last.2) summed
       by_end (Err fault.Failed) none in_records reads = none
       by_end (Err fault.OutOfMemory) none in_records reads = none
-
--- why it ended so
-ended_cause_by : (ended : Result Ending Fault) (refused : Bool) (before now : World) → ((e : Ending) → ended ≡ Ok e → Rises (is_cut (Some e)) before.files.faults now.files.faults × Rises (is_cut (Some e)) before.files.lost now.files.lost) → OneRises (has_failed ended) before.files.spoiled now.files.spoiled before.puts now.puts → HasCause (ended_status ended refused) before now
-ended_cause_by (Ok ending.End) true before now reads writes = let r = reads ending.End refl in record { lost = r.1; spoiled = writes.0; faults = r.0; puts = writes.1 }
-ended_cause_by (Ok ending.End) false before now reads writes = let r = reads ending.End refl in record { lost = r.1; spoiled = writes.0; faults = r.0; puts = writes.1 }
-ended_cause_by (Ok (ending.Bad refusal)) refused before now reads writes = let r = reads (ending.Bad refusal) refl in record { lost = r.1; spoiled = writes.0; faults = r.0; puts = writes.1 }
-ended_cause_by (Ok ending.ReadFault) refused before now reads writes = let r = reads ending.ReadFault refl in record { lost = r.1; spoiled = writes.0; puts = writes.1 }
-ended_cause_by (Err fault.Failed) refused before now reads writes = writes
-ended_cause_by (Err fault.OutOfMemory) refused before now reads writes = record { spoiled = writes.0; puts = writes.1 }
-
-pub ended_cause : (name : List ℕ) (ended : Result Ending Fault) (refused : Bool) (result : Status) (before now : World) → result ≡ ended_status ended refused →
-    IfOk ended (λ e. ReadsOf (is_cut (Some e)) name before.files now.files) → OneRises (has_failed ended) before.files.spoiled now.files.spoiled before.puts now.puts → HasCause result before now
-ended_cause name ended refused result before now is reads writes =
-    let H : Status → Type 0 = λ s. HasCause s before now in
-    let R : Result Ending Fault → Type 0 = λ r. IfOk r (λ e. ReadsOf (is_cut (Some e)) name before.files now.files) in
-    subst H (sym is) (ended_cause_by ended refused before now (λ e same. let r : ReadsOf (is_cut (Some e)) name before.files now.files = subst R same reads in (r.faults, r.lost)) writes)
 
 ended_place_by : (name : List ℕ) (ended : Result Ending Fault) (refused : Bool) (before now : Outside) → IfOk ended (λ e. ReadsOf (is_cut (Some e)) name before now) → FailsIn (name ∷ []) (ended_status ended refused) before.last now.last
 ended_place_by name (Ok ending.End) true before now reads = reads.last

@@ -122,8 +122,5 @@ among_all run (status.BadCapture refusal) old new failed = failed
 pub table_read : (run : RunJob) (last : Option (List ℕ × ℕ)) → IsReadOf (table_names run) last → IsReadOf (table_names run ++ run.input ∷ []) last
 table_read run last failed = record { name = failed.name; place = failed.place; among = Contains-append_left (table_names run) (run.input ∷ []) failed.name failed.among; last_is = failed.last_is }
 
-pub first_read : (run : RunJob) (place : ℕ) (last : Option (List ℕ × ℕ)) → last ≡ Some (run.table, place) → IsReadOf (table_names run) last
-first_read run place last is = record { name = run.table; place = place; among = (0, omega arith, refl); last_is = is }
-
 pub load_read : (run : RunJob) (last : Option (List ℕ × ℕ)) → IsReadOf (map (λ (load : LoadWords). load.name) run.loads) last → IsReadOf (table_names run) last
 load_read run last failed = record { name = failed.name; place = failed.place; among = (suc failed.among.0, omega (arith, failed.among.1), failed.among.2); last_is = failed.last_is }

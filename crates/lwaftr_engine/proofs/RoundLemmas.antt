@@ -1,11 +1,9 @@
 -- The parts of a round, as they are shown.
-use Rattle.std.proofs.Common.{◌≡◌, ℕ, ◌≤◌, List, [], ◌++◌, drop, Option, Some, None, sym, ◌∙◌, ap, subst}
-use Rattle.aftr_base.specs.Contents.{Contents, content, Told}
+use Rattle.std.proofs.Common.{◌≡◌, ℕ, ◌≤◌, List, [], ◌++◌, drop, Option, sym, ◌∙◌, ap, subst}
+use Rattle.aftr_base.specs.Contents.{Contents}
 use Rattle.aftr_base.specs.Outside.{FailsAt}
 use Rattle.aftr_text.specs.declared.jobs.LoadWords.{LoadWords}
 use Rattle.aftr_text.specs.declared.summaries.Totals.{Totals}
-use Rattle.capture_io.specs.Rounds.{GoesOn, IsInNext, Left, Precedes, is_cut}
-use Rattle.capture_io.specs.declared.rounds.Ending.{Ending}
 use Rattle.capture_io.specs.declared.rounds.Round.{Round}
 use Rattle.capture_io.specs.declared.forms.Rec.{Rec}
 use Rattle.error_limit.specs.Limits.{Bucket}
@@ -27,11 +25,6 @@ pub rendered_by : (x : Setup) (start : ℕ) (records : List Rec) (es : List Entr
 rendered_by x start records es shown os limit now before after parts same made =
     let A : List Outcome → Type 0 = λ l. AreRendered x start records es l limit now before after parts in subst A same made
 
-pub parts_by : (x : Setup) (start : ℕ) (records : List Rec) (es : List Entry) (os : List Outcome) (limit now : Option Bucket) (before after : Totals) (shown parts : List Part) → shown ≡ parts →
-    AreRendered x start records es os limit now before after parts → AreRendered x start records es os limit now before after shown
-parts_by x start records es os limit now before after shown parts same made =
-    let A : List Part → Type 0 = λ l. AreRendered x start records es os limit now before after l in subst A (sym same) made
-
 -- the new lines of tables stand behind nothing
 pub new_lines_are : (x : Setup) (loads : List LoadWords) → loads ≡ x.run.loads → (points now news shown : List ℕ) (from to : ℕ) (vs before after : List ℕ) → now ≡ points ++ news → from ≤ to → before ≡ [] → shown ≡ now → vs ≡ after →
     ((later : List ℕ) → after ≡ before ++ load_lines (shown ++ later) (between from to (named loads x.slots))) → NoneIsDue shown (drop to x.slots) → AreNewLines x points now news from to vs
@@ -43,21 +36,6 @@ new_lines_are x loads loads_are points now news shown from to vs before after po
       vs_is ∙ (subst L loads_are (lines later) ∙ (ap (λ (l : List ℕ). l ++ load_lines (shown ++ later) (between from to (loads_of x))) none ∙ ap (λ (l : List ℕ). load_lines (l ++ later) (between from to (loads_of x))) shown_is));
   none_due = let N : List ℕ → Type 0 = λ l. NoneIsDue l (drop to x.slots) in subst N shown_is due;
 }
-
--- what is told of a file is told by another writing of its name
-pub told_named : (h : Option Contents) (k name : List ℕ) (P : List ℕ → Type 0) → k ≡ name → Told h (λ m. P (content m k)) → Told h (λ m. P (content m name))
-told_named h k name P is told = let T : List ℕ → Type 0 = λ q. Told h (λ m. P (content m q)) in subst T is told
-
-pub failed_named : (k name : List ℕ) (Stood : List ℕ → Type 0) (left : Left) (at : ℕ) (h : Option Contents) (number : ℕ) (stop : Option Ending) (old new : Option (List ℕ × ℕ)) → k ≡ name →
-    FailsAt (is_cut stop) k (IsInNext k Stood left at h number) old new → FailsAt (is_cut stop) name (IsInNext name Stood left at h number) old new
-failed_named k name Stood left at h number stop old new is failed =
-    let F : List ℕ → Type 0 = λ q. FailsAt (is_cut stop) q (IsInNext q Stood left at h number) old new in subst F is failed
-
--- the records of a round are the next ones
-pub follows_of : (h : Option Contents) (name : List ℕ) (Stood Stands : List ℕ → Type 0) (before now : Left) (number : ℕ) (round : Round) → Told h (λ m. Stood (content m name) → GoesOn Stands before now (content m name) number round) →
-    Told h (λ m. Stood (content m name) → Precedes before now (content m name) number round.records round.number)
-follows_of None name Stood Stands before now number round told = tt
-follows_of (Some m) name Stood Stands before now number round told = λ stood. (told stood).follows
 
 -- what a round writes, by another writing of it
 pub steps_shown : (u : Pending) (vs : List ℕ) (parts : List Part) → vs ≡ string_bytes u.versions → parts ≡ u.rendered → round_steps vs (packets_in parts) (lines_in parts) ≡ steps_of u

@@ -1,35 +1,15 @@
 -- What is read, round after round.
-use Rattle.std.proofs.Common.{◌≡◌, ◌⊎◌, ℕ, ◌+◌, ◌<◌, ◌≤◌, List, ◌++◌, All, length, Option, Some, None, inl, inr, sym, subst, arith, append_assoc}
-use Rattle.aftr_base.specs.Contents.{Contents, content, Told}
-use Rattle.aftr_base.specs.Outside.{FailsAt}
+use Rattle.std.proofs.Common.{◌≡◌, ◌⊎◌, ℕ, ◌+◌, ◌<◌, ◌≤◌, List, ◌++◌, All, length, inl, inr, sym, subst, arith, append_assoc}
 use Rattle.capture_io.specs.declared.forms.Rec.{Rec}
-use Rattle.capture_io.specs.declared.rounds.Ending.{Ending}
-use Rattle.capture_io.specs.declared.rounds.Ending.TheVariants as ending
-use Rattle.capture_io.specs.declared.rounds.Round.{Round}
-use Rattle.capture_io.specs.Rounds.{GoesOn, IsEnding, IsInNext, Left, Precedes, is_cut}
+use Rattle.capture_io.specs.Rounds.{Left, Precedes}
 use Rattle.area_swap.specs.declared.board.View.{View}
-use Rattle.lwaftr_engine.specs.Progress.{IsOnDuty, IsUpToDate, Spot, Stops, Suits}
-use Rattle.lwaftr_engine.specs.Underway.{HasDrawn, IsNext}
+use Rattle.lwaftr_engine.specs.Progress.{IsOnDuty, IsUpToDate, Suits}
+use Rattle.lwaftr_engine.specs.Underway.{HasDrawn}
 use Rattle.lwaftr_engine.specs.declared.shift.Shift.{Shift}
 use Rattle.run_output.specs.Outputs.{Course}
 use Rattle.swap_core.specs.Plans.{Tables, window}
 use Rattle.worker_gate.specs.Reloading.{IsSettled, NoneIsLeft, WaitsFor}
 use Rattle.lwaftr_engine.proofs.Elements.{all_before}
-
-stops : (m : Contents) (name : List ℕ) (Stood : List ℕ → Type 0) (reader : Spot) (number : ℕ) (stop : Option Ending) (old new : Option (List ℕ × ℕ)) → Stood (content m name) →
-    IsEnding reader.left (content m name) number stop → FailsAt (is_cut stop) name (IsInNext name Stood reader.left reader.at (Some m) number) old new → Stops name reader (content m name) number stop new
-stops m name Stood reader number None old new stood ended last = tt
-stops m name Stood reader number (Some ending.End) old new stood ended last = ended
-stops m name Stood reader number (Some (ending.Bad refusal)) old new stood ended last = ended
-stops m name Stood reader number (Some ending.ReadFault) old new stood ended last = record { place = last.0; last_is = last.2; begun = last.1.0; before = last.1.1 stood }
-
-pub next_told : (held : Option Contents) (name : List ℕ) (before now : Spot) (number : ℕ) (round : Round) (old new : Option (List ℕ × ℕ)) →
-    Told held (λ m. before.stood (content m name) → GoesOn now.stood before.left now.left (content m name) number round) →
-    FailsAt (is_cut round.ending) name (IsInNext name before.stood now.left now.at held round.number) old new →
-    Told held (λ m. before.stood (content m name) → IsNext name before now number (content m name) round new)
-next_told None name before now number round old new told last = tt
-next_told (Some m) name before now number round old new told last = λ stood.
-    record { goes = told stood; stopped = stops m name before.stood now round.number round.ending old new stood (told stood).ended last }
 
 pub no_further : (rs : List Rec) (here there : ℕ) → here ≤ there → All (λ r. r.next_at ≤ here) rs → All (λ r. r.next_at ≤ there) rs
 no_further rs here there forward each = λ k d within. omega (arith, each k d within, forward)

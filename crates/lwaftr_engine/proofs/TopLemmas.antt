@@ -16,9 +16,6 @@ Only words job = (other : Job) → Asks words other → other ≡ job
 same_run : (a b : RunJob) → asked.Run a ≡ asked.Run b → a ≡ b
 same_run a b e = cc e
 
-pub only_run : (words : List (List ℕ)) (job : Job) (run : RunJob) (P : RunJob → Type 0) → job ≡ asked.Run run → Only words job → P run → (other : RunJob) → Asks words (asked.Run other) → P other
-only_run words job run P is only holds other asks = subst P (sym (same_run other run (only (asked.Run other) asks ∙ is))) holds
-
 pub not_run : (words : List (List ℕ)) (job : Job) (run : RunJob) (name : List ℕ) → job ≡ asked.Run run → Only words job → Asks words (asked.Check name) → ⊥
 not_run words job run name is only asks = absurd (cc (only (asked.Check name) asks ∙ is))
 
