@@ -80,6 +80,7 @@ fn read_text(alloc: Global, text: &str) -> Result<Table, FileError>
     }
     let document = document_of(alloc, text)?;
     let spelled = tree_of(alloc, &document)?;
+    drop(document);
     Ok(table_of(alloc, spelled.edition, spelled.softwire, spelled.bindings)?)
 }
 
