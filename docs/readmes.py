@@ -1,7 +1,8 @@
 #!/usr/bin/env python3
-"""Compares the READMEs of crates with the crates: every exported name, and every file of a crate of cases, is named there.
+"""Compares the READMEs of crates with the crates: every exported name, and every file of a crate of cases, is named there; the files of
+cases and the benchmarks that a README names are there; a row on clauses has at most thirty words.
 
-  docs/readmes.py [CRATE..]    prints what is named nowhere, and ends with 1 where there is something
+  docs/readmes.py [CRATE..]    prints what is not so, and ends with 1 where there is something
 """
 import os
 import re
@@ -32,12 +33,36 @@ def files(crate):
     return sorted(it[:-3] for it in os.listdir(folder) if it.endswith(".rt") and it != "lib.rt")
 
 
+def tried(readme):
+    """The files of cases and the folders that a README says its crate is tried and measured by, and that are not there."""
+    for line in re.findall(r"^Tried in .*$", readme, re.M):
+        for cases, names in re.findall(r"`(\w+_cases)`: ((?:`\w+`(?:, )?)+)", line):
+            for name in re.findall(r"\w+", names):
+                if not os.path.isfile(os.path.join(TOP, "crates", cases, "src", f"{name}.rt")):
+                    yield f"{cases}/{name}"
+        for name in re.findall(r"`(diff/[\w.]+)`", line):
+            if not os.path.exists(os.path.join(TOP, name)):
+                yield name
+        for name in re.findall(r"`(\w+)`", line.partition("Measured by")[2].replace("`bench/`", "")):
+            if not os.path.isdir(os.path.join(TOP, "bench", name)):
+                yield f"bench/{name}"
+
+
+def long_rows(readme):
+    """The rows on clauses that say more than thirty words."""
+    for row in re.findall(r"^\|(?:[^|\n]*\|){3}$", readme, re.M):
+        cells = [it.strip() for it in row.strip("|").split("|")]
+        if len(cells[2].split()) > 30:
+            yield f"a row of {len(cells[2].split())} words: {cells[2][:40]}.."
+
+
 def main():
     lacking = 0
     for crate in sys.argv[1:] or sorted(os.listdir(os.path.join(TOP, "crates"))):
         readme = text_of("crates", crate, "README.md")
         names = files(crate) if crate.endswith("_cases") else list(exports(crate))
         missing = [it for it in names if not re.search(rf"\b{it}\b", readme)]
+        missing += [*tried(readme), *long_rows(readme)]
         if missing:
             lacking += len(missing)
             print(f"{crate}: {' '.join(missing)}")
