@@ -33,18 +33,18 @@ fn is_due(alloc: Global, at: usize, load: &Load) -> Result<bool, Fail> {
 }
 
 /// Whether so many of those files become loads in their order.
-fn are_due<R: Threads>(rt: &R, alloc: Global, count: usize) -> Result<bool, Fail> {
+fn are_due<R: Threads>(rt: &R, alloc: Global, count: u32) -> Result<bool, Fail> {
     let mut files = Vec::new(alloc);
     for at in 0..count {
         let window = Window {
-            earliest: at as u32,
+            earliest: at,
             latest: 100,
         };
-        let text = Bytes::copy(alloc, TEXTS[at % 5].as_bytes())?;
+        let text = Bytes::copy(alloc, TEXTS[at as usize % 5].as_bytes())?;
         files.push(LoadFile { window, text })?;
     }
     let loads = loads_of(rt, alloc, files)?;
-    let mut right = loads.len() == count;
+    let mut right = loads.len() == count as usize;
     for (at, load) in loads.iter().enumerate() {
         right &= is_due(alloc, at, load)?;
     }
