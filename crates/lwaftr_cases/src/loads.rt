@@ -34,7 +34,8 @@ fn run_loads<R: Threads + Wait + Sync>(
 }
 
 /// Nine loads: batches of two and of four have refused ones at their beginning, in the middle and at their end.
-const NINE: &str = "1-1:bad 1-1:shared 2-2:clash 2-2:whole 3-3:none 3-3:bad 4-4:whole 5-5:clash 5-5:shared";
+const NINE: &str =
+    "1-1:bad 1-1:shared 2-2:clash 2-2:whole 3-3:none 3-3:bad 4-4:whole 5-5:clash 5-5:shared";
 
 /// What VERSIONS says of them.
 const TOLD: &str = "\
