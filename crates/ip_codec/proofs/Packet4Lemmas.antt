@@ -1,7 +1,7 @@
 -- Lemmas on IPv4 packets: a header and a payload that fit each other are read as they stand.
 use Rattle.std.proofs.Common.{nat_lt, ◌==◌, ◌||◌, ◌&&◌, not, ◌≡◌, ◌≢◌, ℕ, ◌^◌, Bool, false, ◌+◌, ◌-◌, ◌*◌, ◌/◌, ◌%◌, ◌<◌, ◌≤◌, List, [], ◌∷◌, ◌++◌, length, take, Result, Ok, Err, is_ok, true, refl, sym, ◌∙◌, ap, arith, slice_index}
 use Rattle.std.proofs.lemmas.List.{length-append, length-take-le, get_or_append_left, get_or-take, take_all}
-use Rattle.std.proofs.lemmas.Bool.{le-ltb, ltb-false, eqb-true, or_parts, and_parts}
+use Rattle.std.proofs.lemmas.Bool.{le-ltb, ltb-false, eqb-true, not-true, or_parts, and_parts}
 use Rattle.std.proofs.Math.Seq.{take-append_seam, drop-append_seam, take-add}
 use Rattle.std.proofs.Math.Nat.{mod-eq_of_lt}
 use Rattle.std.proofs.lemmas.Bool.Decides.{nat_tests}
@@ -12,7 +12,7 @@ use Rattle.aftr_base.proofs.NumberLemmas.{length-span}
 use Rattle.aftr_base.proofs.SumLemmas.{checksum-sealed}
 use Rattle.ip_codec.specs.declared.packet4.Head4.{Head4}
 use Rattle.ip_codec.specs.declared.packet4.Ip4Bad.{Ip4Bad}
-use Rattle.ip_codec.specs.Packet4.{Packet4, ip4_of, refusals4, fields4, header_len_of, total_len_of, bit, flag_worth, flags_of, fixed4, header4, is_fragment, is_plain, made4, starts_plain, word}
+use Rattle.ip_codec.specs.Packet4.{Packet4, ip4_of, refusals4, fields4, header_len_of, total_len_of, bit, flag_worth, flags_of, fixed4, header4, is_fragment, is_plain, made4, word}
 use Rattle.ip_codec.proofs.FieldLemmas.{span-append, span-take, big_endian-bytes_high_first, big_endian-word_bytes}
 use Rattle.aftr_base.proofs.FirstLemmas.{first_true-Ok, not-false}
 
@@ -216,12 +216,8 @@ known_as bytes header_len total_len packet h t known is =
     (ip4_of-known bytes known).read ∙ ap Ok (sym (is ∙ (λ i. fields4 (take (h i) bytes) (span bytes (h i) (t i - h i)))))
 
 -- ---- no fragment, and no options
-pub no_bits : (word : ℕ) → word % 16384 ≡ 0 → (bit word 8192 || not (word % 8192 == 0)) ≡ false
-no_bits word none = grind (arith, nat_tests)
-
-not-true : (test : Bool) → not test ≡ true → test ≡ false
-not-true true is = absurd cc
-not-true false is = refl
+pub fragment_bits : (word : ℕ) → (bit word 8192 || not (word % 8192 == 0)) ≡ not (word % 16384 == 0)
+fragment_bits word = grind (arith, nat_tests)
 
 -- what is known of bytes that are read as such a packet
 pub record IsPlain4 (bytes : List ℕ) : Type 0 where
@@ -248,31 +244,7 @@ plain_known bytes plain = by_reading (ip4_of bytes) refl plain
         }
     by_reading (Err why) is ok = absurd (cc ok)
 
--- the parts of a conjunction that says so of the first bytes
-record StartsPlain (bytes : List ℕ) : Type 0 where
-  pub enough : nat_lt (length bytes) 20 ≡ false
-  pub first : slice_index bytes 0 ≡ 69
-  pub least : nat_lt (total_len_of bytes) 20 ≡ false
-  pub within : nat_lt (length bytes) (total_len_of bytes) ≡ false
-  pub whole : word bytes 6 % 16384 ≡ 0
-
-starts-parts : (bytes : List ℕ) → starts_plain bytes ≡ true → StartsPlain bytes
-starts-parts bytes starts =
-    let front = nat_lt (length bytes) 20 || not (slice_index bytes 0 == 69) in
-    let inside = not (nat_lt (length bytes) (total_len_of bytes)) && (word bytes 6 % 16384 == 0) in
-    let both = and_parts (not front) (not (nat_lt (total_len_of bytes) 20) && inside) starts in
-    let rest = and_parts (not (nat_lt (total_len_of bytes) 20)) inside both.1 in
-    let last = and_parts (not (nat_lt (length bytes) (total_len_of bytes))) (word bytes 6 % 16384 == 0) rest.1 in
-    let fronts = or_parts (nat_lt (length bytes) 20) (not (slice_index bytes 0 == 69)) (not-true front both.0) in
-    record {
-      enough = fronts.0;
-      first = eqb-true (slice_index bytes 0) 69 (not-false (slice_index bytes 0 == 69) fronts.1);
-      least = not-true (nat_lt (total_len_of bytes) 20) rest.0;
-      within = not-true (nat_lt (length bytes) (total_len_of bytes)) last.0;
-      whole = eqb-true (word bytes 6 % 16384) 0 last.1;
-    }
-
--- the first four bytes of such bytes are no zeros
+-- the first four bytes of a header without options are no zeros
 pub first_some : (bytes : List ℕ) → 20 ≤ length bytes → slice_index bytes 0 ≡ 69 → (sum : ℕ) → big_endian (span (take 20 bytes) 0 4) ≤ sum → sum ≢ 0
 first_some [] enough first sum least = absurd (omega (arith, enough))
 first_some (a ∷ []) enough first sum least = absurd (omega (arith, enough))
@@ -280,38 +252,35 @@ first_some (a ∷ b ∷ []) enough first sum least = absurd (omega (arith, enoug
 first_some (a ∷ b ∷ c ∷ []) enough first sum least = absurd (omega (arith, enough))
 first_some (a ∷ b ∷ c ∷ d ∷ rest) enough first sum least = λ (none : sum ≡ 0). absurd (omega (arith, first, least, none))
 
-pub starts_some : (bytes : List ℕ) → starts_plain bytes ≡ true → (sum : ℕ) → big_endian (span (take 20 bytes) 0 4) ≤ sum → sum ≢ 0
-starts_some bytes starts sum least =
-    let parts = starts-parts bytes starts in first_some bytes (ltb-false (length bytes) 20 parts.enough) parts.first sum least
-
--- bytes that start so are such a packet where the checksum holds
-pub plain_by_sum : (bytes : List ℕ) → starts_plain bytes ≡ true → is_plain (ip4_of bytes) ≡ (checksum (take 20 bytes) == 0)
-plain_by_sum bytes starts = by_sum (checksum (take 20 bytes) == 0) refl
+-- bytes that begin with such a header are a packet of that kind where no bit of a fragment is set and the checksum holds
+pub plain_by_sum : (bytes : List ℕ) → 20 ≤ length bytes → slice_index bytes 0 ≡ 69 → 20 ≤ total_len_of bytes → total_len_of bytes ≤ length bytes →
+    is_plain (ip4_of bytes) ≡ ((word bytes 6 % 16384 == 0) && (checksum (take 20 bytes) == 0))
+plain_by_sum bytes enough first least within = by_tests (word bytes 6 % 16384 == 0) (checksum (take 20 bytes) == 0) refl refl
   where
-    parts : StartsPlain bytes
-    parts = starts-parts bytes starts
-
-    enough : 20 ≤ length bytes
-    enough = ltb-false (length bytes) 20 parts.enough
-
-    least : 20 ≤ total_len_of bytes
-    least = ltb-false (total_len_of bytes) 20 parts.least
-
     version : slice_index bytes 0 / 16 ≡ 4
-    version = ap (λ (n : ℕ). n / 16) parts.first
+    version = ap (λ (n : ℕ). n / 16) first
 
     header_is : header_len_of bytes ≡ 20
-    header_is = ap (λ (n : ℕ). 4 * (n % 16)) parts.first
+    header_is = ap (λ (n : ℕ). 4 * (n % 16)) first
 
-    uncut : is_fragment (fields4 (take 20 bytes) (span bytes 20 (total_len_of bytes - 20))) ≡ false
-    uncut =
+    cut : is_fragment (fields4 (take 20 bytes) (span bytes 20 (total_len_of bytes - 20))) ≡ not (word bytes 6 % 16384 == 0)
+    cut =
         ap (λ (w : ℕ). bit w 8192 || not (w % 8192 == 0)) (ap big_endian (span-take bytes 20 6 2 (omega arith) (omega (arith, enough))))
-        ∙ no_bits (word bytes 6) parts.whole
+        ∙ fragment_bits (word bytes 6)
 
-    by_sum : (holds : Bool) → (checksum (take 20 bytes) == 0) ≡ holds → is_plain (ip4_of bytes) ≡ holds
-    by_sum true sum =
-        ap is_plain
-        (ip4_of-good bytes (take 20 bytes) (span bytes 20 (total_len_of bytes - 20)) 20 (total_len_of bytes) version header_is refl (omega arith) least
-        (ltb-false (length bytes) (total_len_of bytes) parts.within) refl refl (eqb-true (checksum (take 20 bytes)) 0 sum))
-        ∙ rw (uncut, length-take-le 20 bytes enough) refl
-    by_sum false sum = rw (version, header_is, parts.enough, parts.least, parts.within, sum) refl
+    read : checksum (take 20 bytes) ≡ 0 → ip4_of bytes ≡ Ok (fields4 (take 20 bytes) (span bytes 20 (total_len_of bytes - 20)))
+    read sum =
+        ip4_of-good bytes (take 20 bytes) (span bytes 20 (total_len_of bytes - 20)) 20 (total_len_of bytes) version header_is refl (omega arith) least within
+        refl refl sum
+
+    unsummed : (checksum (take 20 bytes) == 0) ≡ false → is_plain (ip4_of bytes) ≡ false
+    unsummed sum =
+        rw (version, header_is, le-ltb (length bytes) 20 enough, le-ltb (total_len_of bytes) 20 least, le-ltb (length bytes) (total_len_of bytes) within, sum) refl
+
+    by_tests : (whole holds : Bool) → (word bytes 6 % 16384 == 0) ≡ whole → (checksum (take 20 bytes) == 0) ≡ holds →
+        is_plain (ip4_of bytes) ≡ (whole && holds)
+    by_tests true true whole sum =
+        ap is_plain (read (eqb-true (checksum (take 20 bytes)) 0 sum)) ∙ rw (cut, whole, length-take-le 20 bytes enough) refl
+    by_tests false true whole sum = ap is_plain (read (eqb-true (checksum (take 20 bytes)) 0 sum)) ∙ rw (cut, whole) refl
+    by_tests true false whole sum = unsummed sum
+    by_tests false false whole sum = unsummed sum

@@ -1,10 +1,18 @@
--- Lemmas on the checksum of two lists that stand one behind the other, and on a header that is made of two.
-use Rattle.std.proofs.Common.{◌≡◌, ℕ, ◌+◌, ◌-◌, ◌%◌, List, ◌++◌, length, sym, ◌∙◌, ap, arith, add_comm, append_assoc}
+-- Lemmas on two lists that stand one behind the other: their front, their checksum, and a header that is made of two.
+use Rattle.std.proofs.Common.{◌≡◌, ℕ, zero, suc, ◌+◌, ◌-◌, ◌%◌, List, [], ◌∷◌, ◌++◌, length, take, refl, sym, ◌∙◌, ap, arith, add_comm, append_assoc}
 use Rattle.aftr_base.specs.Numbers.{with_word}
 use Rattle.aftr_base.specs.Sums.{word_sum, folded, checksum, patched, sealed}
 use Rattle.aftr_base.proofs.SumLemmas.{folded-le, folded_inside, word_sum-append}
 use Rattle.ip_codec.specs.declared.packet4.Head4.{Head4}
 use Rattle.ip_codec.specs.Packet4.{fixed4}
+
+-- the front of both is that of the first, and of the second as much as is left
+pub front-joined : (n : ℕ) (a b : List ℕ) → take n a ++ take (n - length (take n a)) b ≡ take n (a ++ b)
+front-joined zero a b = refl
+front-joined (suc n) [] b = let same : suc n - 0 ≡ suc n = omega arith in ap (λ k. take k b) same
+front-joined (suc n) (x ∷ a) b =
+    let same : suc n - suc (length (take n a)) ≡ n - length (take n a) = omega arith in
+    ap (λ k. x ∷ (take n a ++ take k b)) same ∙ ap (λ l. x ∷ l) (front-joined n a b)
 
 complement : (bytes : List ℕ) → 65535 - checksum bytes ≡ folded (word_sum bytes)
 complement bytes = omega (arith, folded-le (word_sum bytes))

@@ -97,12 +97,6 @@ abbrev pub is_plain : Result Packet4 Ip4Bad → Bool
 is_plain (Ok packet) = not (is_fragment packet) && (length packet.header == 20)
 is_plain (Err why) = false
 
--- a header without options says so by its first byte; it fits its bytes, and has no bit of a fragment, MF or the offset
-abbrev pub starts_plain : List ℕ → Bool
-starts_plain bytes =
-    not (nat_lt (length bytes) 20 || not (slice_index bytes 0 == 69))
-    && (not (nat_lt (total_len_of bytes) 20) && (not (nat_lt (length bytes) (total_len_of bytes)) && (word bytes 6 % 16384 == 0)))
-
 -- the bytes of a packet, without whatever stands behind its total length (RFC 791, section 3.1)
 abbrev pub whole4 : Packet4 → List ℕ
 whole4 packet = packet.header ++ packet.payload

@@ -1,17 +1,17 @@
 // IPv4 packets, read and written.
-ghost use Rattle.std.specs.Prelude.{◌≡◌, ◌≢◌, ◌==◌, ◌+◌, ◌-◌, ◌%◌, ◌^◌, ◌<◌, ◌≤◌, ◌++◌, length, take, IfOk, IsErr, Ok, [], false};
+ghost use Rattle.std.specs.Prelude.{◌≡◌, ◌≢◌, ◌==◌, ◌+◌, ◌-◌, ◌%◌, ◌^◌, ◌<◌, ◌≤◌, ◌++◌, ◌&&◌, length, slice_index, take, IfOk, IsErr, Ok, [], true, false};
 ghost use Rattle.aftr_base.specs.Appended.{Extends};
 ghost use Rattle.aftr_base.specs.Numbers.{big_endian, span};
 ghost use Rattle.aftr_base.specs.Sums.{checksum, folded, word_sum};
-ghost use Rattle.ip_codec.specs.Packet4.{ip4_of, packet4, Reads4, IsBounded4, fields4, header4, fixed4, flags_of, flag_worth, made4, is_fragment, is_plain, packet_len, starts_plain};
+ghost use Rattle.ip_codec.specs.Packet4.{ip4_of, packet4, Reads4, IsBounded4, fields4, header4, fixed4, flags_of, flag_worth, made4, is_fragment, is_plain, packet_len};
 
 use aftr_base::{Bytes, OutOfMemory, V4, be16, be32, patch16, put_be16, put_checksum, sum16};
 use std::alloc::Global;
 
-// How many bytes a header without options has, and its first byte: the version, and the length in words of four bytes (RFC 791,
-// section 3.1).
-pub(crate) const PLAIN_HEADER: usize = 20;
+/// How many bytes a header has without its options (RFC 791, section 3.1).
+pub const HEADER4_LEN: usize = 20;
 
+// The first byte of a header without options: the version, and the length in words of four bytes.
 const PLAIN_FIRST: u8 = 0x45;
 
 /// An IPv4 packet as it stands in bytes (RFC 791, section 3.1).
@@ -104,14 +104,14 @@ pub fn ip4(bytes: &[u8]) -> Result<Ip4View<'_>, Ip4Bad>
         view.header.now ++ view.payload.now ≡ take (length view.header.now + length view.payload.now) bytes.now) }
     ensures alone { IfOk result (λ view. ip4_of (view.header.now ++ view.payload.now) ≡ Ok (packet4 view)) }
 {
-    if bytes.len() < 20 {
+    if bytes.len() < HEADER4_LEN {
         return Err(Ip4Bad::Short { have: bytes.len() });
     }
     if bytes[0] >> 4 != 4 {
         return Err(Ip4Bad::Version);
     }
     let header_len = 4 * usize::from(bytes[0] & 0x0f);
-    if header_len < 20 || bytes.len() < header_len {
+    if header_len < HEADER4_LEN || bytes.len() < header_len {
         return Err(Ip4Bad::HeaderLength);
     }
     let total_len = usize::from(be16(bytes, 2));
@@ -134,19 +134,20 @@ pub fn is_plain4(bytes: &[u8]) -> bool
     if !starts_plain(bytes) {
         return false;
     }
-    fills(plain_sum(&bytes[..PLAIN_HEADER]))
+    fills(plain_sum(&bytes[..HEADER4_LEN]))
 }
 
-// What a header says of itself, but for its checksum.
+// Whether the bytes are such a packet but for the checksum of its header.
 #[inline(always)]
 fn starts_plain(bytes: &[u8]) -> bool
-    ensures { result ≡ starts_plain bytes.now }
+    ensures told { is_plain (ip4_of bytes.now) ≡ (result && (checksum (take 20 bytes.now) == 0)) }
+    ensures first { result ≡ true → (20 ≤ length bytes.now) × (slice_index bytes.now 0 ≡ 69) }
 {
-    if bytes.len() < PLAIN_HEADER || bytes[0] != PLAIN_FIRST {
+    if bytes.len() < HEADER4_LEN || bytes[0] != PLAIN_FIRST {
         return false;
     }
     let total_len = usize::from(be16(bytes, 2));
-    PLAIN_HEADER <= total_len && total_len <= bytes.len() && be16(bytes, 6) % 0x4000 == 0
+    HEADER4_LEN <= total_len && total_len <= bytes.len() && be16(bytes, 6) % 0x4000 == 0
 }
 
 // Whether a header holds its own checksum. Most have no options, and are summed as five words.
@@ -154,7 +155,7 @@ fn starts_plain(bytes: &[u8]) -> bool
 fn sums_up(header: &[u8]) -> bool
     ensures { result ≡ (checksum header.now == 0) }
 {
-    if header.len() == PLAIN_HEADER {
+    if header.len() == HEADER4_LEN {
         return is_full(plain_sum(header));
     }
     sum16(header) == 0
@@ -245,7 +246,7 @@ pub fn put4(
     ensures read { IfOk result (λ packet. ip4_of packet ≡ Ok (made4 head.now options.now payload.now)) }
     ensures options { IfOk result (λ packet. span packet 20 (length options.now) ≡ options.now) }
 {
-    let header_len = 20 + options.len();
+    let header_len = HEADER4_LEN + options.len();
     let total_len = header_len + payload.len();
     let mut list = Vec::with_capacity(alloc, total_len)?;
     list.extend_from_slice(&fixed_part(*head, header_len as u8, total_len as u16))?;
@@ -271,7 +272,7 @@ pub fn push_head4(
     ensures bytes { IfOk result (λ _. out.new.items ≡ out.old.items ++ header4 head.now options.now payload_len) }
     ensures kept { IsErr result → Extends out.old.items out.new.items }
 {
-    let header_len = 20 + options.len();
+    let header_len = HEADER4_LEN + options.len();
     let total_len = header_len + payload_len;
     let mut fixed = fixed_part(*head, header_len as u8, total_len as u16);
     let sum = sum_of_both(&fixed, options);
@@ -289,7 +290,7 @@ pub fn head4_bytes(head: Head4, payload_len: u16) -> [u8; 20]
     ensures bytes { result ≡ header4 head [] payload_len }
     ensures addresses_fit { (head.src.0 < 2 ^ 32) × (head.dst.0 < 2 ^ 32) }
 {
-    let mut header = fixed_part(head, PLAIN_HEADER as u8, PLAIN_HEADER as u16 + payload_len);
+    let mut header = fixed_part(head, HEADER4_LEN as u8, HEADER4_LEN as u16 + payload_len);
     put_checksum(&mut header, 10);
     header
 }

@@ -7,6 +7,12 @@ ghost use Rattle.ip_codec.specs.Packet6.{ip6_of, packet6, Reads6, IsBounded6, ve
 use aftr_base::{Bytes, OutOfMemory, V6, be16, be32, be128};
 use std::alloc::Global;
 
+/// How many bytes the fixed header has (RFC 8200, section 3).
+pub const HEADER6_LEN: usize = 40;
+
+/// The first word of a header with no traffic class and no flow label: the version alone (RFC 8200, section 3).
+pub const VERSION6: u32 = 0x6000_0000;
+
 /// An IPv6 packet as it stands in bytes (RFC 8200, section 3).
 #[derive(Clone, Copy, Debug)]
 pub struct Ip6View<'a> {
@@ -52,14 +58,14 @@ pub fn ip6(bytes: &[u8]) -> Result<Ip6View<'_>, Ip6Bad>
     ensures reads { Reads6 result (ip6_of bytes.now) }
     ensures bounded { IfOk result (λ view. IsBounded6 (packet6 view)) }
 {
-    if bytes.len() < 40 {
+    if bytes.len() < HEADER6_LEN {
         return Err(Ip6Bad::Short { have: bytes.len() });
     }
     if bytes[0] >> 4 != 6 {
         return Err(Ip6Bad::Version);
     }
     let payload_len = usize::from(be16(bytes, 4));
-    if bytes.len() - 40 < payload_len {
+    if bytes.len() - HEADER6_LEN < payload_len {
         return Err(Ip6Bad::Payload);
     }
     Ok(view_of(bytes, payload_len))
@@ -70,10 +76,10 @@ pub fn ip6(bytes: &[u8]) -> Result<Ip6View<'_>, Ip6Bad>
 pub fn is_ip6(bytes: &[u8]) -> bool
     ensures { result ≡ is_ok (ip6_of bytes.now) }
 {
-    if bytes.len() < 40 || bytes[0] >> 4 != 6 {
+    if bytes.len() < HEADER6_LEN || bytes[0] >> 4 != 6 {
         return false;
     }
-    bytes.len() - 40 >= usize::from(be16(bytes, 4))
+    bytes.len() - HEADER6_LEN >= usize::from(be16(bytes, 4))
 }
 
 /// The packet of bytes that are known to be one, as `ip6` reads it: they are not tested again.
@@ -98,7 +104,7 @@ fn view_of(bytes: &[u8], body_len: usize) -> Ip6View<'_>
         hop: bytes[7],
         src: V6(be128(bytes, 8)),
         dst: V6(be128(bytes, 24)),
-        body: &bytes[40..40 + body_len],
+        body: &bytes[HEADER6_LEN..HEADER6_LEN + body_len],
     }
 }
 
@@ -110,7 +116,7 @@ pub fn put6(alloc: Global, head: &Head6, body: &[u8]) -> Result<Bytes, OutOfMemo
     ensures bytes { IfOk result (λ packet. packet ≡ bytes6 head.now body.now) }
     ensures read { IfOk result (λ packet. ip6_of packet ≡ Ok (made6 head.now body.now)) }
 {
-    let mut list = Vec::with_capacity(alloc, 40 + body.len())?;
+    let mut list = Vec::with_capacity(alloc, HEADER6_LEN + body.len())?;
     list.extend_from_slice(&head6_bytes(*head, body.len() as u16))?;
     list.extend_from_slice(body)?;
     Ok(Bytes::of(list))

@@ -2,7 +2,7 @@
 ghost use Rattle.std.specs.Prelude.{◌≡◌, ◌++◌, take, IfOk, IfErr, Ok, Err, is_ok, true};
 ghost use Rattle.ip_codec.specs.Packet4.{ip4_of, is_plain, packet4, packet_len, whole4, IsBounded4};
 
-use crate::packet4::{Ip4Bad, Ip4View, PLAIN_HEADER, ip4, uncut_view, view_of};
+use crate::packet4::{HEADER4_LEN, Ip4Bad, Ip4View, ip4, uncut_view, view_of};
 use aftr_base::be16;
 
 /// An IPv4 packet that was read: it reads the same from its header and payload alone, and keeps the format's limits.
@@ -58,6 +58,6 @@ pub fn plain_packet(bytes: &[u8]) -> ReadPacket<'_>
     ensures front { whole4 (packet4 result.view) ≡ take (packet_len (packet4 result.view)) bytes.now }
 {
     let total_len = usize::from(be16(bytes, 2));
-    let view = uncut_view(&bytes[..PLAIN_HEADER], &bytes[PLAIN_HEADER..total_len]);
+    let view = uncut_view(&bytes[..HEADER4_LEN], &bytes[HEADER4_LEN..total_len]);
     ReadPacket { view }
 }
