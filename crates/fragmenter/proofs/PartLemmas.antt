@@ -1,12 +1,6 @@
 -- A part of two lists that stand one behind the other.
-use Rattle.std.proofs.Common.{◌≡◌, ℕ, zero, suc, ◌-◌, List, [], ◌∷◌, ◌++◌, length, take, drop, refl, ◌∙◌, ap, arith}
-
-front-joined : (n : ℕ) (a b : List ℕ) → take n a ++ take (n - length (take n a)) b ≡ take n (a ++ b)
-front-joined zero a b = refl
-front-joined (suc n) [] b = let same : suc n - 0 ≡ suc n = omega arith in ap (λ k. take k b) same
-front-joined (suc n) (x ∷ a) b =
-    let same : suc n - suc (length (take n a)) ≡ n - length (take n a) = omega arith in
-    ap (λ k. x ∷ (take n a ++ take k b)) same ∙ ap (λ l. x ∷ l) (front-joined n a b)
+use Rattle.std.proofs.Common.{◌≡◌, ℕ, zero, suc, ◌-◌, List, [], ◌∷◌, ◌++◌, length, take, drop, ◌∙◌, ap, arith}
+use Rattle.ip_codec.proofs.Laws.{front-joined}
 
 drop-joined : (from : ℕ) (a b : List ℕ) → drop from a ++ drop (from - length a) b ≡ drop from (a ++ b)
 drop-joined zero a b = let same : 0 - length a ≡ 0 = omega arith in ap (λ k. a ++ drop k b) same

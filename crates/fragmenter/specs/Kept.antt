@@ -5,7 +5,7 @@ use Rattle.std.specs.Prelude.{ℕ, zero, suc, ◌-◌, ◌%◌, ◌==◌, nat_lt
 abbrev pub option_len : List ℕ → ℕ
 option_len left = if slice_index left 0 == 1 then 1 else slice_index left 1
 
--- An option whose length is below 1, or past the end of the options. A length of 1 is none but for No Operation.
+-- an option that has fewer bytes than its type and its length byte, or, where it is No Operation, than its type; or more than are left
 abbrev pub is_broken : List ℕ → Bool
 is_broken left = nat_lt (option_len left) (if slice_index left 0 == 1 then 1 else 2) || nat_lt (length left) (option_len left)
 

@@ -5,12 +5,7 @@ ghost use Rattle.ip_codec.specs.Packet6.{packet6};
 ghost use Rattle.fragmenter.specs.Pieces6.{piece6, fragment_bytes, fragment_head};
 
 use aftr_base::OutOfMemory;
-use ip_codec::{Head6, Ip6View, push_head6};
-
-// The number of the Fragment header, and how many bytes it has (RFC 8200, section 4.5).
-const FRAGMENT: u8 = 44;
-
-const FRAGMENT_LEN: usize = 8;
+use ip_codec::{FRAGMENT, FRAGMENT_LEN, Head6, Ip6View, push_head6};
 
 // Appends the fragment that carries a part of a tunnel packet's body. The part comes in two, one behind the other.
 pub(crate) fn push_piece6(

@@ -7,15 +7,12 @@ ghost use Rattle.fragmenter.specs.Pieces4.{Pieces4, pieces4, fragments4, options
 use crate::options::{Options, copied};
 use crate::single::only;
 use aftr_base::{Bytes, OutOfMemory, Packets};
-use ip_codec::{Head4, Ip4View, known_packet, push_head4};
+use ip_codec::{HEADER4_LEN, Head4, Ip4View, known_packet, push_head4};
 use std::alloc::Global;
 
 /// The most pieces that `cut4` and `Cuts4` give: a payload of 65,515 bytes or less on a link that takes 576, behind headers of
 /// 60 bytes or less.
 pub const MOST_PIECES4: usize = 128;
-
-// How many bytes an IPv4 header has without its options (RFC 791, section 3.1).
-const HEADER: usize = 20;
 
 /// The pieces of an IPv4 packet that are not written yet (RFC 791, section 3.2), one after the other.
 #[derive(Drop)]
@@ -53,7 +50,7 @@ impl<'a> Cuts4<'a> {
     {
         Cuts4 {
             packet: *packet,
-            copied: copied(&packet.header[HEADER..]),
+            copied: copied(&packet.header[HEADER4_LEN..]),
             mtu,
             before: 0,
         }
@@ -67,7 +64,7 @@ impl<'a> Cuts4<'a> {
         if self.before == self.packet.payload.len() {
             None
         } else {
-            Some(HEADER + self.options().len() + self.part_len())
+            Some(HEADER4_LEN + self.options().len() + self.part_len())
         }
     }
 
@@ -96,7 +93,7 @@ impl<'a> Cuts4<'a> {
         ensures few { length result.now ≤ 40 }
     {
         if self.before == 0 {
-            &self.packet.header[HEADER..]
+            &self.packet.header[HEADER4_LEN..]
         } else {
             self.copied.as_slice()
         }
@@ -109,7 +106,7 @@ impl<'a> Cuts4<'a> {
         ensures within { self.now.before + result ≤ length self.now.packet.payload.now }
         ensures small { result + 20 + length (options_at (packet4 self.now.packet) self.now.before) ≤ 65535 }
     {
-        let room = usize::from(self.mtu) - (HEADER + self.options().len());
+        let room = usize::from(self.mtu) - (HEADER4_LEN + self.options().len());
         let left = self.packet.payload.len() - self.before;
         if room < left { room / 8 * 8 } else { left }
     }

@@ -6,7 +6,7 @@ ghost use Rattle.fragmenter.specs.Pieces6.{Pieces6, pieces6, fragments6, room6, 
 use crate::headers::push_piece6;
 use crate::single::only;
 use aftr_base::{Bytes, OutOfMemory, Packets};
-use ip_codec::{Ip6View, ip6};
+use ip_codec::{FRAGMENT_LEN, HEADER6_LEN, Ip6View, ip6};
 use std::alloc::Global;
 
 /// The most fragments that `cut6` and `Cuts6` give: a body of 65,535 bytes on a link that takes 1,280.
@@ -14,7 +14,7 @@ pub const MOST_PIECES6: usize = 54;
 
 // How many bytes the headers of a fragment have: the IPv6 header, and the Fragment header behind it (RFC 8200, sections 3 and
 // 4.5).
-const HEADERS: usize = 48;
+const HEADERS: usize = HEADER6_LEN + FRAGMENT_LEN;
 
 /// The fragments of a tunnel packet that are not written yet (RFC 8200, section 4.5), one after the other.
 #[derive(Drop)]

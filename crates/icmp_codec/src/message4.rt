@@ -3,7 +3,7 @@ ghost use Rattle.std.specs.Prelude.{◌≡◌, ◌+◌, ◌≤◌, ◌++◌, len
 ghost use Rattle.icmp_codec.specs.Message4.{ReadsMessage4, message_fields4, icmp4_bytes, icmp4_of, is_echo, made_message4, message4};
 ghost use Rattle.icmp_codec.specs.Quoted.{lacks_header, quoted};
 
-use crate::head::{CHECKSUM, HEAD_LEN, IcmpHead, head_bytes};
+use crate::head::{CHECKSUM, ICMP_HEAD_LEN, IcmpHead, head_bytes};
 use crate::quoted::{Embedded, read_embedded};
 use aftr_base::{Bytes, OutOfMemory, be16, be32, put_checksum, sum16};
 use std::alloc::Global;
@@ -40,7 +40,7 @@ pub enum IcmpBad {
 pub fn icmp4(bytes: &[u8]) -> Result<Icmp4View<'_>, IcmpBad>
     ensures { ReadsMessage4 result (icmp4_of bytes.now) }
 {
-    if bytes.len() < HEAD_LEN {
+    if bytes.len() < ICMP_HEAD_LEN {
         return Err(IcmpBad::Short);
     }
     if is_echo(bytes[0]) {
@@ -49,7 +49,7 @@ pub fn icmp4(bytes: &[u8]) -> Result<Icmp4View<'_>, IcmpBad>
     if sum16(bytes) != 0 {
         return Err(IcmpBad::Checksum);
     }
-    let Some(embedded) = read_embedded(&bytes[HEAD_LEN..]) else {
+    let Some(embedded) = read_embedded(&bytes[ICMP_HEAD_LEN..]) else {
         return Err(IcmpBad::Embedded);
     };
     Ok(view_of(bytes, Some(embedded)))
@@ -64,7 +64,7 @@ fn view_of<'a>(bytes: &'a [u8], embedded: Option<Embedded<'a>>) -> Icmp4View<'a>
         code: bytes[1],
         id: be16(bytes, 4),
         word: be32(bytes, 4),
-        rest: &bytes[HEAD_LEN..],
+        rest: &bytes[ICMP_HEAD_LEN..],
         embedded,
     }
 }
@@ -118,7 +118,7 @@ pub fn push_icmp4(
     ensures room { vec_len list.old + (8 + length quote.now + length more.now) ≤ vec_capacity list.old → IsOk result }
 {
     let start = list.len();
-    list.reserve(HEAD_LEN + quote.len() + more.len())?;
+    list.reserve(ICMP_HEAD_LEN + quote.len() + more.len())?;
     list.extend_from_slice(&head_bytes(head))?;
     list.extend_from_slice(quote)?;
     list.extend_from_slice(more)?;

@@ -2,7 +2,7 @@
 ghost use Rattle.std.specs.Prelude.{◌≡◌, ◌+◌, ◌≤◌, ◌++◌, length, if◌then◌else◌, is_ok, IsOk, IfOk, vec_len, vec_capacity, Ok};
 ghost use Rattle.icmp_codec.specs.Message6.{ReadsMessage6, icmp6_bytes, icmp6_of, made_message6};
 
-use crate::head::{CHECKSUM, HEAD_LEN, IcmpHead, head_bytes};
+use crate::head::{CHECKSUM, ICMP_HEAD_LEN, IcmpHead, head_bytes};
 use crate::message4::IcmpBad;
 use crate::sums::sum_message6;
 use aftr_base::{Bytes, OutOfMemory, V6, be32, put_be16};
@@ -25,7 +25,7 @@ pub struct Icmp6View<'a> {
 pub fn icmp6(src: V6, dst: V6, bytes: &[u8]) -> Result<Icmp6View<'_>, IcmpBad>
     ensures { ReadsMessage6 result (icmp6_of src.0 dst.0 bytes.now) }
 {
-    if bytes.len() < HEAD_LEN {
+    if bytes.len() < ICMP_HEAD_LEN {
         return Err(IcmpBad::Short);
     }
     if sum_message6(src, dst, bytes) != 0 {
@@ -35,7 +35,7 @@ pub fn icmp6(src: V6, dst: V6, bytes: &[u8]) -> Result<Icmp6View<'_>, IcmpBad>
         kind: bytes[0],
         code: bytes[1],
         word: be32(bytes, 4),
-        rest: &bytes[HEAD_LEN..],
+        rest: &bytes[ICMP_HEAD_LEN..],
     })
 }
 
@@ -90,7 +90,7 @@ pub fn push_icmp6(
     ensures room { vec_len list.old + (8 + length quote.now + length more.now) ≤ vec_capacity list.old → IsOk result }
 {
     let start = list.len();
-    list.reserve(HEAD_LEN + quote.len() + more.len())?;
+    list.reserve(ICMP_HEAD_LEN + quote.len() + more.len())?;
     list.extend_from_slice(&head_bytes(head))?;
     list.extend_from_slice(quote)?;
     list.extend_from_slice(more)?;

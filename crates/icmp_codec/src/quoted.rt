@@ -3,6 +3,7 @@ ghost use Rattle.std.specs.Prelude.{◌≡◌};
 ghost use Rattle.icmp_codec.specs.Quoted.{embedded_of, quoted};
 
 use aftr_base::{V4, be16, be32, sum16};
+use ip_codec::HEADER4_LEN;
 
 /// An IPv4 packet as an ICMP error quotes it: fields of its header, and as much of its payload as is quoted (RFC 792).
 #[derive(Clone, Copy, Debug)]
@@ -21,11 +22,11 @@ pub struct Embedded<'a> {
 pub fn read_embedded(bytes: &[u8]) -> Option<Embedded<'_>>
     ensures { quoted result ≡ embedded_of bytes.now }
 {
-    if bytes.len() < 20 || bytes[0] >> 4 != 4 {
+    if bytes.len() < HEADER4_LEN || bytes[0] >> 4 != 4 {
         return None;
     }
     let header_len = 4 * usize::from(bytes[0] & 0x0f);
-    if header_len < 20 || bytes.len() < header_len || sum16(&bytes[..header_len]) != 0 {
+    if header_len < HEADER4_LEN || bytes.len() < header_len || sum16(&bytes[..header_len]) != 0 {
         return None;
     }
     Some(Embedded {

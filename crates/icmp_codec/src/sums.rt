@@ -3,10 +3,7 @@ ghost use Rattle.std.specs.Prelude.{◌≡◌};
 ghost use Rattle.icmp_codec.specs.Message6.{checksum6, pseudo_header};
 
 use aftr_base::V6;
-use ip_codec::sum_of_both;
-
-// The number of ICMPv6 among the next headers (RFC 4443, section 1).
-const ICMP6: u8 = 58;
+use ip_codec::{ICMP6, sum_of_both};
 
 // The checksum of an ICMPv6 message: that of its pseudo-header and the message (RFC 4443, section 2.3).
 pub fn sum_message6(src: V6, dst: V6, message: &[u8]) -> u16

@@ -1,5 +1,5 @@
 -- Lemmas on packets that are appended in parts.
-use Rattle.std.proofs.Common.{◌≡◌, ℕ, zero, suc, ◌+◌, ◌-◌, ◌≤◌, List, [], ◌∷◌, ◌++◌, length, take, if◌then◌else◌, is_ok, IsOk, IfOk, Result, Ok, Err, refl, sym, ◌∙◌, ap, arith, append_assoc}
+use Rattle.std.proofs.Common.{◌≡◌, ℕ, ◌+◌, ◌-◌, ◌≤◌, List, [], ◌++◌, length, take, if◌then◌else◌, is_ok, IsOk, IfOk, Result, Ok, Err, refl, sym, ◌∙◌, ap, arith, append_assoc}
 use Rattle.std.proofs.lemmas.List.{length-append, take_all}
 use Rattle.std.proofs.Math.Seq.{take-append-add, take-append_seam}
 use borrow.Rule.Slice.PartMut.{put_mid}
@@ -8,6 +8,7 @@ use Rattle.aftr_base.specs.declared.numbers.V4.{V4}
 use Rattle.aftr_base.specs.declared.numbers.V6.{V6}
 use Rattle.icmp_codec.specs.Message4.{icmp4_bytes}
 use Rattle.icmp_codec.specs.Message6.{icmp6_bytes}
+use Rattle.ip_codec.proofs.Laws.{front-joined}
 use Rattle.ip_codec.specs.Packet4.{header4}
 use Rattle.ip_codec.specs.Packet6.{bytes6, header6}
 use Rattle.ip_codec.specs.declared.items.Outer.{Outer}
@@ -23,18 +24,11 @@ pushed (Ok x) new list old header rest whole ok new_is list_is whole_is =
     new_is ∙ ap (λ l. l ++ rest) list_is ∙ append_assoc old header rest ∙ ap (λ l. old ++ l) whole_is
 pushed (Err e) new list old header rest whole ok new_is list_is whole_is = absurd cc
 
-front_joined : (n : ℕ) (a b : List ℕ) → take n a ++ take (n - length (take n a)) b ≡ take n (a ++ b)
-front_joined zero a b = refl
-front_joined (suc n) [] b = let same : suc n - 0 ≡ suc n = omega arith in ap (λ k. take k b) same
-front_joined (suc n) (x ∷ a) b =
-    let same : suc n - suc (length (take n a)) ≡ n - length (take n a) = omega arith in
-    ap (λ k. x ∷ (take n a ++ take k b)) same ∙ ap (λ l. x ∷ l) (front_joined n a b)
-
 -- the first bytes of two lists are those of the first, and of the second as many as are left
 pub front_of_both : (n : ℕ) (a b first second : List ℕ) → first ≡ take n a → second ≡ take (n - length first) b →
     first ++ second ≡ take n (a ++ b)
 front_of_both n a b first second first_is second_is =
-    ap (λ l. first ++ l) second_is ∙ ap (λ l. l ++ take (n - length l) b) first_is ∙ front_joined n a b
+    ap (λ l. first ++ l) second_is ∙ ap (λ l. l ++ take (n - length l) b) first_is ∙ front-joined n a b
 
 -- a header for a message of this length, and the message
 pub error4-parts : (own to : V4) (kind code word n : ℕ) (quote packet : List ℕ) → n ≡ 8 + length quote → quote ≡ take 548 packet →

@@ -6,10 +6,7 @@ ghost use Rattle.icmp_errors.specs.Answers.{about, first_bits, first_byte, gets_
 
 use aftr_base::{V4, V6};
 use icmp_codec::{Embedded, is_echo};
-use ip_codec::Ip4View;
-
-// The number of ICMP among the protocols (RFC 792).
-pub(crate) const ICMP: u8 = 1;
+use ip_codec::{ICMP, Ip4View};
 
 /// Whether an ICMP error may be sent about the packet (RFC 1122, section 3.2.2; RFC 1812, section 4.3.2.7).
 pub fn may_complain(p: &Ip4View<'_>) -> bool

@@ -5,26 +5,19 @@ ghost use Rattle.icmp_codec.specs.Quoted.{EmbeddedPacket, embedded_of};
 ghost use Rattle.ip_codec.specs.Packet4.{header4, ip4_of, made4, packet4, packet_len};
 ghost use Rattle.icmp_errors.specs.Errors4.{TellsOf, TellsSource, error4, error_about, error_head, error_len, exceeded_bytes, most_quoted, too_big_bytes, unreachable_bytes};
 
-use crate::answers::ICMP;
 use crate::fronts::front;
 use aftr_base::{Bytes, OutOfMemory, V4};
-use icmp_codec::{IcmpHead, push_icmp4};
-use ip_codec::{Head4, Ip4View, head4_bytes};
+use icmp_codec::{ICMP_HEAD_LEN, IcmpHead, UNREACHABLE, push_icmp4};
+use ip_codec::{HEADER4_LEN, Head4, ICMP, Ip4View, head4_bytes};
 use std::alloc::Global;
 
-// How much of a packet is quoted at most, and what stands before it: the IPv4 header and the first part of the message.
+// How much of a packet is quoted at most.
 const MOST_QUOTED: usize = 548;
-
-const HEADER_LEN: usize = 20;
-
-const MESSAGE_HEAD_LEN: usize = 8;
 
 // The time to live that hosts start with.
 const TTL: u8 = 64;
 
-// Types and codes (RFC 792; RFC 1191, section 4).
-const UNREACHABLE: u8 = 3;
-
+// Codes and messages (RFC 792; RFC 1191, section 4).
 const DF_SET: u8 = 4;
 
 const HOST_UNREACHABLE: IcmpHead = IcmpHead {
@@ -43,7 +36,7 @@ const TIME_EXCEEDED: IcmpHead = IcmpHead {
 pub fn error_len(quoted: usize) -> usize
     ensures { result ≡ error_len quoted }
 {
-    HEADER_LEN + MESSAGE_HEAD_LEN + MOST_QUOTED.min(quoted)
+    HEADER4_LEN + ICMP_HEAD_LEN + MOST_QUOTED.min(quoted)
 }
 
 /// Destination unreachable, code 1, to the packet's source from the address `own` (RFC 792). It quotes the first 548 bytes
@@ -168,8 +161,8 @@ pub fn push_error4(
 {
     let quote = front(header, MOST_QUOTED);
     let more = front(payload, MOST_QUOTED - quote.len());
-    let message_len = MESSAGE_HEAD_LEN + quote.len() + more.len();
-    list.reserve(HEADER_LEN + message_len)?;
+    let message_len = ICMP_HEAD_LEN + quote.len() + more.len();
+    list.reserve(HEADER4_LEN + message_len)?;
     list.extend_from_slice(&error_header(own, to, message_len as u16))?;
     push_icmp4(list, head, quote, more)
 }

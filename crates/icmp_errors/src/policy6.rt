@@ -5,21 +5,9 @@ ghost use Rattle.ip_codec.specs.Packet6.{header6};
 
 use crate::fronts::front;
 use aftr_base::{Bytes, OutOfMemory, V6};
-use icmp_codec::{IcmpHead, push_icmp6};
-use ip_codec::{Head6, Outer, head6_bytes};
+use icmp_codec::{ICMP_HEAD_LEN, IcmpHead, push_icmp6};
+use ip_codec::{HEADER6_LEN, Head6, ICMP6, IPV4_IN_IPV6, Outer, VERSION6, head6_bytes};
 use std::alloc::Global;
-
-// Version 6, with no traffic class and no flow label (RFC 8200, section 3).
-const FIRST_WORD: u32 = 0x6000_0000;
-
-// Next headers: IPv4 in a tunnel (RFC 2473) and ICMPv6 (RFC 4443).
-const IPV4: u8 = 4;
-
-const ICMP6: u8 = 58;
-
-const HEADER_LEN: usize = 40;
-
-const MESSAGE_HEAD_LEN: usize = 8;
 
 // How much of the inner packet is quoted at most behind the header of its tunnel.
 const MOST_INNER: usize = 1192;
@@ -36,7 +24,7 @@ pub fn policy_len(inner: usize) -> usize
     requires { inner ≤ 65535 }
     ensures { result ≡ policy_len inner }
 {
-    HEADER_LEN + MESSAGE_HEAD_LEN + (HEADER_LEN + MOST_INNER).min(HEADER_LEN + inner)
+    HEADER6_LEN + ICMP_HEAD_LEN + (HEADER6_LEN + MOST_INNER).min(HEADER6_LEN + inner)
 }
 
 /// Destination unreachable, code 5, from one address to another with this hop limit (RFC 7596, section 6.2; RFC 4443,
@@ -80,7 +68,7 @@ pub fn push_source_policy6(
         TellsPolicy from to hop outer.now (header.now ++ payload.now) (policy6 from to hop outer.now (header.now ++ payload.now))) }
 {
     let head = Head6 {
-        word: FIRST_WORD,
+        word: VERSION6,
         next: ICMP6,
         hop,
         src: from,
@@ -88,10 +76,10 @@ pub fn push_source_policy6(
     };
     let tunnel = tunnel_header(outer, (header.len() + payload.len()) as u16);
     let headers = joined(&tunnel, header);
-    let quote = front(&headers, HEADER_LEN + header.len());
+    let quote = front(&headers, HEADER6_LEN + header.len());
     let more = front(payload, MOST_INNER - header.len());
-    let message_len = MESSAGE_HEAD_LEN + HEADER_LEN + header.len() + more.len();
-    list.reserve(HEADER_LEN + message_len)?;
+    let message_len = ICMP_HEAD_LEN + HEADER6_LEN + header.len() + more.len();
+    list.reserve(HEADER6_LEN + message_len)?;
     list.extend_from_slice(&head6_bytes(head, message_len as u16))?;
     push_icmp6(list, from, to, SOURCE_POLICY, quote, more)
 }
@@ -102,8 +90,8 @@ fn joined(tunnel: &[u8; 40], header: &[u8]) -> [u8; 100]
     ensures { take (40 + length header.now) result ≡ tunnel.now ++ header.now }
 {
     let mut bytes = [0; 100];
-    bytes[..HEADER_LEN].copy_from_slice(tunnel);
-    bytes[HEADER_LEN..HEADER_LEN + header.len()].copy_from_slice(header);
+    bytes[..HEADER6_LEN].copy_from_slice(tunnel);
+    bytes[HEADER6_LEN..HEADER6_LEN + header.len()].copy_from_slice(header);
     bytes
 }
 
@@ -113,7 +101,7 @@ fn tunnel_header(outer: &Outer, payload_len: u16) -> [u8; 40]
 {
     let head = Head6 {
         word: outer.word,
-        next: IPV4,
+        next: IPV4_IN_IPV6,
         hop: outer.hop,
         src: outer.src,
         dst: outer.dst,

@@ -15,8 +15,8 @@ pub record TunnelQuote : Type 0 where
   pub packet : List ℕ
 
 -- the IPv6 header has IPv4 (4) behind it
-abbrev pub is_plain : List ℕ → Bool
-is_plain bytes = slice_index bytes 6 == 4
+abbrev pub carries_ipv4 : List ℕ → Bool
+carries_ipv4 bytes = slice_index bytes 6 == 4
 
 -- It has a Fragment header (44) behind it, which has IPv4 behind it and the offset 0: the first piece of a tunnel packet
 -- that was cut (RFC 8200, section 4.5).
@@ -29,12 +29,12 @@ is_first_piece bytes =
 
 -- how many bytes the tunnel's header has, with the Fragment header that follows it
 abbrev pub tunnel_len : List ℕ → ℕ
-tunnel_len bytes = if is_plain bytes then 40 else 48
+tunnel_len bytes = if carries_ipv4 bytes then 40 else 48
 
 -- The bytes do not begin with the headers of a tunnel. The payload length is not looked at, since quotes are cut.
 abbrev pub lacks_tunnel : List ℕ → Bool
 lacks_tunnel bytes =
-    nat_lt (length bytes) 40 || not (slice_index bytes 0 / 16 == 6) || not (is_plain bytes || is_first_piece bytes)
+    nat_lt (length bytes) 40 || not (slice_index bytes 0 / 16 == 6) || not (carries_ipv4 bytes || is_first_piece bytes)
 
 -- what is wrong with the quoted bytes: each condition with its refusal
 abbrev pub quote_refusals : List ℕ → List (Bool × QuoteBad)

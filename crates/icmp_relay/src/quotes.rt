@@ -9,6 +9,7 @@ use aftr_base::{V4, V6, be16, be128};
 use binding_rules::Want;
 use icmp_codec::{Embedded, read_embedded};
 use icmp_errors::may_complain_about;
+use ip_codec::{FRAGMENT, FRAGMENT_LEN, HEADER6_LEN, IPV4_IN_IPV6};
 use port_locate::{quoted_destination, quoted_source};
 
 /// A tunnel packet as an ICMPv6 error quotes it, and the IPv4 packet in it.
@@ -37,15 +38,6 @@ pub enum QuoteBad {
     /// No IPv4 header that sums up stands behind the tunnel's header.
     Inner,
 }
-
-// The headers of a tunnel packet, and their numbers for what follows (RFC 8200, sections 3 and 4.5; RFC 2473).
-const HEADER_LEN: usize = 40;
-
-const FRAGMENT_LEN: usize = 8;
-
-const IPV4: u8 = 4;
-
-const FRAGMENT: u8 = 44;
 
 /// Reads the tunnel packet that an ICMPv6 error quotes behind its first 8 bytes (RFC 4443, section 3; RFC 2473, section
 /// 8). The payload length is not looked at, since quotes are cut.
@@ -77,14 +69,14 @@ fn tunnel_len(rest: &[u8]) -> Option<usize>
     ensures { MatchOption result (lacks_tunnel rest.now ≡ true)
         (λ len. (lacks_tunnel rest.now ≡ false) × (len ≡ tunnel_len rest.now) × (40 ≤ len) × (len ≤ length rest.now)) }
 {
-    if rest.len() < HEADER_LEN || rest[0] >> 4 != 6 {
+    if rest.len() < HEADER6_LEN || rest[0] >> 4 != 6 {
         return None;
     }
-    if rest[6] == IPV4 {
-        return Some(HEADER_LEN);
+    if rest[6] == IPV4_IN_IPV6 {
+        return Some(HEADER6_LEN);
     }
     if is_first_piece(rest) {
-        return Some(HEADER_LEN + FRAGMENT_LEN);
+        return Some(HEADER6_LEN + FRAGMENT_LEN);
     }
     None
 }
@@ -95,9 +87,9 @@ fn is_first_piece(rest: &[u8]) -> bool
     ensures { result ≡ is_first_piece rest.now }
 {
     rest[6] == FRAGMENT
-        && rest.len() >= HEADER_LEN + FRAGMENT_LEN
-        && rest[HEADER_LEN] == IPV4
-        && be16(rest, HEADER_LEN + 2) >> 3 == 0
+        && rest.len() >= HEADER6_LEN + FRAGMENT_LEN
+        && rest[HEADER6_LEN] == IPV4_IN_IPV6
+        && be16(rest, HEADER6_LEN + 2) >> 3 == 0
 }
 
 impl<'a> Quote<'a> {

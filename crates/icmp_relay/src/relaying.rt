@@ -5,12 +5,9 @@ ghost use Rattle.icmp_relay.specs.Relayed.{TellsInner, relayed};
 
 use crate::quotes::Quote;
 use aftr_base::{Bytes, OutOfMemory, V4};
-use icmp_codec::IcmpHead;
+use icmp_codec::{IcmpHead, UNREACHABLE};
 use icmp_errors::push_error4;
 use std::alloc::Global;
-
-// Destination unreachable (RFC 792).
-const UNREACHABLE: u8 = 3;
 
 /// Destination unreachable, from the address `own` to the source of the quoted IPv4 packet, whose first 548 bytes it
 /// quotes (RFC 2473, section 8). The code is 1, the host is not reached, or 4, the packet is too big and `mtu` bytes would

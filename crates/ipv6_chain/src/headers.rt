@@ -3,17 +3,16 @@ ghost use Rattle.std.specs.Prelude.{◌≡◌, ◌+◌, ◌^◌, ◌≤◌, leng
 ghost use Rattle.ipv6_chain.specs.Chains.{chain_of, is_skipped, is_misplaced, has_segments, header_len, fragment_end, is_short};
 
 use aftr_base::{be16, be32};
+use ip_codec::{FRAGMENT, FRAGMENT_LEN};
 
 // The numbers of the headers that the walk knows (RFC 8200, section 4.1; the numbers are IANA's).
 const HOP_BY_HOP: u8 = 0;
 
 const ROUTING: u8 = 43;
 
-const FRAGMENT: u8 = 44;
-
 const DESTINATION: u8 = 60;
 
-// How many bytes every one of them has at least, and a Fragment header just so many.
+// How many bytes every one of them has at least.
 const LEAST: usize = 8;
 
 /// What a walk begins with.
@@ -90,8 +89,9 @@ pub fn walk(next: u8, body: &[u8], start: Start) -> Result<Chain, ChainBad>
     })
 }
 
-// Whether the walk passes a header with this number.
-fn is_skipped(number: u8) -> bool
+/// Whether `walk` passes a header with this number: Hop-by-Hop Options, Routing or Destination Options.
+#[inline(always)]
+pub fn is_skipped(number: u8) -> bool
     ensures { result ≡ is_skipped number }
 {
     number == HOP_BY_HOP || number == ROUTING || number == DESTINATION
@@ -136,13 +136,13 @@ fn fragment_end(at: usize, left: &[u8], start: Start) -> Result<Chain, ChainBad>
     if start == Start::AfterFragment {
         return Err(ChainBad::Order);
     }
-    if left.len() < LEAST {
+    if left.len() < FRAGMENT_LEN {
         return Err(ChainBad::Short);
     }
     let word = be16(left, 2);
     Ok(Chain {
         next: left[0],
-        at: at + LEAST,
+        at: at + FRAGMENT_LEN,
         fragment: Some(Frag {
             offset: word / 8,
             more: word % 2 == 1,

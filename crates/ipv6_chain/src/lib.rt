@@ -3,4 +3,4 @@
 
 mod headers;
 
-pub use headers::{Chain, ChainBad, Frag, Start, walk};
+pub use headers::{Chain, ChainBad, Frag, Start, is_skipped, walk};

@@ -8,8 +8,8 @@ ghost use Rattle.port_locate.specs.Keys.{destination_at, destination_key, downst
 
 use aftr_base::be16;
 use binding_rules::Want;
-use icmp_codec::{Embedded, IcmpBad, icmp4};
-use ip_codec::Ip4View;
+use icmp_codec::{Embedded, ICMP_HEAD_LEN, IcmpBad, icmp4, is_echo};
+use ip_codec::{ICMP, Ip4View, TCP, UDP};
 
 /// What a binding must own for a packet to be its subscriber's: the packet's IPv4 address and its port (RFC 7596, section
 /// 6.2). What stands for the port where a packet names none is this router's own choice.
@@ -41,12 +41,6 @@ pub enum Keys {
     IcmpBad,
 }
 
-const ICMP: u8 = 1;
-
-const TCP: u8 = 6;
-
-const UDP: u8 = 17;
-
 // The two ports, of 16 bits each.
 const PORTS_LEN: usize = 4;
 
@@ -54,9 +48,7 @@ const SOURCE_PORT: usize = 0;
 
 const DESTINATION_PORT: usize = 2;
 
-// The first part of an ICMP message, with its type at 0 and the identifier of an echo at 4 (RFC 792).
-const ICMP_HEAD_LEN: usize = 8;
-
+// Where the identifier of an echo stands in its message (RFC 792).
 const IDENTIFIER: usize = 4;
 
 /// The key of a packet from a subscriber: its source port, or the identifier of an ICMP echo. An ICMP error has the
@@ -195,7 +187,7 @@ fn quoted_wants(quoted: &Embedded<'_>) -> Option<Wants>
 fn identifier_want(message: &[u8]) -> Option<Want>
     ensures { result ≡ identifier_want message.now }
 {
-    if message.len() < ICMP_HEAD_LEN || !matches!(message[0], 0 | 8) {
+    if message.len() < ICMP_HEAD_LEN || !is_echo(message[0]) {
         return None;
     }
     Some(Want::Port(be16(message, IDENTIFIER)))
@@ -234,5 +226,5 @@ fn port_wants(payload: &[u8]) -> Option<Wants>
 fn has_ports(protocol: u8) -> bool
     ensures { result ≡ has_ports protocol }
 {
-    matches!(protocol, 6 | 17 | 33 | 132 | 136)
+    matches!(protocol, TCP | UDP | 33 | 132 | 136)
 }

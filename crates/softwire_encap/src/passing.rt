@@ -6,7 +6,7 @@ ghost use Rattle.ip_codec.specs.Packet4.{ip4_of, packet4, packet_len};
 ghost use Rattle.softwire_encap.specs.Passing.{lowered, lowered_header, passed};
 
 use aftr_base::{Bytes, OutOfMemory, be16};
-use ip_codec::Ip4View;
+use ip_codec::{HEADER4_LEN, Ip4View};
 use std::alloc::Global;
 
 // Where the time to live and the checksum stand in a header (RFC 791, section 3.1).
@@ -14,9 +14,7 @@ const TTL: usize = 8;
 
 const CHECKSUM: usize = 10;
 
-// How many bytes a header has without options, and how many at most (RFC 791, section 3.1).
-const PLAIN_HEADER: usize = 20;
-
+// How many bytes a header has at most (RFC 791, section 3.1).
 const MOST_HEADER: usize = 60;
 
 /// The packet as a router passes it on, in memory of its own final size: the time to live is one less, and the header's
@@ -57,8 +55,8 @@ fn push_header(out: &mut Vec<u8>, header: &[u8]) -> Result<(), OutOfMemory>
     ensures bytes { IfOk result (λ _. out.new.items ≡ out.old.items ++ header.now) }
     ensures kept { IsErr result → Extends out.old.items out.new.items }
 {
-    if header.len() == PLAIN_HEADER {
-        out.extend_from_slice(&header[..PLAIN_HEADER])?;
+    if header.len() == HEADER4_LEN {
+        out.extend_from_slice(&header[..HEADER4_LEN])?;
         return Ok(());
     }
     out.extend_from_slice(header)?;

@@ -8,16 +8,11 @@ ghost use Rattle.softwire_encap.specs.Tunnel.{IsFirstWord, tos_of, tunnel_front,
 
 use crate::passing::push_lowered;
 use aftr_base::{Bytes, OutOfMemory, V6};
-use ip_codec::{Head6, Ip4View, Ip6View, push_head6, put6};
+use ip_codec::{Head6, IPV4_IN_IPV6, Ip4View, Ip6View, VERSION6, push_head6, put6};
 use std::alloc::Global;
 
-// The version in the first word of an IPv6 header, and how far its traffic class is moved up (RFC 8200, section 3).
-const VERSION: u32 = 0x6000_0000;
-
+// How far the traffic class is moved up in the first word of an IPv6 header (RFC 8200, section 3).
 const CLASS: u32 = 0x10_0000;
-
-// The next header of a tunnel packet that carries IPv4 (RFC 2473, section 5).
-const IPV4: u8 = 4;
 
 /// The tunnel packet that carries the packet `inner` from one end of the tunnel to the other, in memory of its own final
 /// size (RFC 2473, sections 5 and 6; RFC 7596, section 6.2). The traffic class is the inner type of service, the flow
@@ -40,7 +35,7 @@ fn tunnel_head(from: V6, to: V6, hop: u8, tos: u8) -> Head6
 {
     Head6 {
         word: first_word(tos),
-        next: IPV4,
+        next: IPV4_IN_IPV6,
         hop,
         src: from,
         dst: to,
@@ -51,7 +46,7 @@ fn tunnel_head(from: V6, to: V6, hop: u8, tos: u8) -> Head6
 fn first_word(tos: u8) -> u32
     ensures { result ≡ 6 * 268435456 + tos * 1048576 }
 {
-    VERSION + u32::from(tos) * CLASS
+    VERSION6 + u32::from(tos) * CLASS
 }
 
 /// The tunnel packet that `encap` makes of `inner`, as a view of it. `inner` has 20 bytes or more; with more bytes behind it, the
@@ -61,12 +56,13 @@ pub fn tunnel_view<'a>(from: V6, to: V6, hop: u8, inner: &'a [u8]) -> Ip6View<'a
     ensures is { packet6 result ≡ tunnelled from to hop inner.now }
     ensures longer { (rest : List ℕ) → with_body (packet6 result) (inner.now ++ rest) ≡ tunnelled from to hop (inner.now ++ rest) }
 {
+    let head = tunnel_head(from, to, hop, inner[1]);
     Ip6View {
-        word: first_word(inner[1]),
-        next: IPV4,
-        hop,
-        src: from,
-        dst: to,
+        word: head.word,
+        next: head.next,
+        hop: head.hop,
+        src: head.src,
+        dst: head.dst,
         body: inner,
     }
 }
