@@ -8,13 +8,13 @@ use crate::verdicts::{Path, Reply, Verdict};
 use aftr_base::V6;
 use binding_rules::Softwire;
 use icmp_errors::{may_complain, may_complain6};
-use ip_codec::{Ip4View, Outer, Rule};
+use ip_codec::{HEADER6_LEN, Ip4View, Outer, Rule};
 
 // With less a packet's time to live would be used up here.
 const LEAST_TTL: u8 = 2;
 
 // How many bytes the header of a tunnel packet has (RFC 2473, section 3.1).
-const TUNNEL_HEADER_LEN: u16 = 40;
+const TUNNEL_HEADER_LEN: u16 = HEADER6_LEN as u16;
 
 // The type of an ICMPv6 error about a packet that was too big (RFC 4443, section 3.2).
 const PACKET_TOO_BIG: u8 = 2;

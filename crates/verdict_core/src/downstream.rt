@@ -19,12 +19,10 @@ use crate::asking::{refuse, wants_of};
 use crate::verdicts::{Path, Verdict};
 use aftr_base::V6;
 use binding_rules::Softwire;
-use ip_codec::{Ip4View, Rule};
+use ip_codec::{ICMP, Ip4View, Rule};
 use port_locate::Wants;
 use std::sync::ledger::Ledger;
 use table_words::{Steps, Words, look};
-
-const ICMP: u8 = 1;
 
 #[inline(never)]
 pub fn judge_down<W: Words, L: Ledger>(

@@ -20,15 +20,12 @@ use crate::answers::{drop_silently, ends_at, relayed, silent};
 use crate::verdicts::{Path, Verdict};
 use aftr_base::V6;
 use binding_rules::Softwire;
-use icmp_codec::{Icmp6View, icmp6};
+use icmp_codec::{ICMP_HEAD_LEN, Icmp6View, icmp6};
 use icmp_relay::{Quote, may_relay, quote_from, quote_to, read_quote};
 use ip_codec::Rule;
 use port_locate::Wants;
 use std::sync::ledger::Ledger;
 use table_words::{Destination, Steps, Words, destination_of, look};
-
-// The first part of an ICMPv6 message, with its type at 0 (RFC 4443, section 2.1).
-const HEAD_LEN: usize = 8;
 
 pub fn judge_six(settings: &Softwire, dst: V6, verdict: &mut Verdict)
     ensures { verdict_in (six_lines settings.now dst) ≡ Some verdict.new }
@@ -81,7 +78,7 @@ fn message_refusal(settings: &Softwire, dst: V6, message: &[u8]) -> Option<Verdi
 fn is_tunnel_error(message: &[u8]) -> bool
     ensures { result ≡ is_tunnel_error message.now }
 {
-    message.len() >= HEAD_LEN && message[0] >= 1 && message[0] <= 4
+    message.len() >= ICMP_HEAD_LEN && message[0] >= 1 && message[0] <= 4
 }
 
 // The verdict on an error, by what it quotes.
