@@ -2,7 +2,6 @@
 ghost use Rattle.std.specs.Prelude.{◌≡◌, ◌∷◌, ◌≤◌, [], IfOk, IsErr, IfSome};
 ghost use Rattle.aftr_base.specs.Appended.{Extends};
 ghost use Rattle.capture_io.specs.Packets.{packet_bytes};
-ghost use Rattle.fragmenter.specs.Pieces4.{fragments4};
 ghost use Rattle.fragmenter.specs.Pieces6.{fragments6};
 ghost use Rattle.ip_codec.specs.Packet4.{packet4, IsBounded4};
 ghost use Rattle.ip_codec.specs.Seen.{seen};
@@ -15,15 +14,13 @@ use crate::carried::packet_of;
 use crate::pieces::{push_pieces4, push_pieces6};
 use crate::stamps::Stamp;
 use aftr_base::{OutOfMemory, V6};
-use ip_codec::{Ip4View, ItemView, ReadPacket};
+use fragmenter::{MOST_PIECES4, MOST_PIECES6};
+use ip_codec::{HEADER6_LEN, Ip4View, ItemView, ReadPacket};
 use softwire_encap::{lowered_header, push_lowered, push_tunnelled, tunnel_view};
 
-// How many bytes the tunnel's header has (RFC 8200, section 3).
-pub(crate) const TUNNEL: usize = 40;
-
-// The ends of a tunnel, and the hop limit of what is sent in it.
+// Where an IPv6 packet comes from and goes to, and its hop limit.
 #[derive(Clone, Copy, Debug)]
-pub(crate) struct Tunnel {
+pub(crate) struct Ends {
     pub from: V6,
     pub to: V6,
     pub hop: u8,
@@ -40,7 +37,7 @@ pub(crate) fn push_outward(
     requires least_mtu { 576 ≤ mtu }
     ensures pushed { IfOk result (λ count. ArePushed (packet_bytes stamp.form stamp.seconds stamp.fraction)
         (made_of (packet_of_item (seen item.now)) (outward mtu)) out.old.items out.new.items count) }
-    ensures few { IfOk result (λ count. count ≤ 128) }
+    ensures few { IfOk result (λ count. count ≤ MOST_PIECES4) }
     ensures kept { IsErr result → Extends out.old.items out.new.items }
 {
     let Some(packet) = packet_of(item) else {
@@ -63,14 +60,14 @@ pub(crate) fn push_packet_outward(
     requires least_mtu { 576 ≤ mtu }
     ensures pushed { IfOk result (λ count. ArePushed (packet_bytes stamp.form stamp.seconds stamp.fraction)
         (outward mtu (packet4 packet.now.view)) out.old.items out.new.items count) }
-    ensures few { IfOk result (λ count. count ≤ 128) }
+    ensures few { IfOk result (λ count. count ≤ MOST_PIECES4) }
     ensures kept { IsErr result → Extends out.old.items out.new.items }
 {
     if packet.view.total_len() <= usize::from(mtu) {
         let count = push_whole_outward(out, stamp, packet)?;
         return Ok(count);
     }
-    let count = push_cut_outward(out, stamp, packet, mtu)?;
+    let count = push_pieces4(out, stamp, &lowered_field(packet), mtu)?;
     Ok(count)
 }
 
@@ -93,24 +90,6 @@ fn push_whole_outward(
     Ok(1)
 }
 
-#[inline(always)]
-fn push_cut_outward(
-    out: &mut Vec<u8>,
-    stamp: Stamp,
-    packet: &ReadPacket<'_>,
-    mtu: u16,
-) -> Result<u32, OutOfMemory>
-    requires alive { 1 ≤ packet.now.view.ttl }
-    requires least_mtu { 576 ≤ mtu }
-    ensures pushed { IfOk result (λ count. ArePushed (packet_bytes stamp.form stamp.seconds stamp.fraction)
-        (fragments4 (one_hop_on (packet4 packet.now.view)) mtu 0) out.old.items out.new.items count) }
-    ensures few { IfOk result (λ count. count ≤ 128) }
-    ensures kept { IsErr result → Extends out.old.items out.new.items }
-{
-    let count = push_pieces4(out, stamp, &lowered_field(packet), mtu)?;
-    Ok(count)
-}
-
 // The packet with its time to live one less in the field, and not in the bytes of its header.
 #[inline(always)]
 fn lowered_field<'a>(packet: &ReadPacket<'a>) -> Ip4View<'a>
@@ -128,7 +107,7 @@ pub(crate) fn push_inward(
     out: &mut Vec<u8>,
     stamp: Stamp,
     item: &ItemView<'_>,
-    tunnel: Tunnel,
+    tunnel: Ends,
     mtu: u16,
     number: u32,
 ) -> Result<u32, OutOfMemory>
@@ -136,7 +115,7 @@ pub(crate) fn push_inward(
     requires least_mtu { 1280 ≤ mtu }
     ensures pushed { IfOk result (λ count. ArePushed (packet_bytes stamp.form stamp.seconds stamp.fraction)
         (made_of (packet_of_item (seen item.now)) (inward tunnel.from tunnel.to tunnel.hop mtu number)) out.old.items out.new.items count) }
-    ensures few { IfOk result (λ count. count ≤ 54) }
+    ensures few { IfOk result (λ count. count ≤ MOST_PIECES6) }
     ensures kept { IsErr result → Extends out.old.items out.new.items }
 {
     let Some(packet) = packet_of(item) else {
@@ -152,7 +131,7 @@ pub(crate) fn push_packet_inward(
     out: &mut Vec<u8>,
     stamp: Stamp,
     packet: &ReadPacket<'_>,
-    tunnel: Tunnel,
+    tunnel: Ends,
     mtu: u16,
     number: u32,
 ) -> Result<u32, OutOfMemory>
@@ -160,10 +139,10 @@ pub(crate) fn push_packet_inward(
     requires least_mtu { 1280 ≤ mtu }
     ensures pushed { IfOk result (λ count. ArePushed (packet_bytes stamp.form stamp.seconds stamp.fraction)
         (inward tunnel.from tunnel.to tunnel.hop mtu number (packet4 packet.now.view)) out.old.items out.new.items count) }
-    ensures few { IfOk result (λ count. count ≤ 54) }
+    ensures few { IfOk result (λ count. count ≤ MOST_PIECES6) }
     ensures kept { IsErr result → Extends out.old.items out.new.items }
 {
-    if TUNNEL + packet.view.total_len() <= usize::from(mtu) {
+    if HEADER6_LEN + packet.view.total_len() <= usize::from(mtu) {
         let count = push_whole_inward(out, stamp, packet, tunnel)?;
         return Ok(count);
     }
@@ -176,7 +155,7 @@ fn push_whole_inward(
     out: &mut Vec<u8>,
     stamp: Stamp,
     packet: &ReadPacket<'_>,
-    tunnel: Tunnel,
+    tunnel: Ends,
 ) -> Result<u32, OutOfMemory>
     requires alive { 1 ≤ packet.now.view.ttl }
     ensures pushed { IfOk result (λ count. ArePushed (packet_bytes stamp.form stamp.seconds stamp.fraction)
@@ -184,7 +163,7 @@ fn push_whole_inward(
     ensures one { IfOk result (λ count. count ≡ 1) }
     ensures kept { IsErr result → Extends out.old.items out.new.items }
 {
-    let len = TUNNEL + packet.view.total_len();
+    let len = HEADER6_LEN + packet.view.total_len();
     stamp.push_head(out, len)?;
     push_tunnelled(out, tunnel.from, tunnel.to, tunnel.hop, &packet.view)?;
     stamp.push_tail(out, len)?;
@@ -196,7 +175,7 @@ fn push_cut_inward(
     out: &mut Vec<u8>,
     stamp: Stamp,
     packet: &ReadPacket<'_>,
-    tunnel: Tunnel,
+    tunnel: Ends,
     mtu: u16,
     number: u32,
 ) -> Result<u32, OutOfMemory>
@@ -204,7 +183,7 @@ fn push_cut_inward(
     requires least_mtu { 1280 ≤ mtu }
     ensures pushed { IfOk result (λ count. ArePushed (packet_bytes stamp.form stamp.seconds stamp.fraction)
         (fragments6 (tunnelled tunnel.from tunnel.to tunnel.hop (lowered (packet4 packet.now.view))) mtu number 0) out.old.items out.new.items count) }
-    ensures few { IfOk result (λ count. count ≤ 54) }
+    ensures few { IfOk result (λ count. count ≤ MOST_PIECES6) }
     ensures kept { IsErr result → Extends out.old.items out.new.items }
 {
     let lowered = lowered_header(&packet.view);

@@ -10,7 +10,7 @@ ghost use Rattle.packet_render.specs.Pushed.{ArePushed};
 
 use crate::stamps::Stamp;
 use aftr_base::OutOfMemory;
-use fragmenter::{Cuts4, Cuts6};
+use fragmenter::{Cuts4, Cuts6, MOST_PIECES4, MOST_PIECES6};
 use ip_codec::{Ip4View, Ip6View};
 
 // Appends the pieces of an IPv4 packet that does not fit. Of its header's bytes nothing but the options is taken.
@@ -25,7 +25,7 @@ pub(crate) fn push_pieces4(
     requires least_mtu { 576 ≤ mtu }
     ensures pushed { IfOk result (λ count. ArePushed (packet_bytes stamp.form stamp.seconds stamp.fraction)
         (fragments4 (packet4 packet.now) mtu 0) out.old.items out.new.items count) }
-    ensures few { IfOk result (λ count. count ≤ 128) }
+    ensures few { IfOk result (λ count. count ≤ MOST_PIECES4) }
     ensures kept { IsErr result → Extends out.old.items out.new.items }
 {
     let mut cuts = Cuts4::of(packet, mtu);
@@ -52,7 +52,7 @@ pub(crate) fn push_pieces6(
     requires most { length packet.now.body.now + length rest.now ≤ 65535 }
     ensures pushed { IfOk result (λ count. ArePushed (packet_bytes stamp.form stamp.seconds stamp.fraction)
         (fragments6 (with_rest (packet6 packet.now) rest.now) mtu id 0) out.old.items out.new.items count) }
-    ensures few { IfOk result (λ count. count ≤ 54) }
+    ensures few { IfOk result (λ count. count ≤ MOST_PIECES6) }
     ensures kept { IsErr result → Extends out.old.items out.new.items }
 {
     let mut cuts = Cuts6::of(packet, rest, mtu, id);

@@ -10,25 +10,24 @@ ghost use Rattle.packet_render.specs.Pushed.{ArePushed};
 ghost use Rattle.packet_render.specs.Sent.{is_forwarded, packet_of_item, sent};
 ghost use Rattle.verdict_core.specs.Fitting.{Fits, HasRoom};
 
-use crate::forwarding::{
-    Tunnel, push_inward, push_outward, push_packet_inward, push_packet_outward,
-};
+use crate::forwarding::{Ends, push_inward, push_outward, push_packet_inward, push_packet_outward};
 use crate::replying::push_reply;
 use crate::stamps::Stamp;
 use aftr_base::OutOfMemory;
 use capture_io::Written;
+use fragmenter::MOST_PIECES4;
 use ip_codec::{ItemView, ReadPacket};
 use verdict_core::Verdict;
 
 /// The most packets that are sent for one item: the pieces of an IPv4 packet of 65,535 bytes on a link that takes 576.
-pub const MOST_PACKETS: u32 = 128;
+pub const MOST_PACKETS: u32 = MOST_PIECES4 as u32;
 
-/// Puts the packets that are sent for an item, by the verdict on it, behind what `out` holds, each as a capture of this form
-/// records it, with the time of the item's record (RFC 7596, section 6.2): none for an item that is kept or dropped in silence;
-/// its IPv4 packet with the time to live one less where it goes out, and the same in the tunnel where it goes to a subscriber, in
-/// pieces where it does not fit; an ICMP error where a sender is told. The verdict fits the item, and names sizes that every link
-/// takes. `number` is the number of the item's record, which the fragments of a tunnel packet have as identification. It answers
-/// how many packets there are. After an `Err` some of them may stand there.
+/// Appends the packets that are sent for an item, by the verdict on it, each as a capture of this form records it, with the time of
+/// the item's record (RFC 7596, section 6.2): none for an item that is kept or dropped in silence; its IPv4 packet with the time to
+/// live one less where it goes out, and the same in the tunnel where it goes to a subscriber, in pieces where it does not fit; an
+/// ICMP error where a sender is told. The verdict fits the item, and names sizes that every link takes. `number` is the number of
+/// the item's record, which the fragments of a tunnel packet have as identification. It answers how many packets there are. After
+/// an `Err` some of them may stand behind what stood there.
 pub fn push_packets(
     out: &mut Vec<u8>,
     form: Written,
@@ -55,7 +54,7 @@ pub fn push_packets(
     Ok(count)
 }
 
-/// Puts the packets there that `push_packets` puts for an item with a verdict by which its IPv4 packet is forwarded, out or to a
+/// Appends the packets that `push_packets` appends for an item with a verdict by which its IPv4 packet is forwarded, out or to a
 /// subscriber, and with this packet, which is what it needs of the item.
 #[inline(always)]
 pub fn push_forwarded(
@@ -91,7 +90,7 @@ pub fn push_forwarded(
             mtu,
             ..
         } => {
-            let tunnel = Tunnel { from, to, hop };
+            let tunnel = Ends { from, to, hop };
             let count = push_packet_inward(out, stamp, packet, tunnel, mtu, number)?;
             Ok(count)
         }
@@ -110,7 +109,7 @@ fn push_stamped(
     requires room { HasRoom verdict.now }
     ensures pushed { IfOk result (λ count. ArePushed (packet_bytes stamp.form stamp.seconds stamp.fraction)
         (sent (seen item.now) verdict.now number) out.old.items out.new.items count) }
-    ensures few { IfOk result (λ count. count ≤ 128) }
+    ensures few { IfOk result (λ count. count ≤ MOST_PACKETS) }
     ensures kept { IsErr result → Extends out.old.items out.new.items }
 {
     match *verdict {
@@ -123,6 +122,6 @@ fn push_stamped(
             hop,
             mtu,
             ..
-        } => push_inward(out, stamp, item, Tunnel { from, to, hop }, mtu, number),
+        } => push_inward(out, stamp, item, Ends { from, to, hop }, mtu, number),
     }
 }

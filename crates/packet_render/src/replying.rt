@@ -13,7 +13,7 @@ ghost use Rattle.packet_render.specs.Sent.{along, made_of, packet_of_item, polic
 ghost use Rattle.softwire_encap.specs.Tunnel.{tos_of};
 
 use crate::carried::{packet_of, quote_of};
-use crate::forwarding::{TUNNEL, Tunnel};
+use crate::forwarding::Ends;
 use crate::stamps::Stamp;
 use aftr_base::{OutOfMemory, V4};
 use icmp_errors::{
@@ -21,7 +21,7 @@ use icmp_errors::{
     push_too_big,
 };
 use icmp_relay::{Quote, push_relay};
-use ip_codec::{Ip4View, ItemView, Outer, ReadPacket};
+use ip_codec::{HEADER6_LEN, Ip4View, ItemView, Outer, ReadPacket};
 use softwire_encap::push_tunnel_head;
 use verdict_core::{Path, Reply};
 
@@ -54,7 +54,7 @@ pub(crate) fn push_reply(
             push_about(out, stamp, item, path, own, Told::TooBig { mtu })
         }
         Reply::Exceeded { own, path } => push_about(out, stamp, item, path, own, Told::Exceeded),
-        Reply::Policy { from, to, hop } => push_policy(out, stamp, item, Tunnel { from, to, hop }),
+        Reply::Policy { from, to, hop } => push_policy(out, stamp, item, Ends { from, to, hop }),
         Reply::Relay {
             own,
             code,
@@ -177,9 +177,9 @@ fn push_front(out: &mut Vec<u8>, stamp: Stamp, path: Path, len: usize) -> Result
             Ok(len)
         }
         Path::Tunnel { from, to, hop } => {
-            stamp.push_head(out, TUNNEL + len)?;
+            stamp.push_head(out, HEADER6_LEN + len)?;
             push_tunnel_head(out, from, to, hop, 0, len as u16)?;
-            Ok(TUNNEL + len)
+            Ok(HEADER6_LEN + len)
         }
     }
 }
@@ -189,16 +189,16 @@ fn push_policy(
     out: &mut Vec<u8>,
     stamp: Stamp,
     item: &ItemView<'_>,
-    tunnel: Tunnel,
+    ends: Ends,
 ) -> Result<u32, OutOfMemory>
     ensures pushed { IfOk result (λ count. ArePushed (packet_bytes stamp.form stamp.seconds stamp.fraction)
-        (made_of (packet_of_item (seen item.now)) (policies (seen item.now) tunnel.from tunnel.to tunnel.hop))
+        (made_of (packet_of_item (seen item.now)) (policies (seen item.now) ends.from ends.to ends.hop))
         out.old.items out.new.items count) }
     ensures few { IfOk result (λ count. count ≤ 1) }
     ensures kept { IsErr result → Extends out.old.items out.new.items }
 {
     match item {
-        ItemView::Up { outer, inner } => push_policy_about(out, stamp, tunnel, outer, inner),
+        ItemView::Up { outer, inner } => push_policy_about(out, stamp, ends, outer, inner),
         ItemView::Down { .. }
         | ItemView::UpUnread { .. }
         | ItemView::Six { .. }
@@ -211,12 +211,12 @@ fn push_policy(
 fn push_policy_about(
     out: &mut Vec<u8>,
     stamp: Stamp,
-    tunnel: Tunnel,
+    ends: Ends,
     outer: &Outer,
     inner: &ReadPacket<'_>,
 ) -> Result<u32, OutOfMemory>
     ensures pushed { IfOk result (λ count. ArePushed (packet_bytes stamp.form stamp.seconds stamp.fraction)
-        (policy6 tunnel.from tunnel.to tunnel.hop outer.now (whole4 (packet4 inner.now.view)) ∷ []) out.old.items out.new.items count) }
+        (policy6 ends.from ends.to ends.hop outer.now (whole4 (packet4 inner.now.view)) ∷ []) out.old.items out.new.items count) }
     ensures few { IfOk result (λ count. count ≤ 1) }
     ensures kept { IsErr result → Extends out.old.items out.new.items }
 {
@@ -224,9 +224,9 @@ fn push_policy_about(
     stamp.push_head(out, len)?;
     push_source_policy6(
         out,
-        tunnel.from,
-        tunnel.to,
-        tunnel.hop,
+        ends.from,
+        ends.to,
+        ends.hop,
         outer,
         inner.view.header,
         inner.view.payload,
