@@ -2,14 +2,13 @@
 use Rattle.std.proofs.Common.{◌≡◌, ℕ, ◌+◌, ◌%◌, ◌≤◌, Bool, true, false, not, ◌||◌, ◌==◌, List, [], length, take, drop, refl, sym, ◌∙◌, ap, arith, Result, Ok, Err, slice_index, subst, Option, None}
 use Rattle.std.specs.Prelude.{nat_lt}
 use Rattle.std.proofs.lemmas.Bool.{le-ltb, eqb-true, or_parts}
-use Rattle.std.proofs.lemmas.Bool.Decides.{nat_tests}
 use Rattle.std.proofs.lemmas.List.{length-append, length-take-le, take-append-drop, take_all}
 use Rattle.capture_io.specs.Record.{nanoseconds}
 use Rattle.capture_io.specs.declared.forms.Form.{Form}
 use Rattle.capture_io.specs.declared.forms.Rec.{Rec}
 use Rattle.aftr_base.proofs.FirstLemmas.{first_true-Ok}
 use Rattle.aftr_base.specs.Numbers.{big_endian, span}
-use Rattle.ip_codec.proofs.Laws.{ip4_of-Ok, span-append}
+use Rattle.ip_codec.proofs.Laws.{fragment_bits, ip4_of-Ok, span-append}
 use Rattle.ip_codec.specs.Packet4 as four
 use Rattle.ip_codec.specs.Packet6 as six
 use Rattle.ip_codec.specs.declared.items.Outer.{Outer}
@@ -23,14 +22,6 @@ use Rattle.item_stage.specs.Marks.{entry_by, turning}
 use Rattle.item_stage.specs.Turns.{turn, turn_of, turned}
 use Rattle.item_stage.specs.declared.marks.Mark.{Mark}
 use Rattle.item_stage.specs.declared.rows.Rows.{Rows}
-
-pub not-true : (test : Bool) → not test ≡ true → test ≡ false
-not-true true is = absurd cc
-not-true false is = refl
-
--- no bit of MF and the offset
-no_bits : (word : ℕ) → word % 16384 ≡ 0 → (four.bit word 8192 || not (word % 8192 == 0)) ≡ false
-no_bits word none = grind (arith, nat_tests)
 
 -- what was read is a fragment
 abbrev is_cut : Result four.Packet4 Ip4Bad → Bool
@@ -62,7 +53,7 @@ front_uncut count bytes uncut = by_reading (four.ip4_of (take count bytes)) refl
         ∙ span_of_front count bytes 6 (omega (arith, spells.least, spells.order, spells.within))) in
         ap four.is_fragment spells.is
         ∙ (ap (λ (w : ℕ). four.bit w 8192 || not (w % 8192 == 0)) word_is
-        ∙ no_bits (four.word bytes 6) (eqb-true (four.word bytes 6 % 16384) 0 none))
+        ∙ (fragment_bits (four.word bytes 6) ∙ ap not none))
     by_reading (Err why) is = refl
 
 -- ---- from the IPv4 network

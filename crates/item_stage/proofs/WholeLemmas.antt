@@ -1,7 +1,7 @@
 -- Records that carry a packet that is no fragment.
 use Rattle.std.proofs.Common.{◌≡◌, ◌==◌, ℕ, ◌*◌, ◌/◌, ◌%◌, arith, slice_index, take, Bool, true, false, not, List, length, refl, sym, ◌∙◌, ap, Option, Some, None, is_some, drop, if◌then◌else◌, Result, Ok, Err, is_ok, slice_get}
 use Rattle.std.specs.Prelude.{option_and_then}
-use Rattle.std.proofs.lemmas.Bool.{and_parts, eqb-true}
+use Rattle.std.proofs.lemmas.Bool.{and_parts, eqb-true, not-true}
 use Rattle.std.proofs.lemmas.List.{get_or-take, length-take-le}
 use Rattle.aftr_base.specs.Numbers.{big_endian}
 use Rattle.aftr_base.specs.Sums.{checksum}
@@ -23,7 +23,7 @@ use Rattle.item_stage.specs.Items.{items_in}
 use Rattle.item_stage.specs.Looks.{carries_plain, is_extension}
 use Rattle.item_stage.specs.declared.entries.Entry.{Entry}
 use Rattle.item_stage.specs.Packets.{if_packet, packet_at, packet_in}
-use Rattle.item_stage.proofs.LookLemmas.{ends_at_once, not-true, span_of_front}
+use Rattle.item_stage.proofs.LookLemmas.{ends_at_once, span_of_front}
 
 uncut : (packet : four.Packet4) (read : Result four.Packet4 Ip4Bad) → read ≡ Ok packet → four.is_plain read ≡ true → four.is_fragment packet ≡ false
 uncut packet read is plain =

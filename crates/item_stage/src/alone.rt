@@ -9,14 +9,10 @@ ghost use Rattle.ipv6_chain.specs.Chains.{chain_of};
 ghost use Rattle.ipv6_chain.specs.declared.headers.Start.TheVariants.{Packet};
 
 use capture_io::{Form, Frame, frame_of};
-use ip_codec::{Ip4Bad, Ip6View, ItemView, Outer, ReadPacket, Rule, ip6, read_packet};
+use ip_codec::{
+    ICMP6, IPV4_IN_IPV6, Ip4Bad, Ip6View, ItemView, Outer, ReadPacket, Rule, ip6, read_packet,
+};
 use ipv6_chain::{Chain, Start, walk};
-
-/// The next header of an IPv4 packet in IPv6 (RFC 2473, section 5).
-pub(crate) const IPV4_IN_IPV6: u8 = 4;
-
-/// The next header of an ICMPv6 message (RFC 4443, section 1).
-const ICMPV6: u8 = 58;
 
 /// What an IPv6 packet carries, its Fragment header left behind.
 #[derive(Clone, Copy)]
@@ -168,7 +164,7 @@ fn behind_headers(outer: Outer, next: u8, bytes: &[u8]) -> Inside<'_>
 {
     match next {
         IPV4_IN_IPV6 => in_tunnel(outer, bytes),
-        ICMPV6 => Inside::Settled(ItemView::Six58 {
+        ICMP6 => Inside::Settled(ItemView::Six58 {
             src: outer.src,
             dst: outer.dst,
             message: bytes,

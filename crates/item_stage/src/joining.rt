@@ -4,9 +4,8 @@ ghost use Rattle.ip_codec.specs.Packet4.{fields4};
 ghost use Rattle.item_stage.specs.Heads.{IsHeader};
 ghost use Rattle.item_stage.specs.Rejoined.{IsPacket, rejoined, whole_head};
 
-use crate::looking::HEADER4;
 use aftr_base::{Bytes, OutOfMemory, V4, be16, be32};
-use ip_codec::{Head4, put4};
+use ip_codec::{HEADER4_LEN, Head4, put4};
 use std::alloc::Global;
 
 /// An IPv4 packet in memory of its own.
@@ -32,7 +31,7 @@ fn options_of(head: &[u8]) -> &[u8]
     requires { 20 ≤ length head.now }
     ensures { result.now ≡ drop 20 head.now }
 {
-    &head[HEADER4..]
+    &head[HEADER4_LEN..]
 }
 
 // The fields of a header whose datagram is whole.

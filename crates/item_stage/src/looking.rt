@@ -5,14 +5,10 @@ ghost use Rattle.ip_codec.specs.Packet6.{ip6_of};
 ghost use Rattle.item_stage.specs.Alone.{alone_of, from_network, from_tunnel, needs_lane};
 ghost use Rattle.item_stage.specs.Looks.{is_extension, is_uncut};
 
-use crate::alone::IPV4_IN_IPV6;
 use aftr_base::be16;
 use capture_io::{Form, Frame, frame_of};
-
-/// How many bytes a header has at least: IPv4's without options (RFC 791, section 3.1), and IPv6's (RFC 8200, section 3).
-pub(crate) const HEADER4: usize = 20;
-
-const HEADER6: usize = 40;
+use ip_codec::{FRAGMENT, HEADER4_LEN, HEADER6_LEN, IPV4_IN_IPV6};
+use ipv6_chain::is_skipped;
 
 /// Whether no lane takes anything of these bytes, as far as the fragment's bits and the number of the next header tell: where
 /// they do not, the record has to be read.
@@ -39,12 +35,12 @@ fn is_whole(packet: &[u8]) -> bool
 fn carries_whole(packet: &[u8]) -> bool
     ensures { result ≡ true → needs_lane (from_tunnel (ip6_of packet.now)) ≡ false }
 {
-    if packet.len() < HEADER6 {
+    if packet.len() < HEADER6_LEN {
         return true;
     }
     let next = packet[6];
     if next == IPV4_IN_IPV6 {
-        return is_uncut(&packet[HEADER6..]);
+        return is_uncut(&packet[HEADER6_LEN..]);
     }
     !is_extension(next)
 }
@@ -53,12 +49,12 @@ fn carries_whole(packet: &[u8]) -> bool
 fn is_extension(next: u8) -> bool
     ensures { result ≡ is_extension next }
 {
-    next == 0 || next == 43 || next == 60 || next == 44
+    is_skipped(next) || next == FRAGMENT
 }
 
 // Whether an IPv4 header has no bit of a fragment, or there are too few bytes for one.
 fn is_uncut(bytes: &[u8]) -> bool
     ensures { result ≡ is_uncut bytes.now }
 {
-    bytes.len() < HEADER4 || be16(bytes, 6) % 0x4000 == 0
+    bytes.len() < HEADER4_LEN || be16(bytes, 6) % 0x4000 == 0
 }

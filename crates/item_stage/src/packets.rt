@@ -8,10 +8,9 @@ ghost use Rattle.item_stage.specs.Alone.{at_end, behind_fragment, from_network, 
 ghost use Rattle.item_stage.specs.Marks.{outcome_item};
 ghost use Rattle.item_stage.specs.Packets.{if_packet, packet_in};
 
-use crate::alone::IPV4_IN_IPV6;
 use crate::marks::{Mark, Outcome};
 use capture_io::{Form, Frame, frame_of};
-use ip_codec::known_ip6;
+use ip_codec::{IPV4_IN_IPV6, known_ip6};
 use ipv6_chain::{Chain, Start, walk};
 
 /// The bytes that the IPv4 packet of a record's item is read from, where the item is known to have one: whether they read is not

@@ -7,10 +7,10 @@ ghost use Rattle.item_stage.specs.Alone.{from_network, from_tunnel, item_alone, 
 ghost use Rattle.item_stage.specs.Looks.{carries_plain};
 ghost use Rattle.item_stage.specs.Shown.{shown};
 
-use crate::alone::{Alone, IPV4_IN_IPV6, outer_fields, read_alone};
+use crate::alone::{Alone, outer_fields, read_alone};
 use crate::marks::view_inside;
 use capture_io::{Form, Frame, frame_of};
-use ip_codec::{ItemView, is_ip6, is_plain4, known_ip6, plain_packet};
+use ip_codec::{IPV4_IN_IPV6, ItemView, is_ip6, is_plain4, known_ip6, plain_packet};
 
 /// The item of a record's bytes where no other record came, in a capture of this form, written where the caller keeps it: a
 /// fragment is `Held`. What it carries is read once, and stands where it was.

@@ -1,7 +1,8 @@
 use Rattle.std.proofs.Common.{◌∙◌, ap, sym}
+use Rattle.std.proofs.lemmas.Bool.{not-true}
 use Rattle.std.proofs.lemmas.List.{take_rest}
 use Rattle.item_stage.specs.Looks.{is_extension, is_uncut}
-use Rattle.item_stage.proofs.LookLemmas.{not-true, tunnel_whole}
+use Rattle.item_stage.proofs.LookLemmas.{tunnel_whole}
 use Rattle.item_stage.proofs.looking.carries_whole.Goals as goal
 
 pub returns-then-next-eq-IPV4_IN_IPV6 : goal.returns-then-next-eq-IPV4_IN_IPV6
