@@ -1,5 +1,5 @@
 -- The shapes of an address, tried one after the other, and what the answers of a lookup rest on.
-use Rattle.std.proofs.Common.{◌≡◌, ℕ, zero, suc, ◌+◌, ◌-◌, ◌*◌, ◌/◌, ◌%◌, ◌^◌, ◌<◌, ◌≤◌, true, false, eqb, ◌&&◌, List, Some, None, Contains, refl, sym, ap, ◌∙◌, inl, inr, arith}
+use Rattle.std.proofs.Common.{◌≡◌, ◌≢◌, ℕ, zero, suc, ◌+◌, ◌-◌, ◌*◌, ◌/◌, ◌%◌, ◌^◌, ◌<◌, ◌≤◌, true, false, eqb, ◌&&◌, List, Some, None, Contains, refl, sym, ap, ◌∙◌, inl, inr, arith}
 use Rattle.std.specs.Prelude.{Option, IfSome, IfNone}
 use Rattle.std.proofs.Math.Nat.{mul-le-mul_right}
 use Rattle.std.proofs.lemmas.Bool.{cases_lt, cases_eq, eq-eqb, ne_eqb, and_from, and_left, and_right}
@@ -11,8 +11,8 @@ use Rattle.binding_rules.specs.declared.binding.Binding.{Binding}
 use Rattle.binding_rules.specs.declared.binding.Want.{Want}
 use Rattle.table_words.specs.Answers.{first_b4, has_v4}
 use Rattle.table_words.specs.Bounds.{count_below, has_shape, shape_end, shape_count, group_digits, most_shapes, greatest, look_bound, found_bound}
-use Rattle.table_words.specs.Spans.{first_at, mark_of, AreEntriesOf, IsEntryRange, IsBoundary, IsEntry, IsIndexGroup, IsNotFound, IsTunnelOfOwner, HasNoOwner}
-use Rattle.table_words.specs.Tried.{tried_shapes, AreTried, IsNarrowed}
+use Rattle.table_words.specs.Spans.{first_at, mark_of, AreEntriesOf, AreMarked, IsEntryRange, IsBoundary, IsEntry, IsIndexGroup, IsNotFound, IsTunnelOfOwner, HasNoOwner}
+use Rattle.table_words.specs.Tried.{tried_shapes, AreTried, IsNarrowed, IsTryingBounded}
 use Rattle.table_words.proofs.Counts.{le_greatest}
 use Rattle.table_words.proofs.Digits.{count_below_mono, count_below_more, few_halvings}
 use Rattle.table_words.proofs.Ends.{same_like}
@@ -99,139 +99,190 @@ code_next n a e f = omega arith
 code_small : (n a : ℕ) → n / 4294967296 ≡ a → (n - n % 65536 + 65536 - a * 4294967296) / 65536 - 32768 ≤ 65536
 code_small n a e = omega arith
 
-module _ (words : List ℕ) (a : ℕ) (w : Want) (first to : ℕ) where
-  pub tried_none : AreTried words a w first to first (a * 4294967296) 0
-  tried_none = record {
-    within = omega arith;
-    at_least = omega arith;
-    at_most = omega arith;
-    below = λ e l m. absurd (omega arith);
-    none_owns = λ e x l m less f same. absurd (omega (arith, less, f.like.v4, same));
-    tried = λ bindings d entries size.
-        let zero_is : (a * 4294967296 - a * 4294967296) / 65536 - 32768 ≡ 0 = omega arith in
-        let none : tried_shapes bindings a (a * 4294967296) ≡ 0 = ap (count_below (has_shape bindings a)) zero_is in
-        record { few = rw none (omega arith); cost = omega arith };
-  }
-
-  module _ (from least spent at : ℕ) (tried : AreTried words a w first to from least spent) (span : IsEntryRange words from to)
-      (place : IsBoundary words from to least at) where
-    -- an entry before the place is below the least first word
-    before : (e : ℕ) → first ≤ e → e < at → first_at words e < least
-    before e l m = elim (cases_lt e from) [
-      | inl less ↦ tried.below e l less
-      | inr more ↦ place.below e more m
-    ]
-
-    -- where no other shape follows, nobody owns it
-    pub none_left : ((e : ℕ) → at ≤ e → e < to → a < first_at words e / 4294967296) → HasNoOwner words first to a w
-    none_left ends e x l m f same = elim (cases_lt e at) [
-      | inl less ↦ tried.none_owns e x l m (before e l less) f same
-      | inr more ↦ absurd (omega (arith, ends e more m, f.like.v4, same))
-    ]
-
-    -- the cost of the search among what is left
-    pub search_cost : (c d : ℕ) → to - first < 2 ^ d → 2 ^ c ≤ 2 * (to - from) + 1 → c ≤ d
-    search_cost c d size cost = few_halvings c (to - from) d cost (omega (arith, size, tried.within))
-
-    pub rest_small : (d : ℕ) → to - first < 2 ^ d → to - at < 2 ^ d
-    rest_small d size = omega (arith, size, tried.within, place.from_on)
-
-    module _ (here : at < to) (word : ℕ) (word_is : word ≡ first_at words at) (same_address : word / 4294967296 ≡ a) (is_marked : mark_of word ≡ 1) where
-      least_word : least ≤ word
-      least_word = omega (arith, word_is, place.above at (omega arith) here)
-
-      module _ (bindings : List Binding) (entries : AreEntriesOf bindings words first to) where
-        here_is : (x : Binding) × Contains bindings x × IsEntry words x at
-        here_is = entries at (omega (arith, tried.within, place.from_on)) here
-
-        same_v4 : here_is.0.v4.0 ≡ a
-        same_v4 = here_is.2.first.like.v4 ∙ ap (λ (n : ℕ). n / 4294967296) (sym word_is) ∙ same_address
-
-        shape_here : has_shape bindings a ((word - a * 4294967296) / 65536 - 32768) ≡ true
-        shape_here =
-            let x : Binding = here_is.0 in
-            let like = here_is.2.first.like in
-            let code : x.offset * 256 + x.length ≡ (word - a * 4294967296) / 65536 - 32768 = shape_code word a x.offset x.length same_address is_marked
-            (like.offset ∙ ap (λ (n : ℕ). n / 16777216 % 128) (sym word_is)) (like.length ∙ ap (λ (n : ℕ). n / 65536 % 256) (sym word_is)) in
-            any_passes (λ (y : Binding). eqb y.v4.0 a && eqb (y.offset * 256 + y.length) ((word - a * 4294967296) / 65536 - 32768)) bindings x here_is.1
-            (and_from _ _ (eq-eqb _ _ same_v4) (eq-eqb _ _ code))
-          where
-            shape_code : (n a o l : ℕ) → n / 4294967296 ≡ a → n / 2147483648 % 2 ≡ 1 → o ≡ n / 16777216 % 128 → l ≡ n / 65536 % 256
-                → o * 256 + l ≡ (n - a * 4294967296) / 65536 - 32768
-            shape_code n a o l e m f g = omega arith
-
-        -- the shape of this place counts
-        one_more : tried_shapes bindings a least + 1 ≤ tried_shapes bindings a (word - word % 65536 + 65536)
-        one_more =
-            let c : ℕ = (word - a * 4294967296) / 65536 - 32768 in
-            let up : (word - word % 65536 + 65536 - a * 4294967296) / 65536 - 32768 ≡ suc c = code_next word a same_address is_marked in
-            let low : (least - a * 4294967296) / 65536 - 32768 ≤ c = omega (arith, least_word) in
-            rw up (count_below_more (has_shape bindings a) ((least - a * 4294967296) / 65536 - 32768) c shape_here low)
-
-        few_shapes : tried_shapes bindings a (word - word % 65536 + 65536) ≤ most_shapes bindings
-        few_shapes =
-            let x : Binding = here_is.0 in
-            let small : (word - word % 65536 + 65536 - a * 4294967296) / 65536 - 32768 ≤ shape_end = omega
-            (arith, shape_end_is, code_small word a same_address) in
-            let counted : tried_shapes bindings a (word - word % 65536 + 65536) ≤ shape_count bindings a = count_below_mono
-            (has_shape bindings a) _ shape_end small in
-            let moved : shape_count bindings x.v4.0 ≡ shape_count bindings a = ap (shape_count bindings) same_v4 in
-            let most : shape_count bindings x.v4.0 ≤ greatest (λ y. shape_count bindings y.v4.0) bindings =
-            le_greatest (λ y. shape_count bindings y.v4.0) bindings x here_is.1 in
-            omega (arith, counted, moved, most)
-
-        -- what one more shape costs
-        spent_more : (d more now : ℕ) → to - first < 2 ^ d → now ≤ spent + (2 * d + 2) + more → now ≤ tried_shapes bindings a
-            (word - word % 65536 + 65536) * (2 * d + 2) + more
-        spent_more d more now size cost =
-            let b : ℕ = 2 * d + 2 in
-            let product : (tried_shapes bindings a least + 1) * b ≤ tried_shapes bindings a (word - word % 65536 + 65536) * b = mul-le-mul_right b one_more in
-            let split : (tried_shapes bindings a least + 1) * b ≡ tried_shapes bindings a least * b + b = add_one_mul (tried_shapes bindings a least) b in
-            omega (arith, product, split, cost, (tried.tried bindings d entries size).cost)
-
-        pub found_cost : (d now : ℕ) → to - first < 2 ^ d → now ≤ spent + (2 * d + 2) + 2 → now ≤ most_shapes bindings * (2 * d + 2) + 2
-        found_cost d now size cost =
-            let product : tried_shapes bindings a (word - word % 65536 + 65536) * (2 * d + 2) ≤ most_shapes bindings * (2 * d + 2) = mul-le-mul_right
-            (2 * d + 2) few_shapes in
-            omega (arith, product, spent_more d 2 now size cost)
-
-      pub tried_more : (now : ℕ) → ((d : ℕ) → to - first < 2 ^ d → now ≤ spent + (2 * d + 2))
-          → IsNotFound words at to word w → AreTried words a w first to at (word - word % 65536 + 65536) now
-      tried_more now cost not_found = record {
-        within = omega (arith, tried.within, place.from_on);
-        at_least = omega (arith, tried.at_least, least_word);
-        at_most = omega (arith, same_address);
-        below = λ e l m. (let b = before e l m in omega (arith, b, least_word));
-        none_owns = λ e x l m less f same. elim (cases_lt (first_at words e) least) [
-          | inl early ↦ tried.none_owns e x l m early f same
-          | inr more ↦
-              (let after : at ≤ e = elim (cases_lt e at) [
-                | inl sooner ↦ absurd (let b = before e l sooner in omega (arith, b, more))
-                | inr late ↦ late
-              ] in
-              let up : first_at words at ≤ first_at words e = span.ascending at e after m in
-              not_found e x after m (alike word (first_at words e) (omega (arith, word_is, up)) less) f)
-        ];
-        tried = λ bindings d entries size.
-            let most = spent_more bindings entries d 0 now size (omega (arith, cost d size)) in
-            record { few = few_shapes bindings entries; cost = omega (arith, most) };
-      }
-        where
-          alike : (n m : ℕ) → n ≤ m → m < n - n % 65536 + 65536 → m / 65536 ≡ n / 65536
-          alike n m l k = omega arith
-
-    pub none_cost : (bindings : List Binding) (d : ℕ) → AreEntriesOf bindings words first to → to - first < 2 ^ d → (now : ℕ) → now ≤ spent + (d + 1)
-        → now ≤ most_shapes bindings * (2 * d + 2) + d + 1
-    none_cost bindings d entries size now cost =
-        let h = tried.tried bindings d entries size in
-        let product : tried_shapes bindings a least * (2 * d + 2) ≤ most_shapes bindings * (2 * d + 2) = mul-le-mul_right (2 * d + 2) h.few in
-        omega (arith, product, cost, h.cost)
-
--- what a lookup costs as a whole, where a search left so many digits of those of its group
 pub some_digits : (n d : ℕ) → 0 < n → n < 2 ^ d → 1 ≤ d
 some_digits n zero some l = absurd (omega (arith, some, l))
 some_digits n (suc d) some l = omega arith
 
+above_address : (n m a least : ℕ) → n ≤ m → least ≤ n → a * 4294967296 ≤ least → (n / 4294967296 ≡ a → ⊥) → a < m / 4294967296
+above_address n m a least up l s other = elim (cases_lt a (m / 4294967296)) [
+  | inl less ↦ less
+  | inr more ↦ absurd (other (omega (arith, up, l, s, more)))
+]
+
+pub tried_none : (words : List ℕ) (a : ℕ) (w : Want) (first to s : ℕ) → AreTried words a w first to first (a * 4294967296) (s - s)
+tried_none words a w first to s = record {
+  within = omega arith;
+  at_least = omega arith;
+  at_most = omega arith;
+  below = λ e l m. absurd (omega arith);
+  none_owns = λ e x l m less f same. absurd (omega (arith, less, f.like.v4, same));
+  tried = λ bindings d entries size.
+      let zero_is : (a * 4294967296 - a * 4294967296) / 65536 - 32768 ≡ 0 = omega arith in
+      let none : tried_shapes bindings a (a * 4294967296) ≡ 0 = ap (count_below (has_shape bindings a)) zero_is in
+      record { few = rw none (omega arith); cost = omega arith };
+}
+
+-- what a turn of the shapes knows: what was tried before it, and the place where its search among what is left ended
+pub record IsTurn (words : List ℕ) (a : ℕ) (w : Want) (first to from least spent at : ℕ) : Type 0 where
+  pub tried : AreTried words a w first to from least spent
+  pub span : IsEntryRange words from to
+  pub place : IsBoundary words from to least at
+
+-- an entry of the address stands there
+pub record IsOther (words : List ℕ) (a to at word : ℕ) : Type 0 where
+  pub here : at < to
+  pub word_is : word ≡ first_at words at
+  pub address : word / 4294967296 ≡ a
+  pub marked : mark_of word ≡ 1
+
+module _ {words : List ℕ} {a : ℕ} {w : Want} {first to from least spent at : ℕ} (turn : IsTurn words a w first to from least spent at) where
+  -- an entry before the place is below the least first word
+  before : (e : ℕ) → first ≤ e → e < at → first_at words e < least
+  before e l m = elim (cases_lt e from) [
+    | inl less ↦ turn.tried.below e l less
+    | inr more ↦ turn.place.below e more m
+  ]
+
+  -- where no other shape follows, nobody owns it
+  pub none_left : ((e : ℕ) → at ≤ e → e < to → a < first_at words e / 4294967296) → HasNoOwner words first to a w
+  none_left ends e x l m f same = elim (cases_lt e at) [
+    | inl less ↦ turn.tried.none_owns e x l m (before e l less) f same
+    | inr more ↦ absurd (omega (arith, ends e more m, f.like.v4, same))
+  ]
+
+  pub none_behind : to ≤ at → HasNoOwner words first to a w
+  none_behind ends = none_left (λ e l m. absurd (omega (arith, ends, l, m)))
+
+  pub none_elsewhere : at < to → first_at words at / 4294967296 ≢ a → HasNoOwner words first to a w
+  none_elsewhere here other = none_left (λ e l m. above_address (first_at words at) (first_at words e) a least (turn.span.ascending at e l m)
+      (turn.place.above at (omega arith) here) turn.tried.at_least other)
+
+  -- the cost of the search among what is left
+  pub search_cost : (c d : ℕ) → to - first < 2 ^ d → 2 ^ c ≤ 2 * (to - from) + 1 → c ≤ d
+  search_cost c d size cost = few_halvings c (to - from) d cost (omega (arith, size, turn.tried.within))
+
+  pub rest_small : (d : ℕ) → to - first < 2 ^ d → to - at < 2 ^ d
+  rest_small d size = omega (arith, size, turn.tried.within, turn.place.from_on)
+
+  pub first_here : first ≤ at
+  first_here = omega (arith, turn.tried.within, turn.place.from_on)
+
+  pub none_bounded : (old new : ℕ) → ((d : ℕ) → to - first < 2 ^ d → new ≤ old + (spent + (d + 1))) → IsTryingBounded words first to None old new
+  none_bounded old new cost = record {
+    bound = λ bindings d entries size.
+        let h = turn.tried.tried bindings d entries size in
+        let product : tried_shapes bindings a least * (2 * d + 2) ≤ most_shapes bindings * (2 * d + 2) = mul-le-mul_right (2 * d + 2) h.few in
+        omega (arith, product, cost d size, h.cost);
+    found = tt;
+  }
+
+  pub other_is : (word : ℕ) → at < to → word ≡ first_at words at → word / 4294967296 ≡ a → AreMarked words first to a → IsOther words a to at word
+  other_is word here is same marked = record {
+    here = here;
+    word_is = is;
+    address = same;
+    marked = ap (λ (n : ℕ). mark_of n) is ∙ marked at first_here here (ap (λ (n : ℕ). n / 4294967296) (sym is) ∙ same);
+  }
+
+  module _ {word : ℕ} (other : IsOther words a to at word) where
+    least_word : least ≤ word
+    least_word = omega (arith, other.word_is, turn.place.above at (omega arith) other.here)
+
+    module _ (bindings : List Binding) (entries : AreEntriesOf bindings words first to) where
+      here_is : (x : Binding) × Contains bindings x × IsEntry words x at
+      here_is = entries at first_here other.here
+
+      same_v4 : here_is.0.v4.0 ≡ a
+      same_v4 = here_is.2.first.like.v4 ∙ ap (λ (n : ℕ). n / 4294967296) (sym other.word_is) ∙ other.address
+
+      shape_here : has_shape bindings a ((word - a * 4294967296) / 65536 - 32768) ≡ true
+      shape_here =
+          let x : Binding = here_is.0 in
+          let like = here_is.2.first.like in
+          let code : x.offset * 256 + x.length ≡ (word - a * 4294967296) / 65536 - 32768 = shape_code word a x.offset x.length other.address other.marked
+          (like.offset ∙ ap (λ (n : ℕ). n / 16777216 % 128) (sym other.word_is)) (like.length ∙ ap (λ (n : ℕ). n / 65536 % 256) (sym other.word_is)) in
+          any_passes (λ (y : Binding). eqb y.v4.0 a && eqb (y.offset * 256 + y.length) ((word - a * 4294967296) / 65536 - 32768)) bindings x here_is.1
+          (and_from _ _ (eq-eqb _ _ same_v4) (eq-eqb _ _ code))
+        where
+          shape_code : (n a o l : ℕ) → n / 4294967296 ≡ a → n / 2147483648 % 2 ≡ 1 → o ≡ n / 16777216 % 128 → l ≡ n / 65536 % 256
+              → o * 256 + l ≡ (n - a * 4294967296) / 65536 - 32768
+          shape_code n a o l e m f g = omega arith
+
+      -- the shape of this place counts
+      one_more : tried_shapes bindings a least + 1 ≤ tried_shapes bindings a (word - word % 65536 + 65536)
+      one_more =
+          let c : ℕ = (word - a * 4294967296) / 65536 - 32768 in
+          let up : (word - word % 65536 + 65536 - a * 4294967296) / 65536 - 32768 ≡ suc c = code_next word a other.address other.marked in
+          let low : (least - a * 4294967296) / 65536 - 32768 ≤ c = omega (arith, least_word) in
+          rw up (count_below_more (has_shape bindings a) ((least - a * 4294967296) / 65536 - 32768) c shape_here low)
+
+      few_shapes : tried_shapes bindings a (word - word % 65536 + 65536) ≤ most_shapes bindings
+      few_shapes =
+          let x : Binding = here_is.0 in
+          let small : (word - word % 65536 + 65536 - a * 4294967296) / 65536 - 32768 ≤ shape_end = omega
+          (arith, shape_end_is, code_small word a other.address) in
+          let counted : tried_shapes bindings a (word - word % 65536 + 65536) ≤ shape_count bindings a = count_below_mono
+          (has_shape bindings a) _ shape_end small in
+          let moved : shape_count bindings x.v4.0 ≡ shape_count bindings a = ap (shape_count bindings) same_v4 in
+          let most : shape_count bindings x.v4.0 ≤ greatest (λ y. shape_count bindings y.v4.0) bindings =
+          le_greatest (λ y. shape_count bindings y.v4.0) bindings x here_is.1 in
+          omega (arith, counted, moved, most)
+
+      -- what one more shape costs
+      spent_more : (d more now : ℕ) → to - first < 2 ^ d → now ≤ spent + (2 * d + 2) + more → now ≤ tried_shapes bindings a
+          (word - word % 65536 + 65536) * (2 * d + 2) + more
+      spent_more d more now size cost =
+          let b : ℕ = 2 * d + 2 in
+          let product : (tried_shapes bindings a least + 1) * b ≤ tried_shapes bindings a (word - word % 65536 + 65536) * b = mul-le-mul_right b one_more in
+          let split : (tried_shapes bindings a least + 1) * b ≡ tried_shapes bindings a least * b + b = add_one_mul (tried_shapes bindings a least) b in
+          omega (arith, product, split, cost, (turn.tried.tried bindings d entries size).cost)
+
+      found_cost : (d now : ℕ) → to - first < 2 ^ d → now ≤ spent + (2 * d + 2) + 2 → now ≤ most_shapes bindings * (2 * d + 2) + 2
+      found_cost d now size cost =
+          let product : tried_shapes bindings a (word - word % 65536 + 65536) * (2 * d + 2) ≤ most_shapes bindings * (2 * d + 2) = mul-le-mul_right
+          (2 * d + 2) few_shapes in
+          omega (arith, product, spent_more d 2 now size cost)
+
+    pub found_bounded : (b4 : V6) (old new : ℕ) → old ≤ new → ((d : ℕ) → to - first < 2 ^ d → new ≤ old + (spent + (2 * d + 2) + 2)) →
+        IsTryingBounded words first to (Some b4) old new
+    found_bounded b4 old new later cost = record {
+      bound = λ bindings d entries size.
+          let digits = some_digits (to - at) d (omega (arith, other.here)) (rest_small d size) in
+          omega (arith, most bindings d entries size, digits);
+      found = most;
+    }
+      where
+        most : (bindings : List Binding) (d : ℕ) → AreEntriesOf bindings words first to → to - first < 2 ^ d → new ≤ old + most_shapes bindings * (2 * d + 2) + 2
+        most bindings d entries size =
+            let found = found_cost bindings entries d (new - old) size (omega (arith, cost d size, later)) in
+            omega (arith, found, later)
+
+    pub tried_more : (now : ℕ) → ((d : ℕ) → to - first < 2 ^ d → now ≤ spent + (2 * d + 2))
+        → IsNotFound words at to word w → AreTried words a w first to at (word - word % 65536 + 65536) now
+    tried_more now cost not_found = record {
+      within = first_here;
+      at_least = omega (arith, turn.tried.at_least, least_word);
+      at_most = omega (arith, other.address);
+      below = λ e l m. (let b = before e l m in omega (arith, b, least_word));
+      none_owns = λ e x l m less f same. elim (cases_lt (first_at words e) least) [
+        | inl early ↦ turn.tried.none_owns e x l m early f same
+        | inr more ↦
+            (let after : at ≤ e = elim (cases_lt e at) [
+              | inl sooner ↦ absurd (let b = before e l sooner in omega (arith, b, more))
+              | inr late ↦ late
+            ] in
+            let up : first_at words at ≤ first_at words e = turn.span.ascending at e after m in
+            not_found e x after m (alike word (first_at words e) (omega (arith, other.word_is, up)) less) f)
+      ];
+      tried = λ bindings d entries size.
+          let most = spent_more bindings entries d 0 now size (omega (arith, cost d size)) in
+          record { few = few_shapes bindings entries; cost = omega (arith, most) };
+    }
+      where
+        alike : (n m : ℕ) → n ≤ m → m < n - n % 65536 + 65536 → m / 65536 ≡ n / 65536
+        alike n m l k = omega arith
+
+-- what a lookup costs as a whole, where a search left so many digits of those of its group
 module _ (t : BindingTable) where
   least_found : 2 * group_digits t.bindings + 8 ≤ found_bound t.bindings
   least_found =
@@ -327,9 +378,3 @@ if_mapped (Some b4) P Q f h = f h
 
 pub span_rest : (words : List ℕ) (from to at : ℕ) → IsEntryRange words from to → at ≤ to → IsEntryRange words at to
 span_rest words from to at s l = record { ordered = l; few = s.few; within = s.within; ascending = s.ascending; rising = s.rising; shapes = s.shapes }
-
-pub above_address : (n m a least : ℕ) → n ≤ m → least ≤ n → a * 4294967296 ≤ least → (n / 4294967296 ≡ a → ⊥) → a < m / 4294967296
-above_address n m a least up l s other = elim (cases_lt a (m / 4294967296)) [
-  | inl less ↦ less
-  | inr more ↦ absurd (other (omega (arith, up, l, s, more)))
-]

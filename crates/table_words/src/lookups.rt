@@ -47,10 +47,8 @@ pub fn destination_of<W: Words, L: Ledger>(
     let Some(spot) = spot_of_address(words, group.from, group.to, v4, steps) else {
         return Destination::Unbound;
     };
-    match owner_near(words, spot, want, steps) {
-        Some(end) => Destination::Owned(end),
-        None => Destination::Unowned,
-    }
+    let owner = owner_near(words, spot, want, steps);
+    Destination::of_owner(owner)
 }
 
 /// The tunnel's end of the one binding of the table with this address that owns the port, or, for `Whole`, whose offset
