@@ -72,21 +72,11 @@ module _ (t : BindingTable) (outer : Outer) (p : Packet4) (v : Verdict) where
 
       module _ (free : verdict_in (onward_refusals t.softwire outer p) ≡ None) (destination : Destination)
           (bound_is : has_binding destination ≡ is_bound_address t p.dst) (owner_is : tunnel_of destination ≡ owner_end t p.dst (downstream_key p)) where
-        found_is : verdict_in here ≡ verdict_in (back (has_binding destination) (tunnel_of destination))
-        found_is =
-            ap (λ (b : Bool). verdict_in (back b (owner_end t p.dst (downstream_key p)))) (sym bound_is)
-            ∙ ap (λ (o : Option V6). verdict_in (back (has_binding destination) o)) (sym owner_is)
-
-        free_decides : verdict_in (here ++ outward_lines t.softwire outer p) ≡ Some v → Up
-        free_decides is =
-            onward_decides (decided_behind (onward_refusals t.softwire outer p) (here ++ outward_lines t.softwire outer p) free ∙ is)
-
-        pub up_hairpin : verdict_in (back (has_binding destination) (tunnel_of destination)) ≡ Some v → Up
-        up_hairpin first = free_decides (decided_before here (outward_lines t.softwire outer p) v (found_is ∙ first))
-
-        pub up_out : verdict_in (back (has_binding destination) (tunnel_of destination)) ≡ None →
-            verdict_in (outward_lines t.softwire outer p) ≡ Some v → Up
-        up_out none first = free_decides (decided_behind here (outward_lines t.softwire outer p) (found_is ∙ none) ∙ first)
+        pub up_led : verdict_in (back (has_binding destination) (tunnel_of destination) ++ outward_lines t.softwire outer p) ≡ Some v → Up
+        up_led is =
+            onward_decides (decided_behind (onward_refusals t.softwire outer p) (here ++ outward_lines t.softwire outer p) free
+            ∙ (ap (λ (b : Bool). verdict_in (back b (owner_end t p.dst (downstream_key p)) ++ outward_lines t.softwire outer p)) (sym bound_is)
+            ∙ (ap (λ (o : Option V6). verdict_in (back (has_binding destination) o ++ outward_lines t.softwire outer p)) (sym owner_is) ∙ is)))
 
 module _ (t : BindingTable) (kind word : ℕ) (q : TunnelQuote) (v : Verdict) where
   abbrev Quoted : Type 0

@@ -1,10 +1,11 @@
 // The verdict on a packet from a subscriber.
-ghost use Rattle.std.specs.Prelude.{◌≡◌, ℕ, ◌+◌, ◌≤◌, true, IfOk, Some, None, Ok, Err};
+ghost use Rattle.std.specs.Prelude.{◌≡◌, ◌++◌, ℕ, ◌+◌, ◌≤◌, true, IfOk, Some, None, Ok, Err};
 ghost use Rattle.binding_rules.specs.Tables.{BindingTable, binding_table};
 ghost use Rattle.ip_codec.specs.Packet4.{packet4};
 ghost use Rattle.ip_codec.specs.declared.rules.Rule.TheVariants as rule;
 ghost use Rattle.port_locate.specs.Keys.{downstream_key, upstream_key};
 ghost use Rattle.port_locate.specs.declared.keys.Key.TheVariants as key;
+ghost use Rattle.table_words.specs.Answers.{has_binding, tunnel_of};
 ghost use Rattle.table_words.specs.Layout.{IsCompiled, AreCompiled};
 ghost use Rattle.verdict_core.specs.Answers.{no_owner, not_sender, refused, too_large, time_exceeded, way_back};
 ghost use Rattle.verdict_core.specs.Bounds.{IsWithin, Reads, judge_into_bound};
@@ -55,11 +56,8 @@ pub fn judge_up<W: Words, L: Ledger>(
     if stops_onward(settings, outer, packet, verdict) {
         return;
     }
-    match destination_of(words, packet.dst, wants.destination, steps) {
-        Destination::Unbound => outward(settings, outer, packet, verdict),
-        Destination::Unowned => hairpin_unowned(settings, outer, packet, verdict),
-        Destination::Owned(to) => hairpin_owned(settings, outer, packet, to, verdict),
-    }
+    let destination = destination_of(words, packet.dst, wants.destination, steps);
+    onward(settings, outer, packet, destination, verdict);
 }
 
 // What the packet asks for, or by which rule it is dropped before the table is searched.
@@ -102,6 +100,25 @@ fn stops_onward(
         return true;
     }
     false
+}
+
+// Where it goes, by what the table has of its destination. Inlined, so that what was found of it stays in registers.
+#[inline(always)]
+fn onward(
+    settings: &Softwire,
+    outer: &Outer,
+    packet: &Ip4View<'_>,
+    destination: Destination,
+    verdict: &mut Verdict,
+)
+    ensures { verdict_in (hairpin_lines settings.now outer.now (packet4 packet.now) (has_binding destination) (tunnel_of destination)
+        ++ outward_lines settings.now outer.now (packet4 packet.now)) ≡ Some verdict.new }
+{
+    match destination {
+        Destination::Unbound => outward(settings, outer, packet, verdict),
+        Destination::Unowned => hairpin_unowned(settings, outer, packet, verdict),
+        Destination::Owned(to) => hairpin_owned(settings, outer, packet, to, verdict),
+    }
 }
 
 // The verdict where the inner bytes are no IPv4 packet.
