@@ -57,7 +57,7 @@ impl<'a> Model for Parts<'a> {
 }
 
 impl<'a> Parts<'a> {
-    fn none(alloc: Global) -> Self
+    pub(crate) fn none(alloc: Global) -> Self
         ensures { result ≡ no_parts }
     {
         Parts {

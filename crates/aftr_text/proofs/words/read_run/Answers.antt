@@ -13,8 +13,38 @@ use Rattle.aftr_text.specs.declared.faults.Fault.{Fault}
 use Rattle.aftr_text.specs.declared.faults.Fault.TheVariants as fault
 use Rattle.aftr_text.specs.declared.faults.JobError.TheVariants as error_is
 use Rattle.aftr_text.proofs.FaultLemmas.{as_cause, bad_load, from_cause, from_load, from_values, named_run, no_room}
-use Rattle.aftr_text.proofs.AskLemmas.{count_run, IsMade, asked_run, no_run, refused_run, found_run, loads_asked, sound_as}
+use Rattle.aftr_text.proofs.AskLemmas.{count_run, IsFound, IsMade, asked_run, no_run, refused_run, found_run, loads_asked, sound_as}
 use Rattle.aftr_text.proofs.words.read_run.Goals as goal
+use Rattle.aftr_text.proofs.words.read_run.Goals.{In_ok-matches, In_ok-table}
+
+found : (c : In_ok-matches) → IsFound c.args.parts.now (found_in c.in_ok-matches.matches)
+found c =
+    found_run c.args.parts.now (app_of c.in_ok-run_command.field-0) (texts c.as_slice.result.now) c.in_ok-run_command.ensures
+    (ap texts c.as_slice.ensures.value ∙ c.in_ok-line.ensures) (found_in c.in_ok-matches.matches) c.in_ok-matches.ensures.taken c.in_ok-matches.ensures.found
+
+-- the job that was read
+abbrev run : In_ok-table → RunJob
+run c = record {
+  input = c.in_ok-input.input;
+  output = c.in_ok-output.output;
+  verdicts = c.in_ok-verdicts.verdicts;
+  versions = c.in_ok-versions.versions;
+  table = c.in_ok-table.table;
+  loads = c.in_ok-loads.loads;
+  workers = c.in_ok-workers.workers;
+  errors = c.in_ok-errors.errors;
+}
+
+made : (c : In_ok-table) → IsMade (found_in c.in_ok-matches.matches) (run c)
+made c = record {
+  input = c.in_ok-input.ensures;
+  output = c.in_ok-output.ensures;
+  verdicts = c.in_ok-verdicts.ensures;
+  versions = c.in_ok-versions.ensures;
+  table = c.in_ok-table.ensures;
+  loads = c.in_ok-loads.ensures.loads.0;
+  each = c.in_ok-loads.ensures.loads.1;
+}
 
 pub returns-in_err-matches-clause-usage : goal.returns-in_err-matches-clause-usage
 returns-in_err-matches-clause-usage c =
@@ -25,9 +55,6 @@ returns-in_err-matches-clause-usage c =
 
 pub returns-in_err-workers-clause-usage : goal.returns-in_err-workers-clause-usage
 returns-in_err-workers-clause-usage c =
-    let rows = found_in c.in_ok-matches.matches in
-    let found = found_run c.args.parts.now (app_of c.in_ok-run_command.field-0) (texts c.as_slice.result.now) c.in_ok-run_command.ensures
-    (ap texts c.as_slice.ensures.value ∙ c.in_ok-line.ensures) rows c.in_ok-matches.ensures.taken c.in_ok-matches.ensures.found in
     let none : c.in_err-workers.field-0.0 ≢ error_is.OutOfMemory → (j : Job) → AsksFor (codes "run") c.args.parts.now j → ⊥ =
     λ e. no_run c.args.parts.now (λ other a. c.in_err-workers.ensures.usage other.workers
     (subst (λ (g : List (List ℕ)). AreWorkers g other.workers) (sym c.workers.ensures) a.workers)) in
@@ -36,118 +63,33 @@ returns-in_err-workers-clause-usage c =
 pub returns-in_err-loads-clause-usage : goal.returns-in_err-loads-clause-usage
 returns-in_err-loads-clause-usage c =
     let rows = found_in c.in_ok-matches.matches in
-    let found = found_run c.args.parts.now (app_of c.in_ok-run_command.field-0) (texts c.as_slice.result.now) c.in_ok-run_command.ensures
-    (ap texts c.as_slice.ensures.value ∙ c.in_ok-line.ensures) rows c.in_ok-matches.ensures.taken c.in_ok-matches.ensures.found in
+    let there = found (goal.at.returns-in_err-loads-clause-usage c).In_ok-matches in
     let none : c.in_err-loads.field-0.0 ≢ error_is.OutOfMemory → (j : Job) → AsksFor (codes "run") c.args.parts.now j → ⊥ =
-    λ e. no_run c.args.parts.now (λ other a. c.in_err-loads.ensures.usage e other.loads a.loads (loads_asked c.args.parts.now rows found other a)) in
+    λ e. no_run c.args.parts.now (λ other a. c.in_err-loads.ensures.usage e other.loads a.loads (loads_asked c.args.parts.now rows there other a)) in
     search rules
 
 pub returns-in-Some-clause-usage : goal.returns-in-Some-clause-usage
 returns-in-Some-clause-usage c =
-    let rows = found_in c.in_ok-matches.matches in
-    let found = found_run c.args.parts.now (app_of c.in_ok-run_command.field-0) (texts c.as_slice.result.now) c.in_ok-run_command.ensures
-    (ap texts c.as_slice.ensures.value ∙ c.in_ok-line.ensures) rows c.in_ok-matches.ensures.taken c.in_ok-matches.ensures.found in
-    let run : RunJob = record {
-      input = c.in_ok-input.input;
-      output = c.in_ok-output.output;
-      verdicts = c.in_ok-verdicts.verdicts;
-      versions = c.in_ok-versions.versions;
-      table = c.in_ok-table.table;
-      loads = c.in_ok-loads.loads;
-      workers = c.in_ok-workers.workers;
-      errors = c.in_ok-errors.errors;
-    } in
-    let made : IsMade rows run = record {
-      input = c.in_ok-input.ensures;
-      output = c.in_ok-output.ensures;
-      verdicts = c.in_ok-verdicts.ensures;
-      versions = c.in_ok-versions.ensures;
-      table = c.in_ok-table.ensures;
-      loads = c.in_ok-loads.ensures.loads.0;
-      each = c.in_ok-loads.ensures.loads.1;
-    } in
-    λ e. no_run c.args.parts.now (λ other a. c.in-Some.ensures.empty (sound_as c.args.parts.now rows found other a run made).0)
+    let at = goal.at.returns-in-Some-clause-usage c in
+    λ e. no_run c.args.parts.now (λ other a. c.in-Some.ensures.empty (sound_as c.args.parts.now _ (found at.In_ok-matches) other a (run at.In_ok-table) (made at.In_ok-table)).0)
 
 pub returns-in-Some-first_shared-clause-usage : goal.returns-in-Some-first_shared-clause-usage
 returns-in-Some-first_shared-clause-usage c =
-    let rows = found_in c.in_ok-matches.matches in
-    let found = found_run c.args.parts.now (app_of c.in_ok-run_command.field-0) (texts c.as_slice.result.now) c.in_ok-run_command.ensures
-    (ap texts c.as_slice.ensures.value ∙ c.in_ok-line.ensures) rows c.in_ok-matches.ensures.taken c.in_ok-matches.ensures.found in
-    let run : RunJob = record {
-      input = c.in_ok-input.input;
-      output = c.in_ok-output.output;
-      verdicts = c.in_ok-verdicts.verdicts;
-      versions = c.in_ok-versions.versions;
-      table = c.in_ok-table.table;
-      loads = c.in_ok-loads.loads;
-      workers = c.in_ok-workers.workers;
-      errors = c.in_ok-errors.errors;
-    } in
-    let made : IsMade rows run = record {
-      input = c.in_ok-input.ensures;
-      output = c.in_ok-output.ensures;
-      verdicts = c.in_ok-verdicts.ensures;
-      versions = c.in_ok-versions.ensures;
-      table = c.in_ok-table.ensures;
-      loads = c.in_ok-loads.ensures.loads.0;
-      each = c.in_ok-loads.ensures.loads.1;
-    } in
-    λ e. no_run c.args.parts.now (λ other a. c.in-Some-first_shared.ensures.shared (sound_as c.args.parts.now rows found other a run made).1)
+    let at = goal.at.returns-in-Some-first_shared-clause-usage c in
+    λ e. no_run c.args.parts.now (λ other a. c.in-Some-first_shared.ensures.shared (sound_as c.args.parts.now _ (found at.In_ok-matches) other a (run at.In_ok-table) (made at.In_ok-table)).1)
 
 pub returns-in-Some-first_fall-clause-usage : goal.returns-in-Some-first_fall-clause-usage
 returns-in-Some-first_fall-clause-usage c =
-    let rows = found_in c.in_ok-matches.matches in
-    let found = found_run c.args.parts.now (app_of c.in_ok-run_command.field-0) (texts c.as_slice.result.now) c.in_ok-run_command.ensures
-    (ap texts c.as_slice.ensures.value ∙ c.in_ok-line.ensures) rows c.in_ok-matches.ensures.taken c.in_ok-matches.ensures.found in
-    let run : RunJob = record {
-      input = c.in_ok-input.input;
-      output = c.in_ok-output.output;
-      verdicts = c.in_ok-verdicts.verdicts;
-      versions = c.in_ok-versions.versions;
-      table = c.in_ok-table.table;
-      loads = c.in_ok-loads.loads;
-      workers = c.in_ok-workers.workers;
-      errors = c.in_ok-errors.errors;
-    } in
-    let made : IsMade rows run = record {
-      input = c.in_ok-input.ensures;
-      output = c.in_ok-output.ensures;
-      verdicts = c.in_ok-verdicts.ensures;
-      versions = c.in_ok-versions.ensures;
-      table = c.in_ok-table.ensures;
-      loads = c.in_ok-loads.ensures.loads.0;
-      each = c.in_ok-loads.ensures.loads.1;
-    } in
+    let at = goal.at.returns-in-Some-first_fall-clause-usage c in
     λ e. no_run c.args.parts.now (λ other a.
-    let rising = (sound_as c.args.parts.now rows found other a run made).2 in
+    let rising = (sound_as c.args.parts.now _ (found at.In_ok-matches) other a (run at.In_ok-table) (made at.In_ok-table)).2 in
     c.in-Some-first_fall.ensures.falls (subst (λ (l : List LoadWords). AreRising (windows_of l)) (sym c.as_slice-2.ensures) rising))
 
 pub returns-clause-job : goal.returns-clause-job
 returns-clause-job c =
-    let rows = found_in c.in_ok-matches.matches in
-    let found = found_run c.args.parts.now (app_of c.in_ok-run_command.field-0) (texts c.as_slice.result.now) c.in_ok-run_command.ensures
-    (ap texts c.as_slice.ensures.value ∙ c.in_ok-line.ensures) rows c.in_ok-matches.ensures.taken c.in_ok-matches.ensures.found in
-    let run : RunJob = record {
-      input = c.in_ok-input.input;
-      output = c.in_ok-output.output;
-      verdicts = c.in_ok-verdicts.verdicts;
-      versions = c.in_ok-versions.versions;
-      table = c.in_ok-table.table;
-      loads = c.in_ok-loads.loads;
-      workers = c.in_ok-workers.workers;
-      errors = c.in_ok-errors.errors;
-    } in
-    let made : IsMade rows run = record {
-      input = c.in_ok-input.ensures;
-      output = c.in_ok-output.ensures;
-      verdicts = c.in_ok-verdicts.ensures;
-      versions = c.in_ok-versions.ensures;
-      table = c.in_ok-table.ensures;
-      loads = c.in_ok-loads.ensures.loads.0;
-      each = c.in_ok-loads.ensures.loads.1;
-    } in (
+    let at = goal.at.returns-clause-job c in (
       refl,
-      asked_run c.args.parts.now rows run found made c.in_default.ensures.none c.in_default-first_shared.ensures.none
+      asked_run c.args.parts.now _ (run at.In_ok-table) (found at.In_ok-matches) (made at.In_ok-table) c.in_default.ensures.none c.in_default-first_shared.ensures.none
           (subst (λ (l : List LoadWords). AreRising (windows_of l)) c.as_slice-2.ensures c.in_default-first_fall.ensures.none)
           (subst (λ (g : List (List ℕ)). AreWorkers g c.in_ok-workers.workers) c.workers.ensures c.in_ok-workers.ensures.workers)
           (subst (λ (g : List (List ℕ)). IsLimit g c.in_ok-errors.errors) c.errors.ensures c.in_ok-errors.ensures.limit),
@@ -164,11 +106,10 @@ returns-in_err-matches-clause-cause c =
 pub returns-in_err-loads-clause-cause : goal.returns-in_err-loads-clause-cause
 returns-in_err-loads-clause-cause c =
     let rows = found_in c.in_ok-matches.matches in
-    let found = found_run c.args.parts.now (app_of c.in_ok-run_command.field-0) (texts c.as_slice.result.now) c.in_ok-run_command.ensures
-    (ap texts c.as_slice.ensures.value ∙ c.in_ok-line.ensures) rows c.in_ok-matches.ensures.taken c.in_ok-matches.ensures.found in
+    let there = found (goal.at.returns-in_err-loads-clause-cause c).In_ok-matches in
     let told : (f : Fault) → c.in_err-loads.field-0.0 ≡ error_is.Refused f → IsFaultOf (codes "run") c.args.parts.now f =
     from_load (IsFaultOf (codes "run") c.args.parts.now) c.in_err-loads.field-0.0 (words_of rows (codes "loads")) c.in_err-loads.ensures.cause
-    (λ at bad. (refl, bad_load c.args.parts.now rows found at bad)) in
+    (λ at bad. (refl, bad_load c.args.parts.now rows there at bad)) in
     search rules
 
 pub returns-in_err-workers-clause-cause : goal.returns-in_err-workers-clause-cause
@@ -185,84 +126,21 @@ returns-in_err-errors-clause-cause c =
 
 pub returns-in-Some-clause-cause : goal.returns-in-Some-clause-cause
 returns-in-Some-clause-cause c =
-    let rows = found_in c.in_ok-matches.matches in
-    let found = found_run c.args.parts.now (app_of c.in_ok-run_command.field-0) (texts c.as_slice.result.now) c.in_ok-run_command.ensures
-    (ap texts c.as_slice.ensures.value ∙ c.in_ok-line.ensures) rows c.in_ok-matches.ensures.taken c.in_ok-matches.ensures.found in
-    let run : RunJob = record {
-      input = c.in_ok-input.input;
-      output = c.in_ok-output.output;
-      verdicts = c.in_ok-verdicts.verdicts;
-      versions = c.in_ok-versions.versions;
-      table = c.in_ok-table.table;
-      loads = c.in_ok-loads.loads;
-      workers = c.in_ok-workers.workers;
-      errors = c.in_ok-errors.errors;
-    } in
-    let made : IsMade rows run = record {
-      input = c.in_ok-input.ensures;
-      output = c.in_ok-output.ensures;
-      verdicts = c.in_ok-verdicts.ensures;
-      versions = c.in_ok-versions.ensures;
-      table = c.in_ok-table.ensures;
-      loads = c.in_ok-loads.ensures.loads.0;
-      each = c.in_ok-loads.ensures.loads.1;
-    } in
-    let named = named_run c.args.parts.now rows run found made in
+    let at = goal.at.returns-in-Some-clause-cause c in
+    let named = named_run c.args.parts.now _ (run at.In_ok-table) (found at.In_ok-matches) (made at.In_ok-table) in
     as_cause (IsFaultOf (codes "run") c.args.parts.now) (fault.Empty c.in-Some.at)
     (c.in-Some.ensures.some.0, ap (λ (l : List (List ℕ)). slice_get l c.in-Some.at) named.arguments ∙ c.in-Some.ensures.some.1)
 
 pub returns-in-Some-first_shared-clause-cause : goal.returns-in-Some-first_shared-clause-cause
 returns-in-Some-first_shared-clause-cause c =
-    let rows = found_in c.in_ok-matches.matches in
-    let found = found_run c.args.parts.now (app_of c.in_ok-run_command.field-0) (texts c.as_slice.result.now) c.in_ok-run_command.ensures
-    (ap texts c.as_slice.ensures.value ∙ c.in_ok-line.ensures) rows c.in_ok-matches.ensures.taken c.in_ok-matches.ensures.found in
-    let run : RunJob = record {
-      input = c.in_ok-input.input;
-      output = c.in_ok-output.output;
-      verdicts = c.in_ok-verdicts.verdicts;
-      versions = c.in_ok-versions.versions;
-      table = c.in_ok-table.table;
-      loads = c.in_ok-loads.loads;
-      workers = c.in_ok-workers.workers;
-      errors = c.in_ok-errors.errors;
-    } in
-    let made : IsMade rows run = record {
-      input = c.in_ok-input.ensures;
-      output = c.in_ok-output.ensures;
-      verdicts = c.in_ok-verdicts.ensures;
-      versions = c.in_ok-versions.ensures;
-      table = c.in_ok-table.ensures;
-      loads = c.in_ok-loads.ensures.loads.0;
-      each = c.in_ok-loads.ensures.loads.1;
-    } in
-    let named = named_run c.args.parts.now rows run found made in
+    let at = goal.at.returns-in-Some-first_shared-clause-cause c in
+    let named = named_run c.args.parts.now _ (run at.In_ok-table) (found at.In_ok-matches) (made at.In_ok-table) in
     as_cause (IsFaultOf (codes "run") c.args.parts.now) (fault.Same c.in-Some-first_shared.at)
-    (refl, (run, named, c.in-Some-first_shared.ensures.some))
+    (refl, (run at.In_ok-table, named, c.in-Some-first_shared.ensures.some))
 
 pub returns-in-Some-first_fall-clause-cause : goal.returns-in-Some-first_fall-clause-cause
 returns-in-Some-first_fall-clause-cause c =
-    let rows = found_in c.in_ok-matches.matches in
-    let found = found_run c.args.parts.now (app_of c.in_ok-run_command.field-0) (texts c.as_slice.result.now) c.in_ok-run_command.ensures
-    (ap texts c.as_slice.ensures.value ∙ c.in_ok-line.ensures) rows c.in_ok-matches.ensures.taken c.in_ok-matches.ensures.found in
-    let run : RunJob = record {
-      input = c.in_ok-input.input;
-      output = c.in_ok-output.output;
-      verdicts = c.in_ok-verdicts.verdicts;
-      versions = c.in_ok-versions.versions;
-      table = c.in_ok-table.table;
-      loads = c.in_ok-loads.loads;
-      workers = c.in_ok-workers.workers;
-      errors = c.in_ok-errors.errors;
-    } in
-    let made : IsMade rows run = record {
-      input = c.in_ok-input.ensures;
-      output = c.in_ok-output.ensures;
-      verdicts = c.in_ok-verdicts.ensures;
-      versions = c.in_ok-versions.ensures;
-      table = c.in_ok-table.ensures;
-      loads = c.in_ok-loads.ensures.loads.0;
-      each = c.in_ok-loads.ensures.loads.1;
-    } in
-    let named = named_run c.args.parts.now rows run found made in
+    let at = goal.at.returns-in-Some-first_fall-clause-cause c in
+    let named = named_run c.args.parts.now _ (run at.In_ok-table) (found at.In_ok-matches) (made at.In_ok-table) in
     as_cause (IsFaultOf (codes "run") c.args.parts.now) (fault.Falls c.in-Some-first_fall.at)
-    (refl, (run, named, subst (λ (l : List LoadWords). HasFallen l c.in-Some-first_fall.at) c.as_slice-2.ensures c.in-Some-first_fall.ensures.some))
+    (refl, (run at.In_ok-table, named, subst (λ (l : List LoadWords). HasFallen l c.in-Some-first_fall.at) c.as_slice-2.ensures c.in-Some-first_fall.ensures.some))
