@@ -21,7 +21,7 @@ use Rattle.worker_gate.specs.declared.outcomes.Outcome.{Outcome}
 use Rattle.run_output.specs.declared.parts.Part.{Part}
 use Rattle.run_output.specs.declared.rounds.Round.{Round}
 use Rattle.packet_render.specs.Pushed.{ArePushed}
-use Rattle.packet_render.specs.Sent.{sent}
+use Rattle.packet_render.specs.Sent.{is_forwarded, sent}
 use Rattle.verdict_core.specs.Fitting.{Fits, HasRoom}
 use Rattle.verdict_core.specs.declared.verdicts.Verdict.{Verdict}
 
@@ -139,9 +139,15 @@ pub record CanBeSent (r : Round) (index : ℕ) (v : Verdict) : Type 0 where
   pub fits : FitsAt r.items.now index v
   pub room : HasRoom v
 
--- what is sent for the record at an index by its verdict stands behind what was there, each packet as it is recorded: so many
-pub record IsSent (r : Round) (number index : ℕ) (recorded : List ℕ → List ℕ) (v : Verdict) (before after : List ℕ) (count : ℕ) : Type 0 where
-  pub pushed : (i : Item) → slice_get (items_in r.items.now) index ≡ Some i → ArePushed recorded (sent i v number) before after count
+-- the same of a record whose own packet goes on
+pub record CanGoOn (r : Round) (index : ℕ) (v : Verdict) : Type 0 where
+  pub can : CanBeSent r index v
+  pub forwarded : is_forwarded v ≡ true
+
+-- what is sent for the record at an index by its verdict stands behind what was there, each packet with the record's time: so many
+pub record IsSent (r : Round) (number index seconds fraction : ℕ) (v : Verdict) (before after : List ℕ) (count : ℕ) : Type 0 where
+  pub pushed : (i : Item) → slice_get (items_in r.items.now) index ≡ Some i →
+      ArePushed (packet_bytes r.written seconds fraction) (sent i v number) before after count
   pub few : count ≤ 128
 
 -- a part with what one record more writes

@@ -6,9 +6,8 @@ ghost use Rattle.capture_io.specs.Packets.{packet_bytes};
 ghost use Rattle.ip_codec.specs.declared.items.Item.{Item};
 ghost use Rattle.item_stage.specs.Items.{items_in};
 ghost use Rattle.item_stage.specs.declared.entries.Entry.{Entry};
-ghost use Rattle.packet_render.specs.Sent.{is_forwarded};
 ghost use Rattle.aftr_text.specs.Lines.{ended_text};
-ghost use Rattle.run_output.specs.Cells.{ArePartsFrom, ArePartsUnless, CanBeSent, FitsAt, IsMore, IsPart, IsPartUnless, IsFitting, IsSent, cells_in, chunk, shown};
+ghost use Rattle.run_output.specs.Cells.{ArePartsFrom, ArePartsUnless, CanBeSent, CanGoOn, FitsAt, IsMore, IsPart, IsPartUnless, IsFitting, IsSent, cells_in, chunk, shown};
 ghost use Rattle.run_output.specs.Counting.{IsWithin, with_record};
 ghost use Rattle.run_output.specs.Limiting.{HasAsked, IsLimited, rate_of};
 ghost use Rattle.run_output.specs.Outputs.{Course, record_text, sent_unless};
@@ -298,7 +297,7 @@ fn push_item(
     verdict: &Verdict,
 ) -> Result<u32, OutOfMemory>
     requires { CanBeSent round.now index verdict.now }
-    ensures { IfOk result (IsSent round.now number index (packet_bytes round.now.written seconds fraction) verdict.now packets.old.items packets.new.items) }
+    ensures { IfOk result (IsSent round.now number index seconds fraction verdict.now packets.old.items packets.new.items) }
 {
     let item = round.items.item(index);
     let count = push_packets(
@@ -324,9 +323,8 @@ fn push_apart(
     fraction: u32,
     verdict: &Verdict,
 ) -> Result<u32, OutOfMemory>
-    requires can { CanBeSent round.now index verdict.now }
-    requires forwarded { is_forwarded verdict.now ≡ true }
-    ensures { IfOk result (IsSent round.now number index (packet_bytes round.now.written seconds fraction) verdict.now packets.old.items packets.new.items) }
+    requires { CanGoOn round.now index verdict.now }
+    ensures { IfOk result (IsSent round.now number index seconds fraction verdict.now packets.old.items packets.new.items) }
 {
     let count = push_packet(packets, round, number, index, seconds, fraction, verdict)?;
     Ok(count)
@@ -343,9 +341,8 @@ fn push_packet(
     fraction: u32,
     verdict: &Verdict,
 ) -> Result<u32, OutOfMemory>
-    requires can { CanBeSent round.now index verdict.now }
-    requires forwarded { is_forwarded verdict.now ≡ true }
-    ensures { IfOk result (IsSent round.now number index (packet_bytes round.now.written seconds fraction) verdict.now packets.old.items packets.new.items) }
+    requires { CanGoOn round.now index verdict.now }
+    ensures { IfOk result (IsSent round.now number index seconds fraction verdict.now packets.old.items packets.new.items) }
 {
     let packet = round.items.packet(index);
     let count = push_forwarded(
