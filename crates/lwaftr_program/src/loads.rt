@@ -3,7 +3,7 @@ use crate::naming::push_named;
 use crate::tables::{bytes_of, push_lines};
 use aftr_base::OutOfMemory;
 use aftr_text::RunJob;
-use binding_file::{FileError, LoadText, line_of, read_table};
+use binding_file::{FileError, FileRefused, LoadText, line_of, read_table};
 use std::alloc::Global;
 use std::rt::Files;
 use std::str;
@@ -13,6 +13,9 @@ const MOST_TOLD: usize = 10;
 
 /// The files of so many of them are read once more for their lines.
 const MOST_READ: usize = 3;
+
+/// A larger file is not read as a table once more, which may take as long as the run.
+const MOST_BYTES_AGAIN: usize = 8_388_608;
 
 /// A line for each load that was refused.
 pub(crate) fn push_loads<R: Files + Alloc<A = Global>>(
@@ -90,13 +93,24 @@ fn push_lines_of<R: Files + Alloc<A = Global>>(
     let Some(bytes) = bytes_of(rt, name) else {
         return Ok(());
     };
-    let Err(FileError::Refused(refused)) = read_table(alloc, &bytes) else {
-        return Ok(());
+    match refusal_of(alloc, &bytes, cause)? {
+        Some(refused) => push_lines(alloc, text, line_of(alloc, &bytes, &refused)?),
+        None => Ok(()),
+    }
+}
+
+// The refusal with this text, where the bytes have it. Of a text that is no TOML `line_of` finds that by itself.
+fn refusal_of(alloc: Global, bytes: &[u8], cause: &str) -> Result<Option<FileRefused>, OutOfMemory> {
+    if cause == "not-toml" {
+        return Ok(Some(FileRefused::NotToml));
+    }
+    if bytes.len() > MOST_BYTES_AGAIN {
+        return Ok(None);
+    }
+    let Err(FileError::Refused(refused)) = read_table(alloc, bytes) else {
+        return Ok(None);
     };
     let found = LoadText(refused);
     let found = format!(in alloc; "{found}")?;
-    if found.as_str() == cause {
-        push_lines(alloc, text, line_of(alloc, &bytes, &refused)?)?;
-    }
-    Ok(())
+    Ok(if found.as_str() == cause { Some(refused) } else { None })
 }
