@@ -19,5 +19,5 @@ mod table;
 pub use binding::{Binding, Want};
 pub use lookup::find;
 pub use refused::{Refused, TableError};
-pub use settings::{Edition, Softwire};
+pub use settings::{Edition, LEAST_MTU4, LEAST_MTU6, Softwire};
 pub use table::{Table, table_of};

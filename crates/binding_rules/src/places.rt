@@ -7,7 +7,7 @@ ghost use Rattle.binding_rules.specs.Scans.{IsFine, IsSound, AreSound, IsOwnRefu
 
 use crate::binding::Binding;
 use crate::refused::Refused;
-use crate::settings::Softwire;
+use crate::settings::{LEAST_MTU4, LEAST_MTU6, Softwire};
 use aftr_base::V4;
 use port_set::shape_of;
 
@@ -16,7 +16,7 @@ pub(crate) fn settings_refusal(softwire: &Softwire) -> Option<Refused>
     ensures fine { IfNone result (IsFine softwire.now) }
     ensures first { IfSome result (λ r. (e : Edition) (bindings : List Binding) → IsFirstRefusal e softwire.now bindings r) }
 {
-    if softwire.mtu6 < 1280 || softwire.mtu4 < 576 {
+    if softwire.mtu6 < LEAST_MTU6 || softwire.mtu4 < LEAST_MTU4 {
         return Some(Refused::Mtu);
     }
     if softwire.hop_limit == 0 {

@@ -9,6 +9,12 @@ pub enum Edition {
     Two,
 }
 
+/// The least size of a packet that every IPv6 link takes (RFC 8200, section 5).
+pub const LEAST_MTU6: u16 = 1280;
+
+/// The least size of a packet that every host takes, in pieces or whole (RFC 791, section 3.1).
+pub const LEAST_MTU4: u16 = 576;
+
 /// The router's own addresses and settings.
 #[derive(Clone, Copy, Debug, PartialEq, Eq)]
 pub struct Softwire {

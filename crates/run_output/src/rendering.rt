@@ -24,7 +24,7 @@ use aftr_text::{RecordNumber, Totals};
 use capture_io::{Form, RecordView, Records, Written};
 use error_limit::{Limiter, one_marking};
 use item_stage::{Items, RoundItems};
-use packet_render::{push_forwarded, push_packets};
+use packet_render::{MOST_PACKETS, push_forwarded, push_packets};
 use std::thread::{Threads, join_mut};
 use verdict_core::Verdict;
 use worker_gate::{Outcome, Outcomes};
@@ -267,7 +267,7 @@ fn push_sent(
         ++ flat_map (packet_bytes round.now.written rec.now.seconds rec.now.fraction) (sent_unless limited i verdict.now number)) }
     ensures count { IfOk result (λ count. (i : Item) → slice_get (items_in round.now.items.now) index ≡ Some i →
         count ≡ length (sent_unless limited i verdict.now number)) }
-    ensures few { IfOk result (λ count. count ≤ 128) }
+    ensures few { IfOk result (λ count. count ≤ MOST_PACKETS) }
 {
     let (seconds, fraction) = (rec.seconds, rec.fraction);
     if limited {

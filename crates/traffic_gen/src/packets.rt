@@ -8,6 +8,7 @@ ghost use Rattle.traffic_gen.specs.Traffic.{datagram_of, head_of, outward, packe
 use crate::generator::{Draw, Kind};
 use crate::subscribers::{AFTR, address_of, port_of, tunnel_end};
 use aftr_base::{OutOfMemory, V4, put_checksum};
+use ip_codec::HEADER6_LEN;
 
 /// The address that subscribers talk to, 198.51.100.7, and its port.
 const SERVER: V4 = V4(0xc633_6407);
@@ -17,7 +18,7 @@ const SERVER_PORT: u16 = 53;
 // How many bytes a packet has, and how many the header of the tunnel puts before it.
 const PACKET_LEN: u32 = 32;
 
-const TUNNEL_LEN: u32 = 40;
+const TUNNEL_LEN: u32 = HEADER6_LEN as u32;
 
 /// From where to where a packet goes.
 #[derive(Clone, Copy, Debug, PartialEq, Eq)]

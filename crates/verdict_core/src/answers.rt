@@ -6,7 +6,7 @@ ghost use Rattle.verdict_core.specs.Answers.{dropped, ends_at, inward, inward_ro
 
 use crate::verdicts::{Path, Reply, Verdict};
 use aftr_base::V6;
-use binding_rules::Softwire;
+use binding_rules::{LEAST_MTU6, Softwire};
 use icmp_errors::{may_complain, may_complain6};
 use ip_codec::{HEADER6_LEN, Ip4View, Outer, Rule};
 
@@ -19,8 +19,8 @@ const TUNNEL_HEADER_LEN: u16 = HEADER6_LEN as u16;
 // The type of an ICMPv6 error about a packet that was too big (RFC 4443, section 3.2).
 const PACKET_TOO_BIG: u8 = 2;
 
-// The least size that every IPv6 link takes (RFC 8200, section 5), and the greatest of a tunnel packet.
-const LEAST_MTU: u32 = 1280;
+// The least size that a tunnel's link can have, and the greatest of a tunnel packet.
+const LEAST_MTU: u32 = LEAST_MTU6 as u32;
 
 const GREATEST_MTU: u32 = 65_575;
 
