@@ -1,5 +1,5 @@
 -- What rounds add, one after another.
-use Rattle.std.proofs.Common.{◌≡◌, ℕ, List, [], ◌++◌, Option, Some, None, refl, sym, ◌∙◌, ap, subst, append-nil, append_assoc}
+use Rattle.std.proofs.Common.{◌≡◌, ℕ, All, arith, List, [], ◌++◌, length, inl, Option, Some, None, refl, sym, ◌∙◌, ap, subst, append-nil, append_assoc}
 use Rattle.aftr_base.specs.Contents.{Contents, Moves}
 use Rattle.aftr_base.specs.Outside.{Outside}
 use Rattle.aftr_text.specs.declared.jobs.RunJob.{RunJob}
@@ -7,8 +7,13 @@ use Rattle.area_swap.specs.declared.areas.Areas.{Areas}
 use Rattle.capture_io.specs.Rounds.{is_cut}
 use Rattle.capture_io.specs.declared.rounds.Ending.{Ending}
 use Rattle.lwaftr_engine.specs.Broken.{Breaks}
-use Rattle.lwaftr_engine.specs.Progress.{AddsTo, Goes, ReadsOf, Seats, Setup, Spot, mark}
+use Rattle.aftr_text.specs.declared.summaries.Totals.{Totals}
+use Rattle.lwaftr_engine.specs.Finishing.{IsFirst}
+use Rattle.run_output.specs.Counting.{IsWithin}
+use Rattle.lwaftr_engine.specs.Progress.{AddsTo, Goes, IsOnDuty, ReadsOf, Seats, Setup, Spot, mark}
 use Rattle.lwaftr_engine.specs.Runs.{OthersKept}
+use Rattle.lwaftr_engine.specs.Underway.{CanGoOn, IsSettledAt, StaysOnDuty}
+use Rattle.table_words.specs.Layout.{AreCompiled}
 use Rattle.lwaftr_engine.specs.declared.rounds.Progress.{Progress}
 use Rattle.lwaftr_engine.specs.declared.shift.Shift.{Shift}
 use Rattle.swap_core.specs.Plans.{Tables}
@@ -25,8 +30,41 @@ adds_more s t u first second = record {
   points = second.points ∙ (ap (λ (l : List ℕ). l ++ second.news) first.points ∙ append_assoc s.desk.known.points first.news second.news);
 }
 
+-- before the first round
+pub goes_first : {x : Setup} {plan : Tables} (s : Shift) (p : Progress) → length x.slots ≡ length x.run.loads → All AreCompiled plan.tables → IsOnDuty plan s → s.seat.known.actor.draws ≡ [] → IsFirst x.form x.run.errors p → CanGoOn x s p
+goes_first {x} {plan} s p loads compiled duty none first = record {
+  loads = loads;
+  compiled = let C : Tables → Type 0 = λ k. All AreCompiled k.tables in subst C (sym duty.its_plan) compiled;
+  duty = let D : Tables → Type 0 = λ k. IsOnDuty k s in subst D (sym duty.its_plan) duty;
+  drawn = ap (λ (l : List (ℕ × ℕ)). length l) none ∙ sym first.number;
+  bounded = record {
+    number = omega (arith, first.number);
+    staged = first.staged ∙ sym first.number;
+    totals =
+        let W : Totals → Type 0 = λ t. IsWithin t p.number in
+        subst W (sym first.totals) (record { records = sym first.number; held = omega arith; forwarded = omega arith; dropped = omega arith; packets = omega arith });
+    rate = first.rate;
+    printed = omega (arith, first.printed);
+  };
+  up_to_date = inl (ap (λ (l : List (ℕ × ℕ)). length l) none);
+}
+
+-- behind a round that went well the next one can be judged
+pub goes_on : {x : Setup} {p q : Progress} {number : ℕ} (s t : Shift) → StaysOnDuty s t number → CanGoOn x s p → IsSettledAt x t q → CanGoOn x t q
+goes_on {x} {p} {q} s t stays ready after = record {
+  loads = ready.loads;
+  compiled = let C : Areas → Type 0 = λ k. All AreCompiled k.plan.tables in subst C (sym stays.areas) ready.compiled;
+  duty = stays.duty;
+  drawn = after.drawn;
+  bounded = after.bounded;
+  up_to_date = stays.up_to_date;
+}
+
 pub others_more : (run : RunJob) (a b d : Option Contents) → Moves a b (OthersKept run) → Moves b d (OthersKept run) → Moves a d (OthersKept run)
 others_more run a b d first second = moves_join a b d (OthersKept run) (OthersKept run) (OthersKept run) (λ m n o u v name x y z. v name x y z ∙ u name x y z) first second
+
+pub others_held : (run : RunJob) (a b d : Option Contents) → d ≡ b → Moves a b (OthersKept run) → Moves a d (OthersKept run)
+others_held run a b d same kept = let K : Option Contents → Type 0 = λ h. Moves a h (OthersKept run) in subst K (sym same) kept
 
 pub others_none : (run : RunJob) (a : Option Contents) → Moves a a (OthersKept run)
 others_none run None = tt

@@ -3,8 +3,8 @@ use Rattle.std.proofs.Common.{◌≡◌, ◌⊎◌, ℕ, ◌+◌, ◌<◌, ◌�
 use Rattle.capture_io.specs.declared.forms.Rec.{Rec}
 use Rattle.capture_io.specs.Rounds.{Left, Precedes}
 use Rattle.area_swap.specs.declared.board.View.{View}
-use Rattle.lwaftr_engine.specs.Progress.{IsOnDuty, IsUpToDate, Suits}
-use Rattle.lwaftr_engine.specs.Underway.{HasDrawn}
+use Rattle.area_swap.specs.Values.{HasWholeShare}
+use Rattle.lwaftr_engine.specs.Progress.{IsUpToDate, Suits}
 use Rattle.lwaftr_engine.specs.declared.shift.Shift.{Shift}
 use Rattle.run_output.specs.Outputs.{Course}
 use Rattle.swap_core.specs.Plans.{Tables, window}
@@ -35,11 +35,7 @@ none_waits plan desk records same (inl none) = let P : Tables → Type 0 = λ q.
 none_waits plan desk records same (inr waits) = let P : Tables → Type 0 = λ q. records < (window q (length desk.points + 1)).earliest in inr (subst P same waits.1)
 
 -- what is due is in force behind a round
-pub drawn_all : (plan : Tables) (s : Shift) (number : ℕ) → IsOnDuty s.areas.plan s → IsSettled s.seat.known s.desk.known → length s.seat.known.actor.draws ≡ number → HasDrawn s number
-drawn_all plan s number duty settled count =
-    let seen : s.seat.known.seen.records ≡ length s.seat.known.actor.draws = sym (settled.all_drawn duty.whole) in
-    let N : ℕ → Type 0 = λ n. (length s.areas.plan.tables ≤ length s.desk.known.points + 1) ⊎ (n < (window s.areas.plan (length s.desk.known.points + 1)).earliest) in
-    record {
-      few = omega (arith, count);
-      up_to_date = inr (subst N seen (none_waits s.areas.plan s.desk.known s.seat.known.seen.records duty.desk_areas.same_plan settled.none_due));
-    }
+pub none_is_due : (plan : Tables) (seat desk : View) → desk.plan ≡ plan → HasWholeShare seat → IsSettled seat desk → IsUpToDate plan (length seat.actor.draws) desk.points
+none_is_due plan seat desk same whole settled =
+    let N : ℕ → Type 0 = λ n. (length plan.tables ≤ length desk.points + 1) ⊎ (n < (window plan (length desk.points + 1)).earliest) in
+    inr (subst N (sym (settled.all_drawn whole)) (none_waits plan desk seat.seen.records same settled.none_due))

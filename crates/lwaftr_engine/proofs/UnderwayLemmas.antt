@@ -2,17 +2,19 @@
 use Rattle.std.proofs.Common.{◌≡◌, ℕ, ◌+◌, ◌≤◌, List, [], ◌++◌, All, length, take, Option, Some, None, Result, Ok, Err, inl, inr, refl, sym, ◌∙◌, ap, subst, arith, append-nil, append_assoc, length-append}
 use Rattle.std.proofs.Math.Seq.{take-nil}
 use Rattle.std.proofs.lemmas.List.Elements.{All-append}
-use Rattle.std.specs.Prelude.{IfErr, IfOk, OnOk, string_bytes}
+use Rattle.std.specs.Prelude.{IfErr, IfOk, IsErr, OnOk, string_bytes}
 use Rattle.aftr_base.specs.Contents.{Contents, content, Moves, Told}
-use Rattle.aftr_base.specs.Outside.{Rises}
+use Rattle.aftr_base.specs.Outside.{Outside, Rises, has_failed}
 use Rattle.aftr_base.specs.declared.outside.Fault.{Fault}
 use Rattle.capture_io.specs.declared.forms.Rec.{Rec}
 use Rattle.capture_io.specs.declared.rounds.Round.{Round}
 use Rattle.capture_io.specs.Rounds.{IsPlaced, Precedes, is_cut}
 use Rattle.lwaftr_engine.specs.Broken.{Breaks, HasBegun, IsBrokenFrom, Takes}
 use Rattle.lwaftr_engine.specs.Progress.{Goes, HasWritten, IsUpToDate, Mark, Seats, Setup, Spot, Stops, TakesOn, Wrote, loads_of, mark, seats_of}
+use Rattle.lwaftr_engine.specs.Causes.{MayFailIn}
 use Rattle.lwaftr_engine.specs.RunLaws.{RunLaws}
-use Rattle.lwaftr_engine.specs.Underway.{BreaksLast, DidBoth, HasJudged, HasRead, HasTaken, IsCutFrom, IsNext, IsNothing, IsPending, IsUnderWay, ReadsPast, StandsBetween, WentWell, steps_of}
+use Rattle.lwaftr_engine.specs.Runs.{OthersKept}
+use Rattle.lwaftr_engine.specs.Underway.{BreaksLast, DidBoth, HasJudged, HasRead, HasTaken, IsCutFrom, IsNext, IsNothing, IsPending, IsUnderWay, PutsAndReads, ReadsPast, StandsBetween, WentWell, steps_of}
 use Rattle.lwaftr_engine.specs.Writing.{Did, DidFront, Step, round_steps}
 use Rattle.lwaftr_engine.specs.declared.rounds.Pending.{Pending}
 use Rattle.lwaftr_engine.specs.declared.rounds.Progress.{Progress}
@@ -394,3 +396,14 @@ read_none name before now number (Some m) lost lost_now last same = inl same
 -- a round was judged under the plan of the run
 pub judged_planned : {x : Setup} {plan other : Tables} {draws : List (ℕ × ℕ)} {p q : Progress} {s t : Seats} {records : List Rec} {made : Pending} → other ≡ plan → HasJudged x other draws p q s t records made → HasJudged x plan draws p q s t records made
 judged_planned {x} {plan} {other} {draws} {p} {q} {s} {t} {records} {made} is judged = let J : Tables → Type 0 = λ k. HasJudged x k draws p q s t records made in subst J is judged
+
+-- a call that puts and reads was ended by a fault
+pub not_read : {x : Setup} {u : List Step} {number : ℕ} {before now : Spot} {Ready : ℕ → Type 0} (a b : Outside) (r : Result Round Fault) → IsErr r → Rises (has_failed r) a.spoiled b.spoiled → Moves a.held b.held (DidFront x.run u) →
+    Told b.held (λ m. ReadsPast x.run.input before now number (content m x.run.input) a.lost b.lost b.last) → MayFailIn x.run.input a b → Moves a.held b.held (OthersKept x.run) → PutsAndReads x u number before now Ready a b r
+not_read a b (Ok round) is rises part past may others = absurd (cc is)
+not_read a b (Err why) is rises part past may others = record { wrote = tt; part = part; read = tt; past = past; ready = tt; reads = tt; capture_read = may; others = others; spoiled = rises }
+
+-- so was one that did more
+pub still_put : {x : Setup} {u : List Step} {number : ℕ} {before now : Spot} {Ready : ℕ → Type 0} (a b : Outside) (r s : Result Round Fault) → PutsAndReads x u number before now Ready a b r → IsErr s → Rises (has_failed s) a.spoiled b.spoiled →
+    PutsAndReads x u number before now Ready a b s
+still_put a b r s did is rises = not_read a b s is rises did.part did.past did.capture_read did.others

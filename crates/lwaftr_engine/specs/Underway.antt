@@ -1,10 +1,11 @@
 -- Rounds under way: what was judged and is not written yet, and the round that was read and is not judged yet.
-use Rattle.std.specs.Prelude.{◌≡◌, ◌⊎◌, ℕ, ◌+◌, ◌^◌, ◌<◌, ◌≤◌, List, [], ◌++◌, length, drop, All, Option, Some, None, string_bytes}
-use Rattle.aftr_base.specs.Contents.{Contents, Told, content}
-use Rattle.aftr_base.specs.Outside.{Rose}
+use Rattle.std.specs.Prelude.{◌≡◌, ◌⊎◌, ℕ, ◌+◌, ◌^◌, ◌<◌, ◌≤◌, List, [], ◌++◌, length, drop, All, IfOk, Option, Some, None, Result, string_bytes}
+use Rattle.aftr_base.specs.Contents.{Contents, Moves, Told, content}
+use Rattle.aftr_base.specs.Outside.{Outside, Rises, Rose, has_failed}
+use Rattle.aftr_base.specs.declared.outside.Fault.{Fault}
 use Rattle.aftr_text.specs.declared.summaries.Totals.{Totals}
 use Rattle.capture_io.specs.Refusals.{EndsInRecords}
-use Rattle.capture_io.specs.Rounds.{GoesOn, IsPlaced, Precedes}
+use Rattle.capture_io.specs.Rounds.{GoesOn, IsPlaced, Precedes, is_cut}
 use Rattle.capture_io.specs.declared.forms.Rec.{Rec}
 use Rattle.capture_io.specs.declared.rounds.Ending.TheVariants as ending
 use Rattle.capture_io.specs.declared.rounds.Round.{Round}
@@ -13,8 +14,9 @@ use Rattle.item_stage.specs.Items.{entries_of, items_in}
 use Rattle.item_stage.specs.Stages.{Staged, Stands}
 use Rattle.item_stage.specs.declared.entries.Entry.{Entry}
 use Rattle.lwaftr_engine.specs.Broken.{BeginsOn}
-use Rattle.lwaftr_engine.specs.Progress.{AddsTo, IsInRange, IsOnDuty, IsUpToDate, Mark, Seats, Setup, Spot, Stops, Suits, WritesOn, loads_of, mark, seats_of}
-use Rattle.lwaftr_engine.specs.Runs.{all_asking}
+use Rattle.lwaftr_engine.specs.Causes.{MayFailIn}
+use Rattle.lwaftr_engine.specs.Progress.{AddsTo, IsInRange, IsOnDuty, IsUpToDate, Mark, ReadsOf, Seats, Setup, Spot, Stops, Suits, WritesOn, loads_of, mark, seats_of}
+use Rattle.lwaftr_engine.specs.Runs.{OthersKept, all_asking}
 use Rattle.lwaftr_engine.specs.Writing.{Did, DidFront, Step, round_steps}
 use Rattle.lwaftr_engine.specs.declared.rounds.Pending.{Pending}
 use Rattle.lwaftr_engine.specs.declared.rounds.Progress.{Progress}
@@ -126,40 +128,59 @@ pub record IsInHand (number : ℕ) (round : Round) : Type 0 where
   pub some : round.ending ≡ None → 0 < length round.records
   pub in_records : EndsInRecords round.ending
 
--- what judging needs
-pub record CanJudge (x : Setup) (shift : Shift) (p : Progress) (round : Round) : Type 0 where
+-- what the next round begins with, whatever is read for it
+pub record CanGoOn (x : Setup) (shift : Shift) (p : Progress) : Type 0 where
   pub loads : length x.slots ≡ length x.run.loads
   pub compiled : All AreCompiled shift.areas.plan.tables
   pub duty : IsOnDuty shift.areas.plan shift
   pub drawn : length shift.seat.known.actor.draws ≡ p.number
   pub bounded : IsInRange x p
-  pub in_hand : IsInHand p.number round
   pub up_to_date : IsUpToDate shift.areas.plan (length shift.seat.known.actor.draws) shift.desk.known.points
 
--- no more records were drawn than there are up to a number, and each table whose window is open is in force
-pub record HasDrawn (s : Shift) (number : ℕ) : Type 0 where
-  pub few : length s.seat.known.actor.draws ≤ number
-  pub up_to_date : IsUpToDate s.areas.plan (length s.seat.known.actor.draws) s.desk.known.points
+-- what judging needs
+pub record CanJudge (x : Setup) (shift : Shift) (p : Progress) (round : Round) : Type 0 where
+  pub ready : CanGoOn x shift p
+  pub in_hand : IsInHand p.number round
 
--- the workers and the desk, whatever came of a round
-pub record StaysOnDuty (before now : Shift) : Type 0 where
+-- The workers and the desk, whatever came of a round: no more records were drawn than there are up to a number, and each table whose
+-- window is open is in force.
+pub record StaysOnDuty (before now : Shift) (number : ℕ) : Type 0 where
   pub areas : now.areas ≡ before.areas
   pub duty : IsOnDuty now.areas.plan now
   pub adds : AddsTo before now
+  pub few : length now.seat.known.actor.draws ≤ number
+  pub up_to_date : IsUpToDate now.areas.plan (length now.seat.known.actor.draws) now.desk.known.points
+
+-- all records so far were drawn, and no table is due
+pub record IsSettledAt (x : Setup) (now : Shift) (q : Progress) : Type 0 where
+  pub bounded : IsInRange x q
+  pub drawn : length now.seat.known.actor.draws ≡ q.number
+  pub settled : IsSettled now.seat.known now.desk.known
 
 -- a round went well
 pub record WentWell (x : Setup) (before now : Shift) (p q : Progress) (round : Round) (made : Pending) : Type 0 where
   pub judged : HasJudged x before.areas.plan now.seat.known.actor.draws p q (seats_of before) (seats_of now) round.records made
-  pub bounded : IsInRange x q
-  pub drawn : length now.seat.known.actor.draws ≡ q.number
+  pub after : IsSettledAt x now q
   pub number : q.number ≡ round.number
-  pub settled : IsSettled now.seat.known now.desk.known
 
 -- what was read behind so many records, once the files held this
 pub record HasRead (x : Setup) (before now : Spot) (number : ℕ) (held : Option Contents) (last : Option (List ℕ × ℕ)) (round : Round) : Type 0 where
   pub in_hand : IsInHand number round
   pub placed : IsPlaced before.at now.at round
   pub told : Told held (λ m. before.stood (content m x.run.input) → IsNext x.run.input before now number (content m x.run.input) round last)
+
+-- What a round wrote is put into the outputs, and the next one is read. Where the call is ended by a fault, some of the first is
+-- done, and a read of the capture may have failed.
+pub record PutsAndReads (x : Setup) (u : List Step) (number : ℕ) (before now : Spot) (Ready : ℕ → Type 0) (a b : Outside) (r : Result Round Fault) : Type 0 where
+  pub wrote : IfOk r (λ _. Moves a.held b.held (Did x.run u))
+  pub part : Moves a.held b.held (DidFront x.run u)
+  pub read : IfOk r (λ round. HasRead x before now number b.held b.last round)
+  pub past : Told b.held (λ m. ReadsPast x.run.input before now number (content m x.run.input) a.lost b.lost b.last)
+  pub ready : IfOk r (λ round. Ready round.number)
+  pub reads : IfOk r (λ round. ReadsOf (is_cut round.ending) x.run.input a b)
+  pub capture_read : MayFailIn x.run.input a b
+  pub others : Moves a.held b.held (OthersKept x.run)
+  pub spoiled : Rises (has_failed r) a.spoiled b.spoiled
 
 -- both are written
 abbrev pub DidBoth : Setup → List Step → List Step → Contents → Contents → Type 0

@@ -1,21 +1,19 @@
 // The records of a capture, taken in rounds: while one is judged, what the one before it writes is put into the outputs, and then
 // the next one is read.
-ghost use Rattle.std.specs.Prelude.{◌≡◌, ◌<◌, ◌≤◌, ◌^◌, ℕ, List, [], All, IfOk, IfErr, OnOk, None, Some, length, string_bytes};
+ghost use Rattle.std.specs.Prelude.{◌≡◌, ◌≤◌, ◌^◌, IfErr, IfOk, None, OnOk, Some};
 ghost use Rattle.std.specs.Thread.{IsSync};
-ghost use Rattle.aftr_base.specs.Contents.{Contents, Moves, Told, content};
+ghost use Rattle.aftr_base.specs.Contents.{Moves};
 ghost use Rattle.aftr_base.specs.Outside.{OnlyWrites, Rises, has_failed};
 ghost use Rattle.aftr_text.specs.Jobs.{AreApart};
 ghost use Rattle.capture_io.specs.Refusals.{EndsInRecords};
 ghost use Rattle.capture_io.specs.Rounds.{is_cut};
 ghost use Rattle.lwaftr_engine.specs.Broken.{Breaks};
 ghost use Rattle.lwaftr_engine.specs.Causes.{MayFailIn};
-ghost use Rattle.lwaftr_engine.specs.Progress.{AddsTo, Goes, IsInRange, IsOnDuty, IsUpToDate, ReadsOf, mark, seats_of, setup_of, spot};
+ghost use Rattle.lwaftr_engine.specs.Progress.{AddsTo, Goes, IsOnDuty, ReadsOf, mark, seats_of, setup_of, spot};
 ghost use Rattle.lwaftr_engine.specs.Runs.{OthersKept};
-ghost use Rattle.lwaftr_engine.specs.Underway.{BreaksLast, CanJudge, DidBoth, HasDrawn, HasRead, IsInHand, IsNothing, ReadsPast, StaysOnDuty, WentWell, steps_of};
+ghost use Rattle.lwaftr_engine.specs.Underway.{BreaksLast, CanGoOn, CanJudge, DidBoth, HasRead, IsNothing, IsSettledAt};
+ghost use Rattle.lwaftr_engine.specs.Underway.{PutsAndReads, StaysOnDuty, WentWell, steps_of};
 ghost use Rattle.lwaftr_engine.specs.Writing.{Did, DidFront};
-ghost use Rattle.run_output.specs.Rendering.{lines_in, packets_in};
-ghost use Rattle.table_words.specs.Layout.{AreCompiled};
-ghost use Rattle.worker_gate.specs.Reloading.{IsSettled};
 
 use crate::known::run_laws;
 use crate::outputs::write_round;
@@ -83,8 +81,7 @@ fn judge<R: Threads + Wait + Sync, G: Gate + Sync>(
 ) -> Result<(), OutOfMemory>
     requires can { CanJudge (setup_of task) shift.old progress.old round.now }
     ensures well { IfOk result (λ _. WentWell (setup_of task.entry) shift.old shift.new progress.old progress.new round.now made.new) }
-    ensures duty { StaysOnDuty shift.old shift.new }
-    ensures drawn { HasDrawn shift.new round.now.number }
+    ensures duty { StaysOnDuty shift.old shift.new round.now.number }
 {
     let start = progress.number;
     let items = progress.stage.items(rt, alloc, &round.records, start)?;
@@ -125,7 +122,8 @@ fn put<F: Files>(
 ) -> Result<(), Fault>
     requires apart { AreApart (setup_of task).run }
     ensures wrote { OnOk result (Moves (F.outside files.old).held (F.outside files.new).held (Did (setup_of task.entry).run (steps_of pending.now))) }
-    ensures begun { IfErr result (λ _. Moves (F.outside files.old).held (F.outside files.new).held (DidFront (setup_of task.entry).run (steps_of pending.now))) }
+    ensures begun { IfErr result (λ _. Moves (F.outside files.old).held (F.outside files.new).held
+        (DidFront (setup_of task.entry).run (steps_of pending.now))) }
     ensures others { Moves (F.outside files.old).held (F.outside files.new).held (OthersKept (setup_of task.entry).run) }
     ensures writes { OnlyWrites (has_failed result) (F.outside files.old) (F.outside files.new) }
 {
@@ -198,19 +196,9 @@ fn put_and_read<F: Files, C: CaptureReader>(
     requires apart { AreApart (setup_of task).run }
     requires number { number ≤ 2 ^ 31 }
     requires ready { C.ready reader.old number }
-    ensures wrote { IfOk result (λ _. Moves (F.outside files.old).held (F.outside files.new).held (Did (setup_of task.entry).run (steps_of pending.now))) }
-    ensures part { Moves (F.outside files.old).held (F.outside files.new).held (DidFront (setup_of task.entry).run (steps_of pending.now)) }
-    ensures read { IfOk result (HasRead (setup_of task.entry)
+    ensures { PutsAndReads (setup_of task.entry) (steps_of pending.now) number
         (spot (C.stands reader.old) (C.left reader.old) (C.at reader.old)) (spot (C.stands reader.new) (C.left reader.new) (C.at reader.new))
-        number (F.outside files.new).held (F.outside files.new).last) }
-    ensures past { Told (F.outside files.new).held (λ m. ReadsPast (setup_of task.entry).run.input
-        (spot (C.stands reader.old) (C.left reader.old) (C.at reader.old)) (spot (C.stands reader.new) (C.left reader.new) (C.at reader.new))
-        number (content m (setup_of task.entry).run.input) (F.outside files.old).lost (F.outside files.new).lost (F.outside files.new).last) }
-    ensures ready { IfOk result (λ round. C.ready reader.new round.number) }
-    ensures reads { IfOk result (λ round. ReadsOf (is_cut round.ending) (setup_of task.entry).run.input (F.outside files.old) (F.outside files.new)) }
-    ensures capture_read { MayFailIn (setup_of task.entry).run.input (F.outside files.old) (F.outside files.new) }
-    ensures others { Moves (F.outside files.old).held (F.outside files.new).held (OthersKept (setup_of task.entry).run) }
-    ensures spoiled { Rises (has_failed result) (F.outside files.old).spoiled (F.outside files.new).spoiled }
+        (λ n. C.ready reader.new n) (F.outside files.old) (F.outside files.new) result }
 {
     put(alloc, files, task, pending)?;
     let room = room_of(alloc, spare);
@@ -256,42 +244,23 @@ fn step<R: Threads + Wait + Sync, F: Files, C: CaptureReader, G: Gate + Sync>(
     requires can { CanJudge (setup_of task) shift.old progress.old round.now }
     requires ready { C.ready reader.old round.now.number }
     ensures well { IfOk result (λ _. WentWell (setup_of task.entry) shift.old shift.new progress.old progress.new round.now made.new) }
-    ensures duty { StaysOnDuty shift.old shift.new }
-    ensures drawn { HasDrawn shift.new round.now.number }
-    ensures wrote { IfOk result (λ _. Moves (F.outside files.old).held (F.outside files.new).held (Did (setup_of task.entry).run (steps_of pending.now))) }
-    ensures begun { IfErr result (λ _. Moves (F.outside files.old).held (F.outside files.new).held (DidFront (setup_of task.entry).run (steps_of pending.now))) }
-    ensures read { IfOk result (HasRead (setup_of task.entry)
+    ensures duty { StaysOnDuty shift.old shift.new round.now.number }
+    ensures outside { PutsAndReads (setup_of task.entry) (steps_of pending.now) round.now.number
         (spot (C.stands reader.old) (C.left reader.old) (C.at reader.old)) (spot (C.stands reader.new) (C.left reader.new) (C.at reader.new))
-        round.now.number (F.outside files.new).held (F.outside files.new).last) }
-    ensures past { IfErr result (λ _. Told (F.outside files.new).held (λ m. ReadsPast (setup_of task.entry).run.input
-        (spot (C.stands reader.old) (C.left reader.old) (C.at reader.old)) (spot (C.stands reader.new) (C.left reader.new) (C.at reader.new))
-        round.now.number (content m (setup_of task.entry).run.input) (F.outside files.old).lost (F.outside files.new).lost (F.outside files.new).last)) }
-    ensures ready { IfOk result (λ next. C.ready reader.new next.number) }
-    ensures reads { IfOk result (λ next. ReadsOf (is_cut next.ending) (setup_of task.entry).run.input (F.outside files.old) (F.outside files.new)) }
-    ensures capture_read { MayFailIn (setup_of task.entry).run.input (F.outside files.old) (F.outside files.new) }
-    ensures others { Moves (F.outside files.old).held (F.outside files.new).held (OthersKept (setup_of task.entry).run) }
-    ensures spoiled { Rises (has_failed result) (F.outside files.old).spoiled (F.outside files.new).spoiled }
+        (λ n. C.ready reader.new n) (F.outside files.old) (F.outside files.new) result }
 {
     let number = round.number;
     let mut judging = ||
         requires { IsSync R.row × (IsSync G.row × CanJudge (setup_of task) shift.now progress.now round.now) }
-        ensures { IfOk result (λ _. WentWell (setup_of task.entry) shift.entry.now shift.exit.now progress.entry.now progress.exit.now round.entry.now made.exit.now) × (StaysOnDuty shift.entry.now shift.exit.now × HasDrawn shift.exit.now round.entry.now.number) }
+        ensures { IfOk result (λ _. WentWell (setup_of task.entry) shift.entry.now shift.exit.now progress.entry.now progress.exit.now
+            round.entry.now made.exit.now) × StaysOnDuty shift.entry.now shift.exit.now round.entry.now.number }
     { judge(rt, alloc, task, gate, shift, progress, round, made) };
     let mut outside = ||
         requires { AreApart (setup_of task).run × ((number ≤ 2 ^ 31) × C.ready reader.now number) }
-        ensures { IfOk result (λ _. Moves (F.outside files.entry.now).held (F.outside files.exit.now).held (Did (setup_of task.entry).run (steps_of pending.entry.now)))
-            × (Moves (F.outside files.entry.now).held (F.outside files.exit.now).held (DidFront (setup_of task.entry).run (steps_of pending.entry.now))
-            × (IfOk result (HasRead (setup_of task.entry)
-            (spot (C.stands reader.entry.now) (C.left reader.entry.now) (C.at reader.entry.now)) (spot (C.stands reader.exit.now) (C.left reader.exit.now) (C.at reader.exit.now))
-            number (F.outside files.exit.now).held (F.outside files.exit.now).last)
-            × (Told (F.outside files.exit.now).held (λ m. ReadsPast (setup_of task.entry).run.input
-            (spot (C.stands reader.entry.now) (C.left reader.entry.now) (C.at reader.entry.now)) (spot (C.stands reader.exit.now) (C.left reader.exit.now) (C.at reader.exit.now))
-            number (content m (setup_of task.entry).run.input) (F.outside files.entry.now).lost (F.outside files.exit.now).lost (F.outside files.exit.now).last)
-            × (IfOk result (λ next. C.ready reader.exit.now next.number)
-            × (IfOk result (λ next. ReadsOf (is_cut next.ending) (setup_of task.entry).run.input (F.outside files.entry.now) (F.outside files.exit.now))
-            × (MayFailIn (setup_of task.entry).run.input (F.outside files.entry.now) (F.outside files.exit.now)
-            × (Moves (F.outside files.entry.now).held (F.outside files.exit.now).held (OthersKept (setup_of task.entry).run)
-            × Rises (has_failed result) (F.outside files.entry.now).spoiled (F.outside files.exit.now).spoiled))))))) }
+        ensures { PutsAndReads (setup_of task.entry) (steps_of pending.entry.now) number
+            (spot (C.stands reader.entry.now) (C.left reader.entry.now) (C.at reader.entry.now))
+            (spot (C.stands reader.exit.now) (C.left reader.exit.now) (C.at reader.exit.now))
+            (λ n. C.ready reader.exit.now n) (F.outside files.entry.now) (F.outside files.exit.now) result }
     { put_and_read(alloc, files, task, reader, pending, number, spare) };
     let beside = task.job.workers > 1;
     let (judged, next) = call_both(rt, beside, &mut judging, &mut outside);
@@ -316,10 +285,11 @@ fn last_steps<R: Threads + Wait + Sync, F: Files, G: Gate + Sync>(
     requires apart { AreApart (setup_of task).run }
     requires can { CanJudge (setup_of task) shift.old progress.old round.now }
     ensures well { IfOk result (λ _. WentWell (setup_of task.entry) shift.old shift.new progress.old progress.new round.now made.new) }
-    ensures duty { StaysOnDuty shift.old shift.new }
-    ensures drawn { HasDrawn shift.new round.now.number }
-    ensures wrote { IfOk result (λ _. Moves (F.outside files.old).held (F.outside files.new).held (DidBoth (setup_of task.entry) (steps_of before.now) (steps_of made.new))) }
-    ensures begun { IfErr result (λ _. Moves (F.outside files.old).held (F.outside files.new).held (BreaksLast (setup_of task.entry) shift.old shift.new progress.old progress.new round.now (steps_of before.now) made.new)) }
+    ensures duty { StaysOnDuty shift.old shift.new round.now.number }
+    ensures wrote { IfOk result (λ _. Moves (F.outside files.old).held (F.outside files.new).held
+        (DidBoth (setup_of task.entry) (steps_of before.now) (steps_of made.new))) }
+    ensures begun { IfErr result (λ _. Moves (F.outside files.old).held (F.outside files.new).held
+        (BreaksLast (setup_of task.entry) shift.old shift.new progress.old progress.new round.now (steps_of before.now) made.new)) }
     ensures others { Moves (F.outside files.old).held (F.outside files.new).held (OthersKept (setup_of task.entry).run) }
     ensures writes { OnlyWrites (has_failed result) (F.outside files.old) (F.outside files.new) }
 {
@@ -342,12 +312,7 @@ pub fn run_records<R: Threads + Wait + Sync, F: Files, C: CaptureReader, G: Gate
 ) -> Result<Ending, Fault>
     requires apart { AreApart (setup_of task).run }
     requires workers { (1 ≤ (setup_of task).run.workers) × ((setup_of task).run.workers ≤ 16) }
-    requires loads { length (setup_of task).slots ≡ length (setup_of task).run.loads }
-    requires compiled { All AreCompiled shift.old.areas.plan.tables }
-    requires duty { IsOnDuty shift.old.areas.plan shift.old }
-    requires drawn { length shift.old.seat.known.actor.draws ≡ progress.old.number }
-    requires bounded { IsInRange (setup_of task) progress.old }
-    requires up_to_date { IsUpToDate shift.old.areas.plan (length shift.old.seat.known.actor.draws) shift.old.desk.known.points }
+    requires can { CanGoOn (setup_of task) shift.old progress.old }
     requires ready { C.ready reader.old progress.old.number }
     requires nothing { IsNothing room.pending }
 
@@ -357,9 +322,7 @@ pub fn run_records<R: Threads + Wait + Sync, F: Files, C: CaptureReader, G: Gate
         (mark m progress.old (seats_of shift.old) (spot (C.stands reader.old) (C.left reader.old) (C.at reader.old)))
         (mark n progress.new (seats_of shift.new) (spot (C.stands reader.new) (C.left reader.new) (C.at reader.new)))
         (Some ending) (F.outside files.new).last)) }
-    ensures bounded { IfOk result (λ _. IsInRange (setup_of task.entry) progress.new) }
-    ensures drawn { IfOk result (λ _. length shift.new.seat.known.actor.draws ≡ progress.new.number) }
-    ensures settled { IfOk result (λ _. IsSettled shift.new.seat.known shift.new.desk.known) }
+    ensures after { IfOk result (λ _. IsSettledAt (setup_of task.entry) shift.new progress.new) }
     ensures reads { IfOk result (λ ending. ReadsOf (is_cut (Some ending)) (setup_of task.entry).run.input (F.outside files.old) (F.outside files.new)) }
     ensures in_records { IfOk result (λ ending. EndsInRecords (Some ending)) }
 

@@ -2,8 +2,9 @@
 ghost use Rattle.std.specs.Prelude.{◌≡◌, ◌+◌, ◌≤◌, [], All, IfOk, length};
 ghost use Rattle.area_swap.specs.Histories.{AreDrawn, IsHistory};
 ghost use Rattle.item_stage.specs.Items.{items_in};
-ghost use Rattle.lwaftr_engine.specs.Progress.{AddsTo, IsOnDuty, Suits};
+ghost use Rattle.lwaftr_engine.specs.Progress.{IsOnDuty, Suits};
 ghost use Rattle.lwaftr_engine.specs.Runs.{all_asking};
+ghost use Rattle.lwaftr_engine.specs.Underway.{StaysOnDuty};
 ghost use Rattle.run_output.specs.Outputs.{Course};
 ghost use Rattle.run_output.specs.Rendering.{AreFitting, HasOutcomes};
 ghost use Rattle.table_words.specs.Layout.{AreCompiled};
@@ -67,9 +68,7 @@ pub fn judge_round<R: Threads + Wait + Sync, G: Gate + Sync>(
     requires compiled { All AreCompiled shift.old.areas.plan.tables }
     requires count { end ≡ start + length items.now }
     requires few { length items.now ≤ 16384 }
-    ensures areas { shift.new.areas ≡ shift.old.areas }
-    ensures duty { IsOnDuty shift.new.areas.plan shift.new }
-    ensures adds { AddsTo shift.old shift.new }
+    ensures duty { StaysOnDuty shift.old shift.new end }
     ensures drawn { length shift.new.seat.known.actor.draws ≡ end }
     ensures reads { shift.old.seat.known.reads + all_asking (items_in items.now) ≤ shift.new.seat.known.reads }
     ensures settled { IsSettled shift.new.seat.known shift.new.desk.known }

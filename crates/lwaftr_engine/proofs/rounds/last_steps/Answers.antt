@@ -7,7 +7,9 @@ use Rattle.lwaftr_engine.proofs.UnderwayLemmas.{both_of, cut_left, cut_of}
 use Rattle.lwaftr_engine.proofs.rounds.last_steps.Goals as goal
 
 pub returns-in_err-put-clause-duty : goal.returns-in_err-put-clause-duty
-returns-in_err-put-clause-duty g c = record { areas = refl; duty = c.requires.can.duty; adds = adds_none c.args.shift.now }
+returns-in_err-put-clause-duty g c =
+    let can = c.requires.can in
+    record { areas = refl; duty = can.ready.duty; adds = adds_none c.args.shift.now; few = omega (arith, can.ready.drawn, can.in_hand.numbered); up_to_date = can.ready.up_to_date }
 
 pub returns-in_err-judge-clause-begun : goal.returns-in_err-judge-clause-begun
 returns-in_err-judge-clause-begun g c =
@@ -25,6 +27,3 @@ returns-clause-begun g c =
     let f = g.F.Files in
     cut_of (setup_of c.args.task) c.args.shift.now c.judge.new.shift c.args.progress.now c.judge.new.progress c.args.round.now (steps_of c.args.before.now) c.judge.new.made c.put-2.result (f.outside c.args.files.now).held (f.outside c.put.new.files).held (f.outside c.put-2.new.files).held
     c.in_ok-judge.ensures.well c.in_ok-put.ensures.wrote c.put-2.ensures.begun
-
-pub returns-in_err-put-clause-drawn : goal.returns-in_err-put-clause-drawn
-returns-in_err-put-clause-drawn g c = record { few = omega (arith, c.requires.can.drawn, c.requires.can.in_hand.numbered); up_to_date = c.requires.can.up_to_date }

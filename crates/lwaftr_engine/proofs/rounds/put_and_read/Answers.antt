@@ -1,63 +1,64 @@
-use Rattle.std.proofs.Common.{ℕ, ◌∙◌, subst}
+use Rattle.std.proofs.Common.{ℕ, ◌∙◌, rules, subst}
 use Rattle.aftr_base.specs.Outside.{Rises}
 use Rattle.capture_io.specs.Rounds.{is_cut}
 use Rattle.lwaftr_engine.specs.Progress.{setup_of, spot}
 use Rattle.lwaftr_engine.specs.Underway.{steps_of}
+use Rattle.lwaftr_engine.proofs.Adding.{others_held}
 use Rattle.lwaftr_engine.proofs.ReadLemmas.{failed_by, fails_after, none_failed}
 use Rattle.lwaftr_engine.proofs.RoundLemmas.{read_held}
-use Rattle.lwaftr_engine.proofs.UnderwayLemmas.{fronts_of, read_none, read_past}
+use Rattle.lwaftr_engine.proofs.UnderwayLemmas.{fronts_of, not_read, read_none, read_past}
 use Rattle.lwaftr_engine.proofs.rounds.put_and_read.Goals as goal
 
-pub returns-in_err-round-clause-part : goal.returns-in_err-round-clause-part
-returns-in_err-round-clause-part g c =
-    let f = g.F.Files in
-    fronts_of (setup_of c.args.task) (steps_of c.args.pending.now) (f.outside c.args.files.now).held (f.outside c.put.new.files).held (f.outside c.read_next.new.files).held c.in_err-round.ensures.held c.in_ok-put.ensures.wrote
-
-pub returns-clause-part : goal.returns-clause-part
-returns-clause-part g c =
-    let f = g.F.Files in
-    fronts_of (setup_of c.args.task) (steps_of c.args.pending.now) (f.outside c.args.files.now).held (f.outside c.put.new.files).held (f.outside c.read_next.new.files).held c.in_ok-round.ensures.held c.in_ok-put.ensures.wrote
-
-pub returns-in_err-put-clause-capture_read : goal.returns-in_err-put-clause-capture_read
-returns-in_err-put-clause-capture_read g c =
-    let f = g.F.Files in
-    none_failed (setup_of c.args.task).run.input (f.outside c.args.files.now) (f.outside c.put.new.files) c.in_err-put.ensures.writes.lost c.in_err-put.ensures.writes.last
-
-pub returns-in_err-round-clause-capture_read : goal.returns-in_err-round-clause-capture_read
-returns-in_err-round-clause-capture_read g c =
-    let f = g.F.Files in
-    none_failed (setup_of c.args.task).run.input (f.outside c.args.files.now) (f.outside c.read_next.new.files) (c.in_err-round.ensures.lost ∙ c.in_ok-put.ensures.writes.lost) (c.in_err-round.ensures.last ∙ c.in_ok-put.ensures.writes.last)
-
-pub returns-clause-capture_read : goal.returns-clause-capture_read
-returns-clause-capture_read g c =
-    let f = g.F.Files in
-    let name = (setup_of c.args.task).run.input in
-    fails_after name (f.outside c.args.files.now) (f.outside c.put.new.files) (f.outside c.read_next.new.files) c.in_ok-put.ensures.writes.lost c.in_ok-put.ensures.writes.last
-    (failed_by (is_cut c.in_ok-round.round.ending) name (λ _. Unit {0}) (f.outside c.put.new.files) (f.outside c.read_next.new.files) c.in_ok-round.ensures.reads.lost c.in_ok-round.ensures.reads.last)
-
-pub returns-in_err-put-clause-past : goal.returns-in_err-put-clause-past
-returns-in_err-put-clause-past g c =
-    let f = g.F.Files in
-    let r = g.C.CaptureReader in
-    let here = spot (r.stands c.args.reader.now) (r.left c.args.reader.now) (r.at c.args.reader.now) in
-    read_none (setup_of c.args.task).run.input here here c.args.number (f.outside c.put.new.files).held (f.outside c.args.files.now).lost (f.outside c.put.new.files).lost (f.outside c.put.new.files).last c.in_err-put.ensures.writes.lost
-
-pub returns-in_err-round-clause-past : goal.returns-in_err-round-clause-past
-returns-in_err-round-clause-past g c =
-    let f = g.F.Files in
-    let r = g.C.CaptureReader in
-    read_none (setup_of c.args.task).run.input (spot (r.stands c.args.reader.now) (r.left c.args.reader.now) (r.at c.args.reader.now)) (spot (r.stands c.read_next.new.reader) (r.left c.read_next.new.reader) (r.at c.read_next.new.reader))
-    c.args.number (f.outside c.read_next.new.files).held (f.outside c.args.files.now).lost (f.outside c.read_next.new.files).lost (f.outside c.read_next.new.files).last (c.in_err-round.ensures.lost ∙ c.in_ok-put.ensures.writes.lost)
-
-pub returns-clause-past : goal.returns-clause-past
-returns-clause-past g c =
+pub returns-in_err-put : goal.returns-in_err-put
+returns-in_err-put g c =
     let f = g.F.Files in
     let r = g.C.CaptureReader in
     let x = setup_of c.args.task in
+    let a = f.outside c.args.files.now in
+    let b = f.outside c.put.new.files in
+    let here = spot (r.stands c.args.reader.now) (r.left c.args.reader.now) (r.at c.args.reader.now) in
+    let wrote = c.in_err-put.ensures in
+    not_read a b c.from_residual.result c.from_residual.ensures.0 (search rules) wrote.begun
+    (read_none x.run.input here here c.args.number b.held a.lost b.lost b.last wrote.writes.lost) (none_failed x.run.input a b wrote.writes.lost wrote.writes.last) wrote.others
+
+pub returns-in_err-round : goal.returns-in_err-round
+returns-in_err-round g c =
+    let f = g.F.Files in
+    let r = g.C.CaptureReader in
+    let x = setup_of c.args.task in
+    let a = f.outside c.args.files.now in
+    let m = f.outside c.put.new.files in
+    let b = f.outside c.read_next.new.files in
+    let wrote = c.in_ok-put.ensures in
+    let read = c.in_err-round.ensures in
+    let lost = read.lost ∙ wrote.writes.lost in
+    not_read a b c.from_residual-in_err-round.result c.from_residual-in_err-round.ensures.0 (search rules) (fronts_of x (steps_of c.args.pending.now) a.held m.held b.held read.held wrote.wrote)
+    (read_none x.run.input (spot (r.stands c.args.reader.now) (r.left c.args.reader.now) (r.at c.args.reader.now)) (spot (r.stands c.read_next.new.reader) (r.left c.read_next.new.reader) (r.at c.read_next.new.reader))
+    c.args.number b.held a.lost b.lost b.last lost) (none_failed x.run.input a b lost (read.last ∙ wrote.writes.last)) (others_held x.run a.held m.held b.held read.held wrote.others)
+
+pub returns : goal.returns
+returns g c =
+    let f = g.F.Files in
+    let r = g.C.CaptureReader in
+    let x = setup_of c.args.task in
+    let a = f.outside c.args.files.now in
+    let m = f.outside c.put.new.files in
+    let b = f.outside c.read_next.new.files in
     let before = spot (r.stands c.args.reader.now) (r.left c.args.reader.now) (r.at c.args.reader.now) in
     let now = spot (r.stands c.read_next.new.reader) (r.left c.read_next.new.reader) (r.at c.read_next.new.reader) in
-    let h = (f.outside c.read_next.new.files).held in
-    let last = (f.outside c.read_next.new.files).last in
-    let R : ℕ → Type 0 = λ n. Rises (is_cut c.in_ok-round.round.ending) n (f.outside c.read_next.new.files).lost in
-    let read = read_held x before now c.args.number (f.outside c.put.new.files).held h last c.in_ok-round.round c.in_ok-round.ensures.held c.in_ok-round.ensures.read in
-    read_past x before now c.args.number h (f.outside c.args.files.now).lost (f.outside c.read_next.new.files).lost last c.in_ok-round.round read (subst R c.in_ok-put.ensures.writes.lost c.in_ok-round.ensures.reads.lost)
+    let wrote = c.in_ok-put.ensures in
+    let read = c.in_ok-round.ensures in
+    let round = c.in_ok-round.round in
+    let R : ℕ → Type 0 = λ n. Rises (is_cut round.ending) n b.lost in
+    let got = read_held x before now c.args.number m.held b.held b.last round read.held read.read in
+    record {
+      wrote = search rules;
+      part = fronts_of x (steps_of c.args.pending.now) a.held m.held b.held read.held wrote.wrote;
+      read = got;
+      past = read_past x before now c.args.number b.held a.lost b.lost b.last round got (subst R wrote.writes.lost read.reads.lost);
+      ready = read.ready;
+      reads = search rules;
+      capture_read = fails_after x.run.input a m b wrote.writes.lost wrote.writes.last (failed_by (is_cut round.ending) x.run.input (λ _. Unit {0}) m b read.reads.lost read.reads.last);
+      others = others_held x.run a.held m.held b.held read.held wrote.others;
+      spoiled = search rules;
+    }

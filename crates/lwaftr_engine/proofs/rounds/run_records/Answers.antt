@@ -9,7 +9,7 @@ use Rattle.lwaftr_engine.specs.Runs.{OthersKept}
 use Rattle.lwaftr_engine.specs.Underway.{IsInHand, ReadsPast, StandsBetween, steps_of}
 use Rattle.capture_io.specs.declared.rounds.Round.{Round}
 use Rattle.lwaftr_engine.specs.declared.rounds.Pending.{Pending}
-use Rattle.lwaftr_engine.proofs.Adding.{adds_more, adds_none, others_more, others_none, reads_on, same_plan}
+use Rattle.lwaftr_engine.proofs.Adding.{adds_more, adds_none, goes_on, others_more, others_none, reads_on, same_plan}
 use Rattle.lwaftr_engine.proofs.Apart.{apart}
 use Rattle.lwaftr_engine.proofs.BrokenLemmas.{not_begun}
 use Rattle.lwaftr_engine.proofs.Exits.{if_err}
@@ -27,7 +27,7 @@ returns-in_err-round-clause-broken g c =
     let before = f.outside c.args.files.now in
     let after = f.outside c.read_next.new.files in
     if_err _ c.from_residual.result (not_begun (setup_of c.args.task) s.areas.plan s.seat.known.actor.draws c.args.progress.now (seats_of s) (spot (r.stands c.args.reader.now) (r.left c.args.reader.now) (r.at c.args.reader.now))
-    (λ bytes number. c.some_left.ensures c.args.reader.now bytes number) (omega (arith, c.requires.drawn)) c.requires.up_to_date before.lost after.lost after.last c.in_err-round.ensures.lost before.held after.held c.in_err-round.ensures.held)
+    (λ bytes number. c.some_left.ensures c.args.reader.now bytes number) (omega (arith, c.requires.can.drawn)) c.requires.can.up_to_date before.lost after.lost after.last c.in_err-round.ensures.lost before.held after.held c.in_err-round.ensures.held)
 
 pub returns-in_err-round-clause-capture_read : goal.returns-in_err-round-clause-capture_read
 returns-in_err-round-clause-capture_read g c =
@@ -50,13 +50,10 @@ rounds-init g c =
       went = begin_rounds x (apart x.run c.requires.apart) s.areas.plan s.seat.known.actor.draws c.args.progress.now (seats_of s) (spot (r.stands c.args.reader.now) (r.left c.args.reader.now) (r.at c.args.reader.now))
           (spot (r.stands c.read_next.new.reader) (r.left c.read_next.new.reader) (r.at c.read_next.new.reader)) c.args.room.pending c.in_ok-round.round (f.outside c.read_next.new.files).last c.requires.nothing h0 h1
           c.in_ok-round.ensures.held c.in_ok-round.ensures.read;
-      bounded = c.requires.bounded;
+      can = c.requires.can;
       ready = c.in_ok-round.ensures.ready;
-      drawn = c.requires.drawn;
       in_hand = c.in_ok-round.ensures.read.in_hand;
       same_areas = refl;
-      duty = c.requires.duty;
-      up_to_date = c.requires.up_to_date;
       adds = adds_none s;
       others = subst O (sym c.in_ok-round.ensures.held) (others_none x.run h0);
       reads = c.in_ok-round.ensures.reads;
@@ -72,7 +69,7 @@ returns-in_err-next-clause-broken g c =
     let t = c.rounds.shift in
     let u = c.step.new.shift in
     let duty = c.in_err-next.ensures.duty in
-    let drawn = c.in_err-next.ensures.drawn in
+    let did = c.in_err-next.ensures.outside in
     let first = spot (r.stands c.args.reader.now) (r.left c.args.reader.now) (r.at c.args.reader.now) in
     let here = spot (r.stands c.rounds.reader) (r.left c.rounds.reader) (r.at c.rounds.reader) in
     let now = spot (r.stands c.step.new.reader) (r.left c.step.new.reader) (r.at c.step.new.reader) in
@@ -80,10 +77,10 @@ returns-in_err-next-clause-broken g c =
     let L : ℕ → Type 0 = λ n. Told (f.outside c.step.new.files).held (λ m. ReadsPast x.run.input here now c.rounds.round.number (content m x.run.input) n (f.outside c.step.new.files).lost (f.outside c.step.new.files).last) in
     if_err _ c.from_residual-in_err-next.result (breaks_off c.run_laws.ensures x (apart x.run c.requires.apart)
     s.areas.plan t.seat.known.actor.draws u.seat.known.actor.draws duty.adds.drawn duty.adds.draws first here c.rounds.round c.args.progress.now c.rounds.progress (seats_of s) (seats_of t) (steps_of c.rounds.pending) now (f.outside c.rounds.files).last (f.outside c.step.new.files).last
-    (f.outside c.args.files.now).lost (f.outside c.step.new.files).lost duty.adds.news duty.adds.points drawn.few
-    (told_by s.areas.plan u (same_plan s.areas u.areas (duty.areas ∙ c.rounds.invariant.same_areas)) drawn.up_to_date)
+    (f.outside c.args.files.now).lost (f.outside c.step.new.files).lost duty.adds.news duty.adds.points duty.few
+    (told_by s.areas.plan u (same_plan s.areas u.areas (duty.areas ∙ c.rounds.invariant.same_areas)) duty.up_to_date)
     (λ bytes number. c.some_left.ensures c.rounds.reader bytes number) (λ bytes number. c.some_left.ensures c.step.new.reader bytes number)
-    (f.outside c.args.files.now).held (f.outside c.rounds.files).held (f.outside c.step.new.files).held (subst L before.1 c.in_err-next.ensures.past) c.rounds.invariant.went c.in_err-next.ensures.begun)
+    (f.outside c.args.files.now).held (f.outside c.rounds.files).held (f.outside c.step.new.files).held (subst L before.1 did.past) c.rounds.invariant.went did.part)
 
 pub returns-in_err-last_steps-clause-broken : goal.returns-in_err-last_steps-clause-broken
 returns-in_err-last_steps-clause-broken g c =
@@ -94,14 +91,13 @@ returns-in_err-last_steps-clause-broken g c =
     let t = c.rounds.shift in
     let u = c.last_steps.new.shift in
     let duty = c.in_err-last_steps.ensures.duty in
-    let drawn = c.in_err-last_steps.ensures.drawn in
     let first = spot (r.stands c.args.reader.now) (r.left c.args.reader.now) (r.at c.args.reader.now) in
     let here = spot (r.stands c.rounds.reader) (r.left c.rounds.reader) (r.at c.rounds.reader) in
     let L : ℕ → Type 0 = λ n. Rises (is_cut c.rounds.round.ending) (f.outside c.args.files.now).lost n in
     if_err _ c.from_residual-in_err-last_steps.result (last_broken c.run_laws.ensures x (apart x.run c.requires.apart)
     s.areas.plan t.seat.known.actor.draws u.seat.known.actor.draws duty.adds.drawn duty.adds.draws first here c.rounds.round c.args.progress.now c.rounds.progress c.last_steps.new.progress (seats_of s) t u (steps_of c.rounds.pending) c.last_steps.new.made
-    (f.outside c.args.files.now).lost (f.outside c.last_steps.new.files).lost duty.adds.news duty.adds.points drawn.few
-    (told_by s.areas.plan u (same_plan s.areas u.areas (duty.areas ∙ c.rounds.invariant.same_areas)) drawn.up_to_date)
+    (f.outside c.args.files.now).lost (f.outside c.last_steps.new.files).lost duty.adds.news duty.adds.points duty.few
+    (told_by s.areas.plan u (same_plan s.areas u.areas (duty.areas ∙ c.rounds.invariant.same_areas)) duty.up_to_date)
     (λ bytes number. c.some_left.ensures c.rounds.reader bytes number) c.in_err-last_steps.ensures.writes.last (subst L (sym c.in_err-last_steps.ensures.writes.lost) c.rounds.invariant.reads.lost)
     (λ well. judged_planned (same_plan s.areas t.areas c.rounds.invariant.same_areas) well.judged)
     (f.outside c.args.files.now).held (f.outside c.rounds.files).held (f.outside c.last_steps.new.files).held c.rounds.invariant.went c.in_err-last_steps.ensures.begun)
@@ -138,7 +134,7 @@ returns-in_err-next-clause-capture_read g c =
     let f = g.F.Files in
     let name = (setup_of c.args.task).run.input in
     let before = reads_on c.rounds.round.ending c.in_default.is name (f.outside c.args.files.now) (f.outside c.rounds.files) c.rounds.invariant.reads in
-    fails_after name (f.outside c.args.files.now) (f.outside c.rounds.files) (f.outside c.step.new.files) before.1 before.2 c.in_err-next.ensures.capture_read
+    fails_after name (f.outside c.args.files.now) (f.outside c.rounds.files) (f.outside c.step.new.files) before.1 before.2 c.in_err-next.ensures.outside.capture_read
 
 pub returns-in_err-last_steps-clause-capture_read : goal.returns-in_err-last_steps-clause-capture_read
 returns-in_err-last_steps-clause-capture_read g c =
@@ -165,6 +161,7 @@ rounds-preserved g c =
     let next = c.in_ok-next.next in
     let well = c.in_ok-next.ensures.well in
     let adds = c.in_ok-next.ensures.duty.adds in
+    let did = c.in_ok-next.ensures.outside in
     let h0 = (f.outside c.args.files.now).held in
     let h1 = (f.outside c.rounds.files).held in
     let h2 = (f.outside c.step.new.files).held in
@@ -183,17 +180,14 @@ rounds-preserved g c =
     record {
       went = subst Q is (subst P (sym c.swap.ensures.x_after) (steps_on c.run_laws.ensures x (apart x.run c.requires.apart)
           s.areas.plan t.seat.known.actor.draws u.seat.known.actor.draws adds.drawn adds.draws first here c.rounds.round c.args.progress.now c.rounds.progress (seats_of s) (seats_of t) (steps_of c.rounds.pending) (f.outside c.rounds.files).last now
-          (judged_planned (same_plan s.areas t.areas c.rounds.invariant.same_areas) well.judged) h0 h1 h2 c.in_ok-next.ensures.read c.rounds.invariant.went c.in_ok-next.ensures.wrote));
-      bounded = well.bounded;
-      ready = subst Y is c.in_ok-next.ensures.ready;
-      drawn = well.drawn;
-      in_hand = subst H is (subst N (sym well.number) c.in_ok-next.ensures.read.in_hand);
+          (judged_planned (same_plan s.areas t.areas c.rounds.invariant.same_areas) well.judged) h0 h1 h2 did.read c.rounds.invariant.went did.wrote));
+      can = goes_on t u c.in_ok-next.ensures.duty c.rounds.invariant.can well.after;
+      ready = subst Y is did.ready;
+      in_hand = subst H is (subst N (sym well.number) did.read.in_hand);
       same_areas = c.in_ok-next.ensures.duty.areas ∙ c.rounds.invariant.same_areas;
-      duty = c.in_ok-next.ensures.duty.duty;
-      up_to_date = c.in_ok-next.ensures.drawn.up_to_date;
       adds = adds_more s t u c.rounds.invariant.adds adds;
-      others = others_more x.run h0 h1 h2 c.rounds.invariant.others c.in_ok-next.ensures.others;
+      others = others_more x.run h0 h1 h2 c.rounds.invariant.others did.others;
       reads = subst R is (reads_after (is_cut next.ending) x.run.input (f.outside c.args.files.now) (f.outside c.rounds.files) (f.outside c.step.new.files)
-          (record { faults = before.0; lost = before.1; spoiled = c.rounds.invariant.spoiled; last = before.2 }) c.in_ok-next.ensures.reads);
-      spoiled = c.in_ok-next.ensures.spoiled ∙ c.rounds.invariant.spoiled;
+          (record { faults = before.0; lost = before.1; spoiled = c.rounds.invariant.spoiled; last = before.2 }) did.reads);
+      spoiled = did.spoiled ∙ c.rounds.invariant.spoiled;
     }

@@ -6,7 +6,7 @@ use Rattle.capture_io.specs.Rounds.{is_cut}
 use Rattle.capture_io.specs.declared.rounds.Ending.{Ending}
 use Rattle.lwaftr_engine.specs.Fronts.{is_failure, stop_by}
 use Rattle.lwaftr_engine.specs.Progress.{seats_of, setup_of, spot}
-use Rattle.lwaftr_engine.proofs.Adding.{as_planned, broken_planned, others_more, same_plan}
+use Rattle.lwaftr_engine.proofs.Adding.{as_planned, broken_planned, goes_first, others_more, same_plan}
 use Rattle.lwaftr_engine.proofs.Apart.{apart}
 use Rattle.lwaftr_engine.proofs.Capturing.{closed_plan, ended_err, finish_broken, finished_at, opening_broken, rounds_broken}
 use Rattle.lwaftr_engine.proofs.Closing.{IsClosed}
@@ -15,6 +15,10 @@ use Rattle.lwaftr_engine.proofs.Exits.{rises_by}
 use Rattle.lwaftr_engine.proofs.ReadLemmas.{fails_after, fails_before, none_failed}
 use Rattle.lwaftr_engine.proofs.SummaryLemmas.{summed_up}
 use Rattle.lwaftr_engine.proofs.run.run_capture.Goals as goal
+
+pub run_records-taken-requires-clause-can : goal.run_records-taken-requires-clause-can
+run_records-taken-requires-clause-can g c κs within =
+    goes_first c.in_ok-shift.shift c.in_ok-progress.progress c.requires.loads c.requires.compiled c.in_ok-shift.ensures.duty c.in_ok-shift.ensures.drawn c.in_ok-progress.ensures
 
 pub returns-clause-ended : goal.returns-clause-ended
 returns-clause-ended g c =
@@ -44,9 +48,9 @@ returns-clause-ended g c =
     let now = o.out c.finish.new.out in
     ends c.run_laws.ensures x far c.args.plan u.seat.known.actor.draws (seats_of s) (seats_of u) c.end_shift-closed.result c.in_ok-progress.progress q first reader c.in_ok-ending.ending last said now (f.outside c.args.files.now) (f.outside c.finish.new.files) c.in_ok-finish.ensures.last
     (λ bytes number. c.some_left.ensures c.run_records-taken.new.reader bytes number) c.in_ok-progress.ensures c.in_ok-shift.ensures.points c.requires.errors
-    (at_end c.run_laws.ensures.points c.args.plan u.seat.known u.desk.known (seats_of u) c.end_shift-closed.result q.number closed c.in_ok-ending.ensures.settled c.in_ok-ending.ensures.duty.whole
+    (at_end c.run_laws.ensures.points c.args.plan u.seat.known u.desk.known (seats_of u) c.end_shift-closed.result q.number closed c.in_ok-ending.ensures.after.settled c.in_ok-ending.ensures.duty.whole
     (closed_plan s.areas.plan u.areas.plan u.desk.known.plan c.args.plan c.in_ok-ending.ensures.duty.desk_areas.same_plan (same_plan s.areas u.areas c.in_ok-ending.ensures.areas) c.in_ok-shift.ensures.duty.its_plan)
-    refl c.in_ok-ending.ensures.drawn)
+    refl c.in_ok-ending.ensures.after.drawn)
     h0 h1 h2 h3
     c.in_ok-open_outputs.ensures.opened
     (as_planned x c.args.plan s.areas.plan c.in_ok-shift.ensures.duty.its_plan u.seat.known.actor.draws c.in_ok-progress.progress q (seats_of s) (seats_of u) first reader (Some c.in_ok-ending.ending) last h1 h2 c.in_ok-ending.ensures.went)
@@ -56,7 +60,7 @@ pub returns-clause-history : goal.returns-clause-history
 returns-clause-history g c =
     let o = g.O.Sink in
     summed_up c.run_records-taken.new.progress c.points.result.now c.run_records-taken.new.shift.seat.known.actor.draws c.end_shift-closed.result (o.out c.args.out.now) (o.out c.finish.new.out)
-    c.end_shift-closed.ensures.history c.end_shift-closed.ensures.drawn c.in_ok-ending.ensures.drawn c.in_ok-ending.ensures.bounded.totals c.points.ensures.points c.in_ok-finish.ensures.summary
+    c.end_shift-closed.ensures.history c.end_shift-closed.ensures.drawn c.in_ok-ending.ensures.after.drawn c.in_ok-ending.ensures.after.bounded.totals c.points.ensures.points c.in_ok-finish.ensures.summary
 
 pub returns-in_err-open_outputs-clause-capture_read : goal.returns-in_err-open_outputs-clause-capture_read
 returns-in_err-open_outputs-clause-capture_read g c =
@@ -181,9 +185,9 @@ returns-in_err-finish-clause-ended g c =
     (finish_broken c.run_laws.ensures x far c.args.plan u.seat.known.actor.draws (seats_of s) (seats_of u) c.end_shift-closed.result closed
     c.in_ok-progress.progress first c.in_ok-progress.ensures c.in_ok-shift.ensures.points c.requires.errors q reader
     (λ bytes number. c.some_left.ensures c.run_records-taken.new.reader bytes number)
-    (at_end c.run_laws.ensures.points c.args.plan u.seat.known u.desk.known (seats_of u) c.end_shift-closed.result q.number closed c.in_ok-ending.ensures.settled c.in_ok-ending.ensures.duty.whole
+    (at_end c.run_laws.ensures.points c.args.plan u.seat.known u.desk.known (seats_of u) c.end_shift-closed.result q.number closed c.in_ok-ending.ensures.after.settled c.in_ok-ending.ensures.duty.whole
     (closed_plan s.areas.plan u.areas.plan u.desk.known.plan c.args.plan c.in_ok-ending.ensures.duty.desk_areas.same_plan (same_plan s.areas u.areas c.in_ok-ending.ensures.areas) c.in_ok-shift.ensures.duty.its_plan)
-    refl c.in_ok-ending.ensures.drawn)
+    refl c.in_ok-ending.ensures.after.drawn)
     c.in_ok-ending.ending last said now before after c.in_err-finish.ensures.last (subst L c.in_ok-open_outputs.ensures.writes.lost (subst K (sym c.in_err-finish.ensures.lost) c.in_ok-ending.ensures.reads.lost)) why c.points.result.now (c.points.ensures.points ∙ c.end_shift-closed.ensures.points)
     (f.outside c.run_records-taken.new.files).spoiled (c.in_ok-ending.ensures.spoiled ∙ c.in_ok-open_outputs.ensures.writes.spoiled) h0 h1 h2 h3
     c.in_ok-open_outputs.ensures.opened
