@@ -1,5 +1,5 @@
 -- Two courses that agree on the first records, and what these records write by both.
-use Rattle.std.proofs.Common.{◌≡◌, ℕ, zero, suc, ◌+◌, ◌<◌, ◌≤◌, Bool, true, false, not, List, [], ◌∷◌, ◌++◌, length, flat_map, Option, Some, slice_get, refl, sym, ◌∙◌, ap, subst, arith}
+use Rattle.std.proofs.Common.{◌≡◌, ℕ, zero, suc, ◌+◌, ◌<◌, ◌≤◌, Bool, true, false, not, List, [], ◌∷◌, ◌++◌, length, flat_map, Option, Some, slice_get, refl, sym, ◌∙◌, ap, arith}
 use Rattle.aftr_text.specs.Lines.{ended_text}
 use Rattle.capture_io.specs.Packets.{packet_bytes}
 use Rattle.capture_io.specs.Record.{nanoseconds}
@@ -11,7 +11,7 @@ use Rattle.item_stage.specs.Items.{entries_of, items_in, rows_of}
 use Rattle.item_stage.specs.Turns.{entries_from, no_rows, rows_after, turn}
 use Rattle.item_stage.specs.declared.entries.Entry.{Entry}
 use Rattle.item_stage.specs.declared.rows.Rows.{Rows}
-use Rattle.run_output.specs.Limiting.{AreSent, IsLimited, Told, passed_in, tells, times_of, told_from, told_if}
+use Rattle.run_output.specs.Limiting.{IsLimited, Told, passed_in, tells, told_from, told_if}
 use Rattle.run_output.specs.Outputs.{Course, lines_from, packets_from, record_text, sent_unless, verdict_at}
 use Rattle.verdict_core.specs.Verdicts.{verdict_of}
 
@@ -45,13 +45,12 @@ module _ (c d : Course) (end : ℕ) (alike : AreAlike c d end) where
   verdict_same number i inside = let v = alike.version number inside in λ j. verdict_of (alike.tables j (v j)) i
 
   pub packets_same : (w : Written) (number : ℕ) (rs : List Rec) (es : List Entry) → number + length rs ≤ end → packets_from d w number rs es ≡ packets_from c w number rs es
-  packets_same w number [] es inside = refl
-  packets_same w number (r ∷ rs) [] inside = refl
   packets_same w number (r ∷ rs) (e ∷ es) inside =
       let v = verdict_same number e.item (omega (arith, inside)) in
       let l = alike.limited number (omega (arith, inside)) in
       let rest = packets_same w (number + 1) rs es (omega (arith, inside)) in
       λ j. flat_map (packet_bytes w r.seconds r.fraction) (sent_unless (l j) e.item (v j) number) ++ rest j
+  packets_same w number _ _ inside = refl
 
   pub lines_same : (number : ℕ) (es : List Entry) → number + length es ≤ end → lines_from d number es ≡ lines_from c number es
   lines_same number [] inside = refl
@@ -63,12 +62,11 @@ module _ (c d : Course) (end : ℕ) (alike : AreAlike c d end) where
       λ j. (flat_map (ended_text true) e.ended ++ record_text (l j) number (n j) (v j) (length (sent_unless (l j) e.item (v j) number))) ++ rest j
 
   told_same : (form : Form) (number : ℕ) (rs : List Rec) (es : List Entry) → number + length rs ≤ end → told_from d form number rs es ≡ told_from c form number rs es
-  told_same form number [] es inside = refl
-  told_same form number (r ∷ rs) [] inside = refl
   told_same form number (r ∷ rs) (e ∷ es) inside =
       let v = verdict_same number e.item (omega (arith, inside)) in
       let rest = told_same form (number + 1) rs es (omega (arith, inside)) in
       λ j. told_if (tells (v j)) number (nanoseconds form r.seconds r.fraction) ++ rest j
+  told_same form number _ _ inside = refl
 
   -- the marks of errors below the end
   passed_if : (error : Bool) (number time : ℕ) (ts : List Told) → number < end → passed_in d ts ≡ passed_in c ts → passed_in d (told_if error number time ++ ts) ≡ passed_in c (told_if error number time ++ ts)
@@ -76,10 +74,9 @@ module _ (c d : Course) (end : ℕ) (alike : AreAlike c d end) where
   passed_if false number time ts inside rest = rest
 
   passed_same : (form : Form) (number : ℕ) (rs : List Rec) (es : List Entry) → number + length rs ≤ end → passed_in d (told_from c form number rs es) ≡ passed_in c (told_from c form number rs es)
-  passed_same form number [] es inside = refl
-  passed_same form number (r ∷ rs) [] inside = refl
   passed_same form number (r ∷ rs) (e ∷ es) inside =
       passed_if (tells (verdict_at c number e.item)) number (nanoseconds form r.seconds r.fraction) (told_from c form (number + 1) rs es) (omega (arith, inside)) (passed_same form (number + 1) rs es (omega (arith, inside)))
+  passed_same form number _ _ inside = refl
 
   got_inside : (es : List Entry) (number : ℕ) (i : Item) → slice_get (items_in es) number ≡ Some i → number < length es
   got_inside [] number i is = absurd (cc is)
@@ -91,11 +88,9 @@ module _ (c d : Course) (end : ℕ) (alike : AreAlike c d end) where
   limited_same rate form rs es few count limited =
       let told = told_same form 0 rs es (omega (arith, few)) in
       let passed = passed_same form 0 rs es (omega (arith, few)) in
-      let S : List Bool → Type 0 = λ l. AreSent rate (times_of (told_from c form 0 rs es)) l in
-      let T : List Told → Type 0 = λ l. AreSent rate (times_of l) (passed_in d l) in
       record {
         errors = λ number i at is.
             let inside : number < end = omega (arith, got_inside es number i at, count) in
             ap tells (verdict_same number i inside) ∙ limited.errors number i at (sym (alike.limited number inside) ∙ is);
-        sent = subst T (sym told) (subst S (sym passed) limited.sent);
+        sent = rw told (rw passed limited.sent);
       }

@@ -1,5 +1,5 @@
 -- Each record of a round has a draw of its own, so as many draws as items ask the table, or more.
-use Rattle.std.proofs.Common.{◌≡◌, ◌≢◌, ℕ, zero, suc, ◌+◌, ◌-◌, ◌<◌, ◌≤◌, ◌==◌, Bool, true, false, List, [], ◌∷◌, ◌++◌, length, take, get_or, Option, Some, ◌⊎◌, inl, inr, refl, sym, ◌∙◌, ap, subst, arith}
+use Rattle.std.proofs.Common.{◌≡◌, ◌≢◌, ℕ, zero, suc, ◌+◌, ◌-◌, ◌<◌, ◌≤◌, ◌==◌, Bool, true, false, List, [], ◌∷◌, ◌++◌, length, take, get_or, Option, Some, ◌⊎◌, inl, inr, refl, sym, ◌∙◌, ap, arith}
 use Rattle.std.specs.Prelude.{cond}
 use Rattle.std.specs.List.{Contains, slice_get, sum_by}
 use Rattle.std.proofs.Math.Seq.{take-suc}
@@ -24,8 +24,7 @@ use Rattle.lwaftr_engine.proofs.Elements.{number_at}
 gains : {A : Type 0} (f g : A → ℕ) (v : ℕ) (xs : List A) (k : ℕ) (x : A) → ((y : A) → f y ≤ g y) → f x + v ≤ g x → k < length xs → get_or xs k x ≡ x → sum_by f xs + v ≤ sum_by g xs
 gains f g v [] k x each more inside is = absurd (omega (arith, inside))
 gains {A} f g v (y ∷ ys) zero x each more inside is =
-    let P : A → Type 0 = λ z. f z + v ≤ g z in
-    let here : f y + v ≤ g y = subst P (sym is) more in
+    let here : f y + v ≤ g y = rw is more in
     omega (arith, here, sum_by-cons f y ys, sum_by-cons g y ys, sum_by-le-sum_by f g ys each)
 gains f g v (y ∷ ys) (suc k) x each more inside is =
     omega (arith, each y, sum_by-cons f y ys, sum_by-cons g y ys, gains f g v ys k x each more (omega (arith, inside)) is)

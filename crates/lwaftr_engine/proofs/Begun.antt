@@ -1,5 +1,5 @@
 -- What the outputs hold where a round could not be written to its end.
-use Rattle.std.proofs.Common.{◌≡◌, ℕ, List, [], ◌++◌, length, take, drop, refl, sym, ◌∙◌, ap, subst, arith, append-nil, append_assoc, length-append, take-append-drop}
+use Rattle.std.proofs.Common.{◌≡◌, ℕ, List, [], ◌++◌, length, take, drop, refl, sym, ◌∙◌, ap, arith, append-nil, append_assoc, length-append, take-append-drop}
 use Rattle.std.specs.Prelude.{string_bytes}
 use Rattle.std.proofs.Math.Seq.{take-length}
 use Rattle.std.proofs.lemmas.Grind.{flat_map-append}
@@ -29,7 +29,7 @@ lines_split points k loads =
 pub begun_by : {x : Setup} {c : Course} {opened a d : Contents} {p : Progress} {s : Seats} {reader : Spot} {taken : List Rec} → HasWritten x c opened (mark a p s reader) taken → (later v l due : List ℕ) →
     IsFrontOf (load_lines (s.points ++ later) (loads_of x)) (load_lines (s.points ++ later) (take p.printed (loads_of x)) ++ v) → IsFrontOf due (lines_from c 0 (entries_of x.form taken) ++ l) →
     Wrote x.run v [] l a d → HasBegun x c (s.points ++ later) due opened d taken
-begun_by {x} {c} {opened} {a} {d} {p} {s} {reader} {taken} h later v l due tables lines wrote =
+begun_by {x} {c} {opened} {a} {p} {s} {taken} h later v l due tables lines wrote =
     let V = load_lines (s.points ++ later) (take p.printed (loads_of x)) in
     let P = packets_from c x.written 0 taken (entries_of x.form taken) in
     let L = lines_from c 0 (entries_of x.form taken) in
@@ -65,7 +65,7 @@ begun_by {x} {c} {opened} {a} {d} {p} {s} {reader} {taken} h later v l due table
 -- nothing was put there
 pub still_begun : {x : Setup} {c : Course} {opened a d : Contents} {p : Progress} {s : Seats} {reader : Spot} {taken : List Rec} → HasWritten x c opened (mark a p s reader) taken → (later : List ℕ) →
     Wrote x.run [] [] [] a d → HasBegun x c (s.points ++ later) (lines_from c 0 (entries_of x.form taken)) opened d taken
-still_begun {x} {c} {opened} {a} {d} {p} {s} {reader} {taken} h later none =
+still_begun {x} {c} {p} {s} {taken} h later none =
     let V = load_lines (s.points ++ later) (take p.printed (loads_of x)) in
     let L = lines_from c 0 (entries_of x.form taken) in
     let rest = load_lines (s.points ++ later) (drop p.printed (loads_of x)) in
@@ -82,7 +82,6 @@ module _ (laws : RunLaws) {x : Setup} {plan : Tables} {draws : List (ℕ × ℕ)
   pub begun_tables : (count : ℕ) → Wrote x.run (take count (string_bytes made.versions)) [] [] a d →
       HasBegun x past.course (t.points ++ later) (lines_from past.course 0 (entries_of x.form past.taken)) past.opened d past.taken
   begun_tables count wrote =
-      let B : List ℕ → Type 0 = λ points. HasBegun x past.course points (lines_from past.course 0 (entries_of x.form past.taken)) past.opened d past.taken in
       let points = s.points ++ (judged.news ++ later) in
       let before = load_lines points (take p.printed (loads_of x)) in
       let after = load_lines points (drop q.printed (loads_of x)) in
@@ -92,7 +91,7 @@ module _ (laws : RunLaws) {x : Setup} {plan : Tables} {draws : List (ℕ × ℕ)
       let whole : load_lines (s.points ++ (judged.news ++ later)) (loads_of x)
       ≡ (load_lines (s.points ++ (judged.news ++ later)) (take p.printed (loads_of x)) ++ string_bytes made.versions) ++ load_lines (s.points ++ (judged.news ++ later)) (drop q.printed (loads_of x)) =
       lines_split points q.printed (loads_of x) ∙ ap (λ (l : List ℕ). l ++ after) both in
-      subst B points_end (begun_by past.written (judged.news ++ later) (take count (string_bytes made.versions)) [] L
+      rw (← points_end) (begun_by past.written (judged.news ++ later) (take count (string_bytes made.versions)) [] L
       (length (before ++ take count (string_bytes made.versions)), front_more (load_lines points (loads_of x)) before (string_bytes made.versions) after count whole)
       (length L, append-nil L ∙ sym (take-length L)) wrote)
 

@@ -1,13 +1,10 @@
 -- Rounds that were ended by a fault, from one state to another.
-use Rattle.std.proofs.Common.{◌≡◌, ℕ, ◌≤◌, List, [], ◌++◌, length, Option, inl, refl, sym, subst, arith, append-nil}
+use Rattle.std.proofs.Common.{◌≡◌, ℕ, ◌≤◌, List, [], length, Option, inl, refl, sym, arith, append-nil}
 use Rattle.aftr_base.specs.Contents.{Contents, content, Moves}
-use Rattle.capture_io.specs.declared.forms.Rec.{Rec}
-use Rattle.item_stage.specs.Items.{entries_of}
-use Rattle.lwaftr_engine.specs.Broken.{Breaks, HasBegun}
+use Rattle.lwaftr_engine.specs.Broken.{Breaks}
 use Rattle.lwaftr_engine.specs.Progress.{IsUpToDate, Seats, Setup, Spot, mark}
 use Rattle.lwaftr_engine.specs.Writing.{Did, Step}
 use Rattle.lwaftr_engine.specs.declared.rounds.Progress.{Progress}
-use Rattle.run_output.specs.Outputs.{lines_from}
 use Rattle.swap_core.specs.Plans.{Tables}
 use Rattle.lwaftr_engine.proofs.Apart.{AreFilesApart}
 use Rattle.lwaftr_engine.proofs.Begun.{still_begun}
@@ -19,7 +16,7 @@ use Rattle.lwaftr_engine.proofs.Writing.{did_none, wrote}
 pub not_begun : (x : Setup) (plan : Tables) (draws : List (ℕ × ℕ)) (p : Progress) (s : Seats) (reader : Spot) → SomeLeft reader.left → length draws ≤ p.number → IsUpToDate plan (length draws) s.points →
     (lost lost_now : ℕ) (last : Option (List ℕ × ℕ)) → lost_now ≡ lost → (h0 h1 : Option Contents) → h1 ≡ h0 → Moves h0 h1 (λ m n. Breaks x plan draws s.points (mark m p s reader) n lost lost_now last)
 not_begun x plan draws p s reader some few tells lost lost_now last lost_is h0 h1 same =
-    moves_none h0 h1 (λ m n. Breaks x plan draws s.points (mark m p s reader) n lost lost_now last)
+    moves_none h0 h1 _
     (λ m here.
     let left = some (content m x.run.input) p.number in
     record {
@@ -30,8 +27,7 @@ not_begun x plan draws p s reader some few tells lost lost_now last lost_is h0 h
       drawn = omega (arith, few);
       up_to_date = tells;
       begun = λ later past.
-          let B : List Rec → Type 0 = λ l. HasBegun x past.course (s.points ++ later) (lines_from past.course 0 (entries_of x.form l)) past.opened m l in
-          subst B (sym (append-nil past.taken)) (still_begun past.written later (wrote x.run [] [] [] m m (did_none x.run m)));
+          rw (append-nil past.taken) (still_begun past.written later (wrote x.run [] [] [] m m (did_none x.run m)));
     }) same
 
 pub others_input : (x : Setup) → AreFilesApart x.run → (steps : List Step) (a d : Contents) → Did x.run steps a d → content d x.run.input ≡ content a x.run.input

@@ -1,5 +1,5 @@
 -- A run whose areas are closed: which course it had, and what its files are by that.
-use Rattle.std.proofs.Common.{◌≡◌, ℕ, ◌<◌, ◌≤◌, false, List, [], ◌∷◌, ◌++◌, length, All, take, drop, flat_map, Option, Some, refl, sym, ◌∙◌, ap, subst, arith, append-nil, append_assoc}
+use Rattle.std.proofs.Common.{◌≡◌, ℕ, ◌<◌, ◌≤◌, false, List, [], ◌∷◌, ◌++◌, length, take, drop, flat_map, Option, Some, refl, sym, ◌∙◌, ap, arith, append-nil, append_assoc}
 use Rattle.std.specs.Prelude.{nat_le}
 use Rattle.std.specs.Option.{option_map}
 use Rattle.std.proofs.lemmas.Grind.{flat_map-append}
@@ -12,24 +12,22 @@ use Rattle.area_swap.specs.Histories.{AreDrawn, HistoryValue, IsHistory}
 use Rattle.binding_rules.specs.Tables.{BindingTable, IsLawful}
 use Rattle.capture_io.specs.declared.forms.Form.{Form}
 use Rattle.capture_io.specs.declared.forms.Rec.{Rec}
-use Rattle.ip_codec.specs.declared.items.Item.{Item}
 use Rattle.item_stage.specs.Items.{entries_of, items_in, unfinished_of}
 use Rattle.lwaftr_engine.specs.Finishing.{IsFinished, IsFirst, last_lines, last_versions}
 use Rattle.lwaftr_engine.specs.Fronts.{IsUnder}
-use Rattle.lwaftr_engine.specs.Progress.{HasWritten, IsLimitedRun, Mark, Past, Seats, Setup, Spot, Suits, Wrote, loads_of, mark}
+use Rattle.lwaftr_engine.specs.Progress.{HasWritten, IsLimitedRun, Mark, Past, Seats, Setup, Spot, Suits, loads_of, mark}
 use Rattle.lwaftr_engine.specs.RunLaws.{RunLaws}
-use Rattle.lwaftr_engine.specs.Runs.{HasAccess, IsCourse, IsHistoryOf, IsPlanOf, IsWritten, all_asking}
+use Rattle.lwaftr_engine.specs.Runs.{IsCourse, IsHistoryOf, IsPlanOf, IsWritten, all_asking}
 use Rattle.lwaftr_engine.specs.declared.rounds.Progress.{Progress}
 use Rattle.reload_plan.specs.declared.loads.Slot.{Slot}
 use Rattle.reload_plan.specs.declared.loads.Slot.TheVariants as slot
 use Rattle.run_output.specs.Counting.{no_totals, totals_from, with_version}
 use Rattle.run_output.specs.Laws.{CountsAreTotals, IsSameBut}
-use Rattle.run_output.specs.Outputs.{Course, lines_from, packets_from, totals_of, verdict_at}
+use Rattle.run_output.specs.Outputs.{Course, lines_from, packets_from, totals_of}
 use Rattle.run_output.specs.Versions.{NamedSlot, NoneIsDue, load_lines, slot_text}
 use Rattle.swap_core.specs.Plans.{Tables, table}
 use Rattle.swap_core.specs.Points.{AreAllPoints, in_force}
 use Rattle.swap_core.specs.declared.plan.Window.{Window}
-use Rattle.table_words.specs.Layout.{IsCompiled}
 use Rattle.lwaftr_engine.proofs.Courses.{bare}
 use Rattle.lwaftr_engine.proofs.Writing.{IsOpened, did_none, wrote}
 
@@ -42,17 +40,16 @@ pub record IsClosed (plan : Tables) (draws : List (ℕ × ℕ)) (s : Seats) (h :
   pub history : IsHistory h
 
 pub suits_bare : {tables : ℕ → BindingTable} {windows : List Window} {plan : Tables} {draws : List (ℕ × ℕ)} {s : Seats} {h : HistoryValue} → IsPlanOf tables windows plan → IsClosed plan draws s h → Suits plan draws (bare tables s.points)
-suits_bare {tables} {windows} {plan} {draws} {s} {h} of closed = record {
+suits_bare {tables} {draws} of closed = record {
   tables = of.compiled;
   versions = λ k d inside.
-      let U : List ℕ → Type 0 = λ points. All (λ (x : ℕ × ℕ). x.1 ≡ in_force points x.0) draws in
-      sym (subst U closed.points closed.drawn.under k d inside);
+      sym ((rw closed.points at closed.drawn.under) k d inside);
 }
 
 pub suits_same : {plan : Tables} {draws : List (ℕ × ℕ)} {c d : Course} → IsSameBut c d → Suits plan draws c → Suits plan draws d
-suits_same {plan} {draws} {c} {d} same suits = record {
-  tables = let T : (ℕ → BindingTable) → Type 0 = λ f. (version : ℕ) → version < length plan.tables → IsCompiled (f version) (table plan version) in subst T (sym same.tables) suits.tables;
-  versions = let V : (ℕ → ℕ) → Type 0 = λ f. All (λ (x : ℕ × ℕ). f x.0 ≡ x.1) draws in subst V (sym same.version) suits.versions;
+suits_same {plan} {draws} same suits = record {
+  tables = rw same.tables suits.tables;
+  versions = rw same.version suits.versions;
 }
 
 pub none_due_yet : (slots : List Slot) → NoneIsDue [] slots
@@ -62,7 +59,7 @@ none_due_yet (slot.Refused cause ∷ rest) = none_due_yet rest
 
 -- before the first record
 pub none_written : {x : Setup} (c : Course) (opened : Contents) {p : Progress} {s : Seats} (reader : Spot) → IsFirst x.form x.run.errors p → s.points ≡ [] → HasWritten x c opened (mark opened p s reader) []
-none_written {x} c opened {p} {s} reader first none = record {
+none_written {x} c opened {s} reader first none = record {
   stands = first.stands;
   stage_form = first.stage_form;
   number = first.number;
@@ -70,18 +67,15 @@ none_written {x} c opened {p} {s} reader first none = record {
   asked = first.asked x.form c;
   totals = λ limited. first.totals;
   files = λ later limited.
-      let W : ℕ → Type 0 = λ n. Wrote x.run (load_lines (s.points ++ later) (take n (loads_of x))) [] [] opened opened in
-      subst W (sym first.printed) (wrote x.run [] [] [] opened opened (did_none x.run opened));
+      rw first.printed (wrote x.run [] [] [] opened opened (did_none x.run opened));
   none_due =
-      let N : ℕ → Type 0 = λ n. NoneIsDue s.points (drop n x.slots) in
-      let M : List ℕ → Type 0 = λ l. NoneIsDue l x.slots in
-      subst N (sym first.printed) (subst M (sym none) (none_due_yet x.slots));
+      rw first.printed (rw none (none_due_yet x.slots));
   spoken = λ number inside. absurd (omega (arith, inside));
   reads = omega arith;
 }
 
 abbrev pub first_past : {x : Setup} {plan : Tables} {draws : List (ℕ × ℕ)} (c : Course) → Suits plan draws c → (opened : Contents) {p : Progress} {s : Seats} (reader : Spot) → IsFirst x.form x.run.errors p → s.points ≡ [] → Past x plan draws (mark opened p s reader)
-first_past {x} {plan} {draws} c suits opened {p} {s} reader first none = record { course = c; suits = suits; opened = opened; taken = []; written = none_written c opened reader first none }
+first_past c suits opened reader first none = record { course = c; suits = suits; opened = opened; taken = []; written = none_written c opened reader first none }
 
 -- what was written of these records, under every course that suits; each window that opened by then has its point
 pub record AreWritten (x : Setup) (plan : Tables) (windows : List Window) (draws : List (ℕ × ℕ)) (s : Seats) (opened : Contents) (m : Mark) (rs : List Rec) : Type 0 where
@@ -97,16 +91,15 @@ pub record HasCourse (x : Setup) (tables : ℕ → BindingTable) (windows : List
 
 module _ (laws : RunLaws) {tables : ℕ → BindingTable} {windows : List Window} {plan : Tables} {draws : List (ℕ × ℕ)} {s : Seats} {h : HistoryValue}
     (of : IsPlanOf tables windows plan) (closed : IsClosed plan draws s h) (few : length s.points < length plan.tables) where
-  pub access_at : (c : Course) → c.tables ≡ tables → c.version ≡ in_force s.points → (number : ℕ) (i : Item) → HasAccess (c.tables (c.version number)) i (verdict_at c number i)
-  access_at c tables_are version_are number i =
-      let T : (ℕ → BindingTable) → Type 0 = λ f. (n : ℕ) → n < length plan.tables → IsLawful (f n) in
-      let lawful : (n : ℕ) → n < length plan.tables → IsLawful (c.tables n) = subst T (sym tables_are) (λ n inside. (of.compiled n inside).lawful) in
-      let inside : c.version number < length plan.tables = omega (arith, few, count_by-le-length (λ (p : ℕ). nat_le p number) s.points, ap (λ (f : ℕ → ℕ). f number) version_are) in
-      laws.access (c.tables (c.version number)) i (lawful (c.version number) inside)
+  -- the table in force at a record is lawful
+  pub lawful_at : (c : Course) → c.tables ≡ tables → c.version ≡ in_force s.points → (number : ℕ) → IsLawful (c.tables (c.version number))
+  lawful_at c tables_are version_are number =
+      let lawful : (n : ℕ) → n < length plan.tables → IsLawful (c.tables n) = rw tables_are (λ n inside. (of.compiled n inside).lawful) in
+      lawful (c.version number) (omega (arith, few, count_by-le-length (λ (p : ℕ). nat_le p number) s.points, ap (λ (f : ℕ → ℕ). f number) version_are))
 
   -- a course of these records under the points of the desk
   abbrev pub course_with : {x : Setup} {opened : Contents} {m : Mark} {rs : List Rec} → AreWritten x plan windows draws s opened m rs → (c : Course) → IsUnder tables s.points x.run.errors x.form rs c → HasCourse x tables windows s opened m rs
-  course_with {x} {opened} {m} {rs} are c under = record {
+  course_with are c under = record {
     course = c;
     is_course = record {
       tables_are = under.tables_are;
@@ -114,7 +107,7 @@ module _ (laws : RunLaws) {tables : ℕ → BindingTable} {windows : List Window
       loaded = under.loaded;
       placed = are.placed;
       limited = under.limited;
-      access = λ number i at. access_at c under.tables_are under.in_force_are number i;
+      access = λ number i at. laws.access (c.tables (c.version number)) i (lawful_at c under.tables_are under.in_force_are number);
     };
     written = are.written c (suits_same (record { tables = under.tables_are; version = under.in_force_are; loaded = under.loaded }) (suits_bare of closed));
     limited = under.limited;
@@ -127,7 +120,7 @@ all_lines points k loads =
 -- what was counted are the totals of the run
 pub totals_are : {x : Setup} → CountsAreTotals → {tables : ℕ → BindingTable} {windows : List Window} {s : Seats} {q : Progress} {reader : Spot} {b d : Contents} {rs : List Rec} (has : HasCourse x tables windows s b (mark d q s reader) rs) →
     with_version q.totals (length s.points) ≡ totals_of has.course x.form rs
-totals_are {x} counts {tables} {windows} {s} {q} {reader} {b} {d} {rs} has =
+totals_are {x} counts {s} {rs} has =
     ap (λ (t : Totals). with_version t (length s.points)) (has.written.totals has.limited)
     ∙ (ap (λ (n : ℕ). with_version (totals_from has.course no_totals 0 (entries_of x.form rs)) n) (sym has.is_course.loaded) ∙ sym (counts has.course x.form rs has.written.entries))
 
@@ -135,7 +128,7 @@ totals_are {x} counts {tables} {windows} {s} {q} {reader} {b} {d} {rs} has =
 pub is_written : {x : Setup} → CountsAreTotals → {tables : ℕ → BindingTable} {windows : List Window} {s : Seats} {q : Progress} {reader : Spot} {a b d e : Contents} {said now : Option (List ℕ)} {rs : List Rec} →
     IsOpened x.run x.written a b → (has : HasCourse x tables windows s b (mark d q s reader) rs) → IsFinished x q s.points rs d e said now →
     IsWritten x.run x.slots has.course s.points x.form x.written rs a e said now
-is_written {x} counts {tables} {windows} {s} {q} {reader} {a} {b} {d} {e} {said} {now} {rs} opened has done =
+is_written {x} counts {s} {q} {b} {d} {e} {said} {rs} opened has done =
     let P = packets_from has.course x.written 0 rs (entries_of x.form rs) in
     let L = lines_from has.course 0 (entries_of x.form rs) in
     let V = load_lines s.points (take q.printed (loads_of x)) in
@@ -154,10 +147,10 @@ is_written {x} counts {tables} {windows} {s} {q} {reader} {a} {b} {d} {e} {said}
 
 pub is_history : (x : Setup) {tables : ℕ → BindingTable} {windows : List Window} {plan : Tables} {draws : List (ℕ × ℕ)} {s : Seats} {h : HistoryValue} {rs : List Rec} → IsPlanOf tables windows plan → IsClosed plan draws s h →
     length draws ≡ length rs → all_asking (items_in (entries_of x.form rs)) ≤ s.reads → IsHistoryOf tables windows s.points x.form rs (Some h)
-is_history x {tables} {windows} {plan} {draws} {s} {h} {rs} of closed count asked = record {
+is_history x {tables} {windows} {plan} {h} of closed count asked = record {
   value = h;
   is = refl;
-  plan = let P : Tables → Type 0 = λ p. IsPlanOf tables windows p in subst P (sym closed.same_plan) of;
+  plan = rw closed.same_plan of;
   same_points = closed.points;
   records = sym closed.drawn.all ∙ count;
   reads = omega (arith, asked, closed.reads);

@@ -1,6 +1,6 @@
 -- The course of all records of a run by the points whose lines are whole, and that of the first records by all points: what these
 -- records write is a front of what all of them write.
-use Rattle.std.proofs.Common.{◌≡◌, ℕ, ◌+◌, ◌<◌, ◌≤◌, false, List, ◌++◌, length, take, flat_map, Option, refl, sym, ◌∙◌, ap, subst, arith, append_assoc}
+use Rattle.std.proofs.Common.{subst, ◌≡◌, ℕ, ◌+◌, ◌<◌, ◌≤◌, false, List, ◌++◌, length, take, flat_map, Option, refl, sym, ◌∙◌, ap, arith, append_assoc}
 use Rattle.std.specs.Prelude.{IfSome}
 use Rattle.aftr_text.specs.Jobs.{IsRate}
 use Rattle.aftr_text.specs.Lines.{ended_text}
@@ -64,9 +64,8 @@ module _ (laws : RunLaws) (taken rest : List Rec) (points : List ℕ) {tables : 
 
   pub limited_first : IsLimited errors form taken (entries_of form taken) (with_points c points)
   limited_first =
-      let L : List Entry → Type 0 = λ es. IsLimited errors form (taken ++ rest) es c in
       limited_same c (with_points c points) (length taken) alike errors form taken (entries_of form taken) (omega arith) (omega (arith, count))
-      (laws.begins errors form taken rest (entries_of form taken) (entries_behind form taken rest) c count (subst L (entries_are form taken rest) under.limited))
+      (laws.begins errors form taken rest (entries_of form taken) (entries_behind form taken rest) c count (rw (← (entries_are form taken rest)) under.limited))
 
   module _ (w : Written) where
     joined : AreJoined c w 0 taken rest (entries_of form taken) (entries_behind form taken rest)

@@ -1,5 +1,5 @@
 -- The points that came so far, and those that come by the last record: each table whose window opens by then gets its point.
-use Rattle.std.proofs.Common.{◌≡◌, ℕ, Bool, false, cond, nat_le, zero, suc, ◌+◌, ◌-◌, ◌<◌, ◌≤◌, ◌⊎◌, List, [], ◌∷◌, ◌++◌, length, get_or, slice_index, refl, sym, ◌∙◌, ap, subst, arith, inl, inr, append-nil, append_assoc, length-append}
+use Rattle.std.proofs.Common.{◌≡◌, ℕ, Bool, false, cond, nat_le, zero, suc, ◌+◌, ◌-◌, ◌<◌, ◌≤◌, ◌⊎◌, List, [], ◌∷◌, ◌++◌, length, get_or, slice_index, refl, ◌∙◌, ap, arith, inl, inr, append-nil, append_assoc, length-append}
 use Rattle.std.specs.Prelude.{min}
 use Rattle.std.proofs.lemmas.Bool.{cases_lt}
 use borrow.Author.Tests.{lt-leb}
@@ -80,50 +80,56 @@ pub record AreExtended (windows : List Window) (points : List ℕ) (drawn total 
   pub all : AreAllPoints windows (points ++ later) total
 
 module _ (p : Tables) (planned : IsPlan p) (drawn total : ℕ) (more : drawn ≤ total) where
-  extended : (left : ℕ) (points : List ℕ) → left + length points + 1 ≡ length p.tables → AreInWindows p.windows points total → (length points < length p.windows → drawn ≤ (get_or p.windows (length points) always).latest) → AreExtended p.windows points drawn total
+  -- the window that opens next, and the point that it gets if it opens by the last record
+  abbrev due : List ℕ → Window
+  due points = get_or p.windows (length points) always
+
+  abbrev next_point : List ℕ → ℕ
+  next_point points = min total (due points).latest
+
+  extended : (left : ℕ) (points : List ℕ) → left + length points + 1 ≡ length p.tables → AreInWindows p.windows points total → (length points < length p.windows → drawn ≤ (due points).latest) → AreExtended p.windows points drawn total
   extended zero points room placed ready = record {
     later = [];
     behind = tt;
-    all = let A : List ℕ → Type 0 = λ l. AreAllPoints p.windows l total in subst A (sym (append-nil points)) (settled_points p planned points total (omega (arith, room)) placed (inl (omega (arith, room))));
+    all = rw (append-nil points) (settled_points p planned points total (omega (arith, room)) placed (inl (omega (arith, room))));
   }
   extended (suc left) points room placed ready = elim (cases_lt total (window p (length points + 1)).earliest) [
     | inl late ↦ record {
       later = [];
       behind = tt;
-      all = let A : List ℕ → Type 0 = λ l. AreAllPoints p.windows l total in subst A (sym (append-nil points)) (settled_points p planned points total (omega (arith, room)) placed (inr late));
+      all = rw (append-nil points) (settled_points p planned points total (omega (arith, room)) placed (inr late));
     }
     | inr opens ↦
-        let same : (window p (length points + 1)).earliest ≡ (get_or p.windows (length points) always).earliest = ap (λ (v : Window). v.earliest) (window_at p (length points)) in
-        let is : IsWindow (get_or p.windows (length points) always) = All-get_or IsWindow p.windows (length points) always (omega (arith, room, planned.paired)) planned.each_window in
-        let above : (k : ℕ) → k + 1 ≡ length points → slice_index points k ≤ min total (get_or p.windows (length points) always).latest = λ k at.
+        let same : (window p (length points + 1)).earliest ≡ (due points).earliest = ap (λ (v : Window). v.earliest) (window_at p (length points)) in
+        let is : IsWindow (due points) = All-get_or IsWindow p.windows (length points) always (omega (arith, room, planned.paired)) planned.each_window in
+        let above : (k : ℕ) → k + 1 ≡ length points → slice_index points k ≤ next_point points = λ k at.
         let next : IsNotBefore (get_or p.windows (k + 1) always) (get_or p.windows k always) = planned.rising k (omega (arith, at, room, planned.paired)) in
-        let here : (get_or p.windows (k + 1) always).latest ≡ (get_or p.windows (length points) always).latest = ap (λ (n : ℕ). (get_or p.windows n always).latest) at in
+        let here : (get_or p.windows (k + 1) always).latest ≡ (due points).latest = ap (λ (n : ℕ). (get_or p.windows n always).latest) at in
         omega (arith, next.1, here, (placed.inside k (omega (arith, at))).1, placed.reached k (omega (arith, at))) in
-        let one_more : AreInWindows p.windows (points ++ min total (get_or p.windows (length points) always).latest ∷ []) total =
-        pushed p.windows points total total (min total (get_or p.windows (length points) always).latest) placed (omega arith) (omega arith) above (omega (arith, opens, same, is.0)) (omega arith) in
-        let count : length (points ++ min total (get_or p.windows (length points) always).latest ∷ []) ≡ length points + 1 = length-append points (min total (get_or p.windows (length points) always).latest ∷ []) in
-        let here : drawn ≤ (get_or p.windows (length points) always).latest = ready (omega (arith, room, planned.paired)) in
-        let still : length (points ++ min total (get_or p.windows (length points) always).latest ∷ []) < length p.windows → drawn ≤ (get_or p.windows (length (points ++ min total (get_or p.windows (length points) always).latest ∷ [])) always).latest = λ inside.
-        let next : IsNotBefore (get_or p.windows (length points + 1) always) (get_or p.windows (length points) always) = planned.rising (length points) (omega (arith, inside, count)) in
-        let there : (get_or p.windows (length (points ++ min total (get_or p.windows (length points) always).latest ∷ [])) always).latest ≡ (get_or p.windows (length points + 1) always).latest = ap (λ (n : ℕ). (get_or p.windows n always).latest) count in
+        let one_more : AreInWindows p.windows (points ++ next_point points ∷ []) total =
+        pushed p.windows points total total (next_point points) placed (omega arith) (omega arith) above (omega (arith, opens, same, is.0)) (omega arith) in
+        let count : length (points ++ next_point points ∷ []) ≡ length points + 1 = length-append points (next_point points ∷ []) in
+        let here : drawn ≤ (due points).latest = ready (omega (arith, room, planned.paired)) in
+        let still : length (points ++ next_point points ∷ []) < length p.windows → drawn ≤ (get_or p.windows (length (points ++ next_point points ∷ [])) always).latest = λ inside.
+        let next : IsNotBefore (get_or p.windows (length points + 1) always) (due points) = planned.rising (length points) (omega (arith, inside, count)) in
+        let there : (get_or p.windows (length (points ++ next_point points ∷ [])) always).latest ≡ (get_or p.windows (length points + 1) always).latest = ap (λ (n : ℕ). (get_or p.windows n always).latest) count in
         omega (arith, here, next.1, there) in
-        let rest : AreExtended p.windows (points ++ min total (get_or p.windows (length points) always).latest ∷ []) drawn total =
-        extended left (points ++ min total (get_or p.windows (length points) always).latest ∷ []) (omega (arith, room, count)) one_more still in
-        let A : List ℕ → Type 0 = λ l. AreAllPoints p.windows l total in
+        let rest : AreExtended p.windows (points ++ next_point points ∷ []) drawn total =
+        extended left (points ++ next_point points ∷ []) (omega (arith, room, count)) one_more still in
         record {
-          later = min total (get_or p.windows (length points) always).latest ∷ rest.later;
+          later = next_point points ∷ rest.later;
           behind = (omega (arith, here, more), rest.behind);
-          all = subst A (append_assoc points (min total (get_or p.windows (length points) always).latest ∷ []) rest.later) rest.all;
+          all = rw (← (append_assoc points (next_point points ∷ []) rest.later)) rest.all;
         }
   ]
 
   -- nothing was drawn yet, or the next window, if there is one, is not ready
-  ready_by : (points : List ℕ) → (drawn ≡ 0) ⊎ ((length p.tables ≤ length points + 1) ⊎ (drawn < (window p (length points + 1)).earliest)) → length points < length p.windows → drawn ≤ (get_or p.windows (length points) always).latest
+  ready_by : (points : List ℕ) → (drawn ≡ 0) ⊎ ((length p.tables ≤ length points + 1) ⊎ (drawn < (window p (length points + 1)).earliest)) → length points < length p.windows → drawn ≤ (due points).latest
   ready_by points (inl none) inside = omega (arith, none)
   ready_by points (inr (inl all)) inside = absurd (omega (arith, all, inside, planned.paired))
   ready_by points (inr (inr waits)) inside =
-      let same : (window p (length points + 1)).earliest ≡ (get_or p.windows (length points) always).earliest = ap (λ (v : Window). v.earliest) (window_at p (length points)) in
-      let is : IsWindow (get_or p.windows (length points) always) = All-get_or IsWindow p.windows (length points) always inside planned.each_window in
+      let same : (window p (length points + 1)).earliest ≡ (due points).earliest = ap (λ (v : Window). v.earliest) (window_at p (length points)) in
+      let is : IsWindow (due points) = All-get_or IsWindow p.windows (length points) always inside planned.each_window in
       omega (arith, waits, same, is.0)
 
   pub points_extend : (points : List ℕ) → length points < length p.tables → AreInWindows p.windows points drawn → (drawn ≡ 0) ⊎ ((length p.tables ≤ length points + 1) ⊎ (drawn < (window p (length points + 1)).earliest)) → AreExtended p.windows points drawn total

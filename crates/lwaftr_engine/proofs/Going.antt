@@ -1,5 +1,5 @@
 -- A round: what was read, judged and written, put together.
-use Rattle.std.proofs.Common.{◌≡◌, ℕ, ◌+◌, ◌-◌, ◌<◌, ◌≤◌, List, ◌++◌, length, get_or, take, Option, Some, inl, inr, sym, ◌∙◌, ap, subst, arith, append_assoc, length-append}
+use Rattle.std.proofs.Common.{◌≡◌, ℕ, ◌+◌, ◌-◌, ◌<◌, ◌≤◌, List, ◌++◌, length, get_or, take, Some, inl, inr, sym, ◌∙◌, ap, arith, append_assoc, length-append}
 use Rattle.std.specs.List.{slice_get}
 use Rattle.std.proofs.lemmas.Bool.{cases_lt}
 use Rattle.std.proofs.lemmas.Option.{slice_get-get_or}
@@ -37,7 +37,7 @@ use Rattle.lwaftr_engine.proofs.Steps.{suits_before}
 pub entries_more : (form : Form) (before after : Staged) (records : List Rec) (es : List Entry) (taken : List Rec) → before.form ≡ form → Stands before taken →
     IsStaged before after records es → entries_of form (taken ++ records) ≡ entries_of form taken ++ es
 entries_more form before after records es taken is stands staged =
-    let P : Form → Type 0 = λ f. entries_of f (taken ++ records) ≡ entries_of f taken ++ es in subst P is (staged.entries taken stands)
+    rw (← is) (staged.entries taken stands)
 
 -- behind what was written, more is
 pub wrote_more : (run : RunJob) (a b d : Contents) (versions packets lines more_versions more_packets more_lines : List ℕ) → Wrote run versions packets lines a b → Wrote run more_versions more_packets more_lines b d →
@@ -51,7 +51,7 @@ wrote_more run a b d versions packets lines more_versions more_packets more_line
 
 -- the same lists, written otherwise
 pub wrote_same : {run : RunJob} {a b : Contents} {v w p q l k : List ℕ} → v ≡ w → p ≡ q → l ≡ k → Wrote run v p l a b → Wrote run w q k a b
-wrote_same {run} {a} {b} {v} {w} {p} {q} {l} {k} v_is p_is l_is wrote = record {
+wrote_same {run} {a} v_is p_is l_is wrote = record {
   versions_is = wrote.versions_is ∙ ap (λ (u : List ℕ). content a run.versions ++ u) v_is;
   output = wrote.output ∙ ap (λ (u : List ℕ). content a run.output ++ u) p_is;
   verdicts = wrote.verdicts ∙ ap (λ (u : List ℕ). content a run.verdicts ++ u) l_is;
@@ -65,10 +65,10 @@ asking_append es more =
 
 -- what was written up to a mark, of fewer draws, and up to a later one
 abbrev pub past_before : {x : Setup} {plan : Tables} {draws later : List (ℕ × ℕ)} {m : Mark} (more : List (ℕ × ℕ)) → later ≡ draws ++ more → Past x plan later m → Past x plan draws m
-past_before {x} {plan} {draws} {later} {m} more is past = record { course = past.course; suits = suits_before plan draws more later past.course is past.suits; opened = past.opened; taken = past.taken; written = past.written }
+past_before {plan} {draws} {later} more is past = record { course = past.course; suits = suits_before plan draws more later past.course is past.suits; opened = past.opened; taken = past.taken; written = past.written }
 
 abbrev pub past_on : {x : Setup} {plan : Tables} {draws later : List (ℕ × ℕ)} {a b : Mark} (records : List Rec) (more : List (ℕ × ℕ)) → later ≡ draws ++ more → WritesOn x plan draws a b records → Past x plan later a → Past x plan later b
-past_on {x} {plan} {draws} {later} {a} {b} records more is writes past = record { course = past.course; suits = past.suits; opened = past.opened; taken = past.taken ++ records; written = writes (past_before more is past) }
+past_on records more is writes past = record { course = past.course; suits = past.suits; opened = past.opened; taken = past.taken ++ records; written = writes (past_before more is past) }
 
 module _ (laws : RunLaws) {x : Setup} {plan : Tables} {draws : List (ℕ × ℕ)} {p q : Progress} {s t : Seats} {records : List Rec} {made : Pending} {a : Contents} {here : Spot}
     (judged : HasJudged x plan draws p q s t records made) (past : Past x plan draws (mark a p s here)) where
@@ -78,25 +78,23 @@ module _ (laws : RunLaws) {x : Setup} {plan : Tables} {draws : List (ℕ × ℕ)
   course : IsCourseOf past.course x.form past.taken records (entries_of x.form past.taken) judged.entries judged.outcomes p.limit
   course = record {
     counted = past.written.entries;
-    outcomes_of = subst (λ (n : ℕ). HasOutcomes past.course n judged.entries judged.outcomes) past.written.number (judged.have past.course past.suits);
+    outcomes_of = rw (← past.written.number) (judged.have past.course past.suits);
     asked = past.written.asked;
   }
 
   asked_more : HasAsked x.form (past.taken ++ records) (entries_of x.form (past.taken ++ records)) past.course q.limit
   asked_more =
-      let H : List Entry → Type 0 = λ l. HasAsked x.form (past.taken ++ records) l past.course q.limit in
-      subst H (sym more) (judged.rendered.asked past.course past.taken (entries_of x.form past.taken) (sym past.written.number) course)
+      rw more (judged.rendered.asked past.course past.taken (entries_of x.form past.taken) (sym past.written.number) course)
 
   limited_behind : IsLimitedRun x past.course (past.taken ++ records) → IsLimited x.run.errors x.form (past.taken ++ records) (entries_of x.form past.taken ++ judged.entries) past.course
-  limited_behind limited = let L : List Entry → Type 0 = λ l. IsLimited x.run.errors x.form (past.taken ++ records) l past.course in subst L more limited
+  limited_behind limited = rw (← more) limited
 
   pub limited_before : IsLimitedRun x past.course (past.taken ++ records) → IsLimitedRun x past.course past.taken
   limited_before limited = laws.begins x.run.errors x.form past.taken records (entries_of x.form past.taken) judged.entries past.course past.written.entries (limited_behind limited)
 
   rendered : IsLimitedRun x past.course (past.taken ++ records) → IsRendered past.course x.written p.number records judged.entries p.totals q.totals made.rendered
   rendered limited =
-      let R : Option ℕ → Type 0 = λ r. IsLimited r x.form (past.taken ++ records) (entries_of x.form past.taken ++ judged.entries) past.course in
-      judged.rendered.rendered past.course past.taken (entries_of x.form past.taken) (sym past.written.number) course (subst R (sym judged.rate) (limited_behind limited))
+      judged.rendered.rendered past.course past.taken (entries_of x.form past.taken) (sym past.written.number) course (rw judged.rate (limited_behind limited))
 
   joined : AreJoined past.course x.written 0 past.taken records (entries_of x.form past.taken) judged.entries
   joined = laws.joins past.course x.written 0 past.taken records (entries_of x.form past.taken) judged.entries past.written.entries
@@ -150,8 +148,7 @@ module _ (laws : RunLaws) {x : Setup} {plan : Tables} {draws : List (ℕ × ℕ)
         let have : HasOutcomes past.course p.number judged.entries judged.outcomes = judged.have past.course past.suits in
         let version : (get_or judged.outcomes k no_outcome).version ≡ past.course.version (get_or judged.outcomes k no_outcome).number = have.versions k (get_or judged.outcomes k no_outcome) at in
         let same : (get_or judged.outcomes k no_outcome).number ≡ number = have.numbers k (get_or judged.outcomes k no_outcome) at ∙ sym is in
-        let V : ℕ → Type 0 = λ n. n ≤ length t.points in
-        subst V (version ∙ ap (λ (n : ℕ). past.course.version n) same) few
+        rw (← (version ∙ ap (λ (n : ℕ). past.course.version n) same)) few
 
   reads_more : all_asking (items_in (entries_of x.form (past.taken ++ records))) ≤ t.reads
   reads_more =

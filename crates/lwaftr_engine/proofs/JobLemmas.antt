@@ -1,5 +1,5 @@
 -- What a run leaves, in the words of the whole files.
-use Rattle.std.proofs.Common.{◌≡◌, ℕ, ◌<◌, nat_lt, Bool, true, false, not, List, [], ◌∷◌, ◌++◌, length, Option, Some, None, Result, Ok, Err, inl, inr, refl, sym, ◌∙◌, ap, subst, arith}
+use Rattle.std.proofs.Common.{subst, ◌≡◌, ℕ, ◌<◌, nat_lt, Bool, true, false, not, List, [], ◌∷◌, ◌++◌, length, Option, Some, None, Result, Ok, Err, inl, inr, refl, sym, ◌∙◌, ap, arith}
 use Rattle.aftr_base.specs.Contents.{Contents, content, Moves, Told}
 use Rattle.aftr_base.specs.Outside.{FailsAt, Outside}
 use Rattle.std.specs.Prelude.{IfOk}
@@ -10,7 +10,6 @@ use Rattle.lwaftr_engine.specs.Finishing.{HasHistoryBy}
 use Rattle.lwaftr_engine.specs.Promises.{GoesWithRead, GoesWithRefusal, HasHistory, HasSummary}
 use Rattle.aftr_base.specs.declared.outside.Fault.{Fault}
 use Rattle.aftr_base.specs.declared.outside.Fault.TheVariants as fault
-use Rattle.aftr_text.specs.declared.jobs.RunJob.{RunJob}
 use Rattle.area_swap.specs.Histories.{HistoryValue}
 use Rattle.binding_rules.specs.Tables.{BindingTable}
 use Rattle.capture_io.specs.Classic.{IsOpened, left_of, stands_in}
@@ -21,16 +20,14 @@ use Rattle.capture_io.specs.declared.forms.Form.{Form}
 use Rattle.capture_io.specs.declared.forms.Rec.{Rec}
 use Rattle.capture_io.specs.declared.rounds.Ending.{Ending}
 use Rattle.capture_io.specs.declared.rounds.Ending.TheVariants as ending
-use Rattle.capture_io.specs.declared.written.Written.{Written}
 use Rattle.capture_io.specs.declared.written.Written.TheVariants as written
 use Rattle.lwaftr_engine.specs.Broken.{TakesBehind}
 use Rattle.lwaftr_engine.specs.Ended.{Ends, EndsBroken, EndsBy, EndsWhole}
 use Rattle.lwaftr_engine.specs.Endings.{IsWhole}
-use Rattle.lwaftr_engine.specs.Fronts.{AreTaken, IsBroken, IsFront, Stop, stop_by}
-use Rattle.lwaftr_engine.specs.Inputs.{Header, IsInputBy, blocks_of, classic_of, header_by, in_blocks, in_classic}
+use Rattle.lwaftr_engine.specs.Fronts.{AreTaken, IsBroken, stop_by}
+use Rattle.lwaftr_engine.specs.Inputs.{Header, blocks_of, classic_of, header_by, in_blocks, in_classic}
 use Rattle.lwaftr_engine.specs.Planned.{IsAtFirst, IsEarly, LeavesBy, LeavesMade, ended_status, some_slot_refused}
 use Rattle.lwaftr_engine.specs.Progress.{ReadsOf, Setup, Spot, spot}
-use Rattle.lwaftr_engine.specs.Runs.{IsRun}
 use Rattle.lwaftr_engine.specs.declared.status.Status.{Status}
 use Rattle.pcapng_io.specs.Answers.{EndsBehind, IsInHeader}
 use Rattle.pcapng_io.specs.Captures as blocks
@@ -39,7 +36,6 @@ use Rattle.pcapng_io.specs.Seen.{Seen}
 use Rattle.pcapng_io.specs.Standing as standing
 use Rattle.pcapng_io.specs.Standing.{Standing}
 use Rattle.pcapng_io.specs.declared.interface.Interface.{Interface}
-use Rattle.reload_plan.specs.declared.loads.Slot.{Slot}
 use Rattle.swap_core.specs.Plans.{Tables}
 use Rattle.swap_core.specs.declared.plan.Window.{Window}
 use Rattle.lwaftr_engine.proofs.Moving.{told_then}
@@ -48,50 +44,31 @@ use Rattle.lwaftr_engine.proofs.Moving.{told_then}
 pub classic_first : (r : ClassicReader) (form : Form) (bytes : List ℕ) → false ≡ blocks.is_pcapng bytes → form ≡ r.form → r.at ≡ 24 → IsOpened r bytes →
     IsAtFirst (spot (stands_in r) (left_of r) r.at) form (written.Classic form.nano) bytes
 classic_first r form bytes kind form_is at_is opened =
-    let H : Bool → Type 0 = λ b. header_by b bytes ≡ Ok (classic_of r.form) in
     record {
       header = classic_of r.form;
-      sound = subst H kind (ap in_classic opened.header);
+      sound = rw (← kind) (ap in_classic opened.header);
       form_is = form_is;
       written_is = ap (λ (f : Form). written.Classic f.nano) form_is;
       at_is = at_is;
       stands = opened.stands;
       all = λ rs e left.
-          let I : Bool → Type 0 = λ b. IsInputBy b bytes (classic_of r.form) rs e in
-          subst I kind (r.form, refl, opened.all rs e left);
+          rw (← kind) (r.form, refl, opened.all rs e left);
     }
 
 -- a pcapng file that was opened
 pub blocks_first : (r : Standing) (form : Form) (bytes : List ℕ) → true ≡ blocks.is_pcapng bytes → form ≡ blocks.form_of r.seen.known → standing.Opens (Ok r) bytes →
     IsAtFirst (spot (standing.stands_in r) (rounds.left_of r.seen) r.seen.known.at) form written.Blocks bytes
 blocks_first r form bytes kind form_is opened =
-    let H : Bool → Type 0 = λ b. header_by b bytes ≡ Ok (blocks_of r.seen) in
     record {
       header = blocks_of r.seen;
-      sound = subst H kind (ap in_blocks opened.0);
+      sound = rw (← kind) (ap in_blocks opened.0);
       form_is = form_is;
       written_is = refl;
       at_is = refl;
       stands = opened.1;
       all = λ rs e left.
-          let I : Bool → Type 0 = λ b. IsInputBy b bytes (blocks_of r.seen) rs e in
-          subst I kind (r.seen, refl, (opened.0, left));
+          rw (← kind) (r.seen, refl, (opened.0, left));
     }
-
--- the same run, by the form that the header has
-same_run : (run : RunJob) (tables : ℕ → BindingTable) (windows : List Window) (slots : List Slot) (form : Form) (w : Written) (header : Header) (rs : List Rec) (old new : Contents) (said now : Option (List ℕ)) (history : Option HistoryValue) →
-    form ≡ header.form → w ≡ header.written → IsRun run tables windows slots form w rs old new said now history → IsRun run tables windows slots header.form header.written rs old new said now history
-same_run run tables windows slots form w header rs old new said now history form_is written_is ran =
-    let F : Form → Type 0 = λ f. IsRun run tables windows slots f header.written rs old new said now history in
-    let W : Written → Type 0 = λ v. IsRun run tables windows slots form v rs old new said now history in
-    subst F form_is (subst W written_is ran)
-
-same_front : (run : RunJob) (tables : ℕ → BindingTable) (windows : List Window) (slots : List Slot) (form : Form) (w : Written) (header : Header) (rs : List Rec) (made : ℕ) (old new : Contents) (said now : Option (List ℕ)) (stop : Stop) →
-    form ≡ header.form → w ≡ header.written → IsFront run tables windows slots form w rs made old new said now stop → IsFront run tables windows slots header.form header.written rs made old new said now stop
-same_front run tables windows slots form w header rs made old new said now stop form_is written_is front =
-    let F : Form → Type 0 = λ f. IsFront run tables windows slots f header.written rs made old new said now stop in
-    let W : Written → Type 0 = λ v. IsFront run tables windows slots form v rs made old new said now stop in
-    subst F form_is (subst W written_is front)
 
 module _ (x : Setup) (tables : ℕ → BindingTable) (windows : List Window) (reader : Spot) (old new : Contents) (said now : Option (List ℕ)) (before after : Outside) (history : Option HistoryValue)
     (first : IsAtFirst reader x.form x.written (content old x.run.input)) where
@@ -100,7 +77,7 @@ module _ (x : Setup) (tables : ℕ → BindingTable) (windows : List Window) (re
     header = first.header;
     records = ran.records;
     capture = first.all ran.records ended ran.capture;
-    is_run = same_run x.run tables windows x.slots x.form x.written first.header ran.records old new said now history first.form_is first.written_is ran.is_run;
+    is_run = rw (first.form_is, first.written_is) at ran.is_run;
   }
 
   taken : (rs : List Rec) (made : ℕ) (why : Fault) → TakesBehind made x.run.input reader (content old x.run.input) 0 rs before.lost after.lost after.last → AreTaken x.run old first.header rs made (stop_by why before after)
@@ -129,7 +106,7 @@ module _ (x : Setup) (tables : ℕ → BindingTable) (windows : List Window) (re
     records = ran.records;
     made = ran.made;
     taken = taken ran.records ran.made why ran.taken;
-    front = same_front x.run tables windows x.slots x.form x.written first.header ran.records ran.made old new said now (stop_by why before after) first.form_is first.written_is ran.front;
+    front = rw (first.form_is, first.written_is) at ran.front;
   }
 
   done : (refused : Bool) → some_slot_refused x.slots ≡ refused → EndsWhole x tables windows reader old new said now history None →
@@ -152,7 +129,7 @@ module _ (x : Setup) (tables : ℕ → BindingTable) (windows : List Window) (re
     in_records = omega (arith, first.at_is, ran.behind);
     reached = ran.reached;
     next = ran.next;
-    is_run = same_run x.run tables windows x.slots x.form x.written first.header ran.taken old new said now history first.form_is first.written_is ran.is_run;
+    is_run = rw (first.form_is, first.written_is) at ran.is_run;
   })
   leaves_by (Err fault.Failed) refused is ran = ((λ slots_of. broken fault.Failed (ran.0 slots_of)), ran.1)
   leaves_by (Err fault.OutOfMemory) refused is (inl same, none) = inl (record { files = same.0; sink = same.1; none = none }, same.2)
@@ -173,7 +150,7 @@ with_read input last said now None of summed = absurd summed
 pub has_history : (input : List ℕ) (ended : Result Ending Fault) (refused : Bool) (result : Status) (before after : Outside) (said now : Option (List ℕ)) (history : Option HistoryValue) → result ≡ ended_status ended refused → HasHistoryBy ended said now history →
     IfOk ended (λ e. EndsInRecords (Some e)) → IfOk ended (λ e. ReadsOf (is_cut (Some e)) input before after) → HasHistory input result after.last said now history
 has_history input ended refused result before after said now history is by in_records reads =
-    let H : Status → Type 0 = λ s. HasHistory input s after.last said now history in subst H (sym is) (by_end ended by in_records reads) where
+    rw is (by_end ended by in_records reads) where
       by_end : (ended : Result Ending Fault) → HasHistoryBy ended said now history → IfOk ended (λ e. EndsInRecords (Some e)) → IfOk ended (λ e. ReadsOf (is_cut (Some e)) input before after) → HasHistory input (ended_status ended refused) after.last said now history
       by_end (Ok ending.End) summed in_records reads = has_history_done input refused after.last said now history summed
       by_end (Ok (ending.Bad refusal)) summed in_records reads = with_refusal refusal said now history in_records summed
@@ -191,7 +168,7 @@ ended_place_by name (Err fault.OutOfMemory) refused before now reads = tt
 
 pub ended_place : (name : List ℕ) (ended : Result Ending Fault) (refused : Bool) (result : Status) (before now : Outside) → result ≡ ended_status ended refused → IfOk ended (λ e. ReadsOf (is_cut (Some e)) name before now) → FailsIn (name ∷ []) result before.last now.last
 ended_place name ended refused result before now is reads =
-    let H : Status → Type 0 = λ s. FailsIn (name ∷ []) s before.last now.last in subst H (sym is) (ended_place_by name ended refused before now reads)
+    rw is (ended_place_by name ended refused before now reads)
 
 pub opened_leaves : (x : Setup) (plan : Tables) (reader : Spot) (ended : Result Ending Fault) (refused : Bool) (result : Status) (h0 h1 : Option Contents) (said now : Option (List ℕ)) (before after : Outside) (history : Option HistoryValue) →
     refused ≡ some_slot_refused x.slots → result ≡ ended_status ended refused → Told h0 (λ m. IsAtFirst reader x.form x.written (content m x.run.input)) →

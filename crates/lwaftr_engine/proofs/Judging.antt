@@ -44,8 +44,8 @@ same_verdict plan items start end points before after all h k o i t at item_at c
     let P : Outcome → Type 0 = λ x. (u : BindingTable) (j : Item) → IsCompiled u (table before.plan x.version) → slice_get items (x.number - start) ≡ Some j → x.verdict ≡ verdict_of u j in
     let judged : (u : BindingTable) (j : Item) → IsCompiled u (table before.plan o.version) → slice_get items (o.number - start) ≡ Some j → o.verdict ≡ verdict_of u j =
     all_at P all k o h.round.judged at in
-    judged t i (subst (λ (p : Tables). IsCompiled t (table p o.version)) (sym h.same_plan) compiled)
-    (subst (λ (n : ℕ). slice_get items n ≡ Some i) place item_at)
+    judged t i (rw h.same_plan compiled)
+    (rw (← place) item_at)
 
 pub has_outcomes : (plan : Tables) (entries : List Entry) (start end points : ℕ) (before after : View) (all : List Outcome) → IsJudgedRound plan (items_in entries) start end points before after all →
     (c : Course) → Suits plan after.actor.draws c → HasOutcomes c start entries all
@@ -61,7 +61,7 @@ has_outcomes plan entries start end points before after all h c suits = record {
   P = λ d. c.version d.0 ≡ d.1
 
   news : All (λ (d : ℕ × ℕ). c.version d.0 ≡ d.1) h.round.news
-  news = all_behind P before.actor.draws h.round.news (subst (λ (l : List (ℕ × ℕ)). All P l) h.round.draws suits.versions)
+  news = all_behind P before.actor.draws h.round.news (rw (← h.round.draws) suits.versions)
 
   same_version : (k : ℕ) (o : Outcome) → slice_get all k ≡ Some o → o.version ≡ c.version o.number
   same_version k o at = sym (all_among P h.round.news (draw_of o) news (all_at (λ (x : Outcome). Contains_draw x) all k o h.round.drawn at)) where
@@ -75,7 +75,7 @@ judged_round plan entries start end before after desk all round same_plan count 
   same_plan = same_plan;
   count = omega (arith, count, length-map entries (λ (e : Entry). e.item));
   versions = versions;
-  there = let P : Tables → Type 0 = λ p. length desk.points < length p.tables in subst P desk_plan is_desk.there;
+  there = rw (← desk_plan) is_desk.there;
 }
 
 -- what holds of every verdict under a lawful table

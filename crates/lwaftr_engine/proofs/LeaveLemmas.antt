@@ -1,5 +1,5 @@
 -- What a run leaves by its table files, and the status that is due.
-use Rattle.std.proofs.Common.{◌≡◌, ℕ, suc, List, [], ◌∷◌, ◌++◌, Option, Some, None, Ok, inl, inr, refl, sym, ◌∙◌, ap, subst, arith}
+use Rattle.std.proofs.Common.{subst, ◌≡◌, ℕ, suc, List, [], ◌∷◌, ◌++◌, Option, Some, None, Ok, inl, inr, refl, sym, ◌∙◌, ap, arith}
 use Rattle.std.specs.List.{Contains}
 use Rattle.std.specs.Prelude.{map}
 use Rattle.std.proofs.lemmas.List.Elements.{Contains-append_left, Contains-append_right}
@@ -23,6 +23,7 @@ use Rattle.lwaftr_engine.specs.declared.status.Status.TheVariants as status
 use Rattle.reload_plan.specs.declared.loads.Load.{Load}
 use Rattle.reload_plan.specs.declared.loads.Made.{Made}
 use Rattle.reload_plan.specs.declared.loads.Slot.{Slot}
+use Rattle.swap_core.specs.declared.plan.Window.{Window}
 use Rattle.lwaftr_engine.proofs.Moving.{told_then}
 use Rattle.lwaftr_engine.proofs.PlanLemmas.{answers_of, are_answers, loaded_as, plan_is, refused_are, slots_are, slots_of_run}
 
@@ -38,8 +39,7 @@ pub unread_tables : (run : RunJob) (m : Contents) (said : Option (List ℕ)) (la
     IsBehindTable run m last → IsUnread run m m said said None last
 unread_tables run m said last failed accepted =
     let among : (place : ℕ) → last ≡ Some (run.input, place) → Contains (table_names run) run.input = λ place last_is.
-    let P : List ℕ → Type 0 = λ name. Contains (table_names run) name in
-    subst P (same_read failed.name run.input failed.place place last failed.last_is last_is) failed.among in
+    rw (← (same_read failed.name run.input failed.place place last failed.last_is last_is)) failed.among in
     record {
       kept = record { files = refl; sink = refl; none = refl };
       early = λ in_records. in_records.apart (among in_records.place in_records.last_is);
@@ -57,47 +57,54 @@ are_read run t ls (Some m) h1 same table loads =
     let T : Option Contents → Type 0 = λ h. Told h (λ m. AreLoadsOf m run.loads ls) in record { table = table; loads = subst T same loads }
 
 module _ (run : RunJob) (t : BindingTable) (ls : List Load) (made : Made) (of : IsMade t ls made) (fit : AreFitFor run.loads ls) (old new : Contents) (said now : Option (List ℕ)) (before after : Outside) (history : Option HistoryValue) (read : AreRead run t ls old) where
-  answers : List Answer
+  abbrev answers : List Answer
   answers = answers_of old run.loads ls read.loads
 
-  tables : AreTables run old t (answers_of old run.loads ls read.loads)
+  abbrev its_tables : ℕ → BindingTable
+  its_tables = table_by t answers
+
+  abbrev its_windows : List Window
+  its_windows = windows_in run.loads answers
+
+  abbrev its_slots : List Slot
+  its_slots = slots_in 0 answers
+
+  tables : AreTables run old t answers
   tables = record { table = read.table; loads = are_answers old run.loads ls read.loads }
 
-  slots : made.slots ≡ slots_in 0 (answers_of old run.loads ls read.loads)
-  slots = of.slots ∙ slots_are (answers_of old run.loads ls read.loads) ls (loaded_as old run.loads ls read.loads) 0
+  slots : made.slots ≡ its_slots
+  slots = of.slots ∙ slots_are answers ls (loaded_as old run.loads ls read.loads) 0
 
-  refused : some_refused (answers_of old run.loads ls read.loads) ≡ some_slot_refused made.slots
-  refused = sym (refused_are (answers_of old run.loads ls read.loads) 0) ∙ ap (λ (l : List Slot). some_slot_refused l) (sym slots)
+  refused : some_refused answers ≡ some_slot_refused made.slots
+  refused = sym (refused_are answers 0) ∙ ap (λ (l : List Slot). some_slot_refused l) (sym slots)
 
-  plan : IsPlanOf (table_by t (answers_of old run.loads ls read.loads)) (windows_in run.loads (answers_of old run.loads ls read.loads)) made.plan
-  plan = plan_is t of.words (answers_of old run.loads ls read.loads) run.loads ls made.plan of.compiled of.plan fit (loaded_as old run.loads ls read.loads)
+  plan : IsPlanOf its_tables its_windows made.plan
+  plan = plan_is t of.words answers run.loads ls made.plan of.compiled of.plan fit (loaded_as old run.loads ls read.loads)
 
-  slots_of : AreSlotsOf run (windows_in run.loads (answers_of old run.loads ls read.loads)) (slots_in 0 (answers_of old run.loads ls read.loads))
-  slots_of = slots_of_run run old (answers_of old run.loads ls read.loads) (are_answers old run.loads ls read.loads)
+  slots_of : AreSlotsOf run its_windows its_slots
+  slots_of = slots_of_run run old answers (are_answers old run.loads ls read.loads)
 
-  by_status : (result : Status) → LeavesBy run (table_by t (answers_of old run.loads ls read.loads)) (windows_in run.loads (answers_of old run.loads ls read.loads)) (slots_in 0 (answers_of old run.loads ls read.loads)) result old new said now before after history →
-      (some_slot_refused (slots_in 0 (answers_of old run.loads ls read.loads)) ≡ some_refused (answers_of old run.loads ls read.loads)) → Leaves run result old new said now before after history
-  by_status status.Done left same = record { first = t; answers = answers_of old run.loads ls read.loads; tables = tables; some_load_refused = sym same ∙ left.1; whole = left.0 }
-  by_status status.DoneRefused left same = record { first = t; answers = answers_of old run.loads ls read.loads; tables = tables; some_load_refused = sym same ∙ left.1; whole = left.0 }
+  by_status : (result : Status) → LeavesBy run its_tables its_windows its_slots result old new said now before after history →
+      (some_slot_refused its_slots ≡ some_refused answers) → Leaves run result old new said now before after history
+  by_status status.Done left same = record { first = t; answers = answers; tables = tables; some_load_refused = sym same ∙ left.1; whole = left.0 }
+  by_status status.DoneRefused left same = record { first = t; answers = answers; tables = tables; some_load_refused = sym same ∙ left.1; whole = left.0 }
   by_status (status.BadCapture refusal) (inl whole) same =
-      inl (some_refused (answers_of old run.loads ls read.loads), record { first = t; answers = answers_of old run.loads ls read.loads; tables = tables; some_load_refused = refl; whole = whole })
+      inl (some_refused answers, record { first = t; answers = answers; tables = tables; some_load_refused = refl; whole = whole })
   by_status (status.BadCapture refusal) (inr bad) same = inr (record { first = t; table = read.table; header = bad.0; kept = bad.1 })
-  by_status status.ReadFault (inl cut) same = inl (record { first = t; answers = answers_of old run.loads ls read.loads; tables = tables; cut = cut })
+  by_status status.ReadFault (inl cut) same = inl (record { first = t; answers = answers; tables = tables; cut = cut })
   by_status status.ReadFault (inr early) same = inr (record {
     kept = early.1;
     early = λ r. early.0 r.header r.place r.sound r.last_is r.has_end r.behind;
     behind_table = λ name place last_is apart. (t, read.table);
   })
-  by_status status.WriteFault left same = record { first = t; answers = answers_of old run.loads ls read.loads; tables = tables; broken = left.0 slots_of; none = left.1 }
+  by_status status.WriteFault left same = record { first = t; answers = answers; tables = tables; broken = left.0 slots_of; none = left.1 }
   by_status status.OutOfMemory (inl kept) same = inl kept
-  by_status status.OutOfMemory (inr broken) same = inr (record { first = t; answers = answers_of old run.loads ls read.loads; tables = tables; broken = broken.0 slots_of; none = broken.1 })
-  by_status status.Usage left same = absurd left
-  by_status (status.BadTable refusal) left same = absurd left
+  by_status status.OutOfMemory (inr broken) same = inr (record { first = t; answers = answers; tables = tables; broken = broken.0 slots_of; none = broken.1 })
+  by_status _ left same = absurd left
 
   pub leaves : (result : Status) → LeavesMade run made.plan made.slots result old new said now before after history → Leaves run result old new said now before after history
   leaves result left =
-      let S : List Slot → Type 0 = λ l. LeavesBy run (table_by t (answers_of old run.loads ls read.loads)) (windows_in run.loads (answers_of old run.loads ls read.loads)) l result old new said now before after history in
-      by_status result (subst S slots (left (table_by t (answers_of old run.loads ls read.loads)) (windows_in run.loads (answers_of old run.loads ls read.loads)) plan)) (refused_are (answers_of old run.loads ls read.loads) 0)
+      by_status result (rw (← slots) (left its_tables its_windows plan)) (refused_are answers 0)
 
 pub leaves_told : (run : RunJob) (t : BindingTable) (ls : List Load) (made : Made) → IsMade t ls made → AreFitFor run.loads ls → (result : Status) (said now : Option (List ℕ)) (before after : Outside) (history : Option HistoryValue) (h0 h1 h2 h3 : Option Contents) →
     h1 ≡ h0 → h2 ≡ h1 → Told h0 (λ m. TableOf (content m run.table) (Ok t)) → Told h1 (λ m. AreLoadsOf m run.loads ls) →
@@ -112,11 +119,7 @@ pub among_all : (run : RunJob) (result : Status) (old new : Option (List ℕ × 
 among_all run status.ReadFault old new failed = record { name = failed.name; place = failed.place; among = Contains-append_right (table_names run) (run.input ∷ []) failed.name failed.among; last_is = failed.last_is }
 among_all run status.WriteFault old new failed = tt
 among_all run status.OutOfMemory old new failed = tt
-among_all run status.Done old new failed = failed
-among_all run status.DoneRefused old new failed = failed
-among_all run status.Usage old new failed = failed
-among_all run (status.BadTable refusal) old new failed = failed
-among_all run (status.BadCapture refusal) old new failed = failed
+among_all run _ old new failed = failed
 
 -- a read of one of the table files
 pub table_read : (run : RunJob) (last : Option (List ℕ × ℕ)) → IsReadOf (table_names run) last → IsReadOf (table_names run ++ run.input ∷ []) last

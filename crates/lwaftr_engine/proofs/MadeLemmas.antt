@@ -1,5 +1,5 @@
 -- The plan that is made of loads.
-use Rattle.std.proofs.Common.{◌≡◌, ℕ, zero, suc, ◌+◌, ◌<◌, List, [], ◌∷◌, length, All, Result, Ok, Err, refl, sym, ◌∙◌, ap, subst, arith}
+use Rattle.std.proofs.Common.{◌≡◌, ℕ, zero, suc, ◌+◌, ◌<◌, List, [], ◌∷◌, length, All, Result, Ok, Err, refl, sym, ◌∙◌, ap, arith}
 use Rattle.std.specs.List.{slice_index_or}
 use Rattle.std.specs.Prelude.{IfOk}
 use Rattle.aftr_base.specs.declared.lists.OutOfMemory.{OutOfMemory}
@@ -9,51 +9,43 @@ use Rattle.lwaftr_engine.specs.Loads.{AreFitFor}
 use Rattle.reload_plan.specs.Accepted.{AreSound, IsSound, slots_from}
 use Rattle.reload_plan.specs.declared.loads.Load.{Load}
 use Rattle.reload_plan.specs.declared.loads.Made.{Made}
-use Rattle.swap_core.specs.Plans.{IsNotBefore, IsWindow, always}
+use Rattle.swap_core.specs.Plans.{IsWindow, always}
 use Rattle.swap_core.specs.declared.plan.Window.{Window}
 
 pub length_fit : (ws : List LoadWords) (ls : List Load) → AreFitFor ws ls → length ls ≡ length ws
 length_fit [] [] fit = refl
-length_fit [] (l ∷ ls) fit = absurd fit
-length_fit (w ∷ ws) [] fit = absurd fit
 length_fit (w ∷ ws) (l ∷ ls) fit = ap suc (length_fit ws ls fit.1)
+length_fit _ _ fit = absurd fit
 
 length_windows : (ws : List LoadWords) (ls : List Load) → AreFitFor ws ls → length (windows_of ws) ≡ length ls
 length_windows [] [] fit = refl
-length_windows [] (l ∷ ls) fit = absurd fit
-length_windows (w ∷ ws) [] fit = absurd fit
 length_windows (w ∷ ws) (l ∷ ls) fit = ap suc (length_windows ws ls fit.1)
+length_windows _ _ fit = absurd fit
 
 window_at : (ws : List LoadWords) (ls : List Load) → AreFitFor ws ls → (k : ℕ) (d : Load) (e : Window) → k < length ls → slice_index_or (windows_of ws) k e ≡ (slice_index_or ls k d).window
 window_at [] [] fit k d e inside = absurd (omega (arith, inside))
-window_at [] (l ∷ ls) fit k d e inside = absurd fit
-window_at (w ∷ ws) [] fit k d e inside = absurd fit
 window_at (w ∷ ws) (l ∷ ls) fit zero d e inside = sym fit.0.window
 window_at (w ∷ ws) (l ∷ ls) fit (suc k) d e inside = window_at ws ls fit.1 k d e (omega (arith, inside))
+window_at _ _ fit k d e inside = absurd fit
 
 window_good : (ws : List LoadWords) (ls : List Load) → AreFitFor ws ls → All IsLoad ws → (k : ℕ) (d : Load) → k < length ls → IsWindow (slice_index_or ls k d).window
 window_good [] [] fit all k d inside = absurd (omega (arith, inside))
-window_good [] (l ∷ ls) fit all k d inside = absurd fit
-window_good (w ∷ ws) [] fit all k d inside = absurd fit
-window_good (w ∷ ws) (l ∷ ls) fit all zero d inside = let I : Window → Type 0 = λ v. IsWindow v in subst I (sym fit.0.window) (all 0 w (omega arith)).0
+window_good (w ∷ ws) (l ∷ ls) fit all zero d inside = rw fit.0.window (all 0 w (omega arith)).0
 window_good (w ∷ ws) (l ∷ ls) fit all (suc k) d inside = window_good ws ls fit.1 (λ j e within. all (suc j) e (omega (arith, within))) k d (omega (arith, inside))
+window_good _ _ fit all k d inside = absurd fit
 
 words_good : (ws : List LoadWords) (ls : List Load) → AreFitFor ws ls → (k : ℕ) (d : Load) → k < length ls → IsSound (slice_index_or ls k d).loaded
 words_good [] [] fit k d inside = absurd (omega (arith, inside))
-words_good [] (l ∷ ls) fit k d inside = absurd fit
-words_good (w ∷ ws) [] fit k d inside = absurd fit
 words_good (w ∷ ws) (l ∷ ls) fit zero d inside = fit.0.sound
 words_good (w ∷ ws) (l ∷ ls) fit (suc k) d inside = words_good ws ls fit.1 k d (omega (arith, inside))
+words_good _ _ fit k d inside = absurd fit
 
 pub are_sound : (ws : List LoadWords) (ls : List Load) → AreFitFor ws ls → All IsLoad ws → AreRising (windows_of ws) → AreSound ls
 are_sound ws ls fit all rising = record {
   windows = λ k d inside. window_good ws ls fit all k d inside;
   words = λ k d inside. words_good ws ls fit k d inside;
   rising = λ k d inside.
-      let A : Window → Type 0 = λ v. IsNotBefore v (slice_index_or (windows_of ws) k always) in
-      let B : Window → Type 0 = λ v. IsNotBefore (slice_index_or ls (k + 1) d).window v in
-      subst B (window_at ws ls fit k d always (omega (arith, inside)))
-      (subst A (window_at ws ls fit (k + 1) d always (omega (arith, inside))) (rising k (omega (arith, inside, length_windows ws ls fit))));
+      rw (← (window_at ws ls fit k d always (omega (arith, inside)))) (rw (← (window_at ws ls fit (k + 1) d always (omega (arith, inside)))) (rising k (omega (arith, inside, length_windows ws ls fit))));
 }
 
 slots_length : (ls : List Load) (before : ℕ) → length (slots_from before ls) ≡ length ls

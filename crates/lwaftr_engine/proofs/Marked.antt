@@ -1,5 +1,5 @@
 -- For every list of times there are marks that a limit gives, and a limiter that was asked about just these times.
-use Rattle.std.proofs.Common.{◌≡◌, ℕ, ◌+◌, ◌-◌, ◌*◌, ◌≤◌, max, Bool, true, false, List, [], ◌∷◌, ◌++◌, length, Option, Some, None, refl, sym, ap, subst, arith, inl, inr, append-nil, append_assoc}
+use Rattle.std.proofs.Common.{◌≡◌, ℕ, ◌+◌, ◌-◌, ◌*◌, ◌≤◌, max, Bool, true, false, List, [], ◌∷◌, ◌++◌, length, Option, Some, None, refl, sym, ap, arith, inl, inr, append-nil, append_assoc}
 use Rattle.std.specs.Prelude.{IfSome, replicate}
 use Rattle.std.proofs.lemmas.Bool.{cases_lt, true≢false}
 use Rattle.aftr_text.specs.Jobs.{IsRate}
@@ -20,10 +20,9 @@ pub record AreMarked (rate : ℕ) (times : List ℕ) : Type 0 where
 
 -- it is asked about more of them
 marked_more : (more : List ℕ) (b : Bucket) (times : List ℕ) (marks : List Bool) → 1 ≤ b.rate → Stands b times marks → AreMarked b.rate (times ++ more)
-marked_more [] b times marks some stands = record { bucket = b; marks = marks; rate_is = refl; stands = let S : List ℕ → Type 0 = λ l. Stands b l marks in subst S (sym (append-nil times)) stands }
+marked_more [] b times marks some stands = record { bucket = b; marks = marks; rate_is = refl; stands = rw (append-nil times) stands }
 marked_more (time ∷ more) b times marks some stands =
-    let M : List ℕ → Type 0 = λ l. AreMarked b.rate l in
-    subst M (append_assoc times (time ∷ []) more) (elim (cases_lt (b.rate * second) (b.level - b.rate * (max b.time time - b.time) + second)) [
+    rw (← (append_assoc times (time ∷ []) more)) (elim (cases_lt (b.rate * second) (b.level - b.rate * (max b.time time - b.time) + second)) [
       | inl full ↦ marked_more more (record { rate = b.rate; level = b.level - b.rate * (max b.time time - b.time); time = max b.time time }) (times ++ time ∷ []) (marks ++ false ∷ []) some
           (kept b times marks time (max b.time time) (b.level - b.rate * (max b.time time - b.time)) stands refl refl some full)
       | inr fits ↦ marked_more more (record { rate = b.rate; level = b.level - b.rate * (max b.time time - b.time) + second; time = max b.time time }) (times ++ time ∷ []) (marks ++ true ∷ []) some

@@ -1,5 +1,5 @@
 -- What a migration leaves.
-use Rattle.std.proofs.Common.{◌≡◌, ℕ, List, [], ◌++◌, length, take, Option, Some, None, Ok, inr, refl, sym, ◌∙◌, ap, subst, arith, append-nil}
+use Rattle.std.proofs.Common.{◌≡◌, ℕ, List, [], ◌++◌, length, take, Option, Some, None, Ok, inr, refl, sym, ◌∙◌, ap, arith, append-nil}
 use Rattle.std.specs.Option.{option_map}
 use Rattle.aftr_base.specs.Contents.{Contents, content, Moves, Told, Writes}
 use Rattle.aftr_text.specs.Lines.{migrated_text}
@@ -26,21 +26,16 @@ leaves_by : (input output : List ℕ) (t : BindingTable) (old new : Contents) (s
 leaves_by input output t old new said now before after e f holds status.Done put = record { table = t; holds = holds; took = f ∙ (put ∙ ap (λ (x : Option (List ℕ)). option_map (λ (taken : List ℕ). taken ++ migrated_text (length t.bindings)) x) (sym e)) }
 leaves_by input output t old new said now before after e f holds status.WriteFault put = inr (record { table = t; holds = holds; count = put.0; took = f ∙ (put.2 ∙ ap (λ (x : Option (List ℕ)). option_map (λ (taken : List ℕ). taken ++ take put.0 (migrated_text (length t.bindings))) x) (sym e)) })
 leaves_by input output t old new said now before after e f holds status.OutOfMemory put = inr (record { table = t; holds = holds; count = put.0; took = f ∙ (put.2 ∙ ap (λ (x : Option (List ℕ)). option_map (λ (taken : List ℕ). taken ++ take put.0 (migrated_text (length t.bindings))) x) (sym e)) })
-leaves_by input output t old new said now before after e f holds status.ReadFault put = absurd put
-leaves_by input output t old new said now before after e f holds (status.BadTable refusal) put = absurd put
-leaves_by input output t old new said now before after e f holds status.DoneRefused put = absurd put
-leaves_by input output t old new said now before after e f holds status.Usage put = absurd put
-leaves_by input output t old new said now before after e f holds (status.BadCapture refusal) put = absurd put
+leaves_by input output t old new said now before after e f holds _ put = absurd put
 
 -- the text is written whole
 pub migrated : (input output : List ℕ) (t : BindingTable) (text bytes : List ℕ) → bytes ≡ text → (count : ℕ) → count ≡ length t.bindings → (s : Status) (before after : World) → TextOf text (Ok (in_edition_two t)) → Puts s (migrated_text count) before.said after.said →
     (h0 h1 h2 h3 : Option Contents) → h1 ≡ h0 → Told h0 (λ m. TableOf (content m input) (Ok t)) → Moves h1 h2 (λ m n. Writes m n output []) → Moves h2 h3 (λ m n. Writes m n output (content m output ++ bytes)) →
     Moves h0 h3 (LeavesMigrated input output s before after)
 migrated input output t text bytes bytes_is count count_is s before after spelled put h0 h1 h2 h3 same table made appended =
-    let P : ℕ → Type 0 = λ n. Puts s (migrated_text n) before.said after.said in
     let whole : Moves h1 h3 (λ m n. Writes m n output text) =
-    moves_join h1 h2 h3 (λ m n. Writes m n output []) (λ m n. Writes m n output (content m output ++ bytes)) (λ m n. Writes m n output text)
+    moves_join h1 h2 h3 _ _ _
     (λ m n o u v. record { here = v.here ∙ (ap (λ (l : List ℕ). l ++ bytes) u.here ∙ bytes_is); others = λ other e. v.others other e ∙ u.others other e }) made appended in
-    told_then h0 h1 h3 (λ m. TableOf (content m input) (Ok t)) (λ m n. Writes m n output text) (LeavesMigrated input output s before after)
-    (λ m n is writes. leaves_by input output t m n before.said after.said before after refl refl (record { text = text; is_new = record { table = is; spelled = spelled }; writes = writes }) s (subst P count_is put))
+    told_then h0 h1 h3 _ _ _
+    (λ m n is writes. leaves_by input output t m n before.said after.said before after refl refl (record { text = text; is_new = record { table = is; spelled = spelled }; writes = writes }) s (rw (← count_is) put))
     same table whole

@@ -1,5 +1,5 @@
 -- What is told of the files, from step to step.
-use Rattle.std.proofs.Common.{◌≡◌, Option, Some, None, sym, subst}
+use Rattle.std.proofs.Common.{◌≡◌, Option, Some, None}
 use Rattle.aftr_base.specs.Contents.{Contents, Moves, Told}
 
 -- two steps are one
@@ -13,7 +13,7 @@ moves_join (Some m) (Some n) (Some o) P Q R both first second = both m n o first
 
 -- a step that does nothing
 pub moves_none : (a b : Option Contents) (P : Contents → Contents → Type 0) → ((m : Contents) → P m m) → b ≡ a → Moves a b P
-moves_none a b P same is = let M : Option Contents → Type 0 = λ h. Moves a h P in subst M (sym is) (by_held a) where
+moves_none a b P same is = rw is (by_held a) where
   by_held : (h : Option Contents) → Moves h h P
   by_held None = tt
   by_held (Some m) = same m
@@ -34,4 +34,4 @@ told_moves (Some m) (Some o) P Q R both told step = both m o told step
 -- a step that begins with what is told already
 pub told_then : (a b c : Option Contents) (P : Contents → Type 0) (Q R : Contents → Contents → Type 0) → ((m o : Contents) → P m → Q m o → R m o) → b ≡ a → Told a P → Moves b c Q → Moves a c R
 told_then a b c P Q R both same told step =
-    let T : Option Contents → Type 0 = λ x. Moves x c Q in told_moves a c P Q R both told (subst T same step)
+    told_moves a c P Q R both told (rw (← same) step)

@@ -1,5 +1,5 @@
 -- What the run of the demonstration is told.
-use Rattle.std.proofs.Common.{◌≡◌, true, ℕ, ◌≤◌, List, [], ◌∷◌, cond, unwrap_or, codes, Some, None, refl, sym, ◌∙◌, ap, subst, arith}
+use Rattle.std.proofs.Common.{◌≡◌, true, ℕ, ◌≤◌, List, [], ◌∷◌, cond, unwrap_or, codes, Some, None, refl, sym, ◌∙◌, ap, arith}
 use Rattle.std.proofs.lemmas.List.Elements.{All-cons, All-nil}
 use Rattle.std.proofs.lemmas.Cmp.{eq_by_cmp_equiv}
 use Rattle.std.specs.Ordering.{nat_cmp, eq_by_cmp}
@@ -39,11 +39,10 @@ names_apart workers window =
 
 job_of : (count workers : ℕ) (window : Window) → count ≤ 1000000 → 1 ≤ workers → workers ≤ 16 → window ≡ record { earliest = middle count; latest = middle count } → IsDemoJob count (run_of workers window)
 job_of count workers window most some few is =
-    let W : Window → Type 0 = λ w. IsWindow w in
     let half : IsWindow (record { earliest = middle count; latest = middle count }) = (omega arith, omega (arith, most)) in
     record {
       job = record {
-        loads = All-cons IsLoad (record { window = window; name = codes "second" }) [] (subst W (sym is) half, omega arith) (All-nil IsLoad);
+        loads = All-cons IsLoad (record { window = window; name = codes "second" }) [] (rw is half, omega arith) (All-nil IsLoad);
         few = omega arith;
         apart = names_apart workers window;
         rising = λ k inside. absurd (omega (arith, inside));
@@ -62,13 +61,7 @@ demo_job count workers window input output verdicts versions table name loads mo
     let window_is : window ≡ record { earliest = middle count; latest = middle count } =
     ap (λ (n : ℕ). let w : Window = record { earliest = n; latest = window.latest } in w) earliest ∙ ap (λ (n : ℕ). let w : Window = record { earliest = middle count; latest = n } in w) latest in
     let all : loads ≡ (record { window = window; name = codes "second" }) ∷ [] = loads_is ∙ ap (λ (n : List ℕ). let l : List LoadWords = (record { window = window; name = n }) ∷ [] in l) name_is in
-    subst (λ (x : List ℕ). IsDemoJob count (record { input = x; output = output; verdicts = verdicts; versions = versions; table = table; loads = loads; workers = workers; errors = None })) (sym in_is)
-    (subst (λ (x : List ℕ). IsDemoJob count (record { input = codes "in"; output = x; verdicts = verdicts; versions = versions; table = table; loads = loads; workers = workers; errors = None })) (sym out_is)
-    (subst (λ (x : List ℕ). IsDemoJob count (record { input = codes "in"; output = codes "out"; verdicts = x; versions = versions; table = table; loads = loads; workers = workers; errors = None })) (sym verdicts_is)
-    (subst (λ (x : List ℕ). IsDemoJob count (record { input = codes "in"; output = codes "out"; verdicts = codes "verdicts"; versions = x; table = table; loads = loads; workers = workers; errors = None })) (sym versions_is)
-    (subst (λ (x : List ℕ). IsDemoJob count (record { input = codes "in"; output = codes "out"; verdicts = codes "verdicts"; versions = codes "versions"; table = x; loads = loads; workers = workers; errors = None })) (sym table_is)
-    (subst (λ (x : List LoadWords). IsDemoJob count (record { input = codes "in"; output = codes "out"; verdicts = codes "verdicts"; versions = codes "versions"; table = codes "first"; loads = x; workers = workers; errors = None })) (sym all)
-    (job_of count workers window most some few window_is))))))
+    rw in_is (rw out_is (rw verdicts_is (rw versions_is (rw table_is (rw all (job_of count workers window most some few window_is))))))
 
 content_here : (m : Contents) (name bytes : List ℕ) → content (insert m name bytes) name ≡ bytes
 content_here m name bytes =
@@ -79,7 +72,7 @@ pub is_show : (seed count : ℕ) (first second : BindingTable) (name bytes : Lis
     first ≡ table_from 0 → second ≡ table_from 64 → files ≡ insert old name bytes → name ≡ job.input → bytes ≡ capture_of seed count → IsShow seed count (record { files = files; job = job; made = made })
 is_show seed count first second name bytes old files job made is_job is_demo first_is second_is files_are name_is bytes_are =
     let demo : IsDemoMade count (table_from 0) (table_from 64) made =
-    subst (λ (t : BindingTable). IsDemoMade count (table_from 0) t made) second_is (subst (λ (t : BindingTable). IsDemoMade count t second made) first_is is_demo) in
+    rw (← second_is) (rw (← first_is) is_demo) in
     record {
       job = is_job;
       holds = ap (λ (m : Contents). content m job.input) files_are ∙ (ap (λ (x : List ℕ). content (insert old name bytes) x) (sym name_is) ∙ (content_here old name bytes ∙ bytes_are));

@@ -15,8 +15,12 @@ use Rattle.lwaftr_engine.specs.declared.status.Status.{Status}
 use Rattle.lwaftr_engine.specs.declared.status.Status.TheVariants as status
 use Rattle.lwaftr_engine.proofs.UnopenedLemmas.{others_same}
 
-pub ended : (P : Status → Type 0) (r : AtOnce) (s : Status) → r ≡ at_once.Ended s → EndsSo P r → P s
-ended P r s is so = let E : AtOnce → Type 0 = λ q. EndsSo P q in subst E is so
+-- what holds of the status that a call ended with, where there is no history
+pub ended : (K : Status → Option HistoryValue → Type 0) (r : AtOnce) (s : Status) (history : Option HistoryValue) → history ≡ None → r ≡ at_once.Ended s → EndsSo (λ t. K t None) r → K s history
+ended K r s history none is so =
+    let E : AtOnce → Type 0 = λ q. EndsSo (λ t. K t None) q in
+    let H : Option HistoryValue → Type 0 = λ h. K s h in
+    subst H (sym none) (subst E is so)
 
 pub not_run : (P : Status → Type 0) (r : AtOnce) (run : RunJob) → r ≡ at_once.Run run → EndsSo P r → ⊥
 not_run P r run is so = let E : AtOnce → Type 0 = λ q. EndsSo P q in subst E is so
@@ -61,12 +65,8 @@ demo_not_run r run s c w is (inl left) = absurd (cc (sym is ∙ left))
 demo_not_run r run s c w is (inr short) = absurd (cc (sym is ∙ short))
 
 -- what was not touched is as it was
-pub from_world : (P : World → Type 0) (a b : Outside) (said was : Option (List ℕ)) (puts before : ℕ) → a ≡ b → said ≡ was → puts ≡ before → P (world a said puts) → P (world b was before)
-from_world P a b said was puts before files took failed holds =
-    let A : Outside → Type 0 = λ o. P (world o said puts) in
-    let B : Option (List ℕ) → Type 0 = λ t. P (world b t puts) in
-    let C : ℕ → Type 0 = λ n. P (world b was n) in
-    subst C failed (subst B took (subst A files holds))
+pub same_world : {a b : Outside} {said was : Option (List ℕ)} {puts before : ℕ} → a ≡ b → said ≡ was → puts ≡ before → world a said puts ≡ world b was before
+same_world files took failed = λ i. record { files = files i; said = took i; puts = failed i }
 
 untouched : (run : RunJob) (h : Option Contents) (said : Option (List ℕ)) (o : Outside) → Moves h h (λ m n. Leaves run status.OutOfMemory m n said said o o None)
 untouched run None said o = tt
@@ -78,24 +78,24 @@ answered_so run None = tt
 answered_so run (Some m) = λ s asked. inr tt
 
 -- memory was short before anything was done
-pub no_run : (run : RunJob) (s : Status) (a : Outside) (said : Option (List ℕ)) (puts : ℕ) (history : Option HistoryValue) → s ≡ status.OutOfMemory → history ≡ None → KeepsRun run s (world a said puts) (world a said puts) history
-no_run run s a said puts history short none =
-    let S : Status → Type 0 = λ t. KeepsRun run t (world a said puts) (world a said puts) history in
-    let H : Option HistoryValue → Type 0 = λ h. KeepsRun run status.OutOfMemory (world a said puts) (world a said puts) h in
+pub no_run : (run : RunJob) (s : Status) (w : World) (history : Option HistoryValue) → s ≡ status.OutOfMemory → history ≡ None → KeepsRun run s w w history
+no_run run s w history short none =
+    let S : Status → Type 0 = λ t. KeepsRun run t w w history in
+    let H : Option HistoryValue → Type 0 = λ h. KeepsRun run status.OutOfMemory w w h in
     subst S (sym short) (subst H (sym none) (record {
-      files = untouched run a.held said a;
-      others = others_same run a.held a.held refl;
-      due = answered_so run a.held;
+      files = untouched run w.files.held w.said w.files;
+      others = others_same run w.files.held w.files.held refl;
+      due = answered_so run w.files.held;
       cause = record { spoiled = refl; puts = refl };
       failed_read = tt;
       capture_read = inl (refl, refl);
       has_history = refl;
     }))
 
-pub no_show : (seed count : ℕ) (s : Status) (a : Outside) (said : Option (List ℕ)) (puts : ℕ) (history : Option HistoryValue) → s ≡ status.OutOfMemory → history ≡ None → KeepsDemo seed count s (world a said puts) (world a said puts) history
-no_show seed count s a said puts history short none =
-    let S : Status → Type 0 = λ t. KeepsDemo seed count t (world a said puts) (world a said puts) history in
-    let H : Option HistoryValue → Type 0 = λ h. KeepsDemo seed count status.OutOfMemory (world a said puts) (world a said puts) h in
+pub no_show : (seed count : ℕ) (s : Status) (w : World) (history : Option HistoryValue) → s ≡ status.OutOfMemory → history ≡ None → KeepsDemo seed count s w w history
+no_show seed count s w history short none =
+    let S : Status → Type 0 = λ t. KeepsDemo seed count t w w history in
+    let H : Option HistoryValue → Type 0 = λ h. KeepsDemo seed count status.OutOfMemory w w h in
     subst S (sym short) (subst H (sym none) (record {
       kept = refl;
       line = inl refl;

@@ -1,5 +1,5 @@
 -- The points of the tables whose lines are whole: no other table was in force for a record that was written.
-use Rattle.std.proofs.Common.{◌≡◌, ℕ, zero, suc, ◌+◌, ◌-◌, ◌<◌, ◌≤◌, Bool, true, if◌then◌else◌, cond, nat_le, List, [], ◌∷◌, ◌++◌, length, take, drop, count_by, slice_index, slice_get, None, refl, sym, ◌∙◌, ap, subst, arith, inl, inr, length-append, le-leb}
+use Rattle.std.proofs.Common.{◌≡◌, ℕ, zero, suc, ◌+◌, ◌-◌, ◌<◌, ◌≤◌, Bool, true, if◌then◌else◌, cond, nat_le, List, [], ◌∷◌, ◌++◌, length, take, drop, count_by, slice_index, slice_get, None, refl, sym, ◌∙◌, ap, arith, inl, inr, length-append, le-leb}
 use borrow.Author.Tests.{lt-leb}
 use Rattle.std.proofs.lemmas.Bool.{cases_lt}
 use Rattle.std.proofs.lemmas.List.Sums.{sum_by-cons}
@@ -31,8 +31,7 @@ lines_fit points size (l ∷ loads) (s ∷ slots) (suc k) same fit =
     let rest = lines_fit points (size - length (slot_text points l.name s)) loads slots k (omega (arith, same)) (omega (arith, fit, more)) in
     let whole : nat_le (length (slot_text points l.name s)) size ≡ true = le-leb (length (slot_text points l.name s)) size (omega (arith, fit, more)) in
     let N : Bool → ℕ = λ b. if b then suc (whole_lines points (size - length (slot_text points l.name s)) (named loads slots)) else 0 in
-    let R : ℕ → Type 0 = λ n. count_by is_table (s ∷ take k slots) ≤ count_by is_table (take n (s ∷ slots)) in
-    subst R (sym (ap N whole)) (omega (arith, rest, count_cons s (take k slots), count_cons s (take (whole_lines points (size - length (slot_text points l.name s)) (named loads slots)) slots)))
+    rw (ap N whole) (omega (arith, rest, count_cons s (take k slots), count_cons s (take (whole_lines points (size - length (slot_text points l.name s)) (named loads slots)) slots)))
 
 none_got : (xs : List ℕ) (k : ℕ) → slice_get xs k ≡ None → length xs ≤ k
 none_got [] k is = omega arith

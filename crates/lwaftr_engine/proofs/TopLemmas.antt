@@ -1,5 +1,5 @@
 -- The one job that the words ask for.
-use Rattle.std.proofs.Common.{◌≡◌, ◌≤◌, ℕ, List, [], ◌∷◌, sym, ◌∙◌, subst}
+use Rattle.std.proofs.Common.{◌≡◌, ◌≤◌, ℕ, List, [], ◌∷◌, sym, ◌∙◌}
 use Rattle.aftr_text.specs.Jobs.{AreWorkers, AsksRun, Asks, IsLimit, IsRate, IsWorkers}
 use Rattle.aftr_text.specs.Parts.{Parts}
 use Rattle.aftr_text.specs.declared.jobs.Job.{Job}
@@ -42,7 +42,7 @@ asked_run [] run asks = absurd asks
 asked_run (command ∷ rest) run asks = run_job_of asks.0 run asks.2.1
 
 pub run_job_asked : (words : List (List ℕ)) (job : Job) (run : RunJob) → job ≡ asked.Run run → Asks words job → IsRunJob run
-run_job_asked words job run is asks = let A : Job → Type 0 = λ j. Asks words j in asked_run words run (subst A is asks)
+run_job_asked words job run is asks = asked_run words run (rw (← is) asks)
 
 same_migration : (a b c d : List ℕ) → asked.Migrate a b ≡ asked.Migrate c d → (a ≡ c) × (b ≡ d)
 same_migration a b c d e = (cc e, cc e)
@@ -51,9 +51,7 @@ pub only_migrate : (words : List (List ℕ)) (job : Job) (i o shown_i shown_o : 
     (input output : List ℕ) → Asks words (asked.Migrate input output) → P input output
 only_migrate words job i o shown_i shown_o is i_is o_is only P kept input output asks =
     let same = same_migration input output i o (only (asked.Migrate input output) asks ∙ is) in
-    let A : List ℕ → Type 0 = λ q. P q shown_o in
-    let B : List ℕ → Type 0 = λ q. P input q in
-    subst B (o_is ∙ sym same.1) (subst A (i_is ∙ sym same.0) kept)
+    rw (← (o_is ∙ sym same.1)) (rw (← (i_is ∙ sym same.0)) kept)
 
 pub demo_asked : (words : List (List ℕ)) (seed count workers : ℕ) → Asks words (asked.Demo seed count workers) → ((1 ≤ count) × (count ≤ 1000000)) × IsWorkers workers
 demo_asked [] seed count workers asks = absurd asks

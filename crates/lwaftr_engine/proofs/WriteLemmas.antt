@@ -23,9 +23,7 @@ pub cut_parts : (f : Part → List ℕ) (name : List ℕ) (parts : List Part) (i
     Moves h1 h2 (λ m n. (count : ℕ) × (count ≤ length bytes) × Writes m n name (content m name ++ take count bytes)) →
     Moves h0 h2 (λ m n. (count : ℕ) × (count ≤ length (flat_map f parts)) × Writes m n name (content m name ++ take count (flat_map f parts)))
 cut_parts f name parts i part bytes h0 h1 h2 at is first second =
-    moves_join h0 h1 h2 (λ m n. Writes m n name (content m name ++ flat_map f (take i parts)))
-    (λ m n. (count : ℕ) × (count ≤ length bytes) × Writes m n name (content m name ++ take count bytes))
-    (λ m n. (count : ℕ) × (count ≤ length (flat_map f parts)) × Writes m n name (content m name ++ take count (flat_map f parts)))
+    moves_join h0 h1 h2 _ _ _
     (λ m n o u w.
     let X = flat_map f (take i parts) in
     let whole : flat_map f parts ≡ (flat_map f (take i parts) ++ bytes) ++ flat_map f (drop (i + 1) parts) =

@@ -1,5 +1,5 @@
 -- Steps of writing: how they join, and what the files hold by them.
-use Rattle.std.proofs.Common.{◌≡◌, ℕ, zero, suc, ◌+◌, ◌≤◌, nat_lt, Bool, true, false, if◌then◌else◌, List, [], ◌∷◌, ◌++◌, length, take, Option, refl, sym, ◌∙◌, ap, subst, append-nil, append_assoc}
+use Rattle.std.proofs.Common.{◌≡◌, ℕ, zero, suc, ◌+◌, ◌≤◌, nat_lt, Bool, true, false, if◌then◌else◌, List, [], ◌∷◌, ◌++◌, length, take, Option, refl, sym, ◌∙◌, ap, append-nil, append_assoc}
 use Rattle.std.proofs.Math.Seq.{take-append-add, take-length}
 use Rattle.aftr_base.specs.Contents.{Contents, content, Moves, Writes}
 use Rattle.aftr_text.specs.Lines.{initial_text}
@@ -67,33 +67,31 @@ did_join run a b m n o first second = record {
 
 -- what was done whole was done to a front, and a front of some steps is one of these and more
 pub front_of_all : (run : RunJob) (steps : List Step) (m n : Contents) → Did run steps m n → DidFront run steps m n
-front_of_all run steps m n did = let D : List Step → Type 0 = λ l. Did run l m n in (length steps, subst D (sym (take-length steps)) did)
+front_of_all run steps m n did = (length steps, rw (take-length steps) did)
 
 front_more : (run : RunJob) (a b : List Step) (m n : Contents) → DidFront run a m n → DidFront run (a ++ b) m n
 front_more run a b m n front =
-    let D : List Step → Type 0 = λ l. Did run l m n in
-    (length (take front.0 a), subst D (front_part (a ++ b) a b front.0 refl) front.1)
+    (length (take front.0 a), rw (← (front_part (a ++ b) a b front.0 refl)) front.1)
 
 front_behind : (run : RunJob) (a b : List Step) (m n o : Contents) → Did run a m n → DidFront run b n o → DidFront run (a ++ b) m o
 front_behind run a b m n o did front =
-    let D : List Step → Type 0 = λ l. Did run l m o in
-    (length a + front.0, subst D (sym (take-append-add a b front.0)) (did_join run a (take front.0 b) m n o did front.1))
+    (length a + front.0, rw (take-append-add a b front.0) (did_join run a (take front.0 b) m n o did front.1))
 
 -- the same, where it is told
 module _ (run : RunJob) where
   pub joined : (a b : List Step) (h0 h1 h2 : Option Contents) → Moves h0 h1 (Did run a) → Moves h1 h2 (Did run b) → Moves h0 h2 (Did run (a ++ b))
-  joined a b h0 h1 h2 first second = moves_join h0 h1 h2 (Did run a) (Did run b) (Did run (a ++ b)) (λ m n o u w. did_join run a b m n o u w) first second
+  joined a b h0 h1 h2 first second = moves_join h0 h1 h2 _ _ _ (λ m n o u w. did_join run a b m n o u w) first second
 
   pub joined_front : (a b : List Step) (h0 h1 h2 : Option Contents) → Moves h0 h1 (Did run a) → Moves h1 h2 (DidFront run b) → Moves h0 h2 (DidFront run (a ++ b))
   joined_front a b h0 h1 h2 first second =
-      moves_join h0 h1 h2 (Did run a) (DidFront run b) (DidFront run (a ++ b)) (λ m n o u w. front_behind run a b m n o u w) first second
+      moves_join h0 h1 h2 _ _ _ (λ m n o u w. front_behind run a b m n o u w) first second
 
   pub more_front : (a b : List Step) (h0 h1 : Option Contents) → Moves h0 h1 (DidFront run a) → Moves h0 h1 (DidFront run (a ++ b))
-  more_front a b h0 h1 front = moves_by h0 h1 (DidFront run a) (DidFront run (a ++ b)) (λ m n w. front_more run a b m n w) front
+  more_front a b h0 h1 front = moves_by h0 h1 _ _ (λ m n w. front_more run a b m n w) front
 
   -- nothing was done
   pub no_step : (steps : List Step) (h0 h1 : Option Contents) → h1 ≡ h0 → Moves h0 h1 (DidFront run steps)
-  no_step steps h0 h1 same = moves_none h0 h1 (DidFront run steps) (λ m. (0, did_none run m)) same
+  no_step steps h0 h1 same = moves_none h0 h1 _ (λ m. (0, did_none run m)) same
 
   -- these were done, and nothing more
   pub no_more : (a b : List Step) (h0 h1 h2 : Option Contents) → h2 ≡ h1 → Moves h0 h1 (Did run a) → Moves h0 h2 (DidFront run (a ++ b))
@@ -120,10 +118,9 @@ module _ (run : RunJob) (far : AreFilesApart run) where
 
   pub made : (file : File) (k : List ℕ) → k ≡ name_of run file → (a b : Option Contents) → Moves a b (λ m n. Writes m n k []) → Moves a b (Did run (make file ∷ []))
   made file k is a b step =
-      moves_by a b (λ m n. Writes m n k []) (Did run (make file ∷ []))
+      moves_by a b _ _
       (λ m n w.
-      let W : List ℕ → Type 0 = λ q. Writes m n q [] in
-      record { files = each m n file (λ held. []) (subst W is w); others = kept m n file [] (subst W is w) }) step
+      record { files = each m n file (λ held. []) (rw (← is) w); others = kept m n file [] (rw (← is) w) }) step
 
   -- all three are made, one after another
   pub all_made : (k0 k1 k2 : List ℕ) → k0 ≡ run.output → k1 ≡ run.verdicts → k2 ≡ run.versions → (a b d e : Option Contents) → Moves a b (λ m n. Writes m n k0 []) → Moves b d (λ m n. Writes m n k1 []) →
@@ -134,9 +131,7 @@ module _ (run : RunJob) (far : AreFilesApart run) where
 
   put : (m n : Contents) (file : File) (k bytes due : List ℕ) → k ≡ name_of run file → bytes ≡ due → Writes m n k (content m k ++ bytes) → Did run (adds file due) m n
   put m n file k bytes due is due_is w =
-      let W : List ℕ → Type 0 = λ q. Writes m n q (content m q ++ bytes) in
-      let V : List ℕ → Type 0 = λ l. Writes m n (name_of run file) (content m (name_of run file) ++ l) in
-      let here : Writes m n (name_of run file) (content m (name_of run file) ++ due) = subst V due_is (subst W is w) in
+      let here : Writes m n (name_of run file) (content m (name_of run file) ++ due) = rw (← due_is) (rw (← is) w) in
       record {
         files = λ other. each m n file (λ held. held ++ due) here other ∙ sym (holds_adds file other due (content m (name_of run other)));
         others = kept m n file (content m (name_of run file) ++ due) here;
@@ -145,16 +140,15 @@ module _ (run : RunJob) (far : AreFilesApart run) where
   pub added : (file : File) (k bytes due : List ℕ) → k ≡ name_of run file → bytes ≡ due → (a b : Option Contents) →
       Moves a b (λ m n. Writes m n k (content m k ++ bytes)) → Moves a b (Did run (adds file due))
   added file k bytes due is due_is a b step =
-      moves_by a b (λ m n. Writes m n k (content m k ++ bytes)) (Did run (adds file due)) (λ m n w. put m n file k bytes due is due_is w) step
+      moves_by a b _ _ (λ m n w. put m n file k bytes due is due_is w) step
 
   pub cut : (file : File) (k bytes due : List ℕ) → k ≡ name_of run file → bytes ≡ due → (a b : Option Contents) →
       Moves a b (λ m n. (count : ℕ) × (count ≤ length bytes) × Writes m n k (content m k ++ take count bytes)) → Moves a b (DidFront run (adds file due))
   cut file k bytes due is due_is a b step =
-      moves_by a b (λ m n. (count : ℕ) × (count ≤ length bytes) × Writes m n k (content m k ++ take count bytes)) (DidFront run (adds file due))
+      moves_by a b _ _
       (λ m n w.
-      let D : List Step → Type 0 = λ l. Did run l m n in
       let same : take w.0 bytes ≡ take w.0 due = ap (λ (l : List ℕ). take w.0 l) due_is in
-      (w.0, subst D (sym (take_adds w.0 file due)) (put m n file k (take w.0 bytes) (take w.0 due) is same w.2))) step
+      (w.0, rw (take_adds w.0 file due) (put m n file k (take w.0 bytes) (take w.0 due) is same w.2))) step
 
 -- the outputs are made, with this header and this line
 pub record IsOpenedWith (run : RunJob) (head line : List ℕ) (old new : Contents) : Type 0 where
@@ -205,12 +199,10 @@ opening_front run w m n (suc (suc zero), did) = record { made = 2; output = (0, 
 opening_front run w m n (suc (suc (suc count)), did) = by_head (cut_at out_file count (file_head w) (adds versions_file (initial_text run.table))) where
   by_head : Cut out_file count (file_head w) (adds versions_file (initial_text run.table)) → IsOpening run w m n
   by_head (within is) =
-      let D : List Step → Type 0 = λ steps. Did run (make out_file ∷ make verdicts_file ∷ make versions_file ∷ steps) m n in
-      let it = opened_with run (take count (file_head w)) [] m n (subst D (is ∙ sym (append-nil (adds out_file (take count (file_head w))))) did) in
+      let it = opened_with run (take count (file_head w)) [] m n (rw (← (is ∙ sym (append-nil (adds out_file (take count (file_head w)))))) did) in
       record { made = 3; output = (count, it.output); verdicts = (0, it.verdicts); versions = (0, it.versions); others = it.others }
   by_head (beyond left is) =
-      let D : List Step → Type 0 = λ steps. Did run (make out_file ∷ make verdicts_file ∷ make versions_file ∷ steps) m n in
-      let it = opened_with run (file_head w) (take left (initial_text run.table)) m n (subst D (is ∙ ap (λ (l : List Step). adds out_file (file_head w) ++ l) (take_adds left versions_file (initial_text run.table))) did) in
+      let it = opened_with run (file_head w) (take left (initial_text run.table)) m n (rw (← (is ∙ ap (λ (l : List Step). adds out_file (file_head w) ++ l) (take_adds left versions_file (initial_text run.table)))) did) in
       record { made = 3; output = (length (file_head w), it.output ∙ sym (take-length (file_head w))); verdicts = (0, it.verdicts); versions = (left, it.versions); others = it.others }
 
 -- a round is written
@@ -231,19 +223,15 @@ pub wrote_front : (run : RunJob) (versions packets lines : List ℕ) (m n : Cont
 wrote_front run versions packets lines m n front = by_versions (cut_at versions_file front.0 versions (adds out_file packets ++ adds verdicts_file lines)) where
   by_packets : (left : ℕ) → Cut out_file left packets (adds verdicts_file lines) → Did run (adds versions_file versions ++ take left (adds out_file packets ++ adds verdicts_file lines)) m n → WroteFront run versions packets lines m n
   by_packets left (within is) did =
-      let D : List Step → Type 0 = λ steps. Did run steps m n in
       let shown : take left (adds out_file packets ++ adds verdicts_file lines) ≡ adds out_file (take left packets) ++ [] = is ∙ sym (append-nil (adds out_file (take left packets))) in
-      in_others left 0 (wrote run versions (take left packets) [] m n (subst D (ap (λ (l : List Step). adds versions_file versions ++ l) shown) did))
+      in_others left 0 (wrote run versions (take left packets) [] m n (rw (← (ap (λ (l : List Step). adds versions_file versions ++ l) shown)) did))
   by_packets left (beyond more is) did =
-      let D : List Step → Type 0 = λ steps. Did run steps m n in
       let shown : take left (adds out_file packets ++ adds verdicts_file lines) ≡ adds out_file (take (length packets) packets) ++ adds verdicts_file (take more lines) =
       is ∙ (ap (λ (l : List Step). adds out_file packets ++ l) (take_adds more verdicts_file lines) ∙ ap (λ (l : List ℕ). adds out_file l ++ adds verdicts_file (take more lines)) (sym (take-length packets))) in
-      in_others (length packets) more (wrote run versions (take (length packets) packets) (take more lines) m n (subst D (ap (λ (l : List Step). adds versions_file versions ++ l) shown) did))
+      in_others (length packets) more (wrote run versions (take (length packets) packets) (take more lines) m n (rw (← (ap (λ (l : List Step). adds versions_file versions ++ l) shown)) did))
 
   by_versions : Cut versions_file front.0 versions (adds out_file packets ++ adds verdicts_file lines) → WroteFront run versions packets lines m n
   by_versions (within is) =
-      let D : List Step → Type 0 = λ steps. Did run steps m n in
-      in_tables front.0 (wrote run (take front.0 versions) [] [] m n (subst D (is ∙ sym (append-nil (adds versions_file (take front.0 versions)))) front.1))
+      in_tables front.0 (wrote run (take front.0 versions) [] [] m n (rw (← (is ∙ sym (append-nil (adds versions_file (take front.0 versions))))) front.1))
   by_versions (beyond left is) =
-      let D : List Step → Type 0 = λ steps. Did run steps m n in
-      by_packets left (cut_at out_file left packets (adds verdicts_file lines)) (subst D is front.1)
+      by_packets left (cut_at out_file left packets (adds verdicts_file lines)) (rw (← is) front.1)

@@ -2,7 +2,7 @@ use Rattle.std.proofs.Common.{arith, refl, rules}
 use Rattle.std.specs.Prelude.{string_bytes}
 use Rattle.lwaftr_engine.specs.Progress.{setup_of}
 use Rattle.lwaftr_engine.proofs.Adding.{adds_none}
-use Rattle.lwaftr_engine.proofs.RoundLemmas.{new_lines_are, rendered_by}
+use Rattle.lwaftr_engine.proofs.RoundLemmas.{new_lines_are}
 use Rattle.lwaftr_engine.proofs.rounds.judge.Goals as goal
 
 pub returns-clause-well : goal.returns-clause-well
@@ -22,8 +22,7 @@ returns-clause-well g c =
         versions = c.judge_round.ensures.versions;
         reads = c.judge_round.ensures.reads;
         rate = c.requires.can.ready.bounded.rate;
-        rendered = rendered_by x c.args.progress.now.number c.args.round.now.records c.in_ok-items.items c.outcomes.result new.crew.outcomes c.args.progress.now.limit c.render_round.new.limit c.args.progress.now.totals c.render_round.new.totals c.render_round.new.rendered c.outcomes.ensures
-            (record { rendered = c.in_ok-render_round.ensures.rendered; asked = c.in_ok-render_round.ensures.asked });
+        rendered = rw (← c.outcomes.ensures) (record { rendered = c.in_ok-render_round.ensures.rendered; asked = c.in_ok-render_round.ensures.asked });
         new_lines = new_lines_are x c.as_slice.result.now c.as_slice.ensures old.desk.known.points new.desk.known.points c.judge_round.ensures.duty.adds.news c.points.result.now c.args.progress.now.printed c.in_ok-printed.printed lines (string_bytes c.clear.new.self) lines
             c.judge_round.ensures.duty.adds.points c.in_ok-printed.ensures.from c.clear.ensures.bytes c.points.ensures.points refl c.in_ok-printed.ensures.lines c.in_ok-printed.ensures.none_left;
         have = c.judge_round.ensures.outcomes;

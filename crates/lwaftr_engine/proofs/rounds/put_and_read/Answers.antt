@@ -1,11 +1,8 @@
-use Rattle.std.proofs.Common.{ℕ, ◌∙◌, rules, subst}
-use Rattle.aftr_base.specs.Outside.{Rises}
+use Rattle.std.proofs.Common.{◌∙◌, rules}
 use Rattle.capture_io.specs.Rounds.{is_cut}
 use Rattle.lwaftr_engine.specs.Progress.{setup_of, spot}
 use Rattle.lwaftr_engine.specs.Underway.{steps_of}
-use Rattle.lwaftr_engine.proofs.Adding.{others_held}
 use Rattle.lwaftr_engine.proofs.ReadLemmas.{failed_by, fails_after, none_failed}
-use Rattle.lwaftr_engine.proofs.RoundLemmas.{read_held}
 use Rattle.lwaftr_engine.proofs.UnderwayLemmas.{fronts_of, not_read, read_none, read_past}
 use Rattle.lwaftr_engine.proofs.rounds.put_and_read.Goals as goal
 
@@ -34,7 +31,7 @@ returns-in_err-round g c =
     let lost = read.lost ∙ wrote.writes.lost in
     not_read a b c.from_residual-in_err-round.result c.from_residual-in_err-round.ensures.0 (search rules) (fronts_of x (steps_of c.args.pending.now) a.held m.held b.held read.held wrote.wrote)
     (read_none x.run.input (spot (r.stands c.args.reader.now) (r.left c.args.reader.now) (r.at c.args.reader.now)) (spot (r.stands c.read_next.new.reader) (r.left c.read_next.new.reader) (r.at c.read_next.new.reader))
-    c.args.number b.held a.lost b.lost b.last lost) (none_failed x.run.input a b lost (read.last ∙ wrote.writes.last)) (others_held x.run a.held m.held b.held read.held wrote.others)
+    c.args.number b.held a.lost b.lost b.last lost) (none_failed x.run.input a b lost (read.last ∙ wrote.writes.last)) (rw read.held wrote.others)
 
 pub returns : goal.returns
 returns g c =
@@ -49,16 +46,15 @@ returns g c =
     let wrote = c.in_ok-put.ensures in
     let read = c.in_ok-round.ensures in
     let round = c.in_ok-round.round in
-    let R : ℕ → Type 0 = λ n. Rises (is_cut round.ending) n b.lost in
-    let got = read_held x before now c.args.number m.held b.held b.last round read.held read.read in
+    let got = rw (← read.held) at read.read in
     record {
       wrote = search rules;
       part = fronts_of x (steps_of c.args.pending.now) a.held m.held b.held read.held wrote.wrote;
       read = got;
-      past = read_past x before now c.args.number b.held a.lost b.lost b.last round got (subst R wrote.writes.lost read.reads.lost);
+      past = read_past x before now c.args.number b.held a.lost b.lost b.last round got (rw (← wrote.writes.lost) read.reads.lost);
       ready = read.ready;
       reads = search rules;
       capture_read = fails_after x.run.input a m b wrote.writes.lost wrote.writes.last (failed_by (is_cut round.ending) x.run.input (λ _. Unit {0}) m b read.reads.lost read.reads.last);
-      others = others_held x.run a.held m.held b.held read.held wrote.others;
+      others = rw read.held wrote.others;
       spoiled = search rules;
     }
