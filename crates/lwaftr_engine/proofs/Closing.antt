@@ -108,6 +108,7 @@ module _ (laws : RunLaws) {tables : ℕ → BindingTable} {windows : List Window
       placed = are.placed;
       limited = under.limited;
       access = λ number i at. laws.access (c.tables (c.version number)) i (lawful_at c under.tables_are under.in_force_are number);
+      sends = λ number i at. laws.sends (c.tables (c.version number)) i (lawful_at c under.tables_are under.in_force_are number);
     };
     written = are.written c (suits_same (record { tables = under.tables_are; version = under.in_force_are; loaded = under.loaded }) (suits_bare of closed));
     limited = under.limited;

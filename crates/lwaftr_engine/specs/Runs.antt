@@ -21,7 +21,7 @@ use Rattle.swap_core.specs.Plans.{Tables, table}
 use Rattle.swap_core.specs.Points.{AreAllPoints, in_force}
 use Rattle.swap_core.specs.declared.plan.Window.{Window}
 use Rattle.table_words.specs.Layout.{IsCompiled}
-use Rattle.verdict_core.specs.Access.{BringsIn, Delivers, Forbidden, Forwards, PassesOn, Refused, RelaysAll, RelaysOwn, SendsOn}
+use Rattle.verdict_core.specs.Access.{HasAccess}
 use Rattle.verdict_core.specs.declared.verdicts.Verdict.{Verdict}
 use Rattle.worker_gate.specs.Outcomes.{asks}
 
@@ -37,22 +37,9 @@ pub record IsWritten (run : RunJob) (slots : List Slot) (c : Course) (points : L
   pub others : OthersKept run old new
   pub summary : now ≡ option_map (λ taken. taken ++ summary_text (totals_of c form rs)) said
 
--- A subscriber's packet is forwarded exactly where its tunnel address, IPv4 address and port stand in one binding of the table in
--- force and no named rule keeps it, and each drop of one has its rule. With no rule named: exactly when a subscriber's packet goes
--- on, when a packet from the IPv4 network is delivered, and when an error about a tunnel packet is passed on, and where to. What
--- goes into a tunnel goes to the owner of its destination, and an error is about a packet that the router sent to its owner. What
--- goes on is sent in at least one packet, an error in one, and nothing else sends any.
-pub record HasAccess (t : BindingTable) (i : Item) (v : Verdict) : Type 0 where
-  pub forwards : Forwards t i v
-  pub forbidden : Forbidden t i v
-  pub refused : Refused t i v
-  pub sends_on : SendsOn t i v
-  pub brings_in : BringsIn t i v
-  pub delivers : Delivers t i v
-  pub relays_own : RelaysOwn t i v
-  pub relays_all : RelaysAll t i v
-  pub passes_on : PassesOn t i v
-  pub sends : (number : ℕ) → Sends v (length (sent i v number))
+-- as many packets are sent for a verdict as it calls for, whatever the number of its record
+abbrev pub SendsItsPackets : Item → Verdict → Type 0
+SendsItsPackets i v = (number : ℕ) → Sends v (length (sent i v number))
 
 -- Table k of the windows comes into force at point k, which is inside its window: there is one for each window that opens by the
 -- last record, and no other. Of these tables and points, and of the limit on errors, is the course of the run.
@@ -62,8 +49,12 @@ pub record IsCourse (tables : ℕ → BindingTable) (windows : List Window) (err
   pub loaded : c.loaded ≡ length points
   pub placed : AreAllPoints windows points (length rs)
   pub limited : IsLimited errors form rs (entries_of form rs) c
+  -- Who may send, who receives, and whom errors reach, under the table in force at the record. What goes on is sent in at least one
+  -- packet, an error in one, and nothing else sends any.
   pub access : (number : ℕ) (i : Item) → slice_get (items_in (entries_of form rs)) number ≡ Some i
       → HasAccess (c.tables (c.version number)) i (verdict_at c number i)
+  pub sends : (number : ℕ) (i : Item) → slice_get (items_in (entries_of form rs)) number ≡ Some i
+      → SendsItsPackets i (verdict_at c number i)
 
 -- how many items ask the table: all that are neither held nor dropped already
 abbrev pub all_asking : List Item → ℕ

@@ -15,8 +15,8 @@ returns c =
         relays_own = held.relays_own t i lawful;
         relays_all = held.relays_all t i lawful;
         passes_on = held.passes_on t i lawful;
-        sends = λ number. c.forwarded_is_sent.ensures i (verdict_of t i) number (held.fits t i lawful) (held.room t i lawful);
       };
+      sends = λ t i lawful number. c.forwarded_is_sent.ensures i (verdict_of t i) number (held.fits t i lawful) (held.room t i lawful);
       limits = c.limits_are_some.ensures;
       begins = c.limits_begin.ensures;
       totals = c.counts_are_totals.ensures;
