@@ -56,8 +56,10 @@ pub record HasBegun (x : Setup) (c : Course) (points lines : List ℕ) (opened n
   pub loads : ℕ
   pub none_due : NoneIsDue printed (drop loads x.slots)
   pub spoken : (number : ℕ) → number < length taken → c.version number ≤ length printed
-  pub wrote : IsLimitedRun x c taken → WroteFronts x (load_lines points (loads_of x)) (packets_from c x.written 0 taken (entries_of x.form taken)) lines opened now
-  pub told : IsLimitedRun x c taken → length (load_lines points (take loads (loads_of x))) + length (content opened x.run.versions) ≤ length (content now x.run.versions)
+  pub wrote : IsLimitedRun x c taken → WroteFronts x (load_lines points (loads_of x)) (packets_from c x.written 0 taken (entries_of x.form taken))
+      lines opened now
+  pub told : IsLimitedRun x c taken → length (load_lines points (take loads (loads_of x)))
+      + length (content opened x.run.versions) ≤ length (content now x.run.versions)
 
 -- behind what was written up to a mark, fronts of what these records write were written, whichever points come later
 abbrev pub BeginsOn : Setup → Tables → List (ℕ × ℕ) → List ℕ → Mark → Contents → List Rec → Type 0
@@ -66,11 +68,13 @@ BeginsOn x plan draws points a now records = (later : List ℕ) (past : Past x p
 
 -- Rounds were ended by a fault: of the next records of the capture the first few were taken, and fronts of what these write were
 -- written, whichever points come later. No more records were drawn than there are.
-pub record IsBrokenFrom (x : Setup) (plan : Tables) (draws : List (ℕ × ℕ)) (points : List ℕ) (a : Mark) (now : Contents) (lost lost_now : ℕ) (last : Option (List ℕ × ℕ)) : Type 0 where
+pub record IsBrokenFrom (x : Setup) (plan : Tables) (draws : List (ℕ × ℕ)) (points : List ℕ) (a : Mark) (now : Contents) (lost lost_now : ℕ)
+    (last : Option (List ℕ × ℕ)) : Type 0 where
   pub input : content now x.run.input ≡ content a.held x.run.input
   pub records : List Rec
   pub rest : List Rec
-  pub taken : a.reader.stood (content a.held x.run.input) → Takes x.run.input a.reader (content a.held x.run.input) a.progress.number (records ++ rest) lost lost_now last
+  pub taken : a.reader.stood (content a.held x.run.input) → Takes x.run.input a.reader (content a.held x.run.input) a.progress.number
+      (records ++ rest) lost lost_now last
   pub drawn : length draws ≤ a.progress.number + length (records ++ rest)
   pub up_to_date : IsUpToDate plan (length draws) points
   pub begun : BeginsOn x plan draws points a now records

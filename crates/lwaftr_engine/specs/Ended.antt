@@ -23,13 +23,15 @@ use Rattle.swap_core.specs.Plans.{Tables}
 use Rattle.swap_core.specs.declared.plan.Window.{Window}
 
 -- the run of all records that are left, which end so
-pub record EndsWhole (x : Setup) (tables : ℕ → BindingTable) (windows : List Window) (reader : Spot) (old new : Contents) (said now : Option (List ℕ)) (history : Option HistoryValue) (ended : Option CaptureBad) : Type 0 where
+pub record EndsWhole (x : Setup) (tables : ℕ → BindingTable) (windows : List Window) (reader : Spot) (old new : Contents) (said now : Option (List ℕ))
+    (history : Option HistoryValue) (ended : Option CaptureBad) : Type 0 where
   pub records : List Rec
   pub capture : reader.left (content old x.run.input) 0 records ended
   pub is_run : IsRun x.run tables windows x.slots x.form x.written records old new said now history
 
 -- the run of the records before a read that failed
-pub record EndsCut (x : Setup) (tables : ℕ → BindingTable) (windows : List Window) (reader : Spot) (old new : Contents) (said now : Option (List ℕ)) (history : Option HistoryValue) (last : Option (List ℕ × ℕ)) : Type 0 where
+pub record EndsCut (x : Setup) (tables : ℕ → BindingTable) (windows : List Window) (reader : Spot) (old new : Contents) (said now : Option (List ℕ))
+    (history : Option HistoryValue) (last : Option (List ℕ × ℕ)) : Type 0 where
   pub taken : List Rec
   pub rest : List Rec
   pub ended : Option CaptureBad
@@ -42,7 +44,8 @@ pub record EndsCut (x : Setup) (tables : ℕ → BindingTable) (windows : List W
   pub is_run : IsRun x.run tables windows x.slots x.form x.written taken old new said now history
 
 -- the run was ended by a fault
-pub record EndsBroken (x : Setup) (tables : ℕ → BindingTable) (windows : List Window) (reader : Spot) (old new : Contents) (said now : Option (List ℕ)) (stop : Stop) : Type 0 where
+pub record EndsBroken (x : Setup) (tables : ℕ → BindingTable) (windows : List Window) (reader : Spot) (old new : Contents) (said now : Option (List ℕ))
+    (stop : Stop) : Type 0 where
   pub records : List Rec
   pub made : ℕ
   pub taken : TakesBehind made x.run.input reader (content old x.run.input) 0 records stop.before.lost stop.after.lost stop.after.last
@@ -60,16 +63,22 @@ pub record AreSlotsOf (run : RunJob) (windows : List Window) (slots : List Slot)
   pub windows_are : length windows ≡ count_by is_table slots
   pub loads_are : length slots ≡ length run.loads
 
-abbrev pub EndsBy : Setup → (ℕ → BindingTable) → List Window → Spot → Result Ending Fault → Contents → Contents → Option (List ℕ) → Option (List ℕ) → Outside → Outside → Option HistoryValue → Type 0
+abbrev pub EndsBy : Setup → (ℕ → BindingTable) → List Window → Spot → Result Ending Fault → Contents → Contents → Option (List ℕ) → Option (List ℕ) → Outside →
+    Outside → Option HistoryValue → Type 0
 EndsBy x tables windows reader (Ok ending.End) old new said now before after history = EndsWhole x tables windows reader old new said now history None
-EndsBy x tables windows reader (Ok (ending.Bad refusal)) old new said now before after history = EndsWhole x tables windows reader old new said now history (Some refusal)
+EndsBy x tables windows reader (Ok (ending.Bad refusal)) old new said now before after history =
+    EndsWhole x tables windows reader old new said now history (Some refusal)
 EndsBy x tables windows reader (Ok ending.ReadFault) old new said now before after history = EndsCut x tables windows reader old new said now history after.last
-EndsBy x tables windows reader (Err fault.Failed) old new said now before after history = (AreSlotsOf x.run windows x.slots → EndsBroken x tables windows reader old new said now (stop_by fault.Failed before after)) × (history ≡ None)
+EndsBy x tables windows reader (Err fault.Failed) old new said now before after history =
+    (AreSlotsOf x.run windows x.slots → EndsBroken x tables windows reader old new said now (stop_by fault.Failed before after)) × (history ≡ None)
 EndsBy x tables windows reader (Err fault.OutOfMemory) old new said now before after history =
-    (((new ≡ old) × (now ≡ said) × NoneOfFilesRose before after) ⊎ (AreSlotsOf x.run windows x.slots → EndsBroken x tables windows reader old new said now (stop_by fault.OutOfMemory before after))) × (history ≡ None)
+    (((new ≡ old) × (now ≡ said) × NoneOfFilesRose before after)
+    ⊎ (AreSlotsOf x.run windows x.slots → EndsBroken x tables windows reader old new said now (stop_by fault.OutOfMemory before after)))
+    × (history ≡ None)
 
 -- under every list of tables of which the plan's words are
-abbrev pub Ends : Setup → Tables → Spot → Result Ending Fault → Contents → Contents → Option (List ℕ) → Option (List ℕ) → Outside → Outside → Option HistoryValue → Type 0
+abbrev pub Ends : Setup → Tables → Spot → Result Ending Fault → Contents → Contents → Option (List ℕ) → Option (List ℕ) → Outside → Outside →
+    Option HistoryValue → Type 0
 Ends x plan reader result old new said now before after history =
     (tables : ℕ → BindingTable) (windows : List Window) → IsPlanOf tables windows plan → reader.stood (content old x.run.input) →
     EndsBy x tables windows reader result old new said now before after history

@@ -29,7 +29,8 @@ IsBehind place [] = Unit {0}
 IsBehind place (r ∷ rs) = place < r.next_at
 
 -- a run of all whole records of the capture, which ends so
-pub record IsWhole (run : RunJob) (tables : ℕ → BindingTable) (windows : List Window) (slots : List Slot) (old new : Contents) (said now : Option (List ℕ)) (history : Option HistoryValue) (ending : Option CaptureBad) : Type 0 where
+pub record IsWhole (run : RunJob) (tables : ℕ → BindingTable) (windows : List Window) (slots : List Slot) (old new : Contents) (said now : Option (List ℕ))
+    (history : Option HistoryValue) (ending : Option CaptureBad) : Type 0 where
   pub header : Header
   pub records : List Rec
   pub capture : IsInput (content old run.input) header records ending
@@ -37,7 +38,8 @@ pub record IsWhole (run : RunJob) (tables : ℕ → BindingTable) (windows : Lis
 
 -- A run cut short by a read that failed at a place of the capture behind its header: it took the records that end at or before it,
 -- and the next one, if there is one, ends behind it.
-pub record IsCut (run : RunJob) (tables : ℕ → BindingTable) (windows : List Window) (slots : List Slot) (old new : Contents) (said now : Option (List ℕ)) (history : Option HistoryValue) (last : Option (List ℕ × ℕ)) : Type 0 where
+pub record IsCut (run : RunJob) (tables : ℕ → BindingTable) (windows : List Window) (slots : List Slot) (old new : Contents) (said now : Option (List ℕ))
+    (history : Option HistoryValue) (last : Option (List ℕ × ℕ)) : Type 0 where
   pub header : Header
   pub taken : List Rec
   pub rest : List Rec
@@ -51,7 +53,8 @@ pub record IsCut (run : RunJob) (tables : ℕ → BindingTable) (windows : List 
   pub is_run : IsRun run tables windows slots header.form header.written taken old new said now history
 
 -- a run of all whole records under the tables of its files; some load was refused, or none
-pub record IsWholeRun (run : RunJob) (old new : Contents) (said now : Option (List ℕ)) (history : Option HistoryValue) (ending : Option CaptureBad) (refused : Bool) : Type 0 where
+pub record IsWholeRun (run : RunJob) (old new : Contents) (said now : Option (List ℕ)) (history : Option HistoryValue) (ending : Option CaptureBad)
+    (refused : Bool) : Type 0 where
   pub first : BindingTable
   pub answers : List Answer
   pub tables : AreTables run old first answers

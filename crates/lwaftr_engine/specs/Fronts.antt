@@ -1,5 +1,6 @@
 -- What the outputs hold where a run was ended by a file or a sink that cannot be written, or for want of memory.
-use Rattle.std.specs.Prelude.{◌≡◌, ◌⊎◌, ℕ, suc, ◌-◌, ◌<◌, ◌≤◌, nat_le, nat_lt, Bool, true, false, if◌then◌else◌, List, [], ◌∷◌, ◌++◌, All, count_by, length, take, Option, Some, None, Ok}
+use Rattle.std.specs.Prelude.{◌≡◌, ◌⊎◌, ℕ, suc, ◌-◌, ◌<◌, ◌≤◌, nat_le, nat_lt, Bool, true, false, if◌then◌else◌, List, [], ◌∷◌, ◌++◌, All, count_by, length}
+use Rattle.std.specs.Prelude.{take, Option, Some, None, Ok}
 use Rattle.std.specs.Option.{option_map}
 use Rattle.aftr_base.specs.Contents.{Contents, content}
 use Rattle.aftr_base.specs.Outside.{Outside, Rises, Rose}
@@ -39,7 +40,8 @@ HoldsFront false due old new = new ≡ old
 abbrev pub whole_lines : List ℕ → ℕ → List NamedSlot → ℕ
 whole_lines points size [] = 0
 whole_lines points size (load ∷ loads) =
-    if nat_le (length (slot_text points load.name load.slot)) size then suc (whole_lines points (size - length (slot_text points load.name load.slot)) loads) else 0
+    if nat_le (length (slot_text points load.name load.slot)) size then suc (whole_lines points (size - length (slot_text points load.name load.slot)) loads)
+    else 0
 
 abbrev pub is_table : Slot → Bool
 is_table (slot.Version version) = true
@@ -76,7 +78,8 @@ abbrev pub stop_by : Fault → Outside → Outside → Stop
 stop_by why before after = record { failed = is_failure why; before = before; after = after }
 
 -- The outputs are whole, and the sink took a front of the summary.
-pub record IsAtSummary (run : RunJob) (slots : List Slot) (c : Course) (points : List ℕ) (form : Form) (written : Written) (rs : List Rec) (new : Contents) (said now : Option (List ℕ)) : Type 0 where
+pub record IsAtSummary (run : RunJob) (slots : List Slot) (c : Course) (points : List ℕ) (form : Form) (written : Written) (rs : List Rec) (new : Contents)
+    (said now : Option (List ℕ)) : Type 0 where
   pub output : content new run.output ≡ output_of c written form rs
   pub verdicts : content new run.verdicts ≡ verdicts_of c form rs
   pub versions : content new run.versions ≡ versions_of run.table (named run.loads slots) points
@@ -87,7 +90,8 @@ pub record IsAtSummary (run : RunJob) (slots : List Slot) (c : Course) (points :
 -- last of the records. VERSIONS holds a front of what is due for these points; OUT and VERDICTS hold fronts of what is due for all
 -- records under those tables alone whose lines VERSIONS holds whole. The sink took nothing, and where a call failed it is a create or
 -- an append; or no such call failed, all outputs are whole, and the sink took a front of the summary.
-pub record IsFront (run : RunJob) (tables : ℕ → BindingTable) (windows : List Window) (slots : List Slot) (form : Form) (written : Written) (rs : List Rec) (made : ℕ) (old new : Contents) (said now : Option (List ℕ)) (stop : Stop) : Type 0 where
+pub record IsFront (run : RunJob) (tables : ℕ → BindingTable) (windows : List Window) (slots : List Slot) (form : Form) (written : Written) (rs : List Rec)
+    (made : ℕ) (old new : Contents) (said now : Option (List ℕ)) (stop : Stop) : Type 0 where
   pub points : List ℕ
   pub placed : AreAllPoints windows points (length rs)
   pub course : Course
@@ -119,7 +123,8 @@ AreTaken run old header rs made stop =
     ⊎ ((2 < made) × (Rose stop.before.lost stop.after.lost × AreBefore run old header rs stop.after.last))
 
 -- the run began under a header that is accepted, and was ended by a fault
-pub record IsBroken (run : RunJob) (tables : ℕ → BindingTable) (windows : List Window) (slots : List Slot) (old new : Contents) (said now : Option (List ℕ)) (stop : Stop) : Type 0 where
+pub record IsBroken (run : RunJob) (tables : ℕ → BindingTable) (windows : List Window) (slots : List Slot) (old new : Contents) (said now : Option (List ℕ))
+    (stop : Stop) : Type 0 where
   pub header : Header
   pub sound : header_of (content old run.input) ≡ Ok header
   pub records : List Rec

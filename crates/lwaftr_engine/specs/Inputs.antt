@@ -25,7 +25,12 @@ classic_of form = record { form = form; written = written.Classic form.nano; end
 
 -- packets are written in blocks
 abbrev pub blocks_of : Seen → Header
-blocks_of seen = record { form = blocks.form_of seen.known; written = written.Blocks; ends_at = seen.known.at; has_end = not (nat_lt (length seen.interfaces) 1) }
+blocks_of seen = record {
+  form = blocks.form_of seen.known;
+  written = written.Blocks;
+  ends_at = seen.known.at;
+  has_end = not (nat_lt (length seen.interfaces) 1);
+}
 
 abbrev pub in_blocks : Result Seen CaptureBad → Result Header CaptureBad
 in_blocks (Ok seen) = Ok (blocks_of seen)

@@ -82,22 +82,31 @@ pub record IsAtFirst (reader : Spot) (form : Form) (written : Written) (bytes : 
 
 -- a read of the capture's file failed, but not one of a record
 abbrev pub IsEarly : List ℕ → List ℕ → Option (List ℕ × ℕ) → Type 0
-IsEarly name bytes last = (header : Header) (place : ℕ) → header_of bytes ≡ Ok header → last ≡ Some (name, place) → header.has_end ≡ true → header.ends_at ≤ place → ⊥
+IsEarly name bytes last = (header : Header) (place : ℕ) → header_of bytes ≡ Ok header → last ≡ Some (name, place) → header.has_end ≡ true →
+    header.ends_at ≤ place → ⊥
 
 -- what a run leaves under tables that were read, by its status
-abbrev pub LeavesBy : RunJob → (ℕ → BindingTable) → List Window → List Slot → Status → Contents → Contents → Option (List ℕ) → Option (List ℕ) → Outside → Outside → Option HistoryValue → Type 0
-LeavesBy run tables windows slots status.Done old new said now before after history = IsWhole run tables windows slots old new said now history None × (some_slot_refused slots ≡ false)
-LeavesBy run tables windows slots status.DoneRefused old new said now before after history = IsWhole run tables windows slots old new said now history None × (some_slot_refused slots ≡ true)
+abbrev pub LeavesBy : RunJob → (ℕ → BindingTable) → List Window → List Slot → Status → Contents → Contents → Option (List ℕ) → Option (List ℕ) → Outside →
+    Outside → Option HistoryValue → Type 0
+LeavesBy run tables windows slots status.Done old new said now before after history = IsWhole run tables windows slots old new said now history None
+    × (some_slot_refused slots ≡ false)
+LeavesBy run tables windows slots status.DoneRefused old new said now before after history = IsWhole run tables windows slots old new said now history None
+    × (some_slot_refused slots ≡ true)
 LeavesBy run tables windows slots (status.BadCapture refusal) old new said now before after history =
-    IsWhole run tables windows slots old new said now history (Some refusal) ⊎ ((header_of (content old run.input) ≡ Err refusal) × IsUntouched old new said now history)
+    IsWhole run tables windows slots old new said now history (Some refusal)
+    ⊎ ((header_of (content old run.input) ≡ Err refusal) × IsUntouched old new said now history)
 LeavesBy run tables windows slots status.ReadFault old new said now before after history =
-    IsCut run tables windows slots old new said now history after.last ⊎ (IsEarly run.input (content old run.input) after.last × IsUntouched old new said now history)
-LeavesBy run tables windows slots status.WriteFault old new said now before after history = (AreSlotsOf run windows slots → IsBroken run tables windows slots old new said now (stop_by fault.Failed before after)) × (history ≡ None)
+    IsCut run tables windows slots old new said now history after.last
+    ⊎ (IsEarly run.input (content old run.input) after.last × IsUntouched old new said now history)
+LeavesBy run tables windows slots status.WriteFault old new said now before after history =
+    (AreSlotsOf run windows slots → IsBroken run tables windows slots old new said now (stop_by fault.Failed before after)) × (history ≡ None)
 LeavesBy run tables windows slots status.OutOfMemory old new said now before after history =
     (IsUntouched old new said now history × NoneOfFilesRose before after)
     ⊎ ((AreSlotsOf run windows slots → IsBroken run tables windows slots old new said now (stop_by fault.OutOfMemory before after)) × (history ≡ None))
 LeavesBy run tables windows slots _ old new said now before after history = ⊥
 
-abbrev pub LeavesMade : RunJob → Tables → List Slot → Status → Contents → Contents → Option (List ℕ) → Option (List ℕ) → Outside → Outside → Option HistoryValue → Type 0
+abbrev pub LeavesMade : RunJob → Tables → List Slot → Status → Contents → Contents → Option (List ℕ) → Option (List ℕ) → Outside → Outside →
+    Option HistoryValue → Type 0
 LeavesMade run plan slots result old new said now before after history =
-    (tables : ℕ → BindingTable) (windows : List Window) → IsPlanOf tables windows plan → LeavesBy run tables windows slots result old new said now before after history
+    (tables : ℕ → BindingTable) (windows : List Window) → IsPlanOf tables windows plan →
+    LeavesBy run tables windows slots result old new said now before after history

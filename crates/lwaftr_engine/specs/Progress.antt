@@ -119,7 +119,8 @@ pub record HasWritten (x : Setup) (c : Course) (opened : Contents) (m : Mark) (t
   pub asked : HasAsked x.form taken (entries_of x.form taken) c m.progress.limit
   pub totals : IsLimitedRun x c taken → m.progress.totals ≡ totals_from c no_totals 0 (entries_of x.form taken)
   pub files : (later : List ℕ) → IsLimitedRun x c taken →
-      Wrote x.run (load_lines (m.seats.points ++ later) (take m.progress.printed (loads_of x))) (packets_from c x.written 0 taken (entries_of x.form taken)) (lines_from c 0 (entries_of x.form taken)) opened m.held
+      Wrote x.run (load_lines (m.seats.points ++ later) (take m.progress.printed (loads_of x))) (packets_from c x.written 0 taken (entries_of x.form taken))
+      (lines_from c 0 (entries_of x.form taken)) opened m.held
   pub none_due : NoneIsDue m.seats.points (drop m.progress.printed x.slots)
   pub spoken : (number : ℕ) → number < length taken → c.version number ≤ length m.seats.points
   pub reads : all_asking (items_in (entries_of x.form taken)) ≤ m.seats.reads

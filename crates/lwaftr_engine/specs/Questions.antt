@@ -81,7 +81,8 @@ FailedIn name status.ReadFault old new = (place : ℕ) × (new ≡ Some (name, p
 FailedIn name _ old new = new ≡ old
 
 -- What a question about a file leaves: every name holds what it held, and the sink took the line.
-pub record KeepsQuestion (Asks : BindingTable → List ℕ → Type 0) (name : List ℕ) (result : Status) (before now : World) (history : Option HistoryValue) : Type 0 where
+pub record KeepsQuestion (Asks : BindingTable → List ℕ → Type 0) (name : List ℕ) (result : Status) (before now : World)
+    (history : Option HistoryValue) : Type 0 where
   pub kept : now.files.held ≡ before.files.held
   pub line : Answers (λ line. IsLineOf Asks before.files.held name line) result before.said now.said
   pub refused : Told before.files.held (λ m. RefusesAs (content m name) result)

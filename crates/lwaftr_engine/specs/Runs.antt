@@ -30,7 +30,8 @@ abbrev pub OthersKept : RunJob → Contents → Contents → Type 0
 OthersKept run old new = (name : List ℕ) → name ≢ run.output → name ≢ run.verdicts → name ≢ run.versions → content new name ≡ content old name
 
 -- The outputs are those of a router that took these records, and the sink took the summary.
-pub record IsWritten (run : RunJob) (slots : List Slot) (c : Course) (points : List ℕ) (form : Form) (written : Written) (rs : List Rec) (old new : Contents) (said now : Option (List ℕ)) : Type 0 where
+pub record IsWritten (run : RunJob) (slots : List Slot) (c : Course) (points : List ℕ) (form : Form) (written : Written) (rs : List Rec) (old new : Contents)
+    (said now : Option (List ℕ)) : Type 0 where
   pub output : content new run.output ≡ output_of c written form rs
   pub verdicts : content new run.verdicts ≡ verdicts_of c form rs
   pub versions : content new run.versions ≡ versions_of run.table (named run.loads slots) points
@@ -43,7 +44,8 @@ SendsItsPackets i v = (number : ℕ) → Sends v (length (sent i v number))
 
 -- Table k of the windows comes into force at point k, which is inside its window: there is one for each window that opens by the
 -- last record, and no other. Of these tables and points, and of the limit on errors, is the course of the run.
-pub record IsCourse (tables : ℕ → BindingTable) (windows : List Window) (errors : Option ℕ) (points : List ℕ) (form : Form) (rs : List Rec) (c : Course) : Type 0 where
+pub record IsCourse (tables : ℕ → BindingTable) (windows : List Window) (errors : Option ℕ) (points : List ℕ) (form : Form) (rs : List Rec)
+    (c : Course) : Type 0 where
   pub tables_are : c.tables ≡ tables
   pub in_force_are : c.version ≡ in_force points
   pub loaded : c.loaded ≡ length points
@@ -68,7 +70,8 @@ pub record IsPlanOf (tables : ℕ → BindingTable) (windows : List Window) (p :
 
 -- What was done in the areas in which the tables were swapped: their plan, the points, and the records that were drawn. A word was
 -- read for each record whose item asks the table.
-pub record IsHistoryOf (tables : ℕ → BindingTable) (windows : List Window) (points : List ℕ) (form : Form) (rs : List Rec) (history : Option HistoryValue) : Type 0 where
+pub record IsHistoryOf (tables : ℕ → BindingTable) (windows : List Window) (points : List ℕ) (form : Form) (rs : List Rec)
+    (history : Option HistoryValue) : Type 0 where
   pub value : HistoryValue
   pub is : history ≡ Some value
   pub plan : IsPlanOf tables windows value.plan
@@ -77,7 +80,8 @@ pub record IsHistoryOf (tables : ℕ → BindingTable) (windows : List Window) (
   pub reads : all_asking (items_in (entries_of form rs)) ≤ value.reads
 
 -- a run of these records under these tables
-pub record IsRun (run : RunJob) (tables : ℕ → BindingTable) (windows : List Window) (slots : List Slot) (form : Form) (written : Written) (rs : List Rec) (old new : Contents) (said now : Option (List ℕ)) (history : Option HistoryValue) : Type 0 where
+pub record IsRun (run : RunJob) (tables : ℕ → BindingTable) (windows : List Window) (slots : List Slot) (form : Form) (written : Written) (rs : List Rec)
+    (old new : Contents) (said now : Option (List ℕ)) (history : Option HistoryValue) : Type 0 where
   pub points : List ℕ
   pub course : Course
   pub is_course : IsCourse tables windows run.errors points form rs course

@@ -15,7 +15,8 @@ use Rattle.item_stage.specs.Stages.{Staged, Stands}
 use Rattle.item_stage.specs.declared.entries.Entry.{Entry}
 use Rattle.lwaftr_engine.specs.Broken.{BeginsOn}
 use Rattle.lwaftr_engine.specs.Causes.{MayFailIn}
-use Rattle.lwaftr_engine.specs.Progress.{AddsTo, IsInRange, IsOnDuty, IsUpToDate, Mark, ReadsOf, Seats, Setup, Spot, Stops, Suits, WritesOn, loads_of, mark, seats_of}
+use Rattle.lwaftr_engine.specs.Progress.{AddsTo, IsInRange, IsOnDuty, IsUpToDate, Mark, ReadsOf, Seats, Setup, Spot, Stops, Suits, WritesOn, loads_of, mark}
+use Rattle.lwaftr_engine.specs.Progress.{seats_of}
 use Rattle.lwaftr_engine.specs.Runs.{OthersKept, all_asking}
 use Rattle.lwaftr_engine.specs.Writing.{Did, DidFront, Step, round_steps}
 use Rattle.lwaftr_engine.specs.declared.rounds.Pending.{Pending}
@@ -43,7 +44,8 @@ pub record IsStaged (before after : Staged) (records : List Rec) (es : List Entr
   pub form : after.form ≡ before.form
 
 -- what the limit on errors and the rendering say of the round
-pub record AreRendered (x : Setup) (start : ℕ) (records : List Rec) (es : List Entry) (os : List Outcome) (limit now : Option Bucket) (before after : Totals) (parts : List Part) : Type 0 where
+pub record AreRendered (x : Setup) (start : ℕ) (records : List Rec) (es : List Entry) (os : List Outcome) (limit now : Option Bucket) (before after : Totals)
+    (parts : List Part) : Type 0 where
   pub rendered : (c : Course) (taken : List Rec) (front : List Entry) → length taken ≡ start → IsCourseOf c x.form taken records front es os limit →
       IsLimited (rate_of limit) x.form (taken ++ records) (front ++ es) c → IsRendered c x.written start records es before after parts
   pub asked : (c : Course) (taken : List Rec) (front : List Entry) → length taken ≡ start → IsCourseOf c x.form taken records front es os limit →
@@ -80,7 +82,8 @@ pub record IsCutFrom (x : Setup) (plan : Tables) (draws : List (ℕ × ℕ)) (po
   pub begun : BeginsOn x plan draws points a now first
 
 -- From one state on these records were judged; what the last of them write is not in the outputs yet.
-pub record IsPending (x : Setup) (plan : Tables) (draws : List (ℕ × ℕ)) (a : Mark) (now : Contents) (p : Progress) (s : Seats) (u : List Step) (records : List Rec) : Type 0 where
+pub record IsPending (x : Setup) (plan : Tables) (draws : List (ℕ × ℕ)) (a : Mark) (now : Contents) (p : Progress) (s : Seats) (u : List Step)
+    (records : List Rec) : Type 0 where
   pub input : content now x.run.input ≡ content a.held x.run.input
   pub whole : (next : Contents) → Did x.run u now next → WritesOn x plan draws a (mark next p s a.reader) records
   pub part : (next : Contents) → DidFront x.run u now next → IsCutFrom x plan draws s.points a next records
@@ -103,7 +106,8 @@ abbrev pub ReadsPast : List ℕ → Spot → Spot → ℕ → List ℕ → ℕ �
 ReadsPast name before now number bytes lost lost_now last = (lost_now ≡ lost) ⊎ (Rose lost lost_now × IsCutNext name before now number bytes last)
 
 -- the reader took these records and those of a round
-pub record HasTaken (name : List ℕ) (first now : Spot) (bytes : List ℕ) (number : ℕ) (records : List Rec) (round : Round) (last : Option (List ℕ × ℕ)) : Type 0 where
+pub record HasTaken (name : List ℕ) (first now : Spot) (bytes : List ℕ) (number : ℕ) (records : List Rec) (round : Round)
+    (last : Option (List ℕ × ℕ)) : Type 0 where
   pub stands : now.stood bytes
   pub count : round.number ≡ number + length (records ++ round.records)
   pub follows : Precedes first.left now.left bytes number (records ++ round.records) round.number
@@ -112,7 +116,8 @@ pub record HasTaken (name : List ℕ) (first now : Spot) (bytes : List ℕ) (num
   pub stopped : Stops name now bytes round.number round.ending last
 
 -- some records were judged, the last of them are not written, and the next round is read
-pub record IsUnderWay (x : Setup) (plan : Tables) (draws : List (ℕ × ℕ)) (a : Mark) (now : Contents) (p : Progress) (s : Seats) (u : List Step) (reader : Spot) (round : Round) (last : Option (List ℕ × ℕ)) : Type 0 where
+pub record IsUnderWay (x : Setup) (plan : Tables) (draws : List (ℕ × ℕ)) (a : Mark) (now : Contents) (p : Progress) (s : Seats) (u : List Step) (reader : Spot)
+    (round : Round) (last : Option (List ℕ × ℕ)) : Type 0 where
   pub records : List Rec
   pub pending : IsPending x plan draws a now p s u records
   pub taken : HasTaken x.run.input a.reader reader (content a.held x.run.input) a.progress.number records round last
@@ -171,7 +176,8 @@ pub record HasRead (x : Setup) (before now : Spot) (number : ℕ) (held : Option
 
 -- What a round wrote is put into the outputs, and the next one is read. Where the call is ended by a fault, some of the first is
 -- done, and a read of the capture may have failed.
-pub record PutsAndReads (x : Setup) (u : List Step) (number : ℕ) (before now : Spot) (Ready : ℕ → Type 0) (a b : Outside) (r : Result Round Fault) : Type 0 where
+pub record PutsAndReads (x : Setup) (u : List Step) (number : ℕ) (before now : Spot) (Ready : ℕ → Type 0) (a b : Outside)
+    (r : Result Round Fault) : Type 0 where
   pub wrote : IfOk r (λ _. Moves a.held b.held (Did x.run u))
   pub part : Moves a.held b.held (DidFront x.run u)
   pub read : IfOk r (λ round. HasRead x before now number b.held b.last round)
@@ -189,7 +195,8 @@ DidBoth x u v old new = (between : Contents) × Did x.run u old between × Did x
 -- a front of the first is written, or all of it and a front of what the last round writes
 abbrev pub BreaksLast : Setup → Shift → Shift → Progress → Progress → Round → List Step → Pending → Contents → Contents → Type 0
 BreaksLast x before now p q round u made old new =
-    DidFront x.run u old new ⊎ (WentWell x before now p q round made × ((between : Contents) × Did x.run u old between × DidFront x.run (steps_of made) between new))
+    DidFront x.run u old new
+    ⊎ (WentWell x before now p q round made × ((between : Contents) × Did x.run u old between × DidFront x.run (steps_of made) between new))
 
 -- it has nothing that is to be written
 pub record IsNothing (p : Pending) : Type 0 where

@@ -44,7 +44,8 @@ pub fn do_at_once<F: Files, O: Sink>(
 
     // Which words ask for nothing, and which for a job that may wait.
     ensures usage { result ≡ at_once.Ended status.Usage → AskNothing (texts words.now) }
-    ensures no_job { AskNothing (texts words.now) → EndsSo (λ s. (s ≡ status.Usage) ⊎ (s ≡ status.OutOfMemory)) result × ((files.new ≡ files.old) × (out.new ≡ out.old)) }
+    ensures no_job { AskNothing (texts words.now) →
+        EndsSo (λ s. (s ≡ status.Usage) ⊎ (s ≡ status.OutOfMemory)) result × ((files.new ≡ files.old) × (out.new ≡ out.old)) }
     ensures run { (run : Run) → Asks (texts words.now) (asked.Run run) → IsLeft (at_once.Run run) result × ((files.new ≡ files.old) × (out.new ≡ out.old)) }
     ensures demo { (seed count workers : ℕ) → Asks (texts words.now) (asked.Demo seed count workers) →
         IsLeft (at_once.Demo seed count workers) result × ((files.new ≡ files.old) × (out.new ≡ out.old)) }
@@ -55,7 +56,8 @@ pub fn do_at_once<F: Files, O: Sink>(
     ensures check { (name : List ℕ) → Asks (texts words.now) (asked.Check name) → EndsSo (λ s. KeepsQuestion IsValidLine name s
         (world (F.outside files.old) (O.out out.old) (O.faults out.old))
         (world (F.outside files.new) (O.out out.new) (O.faults out.new)) None) result }
-    ensures who { (name : List ℕ) (v4 : Address) (port : ℕ) → Asks (texts words.now) (asked.Who name v4 port) → EndsSo (λ s. KeepsQuestion (IsOwnerLine v4 port) name s
+    ensures who { (name : List ℕ) (v4 : Address) (port : ℕ) → Asks (texts words.now) (asked.Who name v4 port) → EndsSo (λ s.
+        KeepsQuestion (IsOwnerLine v4 port) name s
         (world (F.outside files.old) (O.out out.old) (O.faults out.old))
         (world (F.outside files.new) (O.out out.new) (O.faults out.new)) None) result }
     ensures migrate { (input output : List ℕ) → Asks (texts words.now) (asked.Migrate input output) → EndsSo (λ s. KeepsMigration input output s

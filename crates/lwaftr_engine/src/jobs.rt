@@ -111,7 +111,8 @@ fn run_opened<R: Threads + Wait + Sync, F: Files, O: Sink, C: CaptureReader, G: 
     requires compiled { All AreCompiled made.plan.tables }
     requires count { length made.slots ≡ length job.now.loads }
     requires ready { C.ready reader.old 0 }
-    requires opened { Told (F.outside files.old).held (λ m. IsAtFirst (spot (C.stands reader.old) (C.left reader.old) (C.at reader.old)) (C.form reader.old) written (content m job.now.input)) }
+    requires opened { Told (F.outside files.old).held (λ m. IsAtFirst (spot (C.stands reader.old) (C.left reader.old) (C.at reader.old))
+        (C.form reader.old) written (content m job.now.input)) }
     requires none { history.old ≡ None }
     ensures left { Moves (F.outside files.old).held (F.outside files.new).held (λ m n. LeavesMade job.now made.plan made.slots result
         m n (O.out out.old) (O.out out.new) (F.outside files.old) (F.outside files.new) history.new) }
