@@ -125,7 +125,7 @@ struct Run {
 }
 
 // Takes plain packets off the piece, from behind those that were taken on, until something else stands there or the round is full.
-// It stands apart, so that its loop has the registers for itself.
+// It stands apart, so that its loop has the registers for itself, and keeps what changes from packet to packet alone.
 #[inline(never)]
 fn take_plain(
     before: Run,
@@ -150,21 +150,43 @@ fn take_plain(
     ensures forward { before.used ≤ result.used }
     ensures room { 16384 ≤ vec_capacity places.new }
 {
-    let mut run = before;
-    'packets: while places.len() < MOST_TAKEN && run.bytes < most_bytes {
-        let packet = match plain_packet(run.known, interfaces, &piece[run.used..], run.number) {
+    let mut used = before.used;
+    let mut at = before.known.at;
+    let mut seconds = before.known.seconds;
+    let mut nanos = before.known.nanos;
+    let mut next = before.number;
+    let mut bytes = before.bytes;
+    'packets: while places.len() < MOST_TAKEN && bytes < most_bytes {
+        let here = Known {
+            at,
+            seconds,
+            nanos,
+            ..before.known
+        };
+        let packet = match plain_packet(here, interfaces, &piece[used..], next) {
             Some(packet) => packet,
-            None => return run,
+            None => break,
         };
-        places.push_reserved(place_of(packet, run.used, run.known.at));
-        run = Run {
-            used: run.used + packet.total as usize,
-            known: behind_packet(run.known, packet),
-            number: run.number + 1,
-            bytes: run.bytes + packet.count as usize,
-        };
+        places.push_reserved(place_of(packet, used, at));
+        let behind = behind_packet(here, packet);
+        used += packet.total as usize;
+        at = behind.at;
+        seconds = behind.seconds;
+        nanos = behind.nanos;
+        next += 1;
+        bytes += packet.count as usize;
     }
-    run
+    Run {
+        used,
+        known: Known {
+            at,
+            seconds,
+            nanos,
+            ..before.known
+        },
+        number: next,
+        bytes,
+    }
 }
 
 pub fn place_of(packet: Packet, from: usize, at: u64) -> Place
