@@ -100,7 +100,11 @@ fn push_lines_of<R: Files + Alloc<A = Global>>(
 }
 
 // The refusal with this text, where the bytes have it. Of a text that is no TOML `line_of` finds that by itself.
-fn refusal_of(alloc: Global, bytes: &[u8], cause: &str) -> Result<Option<FileRefused>, OutOfMemory> {
+fn refusal_of(
+    alloc: Global,
+    bytes: &[u8],
+    cause: &str,
+) -> Result<Option<FileRefused>, OutOfMemory> {
     if cause == "not-toml" {
         return Ok(Some(FileRefused::NotToml));
     }
@@ -112,5 +116,8 @@ fn refusal_of(alloc: Global, bytes: &[u8], cause: &str) -> Result<Option<FileRef
     };
     let found = LoadText(refused);
     let found = format!(in alloc; "{found}")?;
-    Ok(if found.as_str() == cause { Some(refused) } else { None })
+    if found.as_str() == cause {
+        return Ok(Some(refused));
+    }
+    Ok(None)
 }
