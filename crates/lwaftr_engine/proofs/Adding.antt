@@ -1,23 +1,21 @@
 -- What rounds add, one after another.
-use Rattle.std.proofs.Common.{◌≡◌, ℕ, All, arith, List, [], ◌++◌, length, inl, Option, Some, None, refl, sym, ◌∙◌, ap, subst, append-nil, append_assoc}
+use Rattle.std.proofs.Common.{◌≡◌, ℕ, All, arith, inl, length, List, [], ◌++◌, Option, Some, None, refl, sym, ◌∙◌, ap, append-nil, append_assoc, subst}
 use Rattle.aftr_base.specs.Contents.{Contents, Moves}
 use Rattle.aftr_base.specs.Outside.{Outside}
 use Rattle.aftr_text.specs.declared.jobs.RunJob.{RunJob}
-use Rattle.area_swap.specs.declared.areas.Areas.{Areas}
 use Rattle.capture_io.specs.Rounds.{is_cut}
 use Rattle.capture_io.specs.declared.rounds.Ending.{Ending}
-use Rattle.lwaftr_engine.specs.Broken.{Breaks}
-use Rattle.aftr_text.specs.declared.summaries.Totals.{Totals}
 use Rattle.lwaftr_engine.specs.Finishing.{IsFirst}
-use Rattle.run_output.specs.Counting.{IsWithin}
-use Rattle.lwaftr_engine.specs.Progress.{AddsTo, Goes, IsOnDuty, ReadsOf, Seats, Setup, Spot, mark}
+use Rattle.lwaftr_engine.specs.Progress.{AddsTo, IsOnDuty, ReadsOf, Setup}
 use Rattle.lwaftr_engine.specs.Runs.{OthersKept}
 use Rattle.lwaftr_engine.specs.Underway.{CanGoOn, IsSettledAt, StaysOnDuty}
-use Rattle.table_words.specs.Layout.{AreCompiled}
 use Rattle.lwaftr_engine.specs.declared.rounds.Progress.{Progress}
 use Rattle.lwaftr_engine.specs.declared.shift.Shift.{Shift}
 use Rattle.swap_core.specs.Plans.{Tables}
+use Rattle.table_words.specs.Layout.{AreCompiled}
 use Rattle.lwaftr_engine.proofs.Moving.{moves_join}
+use Rattle.aftr_text.specs.declared.summaries.Totals.{Totals}
+use Rattle.run_output.specs.Counting.{IsWithin}
 
 pub adds_none : (s : Shift) → AddsTo s s
 adds_none s = record { drawn = []; draws = sym (append-nil s.seat.known.actor.draws); news = []; points = sym (append-nil s.desk.known.points) }
@@ -51,9 +49,9 @@ goes_first {x} {plan} s p loads compiled duty none first = record {
 
 -- behind a round that went well the next one can be judged
 pub goes_on : {x : Setup} {p q : Progress} {number : ℕ} (s t : Shift) → StaysOnDuty s t number → CanGoOn x s p → IsSettledAt x t q → CanGoOn x t q
-goes_on {x} {p} {q} s t stays ready after = record {
+goes_on s t stays ready after = record {
   loads = ready.loads;
-  compiled = let C : Areas → Type 0 = λ k. All AreCompiled k.plan.tables in subst C (sym stays.areas) ready.compiled;
+  compiled = rw stays.areas ready.compiled;
   duty = stays.duty;
   drawn = after.drawn;
   bounded = after.bounded;
@@ -61,10 +59,7 @@ goes_on {x} {p} {q} s t stays ready after = record {
 }
 
 pub others_more : (run : RunJob) (a b d : Option Contents) → Moves a b (OthersKept run) → Moves b d (OthersKept run) → Moves a d (OthersKept run)
-others_more run a b d first second = moves_join a b d (OthersKept run) (OthersKept run) (OthersKept run) (λ m n o u v name x y z. v name x y z ∙ u name x y z) first second
-
-pub others_held : (run : RunJob) (a b d : Option Contents) → d ≡ b → Moves a b (OthersKept run) → Moves a d (OthersKept run)
-others_held run a b d same kept = let K : Option Contents → Type 0 = λ h. Moves a h (OthersKept run) in subst K (sym same) kept
+others_more run a b d first second = moves_join a b d _ _ _ (λ m n o u v name x y z. v name x y z ∙ u name x y z) first second
 
 pub others_none : (run : RunJob) (a : Option Contents) → Moves a a (OthersKept run)
 others_none run None = tt
@@ -76,17 +71,3 @@ reads_on stop none name a b reads =
     let R : Option Ending → Type 0 = λ s. ReadsOf (is_cut s) name a b in
     let well : ReadsOf (is_cut None) name a b = subst R none reads in
     (well.faults, well.lost, well.last)
-
--- the plan stays
-pub as_planned : (x : Setup) (plan other : Tables) → other ≡ plan → (draws : List (ℕ × ℕ)) (p q : Progress) (s t : Seats) (first now : Spot) (stop : Option Ending) (last : Option (List ℕ × ℕ)) (a b : Option Contents) →
-    Moves a b (λ m n. Goes x other draws (mark m p s first) (mark n q t now) stop last) → Moves a b (λ m n. Goes x plan draws (mark m p s first) (mark n q t now) stop last)
-as_planned x plan other is draws p q s t first now stop last a b step =
-    let G : Tables → Type 0 = λ k. Moves a b (λ m n. Goes x k draws (mark m p s first) (mark n q t now) stop last) in subst G is step
-
-pub broken_planned : (x : Setup) (plan other : Tables) → other ≡ plan → (draws : List (ℕ × ℕ)) (points : List ℕ) (p : Progress) (s : Seats) (first : Spot) (lost lost_now : ℕ) (last : Option (List ℕ × ℕ)) (a b : Option Contents) →
-    Moves a b (λ m n. Breaks x other draws points (mark m p s first) n lost lost_now last) → Moves a b (λ m n. Breaks x plan draws points (mark m p s first) n lost lost_now last)
-broken_planned x plan other is draws points p s first lost lost_now last a b step =
-    let G : Tables → Type 0 = λ k. Moves a b (λ m n. Breaks x k draws points (mark m p s first) n lost lost_now last) in subst G is step
-
-pub same_plan : (a b : Areas) → b ≡ a → b.plan ≡ a.plan
-same_plan a b is = ap (λ (k : Areas). k.plan) is

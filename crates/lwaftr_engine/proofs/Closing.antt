@@ -8,14 +8,14 @@ use Rattle.std.proofs.lemmas.List.Sums.{count_by-le-length}
 use Rattle.aftr_base.specs.Contents.{Contents, content}
 use Rattle.aftr_text.specs.Lines.{ended_text, summary_text}
 use Rattle.aftr_text.specs.declared.summaries.Totals.{Totals}
-use Rattle.area_swap.specs.Histories.{AreDrawn, HistoryValue, IsHistory}
+use Rattle.area_swap.specs.Histories.{HistoryValue}
 use Rattle.binding_rules.specs.Tables.{BindingTable, IsLawful}
 use Rattle.capture_io.specs.declared.forms.Form.{Form}
 use Rattle.capture_io.specs.declared.forms.Rec.{Rec}
 use Rattle.item_stage.specs.Items.{entries_of, items_in, unfinished_of}
 use Rattle.lwaftr_engine.specs.Finishing.{IsFinished, IsFirst, last_lines, last_versions}
 use Rattle.lwaftr_engine.specs.Fronts.{IsUnder}
-use Rattle.lwaftr_engine.specs.Progress.{HasWritten, IsLimitedRun, Mark, Past, Seats, Setup, Spot, Suits, loads_of, mark}
+use Rattle.lwaftr_engine.specs.Progress.{HasWritten, IsClosed, IsLimitedRun, Mark, Past, Seats, Setup, Spot, Suits, loads_of, mark}
 use Rattle.lwaftr_engine.specs.RunLaws.{RunLaws}
 use Rattle.lwaftr_engine.specs.Runs.{IsCourse, IsHistoryOf, IsPlanOf, IsWritten, all_asking}
 use Rattle.lwaftr_engine.specs.declared.rounds.Progress.{Progress}
@@ -30,14 +30,6 @@ use Rattle.swap_core.specs.Points.{AreAllPoints, in_force}
 use Rattle.swap_core.specs.declared.plan.Window.{Window}
 use Rattle.lwaftr_engine.proofs.Courses.{bare}
 use Rattle.lwaftr_engine.proofs.Writing.{IsOpened, did_none, wrote}
-
--- the areas are closed
-pub record IsClosed (plan : Tables) (draws : List (ℕ × ℕ)) (s : Seats) (h : HistoryValue) : Type 0 where
-  pub same_plan : h.plan ≡ plan
-  pub points : h.points ≡ s.points
-  pub reads : h.reads ≡ s.reads
-  pub drawn : AreDrawn h draws
-  pub history : IsHistory h
 
 pub suits_bare : {tables : ℕ → BindingTable} {windows : List Window} {plan : Tables} {draws : List (ℕ × ℕ)} {s : Seats} {h : HistoryValue} → IsPlanOf tables windows plan → IsClosed plan draws s h → Suits plan draws (bare tables s.points)
 suits_bare {tables} {draws} of closed = record {

@@ -1,5 +1,5 @@
 -- What a run leaves whose records have ended, and that is finished.
-use Rattle.std.proofs.Common.{◌≡◌, ℕ, ◌+◌, ◌<◌, ◌≤◌, List, [], ◌∷◌, ◌++◌, length, All, Option, Some, None, Ok, ◌⊎◌, sym, ◌∙◌, subst, arith, append-nil}
+use Rattle.std.proofs.Common.{◌≡◌, ℕ, ◌+◌, ◌<◌, ◌≤◌, List, [], ◌∷◌, length, All, Option, Some, None, Ok, ◌⊎◌, sym, ◌∙◌, arith, append-nil}
 use Rattle.std.specs.Prelude.{IfSome}
 use Rattle.aftr_base.specs.Contents.{Contents, content, Moves}
 use Rattle.aftr_base.specs.Outside.{Outside}
@@ -18,18 +18,18 @@ use Rattle.lwaftr_engine.specs.Ended.{Ends, EndsBy}
 use Rattle.lwaftr_engine.specs.Endings.{IsBehind}
 use Rattle.lwaftr_engine.specs.Finishing.{IsFinished, IsFirst}
 use Rattle.lwaftr_engine.specs.RunLaws.{RunLaws}
-use Rattle.lwaftr_engine.specs.Progress.{Goes, HasWritten, Seats, Setup, Spot, Stops, Suits, TakesOn, mark}
+use Rattle.lwaftr_engine.specs.Progress.{Goes, HasWritten, IsClosed, Seats, Setup, Spot, Stops, Suits, TakesOn, mark}
 use Rattle.lwaftr_engine.specs.Runs.{IsPlanOf, IsRun}
 use Rattle.lwaftr_engine.specs.Writing.{Did, opening_steps}
 use Rattle.lwaftr_engine.specs.declared.rounds.Progress.{Progress}
 use Rattle.run_output.specs.Outputs.{Course}
 use Rattle.swap_core.specs.Laws.{SettledPointsAreAll}
-use Rattle.swap_core.specs.Plans.{IsPlan, Tables, window}
+use Rattle.swap_core.specs.Plans.{Tables, window}
 use Rattle.swap_core.specs.Points.{AreAllPoints, AreInWindows}
 use Rattle.swap_core.specs.declared.plan.Window.{Window}
 use Rattle.worker_gate.specs.Reloading.{IsSettled}
 use Rattle.lwaftr_engine.proofs.Apart.{AreFilesApart}
-use Rattle.lwaftr_engine.proofs.Closing.{AreWritten, HasCourse, IsClosed, course_with, first_past, is_history, is_written, suits_bare}
+use Rattle.lwaftr_engine.proofs.Closing.{AreWritten, HasCourse, course_with, first_past, is_history, is_written, suits_bare}
 use Rattle.lwaftr_engine.proofs.Courses.{HasUnder, bare, some_course}
 use Rattle.lwaftr_engine.proofs.Moving.{moves_join}
 use Rattle.lwaftr_engine.proofs.Steps.{none_waits}
@@ -46,17 +46,12 @@ pub at_end : SettledPointsAreAll → (plan : Tables) (seat desk : View) (s : Sea
     length seat.actor.draws ≡ number → IsAtEnd plan seat.actor.draws s h number
 at_end law plan seat desk s h number closed settled whole same_plan same_points count =
     let history = closed.history in
-    let P : Tables → Type 0 = λ p. (length s.points < length p.tables) × AreInWindows p.windows s.points number in
-    let H : List ℕ → Type 0 = λ points. (length points < length h.plan.tables) × AreInWindows h.plan.windows points number in
-    let N : ℕ → Type 0 = λ n. (length h.points < length h.plan.tables) × AreInWindows h.plan.windows h.points n in
     let records : h.records ≡ number = sym closed.drawn.all ∙ count in
-    let here : (length s.points < length plan.tables) × AreInWindows plan.windows s.points number = subst P closed.same_plan (subst H closed.points (subst N records (history.few, history.placed))) in
+    let here : (length s.points < length plan.tables) × AreInWindows plan.windows s.points number = rw (← closed.same_plan) (rw (← closed.points) (rw (← records) (history.few, history.placed))) in
     let seen : seat.seen.records ≡ number = sym (settled.all_drawn whole) ∙ count in
-    let Q : List ℕ → Type 0 = λ points. (length plan.tables ≤ length points + 1) ⊎ (number < (window plan (length points + 1)).earliest) in
-    let D : ℕ → Type 0 = λ n. (length plan.tables ≤ length desk.points + 1) ⊎ (n < (window plan (length desk.points + 1)).earliest) in
     let due : (length plan.tables ≤ length s.points + 1) ⊎ (number < (window plan (length s.points + 1)).earliest) =
-    subst Q same_points (subst D seen (none_waits plan desk seat.seen.records same_plan settled.none_due)) in
-    let planned = let I : Tables → Type 0 = λ p. IsPlan p in subst I closed.same_plan history.planned in
+    rw (← same_points) (rw (← seen) (none_waits plan desk seat.seen.records same_plan settled.none_due)) in
+    let planned = rw closed.same_plan at history.planned in
     record {
       closed = closed;
       few = here.0;
@@ -78,21 +73,16 @@ ends_by : {x : Setup} {tables : ℕ → BindingTable} {windows : List Window} {a
     after.last ≡ last → bytes ≡ content a x.run.input → SomeLeft reader.left → first.at ≤ reader.at → All (λ r. r.next_at ≤ reader.at) rs → Precedes first.left reader.left bytes 0 rs number →
     Stops x.run.input reader bytes number (Some stop) last → IsRun x.run tables windows x.slots x.form x.written rs a e said now history → EndsBy x tables windows first (Ok stop) a e said now before after history
 ends_by before after first reader number bytes rs ending.End shown same some forward within follows stopped run =
-    let P : List Rec → Type 0 = λ l. first.left bytes 0 l None in
-    let B : List ℕ → Type 0 = λ b. first.left b 0 rs None in
-    record { records = rs; capture = subst B same (subst P (append-nil rs) (follows [] None stopped)); is_run = run }
+    record { records = rs; capture = rw (← same) (rw (← (append-nil rs)) (follows [] None stopped)); is_run = run }
 ends_by before after first reader number bytes rs (ending.Bad refusal) shown same some forward within follows stopped run =
-    let P : List Rec → Type 0 = λ l. first.left bytes 0 l (Some refusal) in
-    let B : List ℕ → Type 0 = λ b. first.left b 0 rs (Some refusal) in
-    record { records = rs; capture = subst B same (subst P (append-nil rs) (follows [] (Some refusal) stopped)); is_run = run }
+    record { records = rs; capture = rw (← same) (rw (← (append-nil rs)) (follows [] (Some refusal) stopped)); is_run = run }
 ends_by before after first reader number bytes rs ending.ReadFault shown same some forward within follows stopped run =
     let rest = some bytes number in
-    let B : List ℕ → Type 0 = λ b. first.left b 0 (rs ++ rest.0) rest.1 in
     record {
       taken = rs;
       rest = rest.0;
       ended = rest.1;
-      capture = subst B same (follows rest.0 rest.1 rest.2);
+      capture = rw (← same) (follows rest.0 rest.1 rest.2);
       place = stopped.place;
       last_is = shown ∙ stopped.last_is;
       behind = omega (arith, forward, stopped.begun);
@@ -114,22 +104,19 @@ pub half_done : (x : Setup) (plan : Tables) (draws : List (ℕ × ℕ)) (p q : P
     Moves h0 h1 (Did x.run (opening_steps x.run x.written)) → Moves h1 h2 (λ b d. Goes x plan draws (mark b p s0 first) (mark d q s reader) stop last) →
     Moves h0 h2 (λ a d. IsHalfDone x plan draws p q s0 s first reader stop last a d)
 half_done x plan draws p q s0 s first reader stop last h0 h1 h2 opening going =
-    moves_join h0 h1 h2 (Did x.run (opening_steps x.run x.written)) (λ b d. Goes x plan draws (mark b p s0 first) (mark d q s reader) stop last)
-    (λ a d. IsHalfDone x plan draws p q s0 s first reader stop last a d) (λ a b d u w. record { middle = b; opened = opened x.run x.written a b u; goes = w }) opening going
+    moves_join h0 h1 h2 _ _ _ (λ a b d u w. record { middle = b; opened = opened x.run x.written a b u; goes = w }) opening going
 
 -- what the rounds wrote from the first record on
 pub are_written : {x : Setup} {tables : ℕ → BindingTable} {windows : List Window} {plan : Tables} {draws : List (ℕ × ℕ)} {p q : Progress} {s0 s : Seats} {h : HistoryValue} {first reader : Spot} {b d : Contents} {stop : Option Ending} {last : Option (List ℕ × ℕ)} →
     IsFirst x.form x.run.errors p → s0.points ≡ [] → IsPlanOf tables windows plan → IsAtEnd plan draws s h q.number → (took : TakesOn x plan draws (mark b p s0 first) (mark d q s reader) stop last) →
     AreWritten x plan windows draws s b (mark d q s reader) took.records
-are_written {x} {tables} {windows} {plan} {draws} {p} {q} {s0} {s} {h} {first} {reader} {b} {d} {stop} {last} start no_points of end took = record { written = written; placed = placed } where
+are_written {x} {tables} {windows} {plan} {draws} {q} {s} {first} {reader} {b} {d} start no_points of end took = record { written = written; placed = placed } where
   written : (c : Course) → Suits plan draws c → HasWritten x c b (mark d q s reader) took.records
   written c suits = took.written (first_past c suits b first start no_points)
 
   placed : AreAllPoints windows s.points (length took.records)
   placed =
-      let W : List Window → Type 0 = λ w. AreAllPoints w s.points q.number in
-      let A : ℕ → Type 0 = λ n. AreAllPoints windows s.points n in
-      subst A (written (bare tables s.points) (suits_bare of end.closed)).number (subst W of.same_windows end.points)
+      rw (← (written (bare tables s.points) (suits_bare of end.closed)).number) (rw (← of.same_windows) end.points)
 
 module _ (laws : RunLaws) (x : Setup) (far : AreFilesApart x.run) (plan : Tables) (draws : List (ℕ × ℕ)) (s0 s : Seats) (h : HistoryValue) (p q : Progress) (first reader : Spot) (stop : Ending) (last : Option (List ℕ × ℕ)) (said now : Option (List ℕ)) (before after : Outside) (shown : after.last ≡ last)
     (some : SomeLeft reader.left) (start : IsFirst x.form x.run.errors p) (no_points : s0.points ≡ []) (rate : IfSome x.run.errors IsRate) (end : IsAtEnd plan draws s h q.number) where
@@ -137,8 +124,7 @@ module _ (laws : RunLaws) (x : Setup) (far : AreFilesApart x.run) (plan : Tables
       Ends x plan first (Ok stop) a e said now before after (Some h)
   ended a d e half done tables windows of stood =
       let input = same_input x far half.opened in
-      let S : List ℕ → Type 0 = λ bytes. first.stood bytes in
-      let took : TakesOn x plan draws (mark half.middle p s0 first) (mark d q s reader) (Some stop) last = half.goes (subst S (sym input) stood) in
+      let took : TakesOn x plan draws (mark half.middle p s0 first) (mark d q s reader) (Some stop) last = half.goes (rw input stood) in
       let are : AreWritten x plan windows draws s half.middle (mark d q s reader) took.records = are_written start no_points of end took in
       let some_one : HasUnder tables s.points x.run.errors x.form took.records = some_course laws.limits tables s.points x.run.errors x.form took.records rate in
       let has : HasCourse x tables windows s half.middle (mark d q s reader) took.records = course_with laws of end.closed end.few are some_one.course some_one.under in
@@ -149,13 +135,10 @@ module _ (laws : RunLaws) (x : Setup) (far : AreFilesApart x.run) (plan : Tables
         outputs = is_written laws.totals half.opened has (done took.records has.written.stands);
         is_history = is_history x of end.closed (end.count ∙ has.written.number) has.written.reads;
       } in
-      let F : ℕ → Type 0 = λ n. Precedes first.left reader.left (content half.middle x.run.input) n took.records q.number in
-      ends_by before after first reader q.number (content half.middle x.run.input) took.records stop shown input some took.forward took.within (subst F start.number took.follows) took.stopped run
+      ends_by before after first reader q.number (content half.middle x.run.input) took.records stop shown input some took.forward took.within (rw (← start.number) took.follows) took.stopped run
 
   pub ends : (h0 h1 h2 h3 : Option Contents) → Moves h0 h1 (Did x.run (opening_steps x.run x.written)) → Moves h1 h2 (λ b d. Goes x plan draws (mark b p s0 first) (mark d q s reader) (Some stop) last) →
       Moves h2 h3 (λ d e. (taken : List Rec) → Stands q.stage taken → IsFinished x q s.points taken d e said now) → Moves h0 h3 (λ a e. Ends x plan first (Ok stop) a e said now before after (Some h))
   ends h0 h1 h2 h3 opening going third =
-      moves_join h0 h2 h3 (λ a d. IsHalfDone x plan draws p q s0 s first reader (Some stop) last a d)
-      (λ d e. (taken : List Rec) → Stands q.stage taken → IsFinished x q s.points taken d e said now)
-      (λ a e. Ends x plan first (Ok stop) a e said now before after (Some h))
+      moves_join h0 h2 h3 _ _ _
       (λ a d e u w. ended a d e u w) (half_done x plan draws p q s0 s first reader (Some stop) last h0 h1 h2 opening going) third

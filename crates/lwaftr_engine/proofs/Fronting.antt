@@ -1,5 +1,5 @@
 -- Outputs that hold fronts of what is due.
-use Rattle.std.proofs.Common.{◌≡◌, ◌==◌, ℕ, zero, suc, ◌+◌, ◌-◌, ◌<◌, ◌≤◌, nat_le, nat_lt, cond, Bool, true, false, List, [], ◌∷◌, ◌++◌, count_by, get_or, length, take, drop, flat_map, Option, ◌⊎◌, inl, inr, refl, sym, ◌∙◌, ap, subst, arith, le-ltb, append-nil, length-append}
+use Rattle.std.proofs.Common.{◌≡◌, ◌==◌, ℕ, zero, suc, ◌+◌, ◌-◌, ◌<◌, ◌≤◌, nat_le, nat_lt, cond, Bool, true, false, List, [], ◌∷◌, ◌++◌, count_by, get_or, length, take, drop, flat_map, Option, ◌⊎◌, inl, inr, refl, sym, ◌∙◌, ap, arith, le-ltb, append-nil, length-append, subst}
 use Rattle.std.specs.Prelude.{IfSome}
 use Rattle.std.specs.Option.{option_map}
 use Rattle.std.proofs.Math.Seq.{take-append-add, take-length, take-nil}
@@ -21,7 +21,7 @@ use Rattle.lwaftr_engine.specs.Broken.{HasBegun, IsBrokenFrom}
 use Rattle.lwaftr_engine.specs.Ended.{AreSlotsOf}
 use Rattle.lwaftr_engine.specs.Finishing.{IsFirst, IsHalfFinished, TookFront, last_line, last_lines, last_steps, last_versions}
 use Rattle.lwaftr_engine.specs.Fronts.{HoldsFront, IsAtSummary, IsFront, IsFrontOf, IsUnder, Stop, is_table, shown_points, stop_by, whole_lines}
-use Rattle.lwaftr_engine.specs.Progress.{HasWritten, Seats, Setup, Spot, Suits, loads_of, mark}
+use Rattle.lwaftr_engine.specs.Progress.{HasWritten, IsClosed, Seats, Setup, Spot, Suits, loads_of, mark}
 use Rattle.lwaftr_engine.specs.RunLaws.{RunLaws}
 use Rattle.lwaftr_engine.specs.Runs.{IsPlanOf}
 use Rattle.lwaftr_engine.specs.Writing.{Did, DidFront}
@@ -31,10 +31,9 @@ use Rattle.run_output.specs.Versions.{NoneIsDue, load_lines, named}
 use Rattle.swap_core.specs.Plans.{IsPlan, Tables, table}
 use Rattle.swap_core.specs.Points.{AreAllPoints, AreInWindows, in_force}
 use Rattle.swap_core.specs.declared.plan.Window.{Window}
-use Rattle.table_words.specs.Layout.{IsCompiled}
 use Rattle.lwaftr_engine.proofs.Begun.{begun_by, lines_split}
-use Rattle.lwaftr_engine.proofs.Closing.{AreWritten, HasCourse, IsClosed, course_with, first_past, is_written, suits_bare, totals_are}
-use Rattle.lwaftr_engine.proofs.Courses.{HasUnder, bare, limited_first, output_front, some_course, verdicts_front, verdicts_same, with_points}
+use Rattle.lwaftr_engine.proofs.Closing.{AreWritten, HasCourse, course_with, first_past, is_written, suits_bare, totals_are}
+use Rattle.lwaftr_engine.proofs.Courses.{bare, limited_first, output_front, some_course, verdicts_front, verdicts_same, with_points}
 use Rattle.lwaftr_engine.proofs.Extending.{AreExtended, in_force_before, points_extend}
 use Rattle.lwaftr_engine.proofs.Going.{wrote_same}
 use Rattle.lwaftr_engine.proofs.Parts.{front_more, front_part}
@@ -62,13 +61,11 @@ pub at_opening : RunLaws → (x : Setup) {tables : ℕ → BindingTable} {window
 at_opening laws x {tables} {windows} {plan} planned of rate rs {a} {d} said stop rises half =
     let few : 0 < length plan.tables = omega (arith, planned.paired) in
     let more : AreExtended plan.windows [] 0 (length rs) = points_extend plan planned 0 (length rs) (omega arith) [] few (no_points plan.windows) (inl refl) in
-    let A : List Window → Type 0 = λ w. AreAllPoints w more.later (length rs) in
-    let whole : HasUnder tables more.later x.run.errors x.form rs = some_course laws.limits tables more.later x.run.errors x.form rs rate in
-    let shown : HasUnder tables (shown_points (nat_lt 2 half.made) x.run x.slots more.later (content d x.run.versions)) x.run.errors x.form rs =
-    some_course laws.limits tables (shown_points (nat_lt 2 half.made) x.run x.slots more.later (content d x.run.versions)) x.run.errors x.form rs rate in
+    let whole = some_course laws.limits tables more.later x.run.errors x.form rs rate in
+    let shown = some_course laws.limits tables (shown_points (nat_lt 2 half.made) x.run x.slots more.later (content d x.run.versions)) x.run.errors x.form rs rate in
     record {
       points = more.later;
-      placed = subst A of.same_windows more.all;
+      placed = rw (← of.same_windows) more.all;
       course = whole.course;
       under_all = whole.under;
       shown = shown.course;
@@ -119,9 +116,8 @@ AreFronts x tables points taken rest lines = (shown : List ℕ) → ((number : �
 -- the last lines are written to a front
 finish_begun : {x : Setup} {c : Course} {q : Progress} {s : Seats} {reader : Spot} {b d e : Contents} {rs : List Rec} → HasWritten x c b (mark d q s reader) rs → DidFront x.run (last_steps x q s.points rs) d e →
     HasBegun x c s.points (verdicts_of c x.form rs) b e rs
-finish_begun {x} {c} {q} {s} {reader} {b} {d} {e} {rs} h front =
-    let B : List ℕ → Type 0 = λ points. HasBegun x c points (verdicts_of c x.form rs) b e rs in
-    subst B (append-nil s.points) (by_front (wrote_front x.run (last_versions x q s.points) [] (last_lines q rs) d e front)) where
+finish_begun {x} {c} {q} {s} {b} {d} {e} {rs} h front =
+    rw (← (append-nil s.points)) (by_front (wrote_front x.run (last_versions x q s.points) [] (last_lines q rs) d e front)) where
       versions : (count : ℕ) → IsFrontOf (load_lines (s.points ++ []) (loads_of x)) (load_lines (s.points ++ []) (take q.printed (loads_of x)) ++ take count (last_versions x q s.points))
       versions count =
           let before = load_lines (s.points ++ []) (take q.printed (loads_of x)) in
@@ -148,28 +144,23 @@ finish_begun {x} {c} {q} {s} {reader} {b} {d} {e} {rs} h front =
 module _ (laws : RunLaws) (x : Setup) {tables : ℕ → BindingTable} {windows : List Window} {plan : Tables} {draws : List (ℕ × ℕ)} {s : Seats} {h : HistoryValue} (of : IsPlanOf tables windows plan) (closed : IsClosed plan draws s h)
     (slots_of : AreSlotsOf x.run windows x.slots) (rate : IfSome x.run.errors IsRate) {a b : Contents} (opened : IsOpened x.run x.written a b) where
   planned : IsPlan plan
-  planned = let I : Tables → Type 0 = λ p. IsPlan p in subst I closed.same_plan closed.history.planned
+  planned = rw (← closed.same_plan) closed.history.planned
 
   -- the points of the desk are in their windows
   placed : AreInWindows plan.windows s.points (length draws)
   placed =
-      let P : List ℕ → Type 0 = λ points. AreInWindows plan.windows points (length draws) in
-      let T : Tables → Type 0 = λ p. AreInWindows p.windows h.points (length draws) in
-      let N : ℕ → Type 0 = λ n. AreInWindows h.plan.windows h.points n in
-      subst P closed.points (subst T closed.same_plan (subst N (sym closed.drawn.all) closed.history.placed))
+      rw (← closed.points) (rw (← closed.same_plan) (rw closed.drawn.all closed.history.placed))
 
   few : length s.points < length plan.tables
   few =
-      let P : List ℕ → Type 0 = λ points. length points < length plan.tables in
-      let T : Tables → Type 0 = λ p. length h.points < length p.tables in
-      subst P closed.points (subst T closed.same_plan closed.history.few)
+      rw (← closed.points) (rw (← closed.same_plan) closed.history.few)
 
   -- a course whose points say of the numbers drawn what those of the desk say suits
   suits_if : (c : Course) → c.tables ≡ tables → ((number : ℕ) → number < length draws → c.version number ≡ in_force s.points number) → Suits plan draws c
   suits_if c tables_are version_are =
       let suits : Suits plan draws (bare tables s.points) = suits_bare of closed in
       record {
-        tables = let T : (ℕ → BindingTable) → Type 0 = λ f. (version : ℕ) → version < length plan.tables → IsCompiled (f version) (table plan version) in subst T (sym tables_are) suits.tables;
+        tables = rw tables_are suits.tables;
         versions = λ k d inside. version_are (get_or draws k d).0 (drawn_below draws h closed.drawn k d inside) ∙ suits.versions k d inside;
       }
 
@@ -181,17 +172,17 @@ module _ (laws : RunLaws) (x : Setup) {tables : ℕ → BindingTable} {windows :
       IsFront x.run tables windows x.slots x.form x.written (taken ++ rest) 3 a d said now stop
   at_begun points taken rest all d lines fronts begun said now stop sink =
       -- some course of the records that were taken, which tells how much of VERSIONS there is
-      let some : HasUnder tables points x.run.errors x.form taken = some_course laws.limits tables points x.run.errors x.form taken rate in
-      let it0 : HasBegun x some.course points (lines some.course) b d taken = begun some.course some.under.tables_are some.under.in_force_are in
+      let seen = shown_points true x.run x.slots points (content d x.run.versions) in
+      let some = some_course laws.limits tables points x.run.errors x.form taken rate in
+      let it0 = begun some.course some.under.tables_are some.under.in_force_are in
       let held : length (load_lines points (take it0.loads (loads_of x))) + length (initial_text x.run.table) ≤ length (content d x.run.versions) =
       omega (arith, it0.told some.under.limited, ap (λ (l : List ℕ). length l) opened.versions) in
-      let same : (number : ℕ) → number < length taken → in_force (shown_points true x.run x.slots points (content d x.run.versions)) number ≡ in_force points number = λ number inside.
+      let same : (number : ℕ) → number < length taken → in_force seen number ≡ in_force points number = λ number inside.
       told_same x windows points it0.printed it0.later it0.loads (length (taken ++ rest)) (content d x.run.versions) slots_of all it0.all it0.none_due held number
       (omega (arith, it0.spoken number inside, ap (λ (f : ℕ → ℕ). f number) some.under.in_force_are)) in
-      let shown : HasUnder tables (shown_points true x.run x.slots points (content d x.run.versions)) x.run.errors x.form (taken ++ rest) =
-      some_course laws.limits tables (shown_points true x.run x.slots points (content d x.run.versions)) x.run.errors x.form (taken ++ rest) rate in
-      let whole : HasUnder tables points x.run.errors x.form (taken ++ rest) = some_course laws.limits tables points x.run.errors x.form (taken ++ rest) rate in
-      let it : HasBegun x (with_points shown.course points) points (lines (with_points shown.course points)) b d taken = begun (with_points shown.course points) shown.under.tables_are refl in
+      let shown = some_course laws.limits tables seen x.run.errors x.form (taken ++ rest) rate in
+      let whole = some_course laws.limits tables points x.run.errors x.form (taken ++ rest) rate in
+      let it = begun (with_points shown.course points) shown.under.tables_are refl in
       let w = it.wrote (limited_first laws taken rest points same shown.under) in
       let P = packets_from (with_points shown.course points) x.written 0 taken (entries_of x.form taken) in
       let V = load_lines points (loads_of x) in
@@ -206,7 +197,7 @@ module _ (laws : RunLaws) (x : Setup) {tables : ℕ → BindingTable} {windows :
             let front = output_front laws taken rest points same shown.under x.written w.output_count in
             (front.0, w.output ∙ (ap (λ (l : List ℕ). l ++ take w.output_count P) opened.output ∙ front.1));
         verdicts =
-            let front = fronts (shown_points true x.run x.slots points (content d x.run.versions)) same shown.course shown.under w.verdicts_count in
+            let front = fronts seen same shown.course shown.under w.verdicts_count in
             (front.0, w.verdicts ∙ (ap (λ (l : List ℕ). l ++ take w.verdicts_count (lines (with_points shown.course points))) opened.verdicts ∙ front.1));
         versions =
             let front = front_behind (initial_text x.run.table) V w.versions_count in
@@ -232,7 +223,7 @@ module _ (laws : RunLaws) (x : Setup) {tables : ℕ → BindingTable} {windows :
   -- all lines are written, and a part of the summary is put
   at_summary : {q : Progress} {reader : Spot} {d e : Contents} {said now : Option (List ℕ)} {rs : List Rec} → AreWritten x plan windows draws s b (mark d q s reader) rs → (c : Course) → IsUnder tables s.points x.run.errors x.form rs c →
       Did x.run (last_steps x q s.points rs) d e → TookFront (last_line q s.points) said now → IsAtSummary x.run x.slots c s.points x.form x.written rs e said now
-  at_summary {q} {reader} {d} {e} {said} {now} {rs} are c under did took =
+  at_summary {q} {reader} {d} {said} {rs} are c under did took =
       let has : HasCourse x tables windows s b (mark d q s reader) rs = course_with laws of closed few are c under in
       let whole = is_written laws.totals {said = said} opened has (record { did = did; took = refl }) in
       record {
@@ -246,10 +237,8 @@ module _ (laws : RunLaws) (x : Setup) {tables : ℕ → BindingTable} {windows :
   -- the records have ended, and what is left is written in part
   pub at_finish : {q : Progress} {reader : Spot} {d e : Contents} {said now : Option (List ℕ)} (why : Fault) (before after : Outside) {rs : List Rec} → AreWritten x plan windows draws s b (mark d q s reader) rs →
       IsHalfFinished x q s.points rs why before.spoiled after.spoiled d e said now → IsFront x.run tables windows x.slots x.form x.written rs 3 a e said now (stop_by why before after)
-  at_finish {q} {reader} {d} {e} {said} {now} why before after {rs} are half =
-      let F : List Rec → Type 0 = λ l. IsFront x.run tables windows x.slots x.form x.written l 3 a e said now (stop_by why before after) in
-      let A : List Rec → Type 0 = λ l. AreAllPoints windows s.points (length l) in
-      subst F (append-nil rs) (at_begun s.points rs [] (subst A (sym (append-nil rs)) are.placed) e (λ c. verdicts_of c x.form rs)
+  at_finish {q} {d} {e} {said} {now} why before after {rs} are half =
+      rw (← (append-nil rs)) (at_begun s.points rs [] (rw (append-nil rs) are.placed) e (λ c. verdicts_of c x.form rs)
       (λ shown same c under count. (count, ap (λ (l : List ℕ). take count l) (verdicts_same laws rs [] s.points same under x.written ∙ ap (λ (l : List Rec). verdicts_of c x.form l) (sym (append-nil rs)))))
       (λ c tables_are version_are. finish_begun (are.written c (suits_if c tables_are (λ number low. ap (λ (f : ℕ → ℕ). f number) version_are))) (front half))
       said now (stop_by why before after) (sink half)) where
@@ -261,6 +250,4 @@ module _ (laws : RunLaws) (x : Setup) {tables : ℕ → BindingTable} {windows :
             (Rises (stop_by why before after).failed before.spoiled after.spoiled × (now ≡ said)) ⊎ ((after.spoiled ≡ before.spoiled) × IsAtSummary x.run x.slots c s.points x.form x.written (rs ++ []) e said now)
         sink (inl (rises, (did, took))) c under = inl (rises, took)
         sink (inr (same, (did, took))) c under =
-            let U : List Rec → Type 0 = λ l. IsUnder tables s.points x.run.errors x.form l c in
-            let S : List Rec → Type 0 = λ l. IsAtSummary x.run x.slots c s.points x.form x.written l e said now in
-            inr (same, subst S (sym (append-nil rs)) (at_summary are c (subst U (append-nil rs) under) did took))
+            inr (same, rw (append-nil rs) (at_summary are c (rw (← (append-nil rs)) under) did took))

@@ -1,10 +1,9 @@
 -- A capture that is opened, by the names and values that the calls had.
-use Rattle.std.proofs.Common.{◌≡◌, ℕ, false, List, Option, Some, None, Ok, refl, sym, subst}
+use Rattle.std.proofs.Common.{◌≡◌, ℕ, false, List, Option, Some, None, Ok, refl}
 use Rattle.aftr_base.specs.Contents.{Contents, content, Moves, Told}
 use Rattle.aftr_base.specs.Outside.{OnlyReads, Outside}
 use Rattle.aftr_text.specs.declared.jobs.RunJob.{RunJob}
 use Rattle.area_swap.specs.Histories.{HistoryValue}
-use Rattle.capture_io.specs.declared.forms.Form.{Form}
 use Rattle.capture_io.specs.declared.written.Written.{Written}
 use Rattle.lwaftr_engine.specs.Planned.{IsAtFirst, LeavesMade}
 use Rattle.lwaftr_engine.specs.Progress.{Spot, spot}
@@ -33,23 +32,10 @@ opened_told r name (Some m) fresh opened = opened_by r (content m name) fresh op
 pub opened_first : (r : Reader) (w : Written) → w ≡ written_as r → IsFresh r → (k name : List ℕ) → k ≡ name → (h0 h1 : Option Contents) → h1 ≡ h0
     → Told h0 (λ m. OpensEither (Ok r) (content m k)) → Told h1 (λ m. IsAtFirst (spot_of r) (form_either r) w (content m name))
 opened_first r w w_is fresh k name named h0 h1 same opened =
-    let N : List ℕ → Type 0 = λ q. Told h0 (λ m. OpensEither (Ok r) (content m q)) in
-    let H : Option Contents → Type 0 = λ h. Told h (λ m. OpensEither (Ok r) (content m name)) in
-    let W : Written → Type 0 = λ v. Told h1 (λ m. IsAtFirst (spot_of r) (form_either r) v (content m name)) in
-    subst W (sym w_is) (opened_told r name h1 fresh (subst H (sym same) (subst N named opened)))
-
--- what is left under slots that were shown
-pub slots_shown : (run : RunJob) (plan : Tables) (shown slots : List Slot) → shown ≡ slots → (result : Status) (a b : Option Contents) (said now : Option (List ℕ)) (before after : Outside) (history : Option HistoryValue) →
-    Moves a b (λ m n. LeavesMade run plan shown result m n said now before after history) → Moves a b (λ m n. LeavesMade run plan slots result m n said now before after history)
-slots_shown run plan shown slots is result a b said now before after history left =
-    let S : List Slot → Type 0 = λ l. Moves a b (λ m n. LeavesMade run plan l result m n said now before after history) in subst S is left
+    rw w_is (opened_told r name h1 fresh (rw same (rw (← named) opened)))
 
 -- what is left behind a read that went well
 pub left_behind : (run : RunJob) (plan : Tables) (slots : List Slot) (result : Status) (name : List ℕ) (Inside : ℕ → Type 0) (a b d : Outside) (said now : Option (List ℕ)) (history : Option HistoryValue) → OnlyReads false name Inside a b →
     Moves b.held d.held (λ m n. LeavesMade run plan slots result m n said now b d history) → Moves a.held d.held (λ m n. LeavesMade run plan slots result m n said now a d history)
 left_behind run plan slots result name Inside a b d said now history only left =
-    let M : Outside → Type 0 = λ o. Moves o.held d.held (λ m n. LeavesMade run plan slots result m n said now o d history) in
-    subst M (read_well a a b name refl (record { held = only.held; faults = only.faults; lost = only.lost; spoiled = only.spoiled; last = only.last })) left
-
-pub first_shown : (reader : Spot) (form shown : Form) (w : Written) (name : List ℕ) (h : Option Contents) → shown ≡ form → Told h (λ m. IsAtFirst reader form w (content m name)) → Told h (λ m. IsAtFirst reader shown w (content m name))
-first_shown reader form shown w name h is first = let F : Form → Type 0 = λ f. Told h (λ m. IsAtFirst reader f w (content m name)) in subst F (sym is) first
+    rw (← (read_well a a b name refl (record { held = only.held; faults = only.faults; lost = only.lost; spoiled = only.spoiled; last = only.last }))) left

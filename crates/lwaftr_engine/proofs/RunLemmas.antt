@@ -1,5 +1,5 @@
 -- What a run leaves once its tables are read, or a read of them failed.
-use Rattle.std.proofs.Common.{◌≡◌, ℕ, List, [], ◌∷◌, Option, Some, None, Result, Ok, Err, inr, refl, sym, ap, subst, true, false}
+use Rattle.std.proofs.Common.{◌≡◌, ℕ, List, [], ◌∷◌, Option, Some, None, Result, Ok, Err, inr, refl, sym, ap, true, false, subst}
 use Rattle.std.specs.Prelude.{map}
 use Rattle.aftr_base.specs.Contents.{Contents, content, Moves, Told}
 use Rattle.aftr_base.specs.Outside.{OnlyReads, Outside, has_failed}
@@ -14,7 +14,7 @@ use Rattle.lwaftr_engine.specs.Causes.{FailsIn, HasCause, IsReadOf, MayFailIn}
 use Rattle.lwaftr_engine.specs.Endings.{IsBehindTable, table_names}
 use Rattle.lwaftr_engine.specs.Loads.{AreFitFor, AreLoadsOf, OnlyReadsAmong}
 use Rattle.lwaftr_engine.specs.Planned.{IsMade, LeavesMade}
-use Rattle.lwaftr_engine.specs.Promises.{GoesWithRead, HasHistory, KeepsRun, Leaves}
+use Rattle.lwaftr_engine.specs.Promises.{HasHistory, KeepsRun, Leaves, GoesWithRead}
 use Rattle.lwaftr_engine.specs.Runs.{OthersKept}
 use Rattle.lwaftr_engine.specs.Worlds.{world}
 use Rattle.lwaftr_engine.specs.declared.status.Status.{Status}
@@ -27,9 +27,6 @@ use Rattle.lwaftr_engine.proofs.LoadLemmas.{read_all, read_well}
 use Rattle.lwaftr_engine.proofs.ReadLemmas.{fails_behind}
 use Rattle.lwaftr_engine.proofs.UnopenedLemmas.{others_same}
 
-named_table : (h : Option Contents) (k name : List ℕ) (t : BindingTable) → k ≡ name → Told h (λ m. TableOf (content m k) (Ok t)) → Told h (λ m. TableOf (content m name) (Ok t))
-named_table h k name t is told = let T : List ℕ → Type 0 = λ q. Told h (λ m. TableOf (content m q) (Ok t)) in subst T is told
-
 module _ (one : AreSingle) (run : RunJob) (t : BindingTable) (ls : List Load) (made : Made) (of : IsMade t ls made) where
   -- the tables were read, and the run is made of them
   pub keeps_run : (k : List ℕ) (ws : List LoadWords) → k ≡ run.table → ws ≡ run.loads → (a b d e : Outside) (said now : Option (List ℕ)) (puts puts_now : ℕ) (result : Status) (history : Option HistoryValue) →
@@ -41,23 +38,16 @@ module _ (one : AreSingle) (run : RunJob) (t : BindingTable) (ls : List Load) (m
   keeps_run k ws k_is ws_is a b d e said now puts puts_now result history read reads table loads fit left others cause failed may has =
       let first : b ≡ a = read_well a a b k refl read in
       let all : d ≡ a = read_all a b d (map (λ (load : LoadWords). load.name) ws) first reads in
-      let L : List LoadWords → Type 0 = λ l. Told b.held (λ m. AreLoadsOf m l ls) in
-      let F : List LoadWords → Type 0 = λ l. AreFitFor l ls in
-      let O : Outside → Type 0 = λ o. Moves o.held e.held (OthersKept run) in
-      let C : Outside → Type 0 = λ o. HasCause result (world o said puts) (world e now puts_now) in
-      let B : Outside → Type 0 = λ o. MayFailIn run.input o e in
-      let R : Outside → Type 0 = λ o. FailsIn (run.input ∷ []) result o.last e.last in
-      let M : Outside → Type 0 = λ o. Moves o.held e.held (λ m n. LeavesMade run made.plan made.slots result m n said now o e history) in
       let files : Moves a.held e.held (λ m n. Leaves run result m n said now a e history) =
-      leaves_told run t ls made of (subst F ws_is fit) result said now a e history a.held b.held a.held e.held
-      (ap (λ (o : Outside). o.held) first) (sym (ap (λ (o : Outside). o.held) first)) (named_table a.held k run.table t k_is table) (subst L ws_is loads) (subst M all left) in
+      leaves_told run t ls made of (rw (← ws_is) fit) result said now a e history a.held b.held a.held e.held
+      (ap (λ (o : Outside). o.held) first) (sym (ap (λ (o : Outside). o.held) first)) (rw k_is at table) (rw (← ws_is) loads) (rw (← all) left) in
       record {
         files = files;
-        others = subst O all others;
+        others = rw (← all) others;
         due = due_told one run result a.held e.held said now a e history files;
-        cause = subst C all cause;
-        failed_read = among_all run result a.last e.last (subst R all failed);
-        capture_read = fails_behind run.input result a e (subst B all may);
+        cause = rw (← all) cause;
+        failed_read = among_all run result a.last e.last (rw (← all) failed);
+        capture_read = fails_behind run.input result a e (rw (← all) may);
         has_history = has;
       }
 
@@ -86,7 +76,7 @@ keeps_unread {T} run t r r_is k k_is ws ws_is a b d said puts history none read 
     let H : Option HistoryValue → Type 0 = λ x. Moves a.held d.held (λ m n. Leaves run status.ReadFault m n said said a d x) in
     let M : Option Contents → Type 0 = λ h. Moves a.held h (λ m n. Leaves run status.ReadFault m n said said a d None) in
     record {
-      files = subst H (sym none) (subst M (sym only.held) (unread_by run a.held said a d failed (accepted_by run a.held t d.last (named_table a.held k run.table t k_is table))));
+      files = subst H (sym none) (subst M (sym only.held) (unread_by run a.held said a d failed (accepted_by run a.held t d.last (rw k_is at table))));
       others = others_same run a.held d.held only.held;
       due = no_due _ a.held (λ m s asked. inr tt);
       cause = record { lost = only.lost; spoiled = only.spoiled; puts = refl };

@@ -1,11 +1,10 @@
 -- What is read, round after round.
-use Rattle.std.proofs.Common.{◌≡◌, ◌⊎◌, ℕ, ◌+◌, ◌<◌, ◌≤◌, List, ◌++◌, All, length, inl, inr, sym, subst, arith, append_assoc}
+use Rattle.std.proofs.Common.{◌≡◌, ◌⊎◌, ℕ, ◌+◌, ◌<◌, ◌≤◌, List, ◌++◌, All, length, inl, inr, arith, append_assoc}
 use Rattle.capture_io.specs.declared.forms.Rec.{Rec}
 use Rattle.capture_io.specs.Rounds.{Left, Precedes}
 use Rattle.area_swap.specs.declared.board.View.{View}
 use Rattle.area_swap.specs.Values.{HasWholeShare}
 use Rattle.lwaftr_engine.specs.Progress.{IsUpToDate, Suits}
-use Rattle.lwaftr_engine.specs.declared.shift.Shift.{Shift}
 use Rattle.run_output.specs.Outputs.{Course}
 use Rattle.swap_core.specs.Plans.{Tables, window}
 use Rattle.worker_gate.specs.Reloading.{IsSettled, NoneIsLeft, WaitsFor}
@@ -17,25 +16,18 @@ no_further rs here there forward each = λ k d within. omega (arith, each k d wi
 pub follows_more : (first middle last : Left) (bytes : List ℕ) (number next there : ℕ) (rs ss : List Rec) →
     Precedes first middle bytes number rs next → Precedes middle last bytes next ss there → Precedes first last bytes number (rs ++ ss) there
 follows_more first middle last bytes number next there rs ss one two = λ rest e left.
-    let P : List Rec → Type 0 = λ l. first bytes number l e in
-    subst P (sym (append_assoc rs ss rest)) (one (ss ++ rest) e (two rest e left))
+    rw (append_assoc rs ss rest) (one (ss ++ rest) e (two rest e left))
 
 pub suits_before : (plan : Tables) (draws news later : List (ℕ × ℕ)) (c : Course) → later ≡ draws ++ news → Suits plan later c → Suits plan draws c
 suits_before plan draws news later c is suits =
     let P : ℕ × ℕ → Type 0 = λ d. c.version d.0 ≡ d.1 in
-    let A : List (ℕ × ℕ) → Type 0 = λ l. All P l in
-    record { tables = suits.tables; versions = all_before P draws news (subst A is suits.versions) }
-
--- the same of the plan of the run
-pub told_by : (plan : Tables) (u : Shift) → u.areas.plan ≡ plan → IsUpToDate u.areas.plan (length u.seat.known.actor.draws) u.desk.known.points → IsUpToDate plan (length u.seat.known.actor.draws) u.desk.known.points
-told_by plan u is told = let T : Tables → Type 0 = λ p. IsUpToDate p (length u.seat.known.actor.draws) u.desk.known.points in subst T is told
+    record { tables = suits.tables; versions = all_before P draws news (rw (← is) suits.versions) }
 
 pub none_waits : (plan : Tables) (desk : View) (records : ℕ) → desk.plan ≡ plan → NoneIsLeft desk ⊎ WaitsFor desk records → (length plan.tables ≤ length desk.points + 1) ⊎ (records < (window plan (length desk.points + 1)).earliest)
-none_waits plan desk records same (inl none) = let P : Tables → Type 0 = λ q. length q.tables ≤ length desk.points + 1 in inl (subst P same none)
-none_waits plan desk records same (inr waits) = let P : Tables → Type 0 = λ q. records < (window q (length desk.points + 1)).earliest in inr (subst P same waits.1)
+none_waits plan desk records same (inl none) = inl (rw (← same) none)
+none_waits plan desk records same (inr waits) = inr (rw (← same) waits.1)
 
 -- what is due is in force behind a round
 pub none_is_due : (plan : Tables) (seat desk : View) → desk.plan ≡ plan → HasWholeShare seat → IsSettled seat desk → IsUpToDate plan (length seat.actor.draws) desk.points
 none_is_due plan seat desk same whole settled =
-    let N : ℕ → Type 0 = λ n. (length plan.tables ≤ length desk.points + 1) ⊎ (n < (window plan (length desk.points + 1)).earliest) in
-    inr (subst N (sym (settled.all_drawn whole)) (none_waits plan desk seat.seen.records same settled.none_due))
+    inr (rw (settled.all_drawn whole) (none_waits plan desk seat.seen.records same settled.none_due))

@@ -3,6 +3,7 @@ use Rattle.std.specs.Prelude.{◌≡◌, ℕ, ◌+◌, ◌^◌, ◌<◌, ◌≤�
 use Rattle.aftr_base.specs.Contents.{Contents, content}
 use Rattle.aftr_base.specs.Outside.{FailsAt, Outside, Rises, Rose}
 use Rattle.aftr_text.specs.declared.jobs.RunJob.{RunJob}
+use Rattle.area_swap.specs.Histories.{AreDrawn, HistoryValue, IsHistory}
 use Rattle.area_swap.specs.Values.{HasWholeShare, IsIdle, IsOf, IsResting}
 use Rattle.capture_io.specs.declared.forms.CaptureBad.{CaptureBad}
 use Rattle.capture_io.specs.declared.forms.Form.{Form}
@@ -74,6 +75,14 @@ pub record IsOnDuty (plan : Tables) (s : Shift) : Type 0 where
   pub whole : HasWholeShare s.seat.known
   pub rests : IsResting s.desk.known
   pub room : s.crew.room ≡ 16384
+
+-- the areas are closed
+pub record IsClosed (plan : Tables) (draws : List (ℕ × ℕ)) (s : Seats) (h : HistoryValue) : Type 0 where
+  pub same_plan : h.plan ≡ plan
+  pub points : h.points ≡ s.points
+  pub reads : h.reads ≡ s.reads
+  pub drawn : AreDrawn h draws
+  pub history : IsHistory h
 
 -- How far tables are told of behind so many draws: none was made, or no table is left, or its window is not open yet.
 abbrev pub IsUpToDate : Tables → ℕ → List ℕ → Type 0

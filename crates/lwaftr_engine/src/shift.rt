@@ -1,8 +1,7 @@
 // The workers of a run, and the desk that puts the next tables into force beside them.
 ghost use Rattle.std.specs.Prelude.{◌≡◌, ◌+◌, ◌≤◌, [], All, IfOk, length};
-ghost use Rattle.area_swap.specs.Histories.{AreDrawn, IsHistory};
 ghost use Rattle.item_stage.specs.Items.{items_in};
-ghost use Rattle.lwaftr_engine.specs.Progress.{IsOnDuty, Suits};
+ghost use Rattle.lwaftr_engine.specs.Progress.{IsClosed, IsOnDuty, Suits, seats_of};
 ghost use Rattle.lwaftr_engine.specs.Runs.{all_asking};
 ghost use Rattle.lwaftr_engine.specs.Underway.{StaysOnDuty};
 ghost use Rattle.run_output.specs.Outputs.{Course};
@@ -94,11 +93,7 @@ pub fn judge_round<R: Threads + Wait + Sync, G: Gate + Sync>(
 /// Closes the areas.
 pub fn end_shift(shift: Shift) -> History
     requires duty { IsOnDuty shift.areas.plan shift }
-    ensures plan { result.plan ≡ shift.areas.plan }
-    ensures points { result.points ≡ shift.desk.known.points }
-    ensures drawn { AreDrawn result shift.seat.known.actor.draws }
-    ensures reads { result.reads ≡ shift.seat.known.reads }
-    ensures history { IsHistory result }
+    ensures { IsClosed shift.areas.plan shift.seat.known.actor.draws (seats_of shift) result }
 {
     let Shift {
         areas,

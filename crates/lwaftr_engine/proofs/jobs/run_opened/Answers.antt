@@ -3,7 +3,6 @@ use Rattle.reload_plan.specs.declared.loads.Slot.{Slot}
 use Rattle.lwaftr_engine.specs.Planned.{some_slot_refused}
 use Rattle.lwaftr_engine.specs.Progress.{Setup, spot}
 use Rattle.lwaftr_engine.proofs.JobLemmas.{ended_place, has_history, opened_leaves}
-use Rattle.lwaftr_engine.proofs.OpenLemmas.{first_shown, slots_shown}
 use Rattle.lwaftr_engine.proofs.jobs.run_opened.Goals as goal
 
 pub returns-clause-left : goal.returns-clause-left
@@ -17,11 +16,10 @@ returns-clause-left g c =
     let h1 = (f.outside c.run_capture-ended.new.files).held in
     let before = f.outside c.args.files.now in
     let after = f.outside c.run_capture-ended.new.files in
-    slots_shown c.args.job.now c.args.made.plan c.as_slice-2.result.now c.args.made.slots c.as_slice-2.ensures c.ended_status.result h0 h1 (o.out c.args.out.now) (o.out c.run_capture-ended.new.out) before after c.run_capture-ended.new.history
-    (opened_leaves x c.args.made.plan reader c.run_capture-ended.result c.has_refused-refused.result c.ended_status.result h0 h1 (o.out c.args.out.now) (o.out c.run_capture-ended.new.out) before after c.run_capture-ended.new.history
+    rw (← c.as_slice-2.ensures) (opened_leaves x c.args.made.plan reader c.run_capture-ended.result c.has_refused-refused.result c.ended_status.result h0 h1 (o.out c.args.out.now) (o.out c.run_capture-ended.new.out) before after c.run_capture-ended.new.history
     (c.has_refused-refused.ensures ∙ ap (λ (l : List Slot). some_slot_refused l) (c.as_slice.ensures ∙ sym c.as_slice-2.ensures))
     c.ended_status.ensures
-    (first_shown reader (r.form c.args.reader.now) c.form.result c.args.written c.args.job.now.input h0 c.form.ensures c.requires.opened)
+    (rw (← c.form.ensures) at c.requires.opened)
     c.run_capture-ended.ensures.ended)
 
 pub returns-clause-failed_read : goal.returns-clause-failed_read

@@ -1,23 +1,21 @@
-use Rattle.std.proofs.Common.{ℕ, Option, refl, sym, ◌∙◌, arith, subst}
-use Rattle.aftr_base.specs.Contents.{Contents, Moves, Told, content}
-use Rattle.aftr_base.specs.Outside.{Rises}
-use Rattle.capture_io.specs.Refusals.{EndsInRecords}
+use Rattle.std.proofs.Common.{ap, refl, sym, ◌∙◌, arith, ℕ, Option, subst}
+use Rattle.area_swap.specs.declared.areas.Areas.{Areas}
 use Rattle.capture_io.specs.Rounds.{is_cut}
-use Rattle.capture_io.specs.declared.rounds.Ending.{Ending}
-use Rattle.lwaftr_engine.specs.Progress.{ReadsOf, mark, seats_of, setup_of, spot}
-use Rattle.lwaftr_engine.specs.Runs.{OthersKept}
-use Rattle.lwaftr_engine.specs.Underway.{IsInHand, ReadsPast, StandsBetween, steps_of}
-use Rattle.capture_io.specs.declared.rounds.Round.{Round}
-use Rattle.lwaftr_engine.specs.declared.rounds.Pending.{Pending}
-use Rattle.lwaftr_engine.proofs.Adding.{adds_more, adds_none, goes_on, others_more, others_none, reads_on, same_plan}
+use Rattle.lwaftr_engine.specs.Progress.{seats_of, setup_of, spot, ReadsOf, mark}
+use Rattle.lwaftr_engine.specs.Underway.{steps_of, IsInHand, ReadsPast, StandsBetween}
+use Rattle.lwaftr_engine.proofs.Adding.{adds_more, adds_none, goes_on, others_more, others_none, reads_on}
 use Rattle.lwaftr_engine.proofs.Apart.{apart}
 use Rattle.lwaftr_engine.proofs.BrokenLemmas.{not_begun}
 use Rattle.lwaftr_engine.proofs.Exits.{if_err}
 use Rattle.lwaftr_engine.proofs.ReadLemmas.{failed_by, fails_after, fails_before, none_failed}
 use Rattle.lwaftr_engine.proofs.RoundLemmas.{reads_after, reads_before}
-use Rattle.lwaftr_engine.proofs.Steps.{told_by}
-use Rattle.lwaftr_engine.proofs.UnderwayLemmas.{begin_rounds, breaks_off, ends_well, judged_planned, last_broken, steps_on}
+use Rattle.lwaftr_engine.proofs.UnderwayLemmas.{begin_rounds, breaks_off, ends_well, last_broken, steps_on}
 use Rattle.lwaftr_engine.proofs.rounds.run_records.Goals as goal
+use Rattle.aftr_base.specs.Contents.{Moves, Told, content}
+use Rattle.capture_io.specs.Refusals.{EndsInRecords}
+use Rattle.capture_io.specs.declared.rounds.Ending.{Ending}
+use Rattle.capture_io.specs.declared.rounds.Round.{Round}
+use Rattle.lwaftr_engine.specs.declared.rounds.Pending.{Pending}
 
 pub returns-in_err-round-clause-broken : goal.returns-in_err-round-clause-broken
 returns-in_err-round-clause-broken g c =
@@ -45,7 +43,6 @@ rounds-init g c =
     let s = c.args.shift.now in
     let h0 = (f.outside c.args.files.now).held in
     let h1 = (f.outside c.read_next.new.files).held in
-    let O : Option Contents → Type 0 = λ h. Moves h0 h (OthersKept x.run) in
     record {
       went = begin_rounds x (apart x.run c.requires.apart) s.areas.plan s.seat.known.actor.draws c.args.progress.now (seats_of s) (spot (r.stands c.args.reader.now) (r.left c.args.reader.now) (r.at c.args.reader.now))
           (spot (r.stands c.read_next.new.reader) (r.left c.read_next.new.reader) (r.at c.read_next.new.reader)) c.args.room.pending c.in_ok-round.round (f.outside c.read_next.new.files).last c.requires.nothing h0 h1
@@ -55,7 +52,7 @@ rounds-init g c =
       in_hand = c.in_ok-round.ensures.read.in_hand;
       same_areas = refl;
       adds = adds_none s;
-      others = subst O (sym c.in_ok-round.ensures.held) (others_none x.run h0);
+      others = rw c.in_ok-round.ensures.held (others_none x.run h0);
       reads = c.in_ok-round.ensures.reads;
       spoiled = c.in_ok-round.ensures.spoiled;
     }
@@ -66,21 +63,18 @@ returns-in_err-next-clause-broken g c =
     let r = g.C.CaptureReader in
     let x = setup_of c.args.task in
     let s = c.args.shift.now in
-    let t = c.rounds.shift in
-    let u = c.step.new.shift in
-    let duty = c.in_err-next.ensures.duty in
+    let a = f.outside c.args.files.now in
+    let m = f.outside c.rounds.files in
+    let b = f.outside c.step.new.files in
     let did = c.in_err-next.ensures.outside in
     let first = spot (r.stands c.args.reader.now) (r.left c.args.reader.now) (r.at c.args.reader.now) in
     let here = spot (r.stands c.rounds.reader) (r.left c.rounds.reader) (r.at c.rounds.reader) in
     let now = spot (r.stands c.step.new.reader) (r.left c.step.new.reader) (r.at c.step.new.reader) in
-    let before = reads_on c.rounds.round.ending c.in_default.is x.run.input (f.outside c.args.files.now) (f.outside c.rounds.files) c.rounds.invariant.reads in
-    let L : ℕ → Type 0 = λ n. Told (f.outside c.step.new.files).held (λ m. ReadsPast x.run.input here now c.rounds.round.number (content m x.run.input) n (f.outside c.step.new.files).lost (f.outside c.step.new.files).last) in
-    if_err _ c.from_residual-in_err-next.result (breaks_off c.run_laws.ensures x (apart x.run c.requires.apart)
-    s.areas.plan t.seat.known.actor.draws u.seat.known.actor.draws duty.adds.drawn duty.adds.draws first here c.rounds.round c.args.progress.now c.rounds.progress (seats_of s) (seats_of t) (steps_of c.rounds.pending) now (f.outside c.rounds.files).last (f.outside c.step.new.files).last
-    (f.outside c.args.files.now).lost (f.outside c.step.new.files).lost duty.adds.news duty.adds.points duty.few
-    (told_by s.areas.plan u (same_plan s.areas u.areas (duty.areas ∙ c.rounds.invariant.same_areas)) duty.up_to_date)
-    (λ bytes number. c.some_left.ensures c.rounds.reader bytes number) (λ bytes number. c.some_left.ensures c.step.new.reader bytes number)
-    (f.outside c.args.files.now).held (f.outside c.rounds.files).held (f.outside c.step.new.files).held (subst L before.1 did.past) c.rounds.invariant.went did.part)
+    let before = reads_on c.rounds.round.ending c.in_default.is x.run.input a m c.rounds.invariant.reads in
+    let L : ℕ → Type 0 = λ n. Told b.held (λ m. ReadsPast x.run.input here now c.rounds.round.number (content m x.run.input) n b.lost b.last) in
+    if_err _ c.from_residual-in_err-next.result (breaks_off c.run_laws.ensures x (apart x.run c.requires.apart) s.areas.plan first here c.rounds.round c.args.progress.now c.rounds.progress (seats_of s)
+    c.rounds.shift c.step.new.shift c.in_err-next.ensures.duty (ap (λ (k : Areas). k.plan) c.rounds.invariant.same_areas) (steps_of c.rounds.pending) m.last a.held m.held b.held c.rounds.invariant.went
+    now b.last a.lost b.lost (λ bytes number. c.some_left.ensures c.rounds.reader bytes number) (λ bytes number. c.some_left.ensures c.step.new.reader bytes number) (subst L before.1 did.past) did.part)
 
 pub returns-in_err-last_steps-clause-broken : goal.returns-in_err-last_steps-clause-broken
 returns-in_err-last_steps-clause-broken g c =
@@ -88,19 +82,15 @@ returns-in_err-last_steps-clause-broken g c =
     let r = g.C.CaptureReader in
     let x = setup_of c.args.task in
     let s = c.args.shift.now in
-    let t = c.rounds.shift in
-    let u = c.last_steps.new.shift in
-    let duty = c.in_err-last_steps.ensures.duty in
+    let a = f.outside c.args.files.now in
+    let m = f.outside c.rounds.files in
+    let b = f.outside c.last_steps.new.files in
+    let last = c.in_err-last_steps.ensures in
     let first = spot (r.stands c.args.reader.now) (r.left c.args.reader.now) (r.at c.args.reader.now) in
     let here = spot (r.stands c.rounds.reader) (r.left c.rounds.reader) (r.at c.rounds.reader) in
-    let L : ℕ → Type 0 = λ n. Rises (is_cut c.rounds.round.ending) (f.outside c.args.files.now).lost n in
-    if_err _ c.from_residual-in_err-last_steps.result (last_broken c.run_laws.ensures x (apart x.run c.requires.apart)
-    s.areas.plan t.seat.known.actor.draws u.seat.known.actor.draws duty.adds.drawn duty.adds.draws first here c.rounds.round c.args.progress.now c.rounds.progress c.last_steps.new.progress (seats_of s) t u (steps_of c.rounds.pending) c.last_steps.new.made
-    (f.outside c.args.files.now).lost (f.outside c.last_steps.new.files).lost duty.adds.news duty.adds.points duty.few
-    (told_by s.areas.plan u (same_plan s.areas u.areas (duty.areas ∙ c.rounds.invariant.same_areas)) duty.up_to_date)
-    (λ bytes number. c.some_left.ensures c.rounds.reader bytes number) c.in_err-last_steps.ensures.writes.last (subst L (sym c.in_err-last_steps.ensures.writes.lost) c.rounds.invariant.reads.lost)
-    (λ well. judged_planned (same_plan s.areas t.areas c.rounds.invariant.same_areas) well.judged)
-    (f.outside c.args.files.now).held (f.outside c.rounds.files).held (f.outside c.last_steps.new.files).held c.rounds.invariant.went c.in_err-last_steps.ensures.begun)
+    if_err _ c.from_residual-in_err-last_steps.result (last_broken c.run_laws.ensures x (apart x.run c.requires.apart) s.areas.plan first here c.rounds.round c.args.progress.now c.rounds.progress (seats_of s)
+    c.rounds.shift c.last_steps.new.shift last.duty (ap (λ (k : Areas). k.plan) c.rounds.invariant.same_areas) (steps_of c.rounds.pending) m.last a.held m.held b.held c.rounds.invariant.went
+    c.last_steps.new.progress c.last_steps.new.made a.lost b.lost (λ bytes number. c.some_left.ensures c.rounds.reader bytes number) last.writes.last (rw last.writes.lost c.rounds.invariant.reads.lost) last.begun)
 
 pub returns-in-Some-clause-went : goal.returns-in-Some-clause-went
 returns-in-Some-clause-went g c =
@@ -108,16 +98,15 @@ returns-in-Some-clause-went g c =
     let r = g.C.CaptureReader in
     let x = setup_of c.args.task in
     let s = c.args.shift.now in
-    let t = c.rounds.shift in
-    let u = c.last_steps.new.shift in
-    let well = c.in_ok-last_steps.ensures.well in
-    let adds = c.in_ok-last_steps.ensures.duty.adds in
+    let a = f.outside c.args.files.now in
+    let m = f.outside c.rounds.files in
+    let b = f.outside c.last_steps.new.files in
+    let last = c.in_ok-last_steps.ensures in
     let first = spot (r.stands c.args.reader.now) (r.left c.args.reader.now) (r.at c.args.reader.now) in
     let here = spot (r.stands c.rounds.reader) (r.left c.rounds.reader) (r.at c.rounds.reader) in
-    ends_well c.run_laws.ensures x (apart x.run c.requires.apart)
-    s.areas.plan t.seat.known.actor.draws u.seat.known.actor.draws adds.drawn adds.draws first here c.rounds.round c.args.progress.now c.rounds.progress (seats_of s) (seats_of t) (steps_of c.rounds.pending)
-    (judged_planned (same_plan s.areas t.areas c.rounds.invariant.same_areas) well.judged) well.number c.in-Some.is c.in_ok-last_steps.ensures.writes.last
-    (f.outside c.args.files.now).held (f.outside c.rounds.files).held (f.outside c.last_steps.new.files).held c.rounds.invariant.went c.in_ok-last_steps.ensures.wrote
+    ends_well c.run_laws.ensures x (apart x.run c.requires.apart) s.areas.plan first here c.rounds.round c.args.progress.now c.rounds.progress (seats_of s)
+    c.rounds.shift c.last_steps.new.shift last.duty (ap (λ (k : Areas). k.plan) c.rounds.invariant.same_areas) (steps_of c.rounds.pending) m.last a.held m.held b.held c.rounds.invariant.went
+    last.well c.in-Some.is last.writes.last last.wrote
 
 pub returns-in-Some-clause-reads : goal.returns-in-Some-clause-reads
 returns-in-Some-clause-reads g c =
@@ -165,11 +154,11 @@ rounds-preserved g c =
     let h0 = (f.outside c.args.files.now).held in
     let h1 = (f.outside c.rounds.files).held in
     let h2 = (f.outside c.step.new.files).held in
-    let last = (f.outside c.step.new.files).last in
     let first = spot (r.stands c.args.reader.now) (r.left c.args.reader.now) (r.at c.args.reader.now) in
     let here = spot (r.stands c.rounds.reader) (r.left c.rounds.reader) (r.at c.rounds.reader) in
     let now = spot (r.stands c.step.new.reader) (r.left c.step.new.reader) (r.at c.step.new.reader) in
     let before = reads_on c.rounds.round.ending c.in_default.is x.run.input (f.outside c.args.files.now) (f.outside c.rounds.files) c.rounds.invariant.reads in
+    let last = (f.outside c.step.new.files).last in
     let P : Pending → Type 0 = λ k. Moves h0 h2 (λ a n. StandsBetween x s.areas.plan u.seat.known.actor.draws (mark a c.args.progress.now (seats_of s) first) n c.step.new.progress (seats_of u) (steps_of k) now next last) in
     let Q : Round → Type 0 = λ k. Moves h0 h2 (λ a n. StandsBetween x s.areas.plan u.seat.known.actor.draws (mark a c.args.progress.now (seats_of s) first) n c.step.new.progress (seats_of u) (steps_of c.swap.new.x) now k last) in
     let Y : Round → Type 0 = λ k. r.ready c.step.new.reader k.number in
@@ -178,9 +167,9 @@ rounds-preserved g c =
     let R : Round → Type 0 = λ k. ReadsOf (is_cut k.ending) x.run.input (f.outside c.args.files.now) (f.outside c.step.new.files) in
     let is = sym c.replace-records.ensures.after in
     record {
-      went = subst Q is (subst P (sym c.swap.ensures.x_after) (steps_on c.run_laws.ensures x (apart x.run c.requires.apart)
-          s.areas.plan t.seat.known.actor.draws u.seat.known.actor.draws adds.drawn adds.draws first here c.rounds.round c.args.progress.now c.rounds.progress (seats_of s) (seats_of t) (steps_of c.rounds.pending) (f.outside c.rounds.files).last now
-          (judged_planned (same_plan s.areas t.areas c.rounds.invariant.same_areas) well.judged) h0 h1 h2 did.read c.rounds.invariant.went did.wrote));
+      went = subst Q is (subst P (sym c.swap.ensures.x_after) (steps_on c.run_laws.ensures x (apart x.run c.requires.apart) s.areas.plan first here c.rounds.round c.args.progress.now c.rounds.progress (seats_of s)
+          t u c.in_ok-next.ensures.duty (ap (λ (k : Areas). k.plan) c.rounds.invariant.same_areas) (steps_of c.rounds.pending) (f.outside c.rounds.files).last h0 h1 h2 c.rounds.invariant.went
+          now well did.read did.wrote));
       can = goes_on t u c.in_ok-next.ensures.duty c.rounds.invariant.can well.after;
       ready = subst Y is did.ready;
       in_hand = subst H is (subst N (sym well.number) did.read.in_hand);

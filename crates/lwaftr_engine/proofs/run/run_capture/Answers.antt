@@ -1,15 +1,14 @@
-use Rattle.std.proofs.Common.{ℕ, Err, Some, Result, refl, sym, ◌∙◌, ap, subst}
+use Rattle.std.proofs.Common.{Err, Some, Result, refl, ◌∙◌, ap}
 use Rattle.std.proofs.lemmas.Result.{err_from_is_err_and}
-use Rattle.aftr_base.specs.Outside.{Rises}
 use Rattle.aftr_base.specs.declared.outside.Fault.{Fault}
 use Rattle.capture_io.specs.Rounds.{is_cut}
 use Rattle.capture_io.specs.declared.rounds.Ending.{Ending}
-use Rattle.lwaftr_engine.specs.Fronts.{is_failure, stop_by}
+use Rattle.lwaftr_engine.specs.Fronts.{stop_by}
 use Rattle.lwaftr_engine.specs.Progress.{seats_of, setup_of, spot}
-use Rattle.lwaftr_engine.proofs.Adding.{as_planned, broken_planned, goes_first, others_more, same_plan}
+use Rattle.lwaftr_engine.proofs.Adding.{goes_first, others_more}
 use Rattle.lwaftr_engine.proofs.Apart.{apart}
-use Rattle.lwaftr_engine.proofs.Capturing.{closed_plan, ended_err, finish_broken, finished_at, opening_broken, rounds_broken}
-use Rattle.lwaftr_engine.proofs.Closing.{IsClosed}
+use Rattle.lwaftr_engine.proofs.Capturing.{ended_err, finish_broken, opening_broken, rounds_broken}
+use Rattle.area_swap.specs.declared.areas.Areas.{Areas}
 use Rattle.lwaftr_engine.proofs.EndLemmas.{at_end, ends}
 use Rattle.lwaftr_engine.proofs.Exits.{rises_by}
 use Rattle.lwaftr_engine.proofs.ReadLemmas.{fails_after, fails_before, none_failed}
@@ -34,13 +33,8 @@ returns-clause-ended g c =
     let h2 = (f.outside c.run_records-taken.new.files).held in
     let s = c.in_ok-shift.shift in
     let u = c.run_records-taken.new.shift in
-    let closed : IsClosed c.args.plan u.seat.known.actor.draws (seats_of u) c.end_shift-closed.result = record {
-      same_plan = closed_plan s.areas.plan u.areas.plan c.end_shift-closed.result.plan c.args.plan c.end_shift-closed.ensures.plan (same_plan s.areas u.areas c.in_ok-ending.ensures.areas) c.in_ok-shift.ensures.duty.its_plan;
-      points = c.end_shift-closed.ensures.points;
-      reads = c.end_shift-closed.ensures.reads;
-      drawn = c.end_shift-closed.ensures.drawn;
-      history = c.end_shift-closed.ensures.history;
-    } in
+    let its_plan = ap (λ (k : Areas). k.plan) c.in_ok-ending.ensures.areas ∙ c.in_ok-shift.ensures.duty.its_plan in
+    let closed = rw its_plan at c.end_shift-closed.ensures in
     let last = (f.outside c.run_records-taken.new.files).last in
     let q = c.run_records-taken.new.progress in
     let reader = spot (r.stands c.run_records-taken.new.reader) (r.left c.run_records-taken.new.reader) (r.at c.run_records-taken.new.reader) in
@@ -49,12 +43,11 @@ returns-clause-ended g c =
     ends c.run_laws.ensures x far c.args.plan u.seat.known.actor.draws (seats_of s) (seats_of u) c.end_shift-closed.result c.in_ok-progress.progress q first reader c.in_ok-ending.ending last said now (f.outside c.args.files.now) (f.outside c.finish.new.files) c.in_ok-finish.ensures.last
     (λ bytes number. c.some_left.ensures c.run_records-taken.new.reader bytes number) c.in_ok-progress.ensures c.in_ok-shift.ensures.points c.requires.errors
     (at_end c.run_laws.ensures.points c.args.plan u.seat.known u.desk.known (seats_of u) c.end_shift-closed.result q.number closed c.in_ok-ending.ensures.after.settled c.in_ok-ending.ensures.duty.whole
-    (closed_plan s.areas.plan u.areas.plan u.desk.known.plan c.args.plan c.in_ok-ending.ensures.duty.desk_areas.same_plan (same_plan s.areas u.areas c.in_ok-ending.ensures.areas) c.in_ok-shift.ensures.duty.its_plan)
-    refl c.in_ok-ending.ensures.after.drawn)
+    (c.in_ok-ending.ensures.duty.desk_areas.same_plan ∙ its_plan) refl c.in_ok-ending.ensures.after.drawn)
     h0 h1 h2 h3
     c.in_ok-open_outputs.ensures.opened
-    (as_planned x c.args.plan s.areas.plan c.in_ok-shift.ensures.duty.its_plan u.seat.known.actor.draws c.in_ok-progress.progress q (seats_of s) (seats_of u) first reader (Some c.in_ok-ending.ending) last h1 h2 c.in_ok-ending.ensures.went)
-    (finished_at x q c.points.result.now u.desk.known.points (c.points.ensures.points ∙ c.end_shift-closed.ensures.points) said now h2 h3 c.in_ok-finish.ensures.finished)
+    (rw c.in_ok-shift.ensures.duty.its_plan at c.in_ok-ending.ensures.went)
+    (rw (c.points.ensures.points ∙ closed.points) at c.in_ok-finish.ensures.finished)
 
 pub returns-clause-history : goal.returns-clause-history
 returns-clause-history g c =
@@ -120,13 +113,8 @@ returns-in_err-ending-clause-ended g c =
     let h2 = (f.outside c.run_records-taken.new.files).held in
     let s = c.in_ok-shift.shift in
     let u = c.run_records-taken.new.shift in
-    let closed : IsClosed c.args.plan u.seat.known.actor.draws (seats_of u) c.end_shift-closed.result = record {
-      same_plan = closed_plan s.areas.plan u.areas.plan c.end_shift-closed.result.plan c.args.plan c.end_shift-closed.ensures.plan (same_plan s.areas u.areas c.in_err-ending.ensures.areas) c.in_ok-shift.ensures.duty.its_plan;
-      points = c.end_shift-closed.ensures.points;
-      reads = c.end_shift-closed.ensures.reads;
-      drawn = c.end_shift-closed.ensures.drawn;
-      history = c.end_shift-closed.ensures.history;
-    } in
+    let its_plan = ap (λ (k : Areas). k.plan) c.in_err-ending.ensures.areas ∙ c.in_ok-shift.ensures.duty.its_plan in
+    let closed = rw its_plan at c.end_shift-closed.ensures in
     let last = (f.outside c.run_records-taken.new.files).last in
     let q = c.run_records-taken.new.progress in
     let reader = spot (r.stands c.run_records-taken.new.reader) (r.left c.run_records-taken.new.reader) (r.at c.run_records-taken.new.reader) in
@@ -134,14 +122,13 @@ returns-in_err-ending-clause-ended g c =
     let after = f.outside c.run_records-taken.new.files in
     let why = c.in_err-ending.field-0.0 in
     let answer : Result Ending Fault = Err c.in_err-ending.field-0.0 in
-    let R : ℕ → Type 0 = λ n. Rises (is_failure why) n after.spoiled in
-    let rises = subst R c.in_ok-open_outputs.ensures.writes.spoiled (rises_by answer why (f.outside c.open_outputs.new.files).spoiled after.spoiled refl c.in_err-ending.ensures.spoiled) in
+    let rises = rw c.in_ok-open_outputs.ensures.writes.spoiled at (rises_by answer why (f.outside c.open_outputs.new.files).spoiled after.spoiled refl c.in_err-ending.ensures.spoiled) in
     let e = err_from_is_err_and c.from_residual-in_err-ending.result c.from_residual-in_err-ending.ensures.1 in
     ended_err x c.args.plan first c.from_residual-in_err-ending.result why h0 h2 said said before after c.args.history.now (e.1 ∙ ap Err e.2) c.requires.none
-    (rounds_broken c.run_laws.ensures x far c.args.plan u.seat.known.actor.draws (seats_of s) (seats_of u) c.end_shift-closed.result closed
-    c.in_ok-progress.progress first c.in_ok-progress.ensures c.in_ok-shift.ensures.points c.requires.errors (stop_by why before after) rises (f.outside c.open_outputs.new.files).lost c.in_ok-open_outputs.ensures.writes.lost said h0 h1 h2
+    (rounds_broken c.run_laws.ensures x far c.args.plan u.seat.known.actor.draws (seats_of s) (seats_of u) c.end_shift-closed.result
+    c.in_ok-progress.progress first c.in_ok-progress.ensures c.in_ok-shift.ensures.points c.requires.errors closed (stop_by why before after) rises (f.outside c.open_outputs.new.files).lost c.in_ok-open_outputs.ensures.writes.lost said h0 h1 h2
     c.in_ok-open_outputs.ensures.opened
-    (broken_planned x c.args.plan s.areas.plan c.in_ok-shift.ensures.duty.its_plan u.seat.known.actor.draws u.desk.known.points c.in_ok-progress.progress (seats_of s) first (f.outside c.open_outputs.new.files).lost after.lost after.last h1 h2 c.in_err-ending.ensures.broken))
+    (rw c.in_ok-shift.ensures.duty.its_plan at c.in_err-ending.ensures.broken))
 
 pub returns-in_err-ending-clause-others : goal.returns-in_err-ending-clause-others
 returns-in_err-ending-clause-others g c =
@@ -162,13 +149,8 @@ returns-in_err-finish-clause-ended g c =
     let h2 = (f.outside c.run_records-taken.new.files).held in
     let s = c.in_ok-shift.shift in
     let u = c.run_records-taken.new.shift in
-    let closed : IsClosed c.args.plan u.seat.known.actor.draws (seats_of u) c.end_shift-closed.result = record {
-      same_plan = closed_plan s.areas.plan u.areas.plan c.end_shift-closed.result.plan c.args.plan c.end_shift-closed.ensures.plan (same_plan s.areas u.areas c.in_ok-ending.ensures.areas) c.in_ok-shift.ensures.duty.its_plan;
-      points = c.end_shift-closed.ensures.points;
-      reads = c.end_shift-closed.ensures.reads;
-      drawn = c.end_shift-closed.ensures.drawn;
-      history = c.end_shift-closed.ensures.history;
-    } in
+    let its_plan = ap (λ (k : Areas). k.plan) c.in_ok-ending.ensures.areas ∙ c.in_ok-shift.ensures.duty.its_plan in
+    let closed = rw its_plan at c.end_shift-closed.ensures in
     let last = (f.outside c.run_records-taken.new.files).last in
     let q = c.run_records-taken.new.progress in
     let reader = spot (r.stands c.run_records-taken.new.reader) (r.left c.run_records-taken.new.reader) (r.at c.run_records-taken.new.reader) in
@@ -178,21 +160,17 @@ returns-in_err-finish-clause-ended g c =
     let after = f.outside c.finish.new.files in
     let why = c.in_err-finish.field-0.0 in
     let cut = is_cut (Some c.in_ok-ending.ending) in
-    let K : ℕ → Type 0 = λ n. Rises cut (f.outside c.open_outputs.new.files).lost n in
-    let L : ℕ → Type 0 = λ n. Rises cut n after.lost in
     let e = err_from_is_err_and c.from_residual-in_err-finish.result c.from_residual-in_err-finish.ensures.1 in
     ended_err x c.args.plan first c.from_residual-in_err-finish.result why h0 h3 said now before after c.args.history.now (e.1 ∙ ap Err e.2) c.requires.none
-    (finish_broken c.run_laws.ensures x far c.args.plan u.seat.known.actor.draws (seats_of s) (seats_of u) c.end_shift-closed.result closed
+    (finish_broken c.run_laws.ensures x far c.args.plan u.seat.known.actor.draws (seats_of s) (seats_of u) c.end_shift-closed.result
     c.in_ok-progress.progress first c.in_ok-progress.ensures c.in_ok-shift.ensures.points c.requires.errors q reader
     (λ bytes number. c.some_left.ensures c.run_records-taken.new.reader bytes number)
     (at_end c.run_laws.ensures.points c.args.plan u.seat.known u.desk.known (seats_of u) c.end_shift-closed.result q.number closed c.in_ok-ending.ensures.after.settled c.in_ok-ending.ensures.duty.whole
-    (closed_plan s.areas.plan u.areas.plan u.desk.known.plan c.args.plan c.in_ok-ending.ensures.duty.desk_areas.same_plan (same_plan s.areas u.areas c.in_ok-ending.ensures.areas) c.in_ok-shift.ensures.duty.its_plan)
-    refl c.in_ok-ending.ensures.after.drawn)
-    c.in_ok-ending.ending last said now before after c.in_err-finish.ensures.last (subst L c.in_ok-open_outputs.ensures.writes.lost (subst K (sym c.in_err-finish.ensures.lost) c.in_ok-ending.ensures.reads.lost)) why c.points.result.now (c.points.ensures.points ∙ c.end_shift-closed.ensures.points)
-    (f.outside c.run_records-taken.new.files).spoiled (c.in_ok-ending.ensures.spoiled ∙ c.in_ok-open_outputs.ensures.writes.spoiled) h0 h1 h2 h3
+    (c.in_ok-ending.ensures.duty.desk_areas.same_plan ∙ its_plan) refl c.in_ok-ending.ensures.after.drawn)
+    c.in_ok-ending.ending last said now before after c.in_err-finish.ensures.last (rw (← c.in_ok-open_outputs.ensures.writes.lost) (rw c.in_err-finish.ensures.lost c.in_ok-ending.ensures.reads.lost)) why h0 h1 h2 h3
     c.in_ok-open_outputs.ensures.opened
-    (as_planned x c.args.plan s.areas.plan c.in_ok-shift.ensures.duty.its_plan u.seat.known.actor.draws c.in_ok-progress.progress q (seats_of s) (seats_of u) first reader (Some c.in_ok-ending.ending) last h1 h2 c.in_ok-ending.ensures.went)
-    c.in_err-finish.ensures.finished)
+    (rw c.in_ok-shift.ensures.duty.its_plan at c.in_ok-ending.ensures.went)
+    (rw (c.points.ensures.points ∙ closed.points, c.in_ok-ending.ensures.spoiled ∙ c.in_ok-open_outputs.ensures.writes.spoiled) at c.in_err-finish.ensures.finished))
 
 pub returns-in_err-finish-clause-others : goal.returns-in_err-finish-clause-others
 returns-in_err-finish-clause-others g c =
