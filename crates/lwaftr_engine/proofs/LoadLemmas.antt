@@ -1,5 +1,5 @@
 -- Loads that are read in batches.
-use Rattle.std.proofs.Common.{◌≡◌, ℕ, suc, ◌+◌, Bool, false, true, List, [], ◌∷◌, ◌++◌, take, drop, get_or, Option, Some, None, Ok, Err, sym, ◌∙◌, ap, subst, arith}
+use Rattle.std.proofs.Common.{◌≡◌, ℕ, suc, ◌+◌, Bool, false, true, List, [], ◌∷◌, ◌++◌, take, drop, get_or, Option, Some, None, Ok, Err, sym, ◌∙◌, ap, arith, subst}
 use Rattle.std.specs.List.{AllZip, Contains, slice_get}
 use Rattle.std.specs.Prelude.{map}
 use Rattle.std.proofs.Math.Seq.{take-add, take-suc}
@@ -10,7 +10,6 @@ use Rattle.std.proofs.lemmas.Slice.Zip.{all_zipped_more}
 use Rattle.aftr_base.specs.Contents.{Contents, Told, content}
 use Rattle.aftr_base.specs.Outside.{OnlyReads, Outside}
 use Rattle.aftr_text.specs.declared.jobs.LoadWords.{LoadWords}
-use Rattle.binding_file.specs.Files.{TableOf}
 use Rattle.lwaftr_engine.specs.Loads.{AreFitFor, AreLoadsOf, FailsAmong, HasWindowOf, IsFileOf, IsFitFor, IsLoadOf, OnlyReadsAmong}
 use Rattle.lwaftr_engine.specs.Tables.{Answer}
 use Rattle.reload_plan.specs.Accepted.{IsSound}
@@ -20,6 +19,7 @@ use Rattle.reload_plan.specs.declared.loads.Loaded.{Loaded}
 use Rattle.reload_plan.specs.declared.loads.Loaded.TheVariants as loaded
 use Rattle.load_files.specs.declared.files.LoadFile.{LoadFile}
 use Rattle.lwaftr_engine.proofs.FrontLemmas.{table_of_front}
+use Rattle.binding_file.specs.Files.{TableOf}
 
 abbrev pub names_of : List LoadWords → List (List ℕ)
 names_of words = map (λ (load : LoadWords). load.name) words
@@ -50,16 +50,14 @@ through P Q R one (x ∷ xs) (y ∷ ys) (z ∷ zs) h k = (one x y z h.0 k.0, thr
 pub zipped_more : {A B : Type 0} (R : A → B → Type 0) (xs : List A) (ys more : List B) (at : ℕ) (x : A) (y : B) → slice_get xs at ≡ Some x → more ≡ ys ++ y ∷ [] →
     AllZip R (take at xs) ys → R x y → AllZip R (take (at + 1) xs) more
 zipped_more {A} {B} R xs ys more at x y is pushed before one =
-    subst (λ (l : List B). AllZip R (take (at + 1) xs) l) (sym pushed)
-    (subst (λ (l : List A). AllZip R l (ys ++ y ∷ [])) (one_more xs at x is) (all_zipped_more R (take at xs) ys x y before one))
+    rw pushed (rw (← (one_more xs at x is)) (all_zipped_more R (take at xs) ys x y before one))
 
 -- so many elements more on either side
 pub zipped_on : {A B : Type 0} (R : A → B → Type 0) (xs : List A) (ys zs more : List B) (at count n : ℕ) → n ≡ count → more ≡ ys ++ zs →
     AllZip R (take at xs) ys → AllZip R (take n (drop at xs)) zs → AllZip R (take (at + count) xs) more
 zipped_on {A} {B} R xs ys zs more at count n many is before next =
-    let behind : AllZip R (take count (drop at xs)) zs = subst (λ (k : ℕ). AllZip R (take k (drop at xs)) zs) many next in
-    subst (λ (l : List B). AllZip R (take (at + count) xs) l) (sym is)
-    (subst (λ (l : List A). AllZip R l (ys ++ zs)) (sym (take-add at count xs)) (joined R (take at xs) (take count (drop at xs)) ys zs before behind))
+    let behind : AllZip R (take count (drop at xs)) zs = rw (← many) next in
+    rw is (rw (take-add at count xs) (joined R (take at xs) (take count (drop at xs)) ys zs before behind))
 
 pub told_more : {A B : Type 0} (R : Contents → A → B → Type 0) (a b : Option Contents) (xs : List A) (ys more : List B) (at : ℕ) (x : A) (y : B) → b ≡ a → slice_get xs at ≡ Some x → more ≡ ys ++ y ∷ [] →
     Told a (λ m. AllZip (R m) (take at xs) ys) → Told b (λ m. R m x y) → Told a (λ m. AllZip (R m) (take (at + 1) xs) more)
@@ -87,9 +85,8 @@ loads_told (Some m) ws fs ls read loads = through (IsFileOf m) IsLoadOfFile (IsL
 
 sound_by : (answer : Answer) (l : Loaded) → IsLoadedAs answer l → IsSound l
 sound_by (Ok t) (loaded.Words words) is = record { table = t; of_table = is }
-sound_by (Ok t) (loaded.Refused cause) is = absurd is
-sound_by (Err refusal) (loaded.Words words) is = absurd is
 sound_by (Err refusal) (loaded.Refused cause) is = tt
+sound_by _ _ is = absurd is
 
 fits : (w : LoadWords) (f : LoadFile) (l : Load) → HasWindowOf w f → IsLoadOfFile f l → IsFitFor w l
 fits w f l window load = record { window = load.window ∙ window; sound = sound_by load.said.answer l.loaded load.said.is }
@@ -104,8 +101,7 @@ among_all_names ws at count name among =
     let whole : names_of (take at ws) ++ (names_of (take count (drop at ws)) ++ names_of rest) ≡ names_of ws =
     ap (λ (l : List (List ℕ)). names_of (take at ws) ++ l) (sym (map-append (λ (load : LoadWords). load.name) (take count (drop at ws)) rest) ∙ ap (λ (l : List LoadWords). names_of l) (take-append-drop count (drop at ws)))
     ∙ (sym (map-append (λ (load : LoadWords). load.name) (take at ws) (drop at ws)) ∙ ap (λ (l : List LoadWords). names_of l) (take-append-drop at ws)) in
-    subst (λ (l : List (List ℕ)). Contains l name) whole
-    (Contains-append_right (names_of (take at ws)) (names_of (take count (drop at ws)) ++ names_of rest) name
+    rw (← whole) (Contains-append_right (names_of (take at ws)) (names_of (take count (drop at ws)) ++ names_of rest) name
     (Contains-append_left (names_of (take count (drop at ws))) (names_of rest) name among))
 
 fails_among : (failed : Bool) (ws : List LoadWords) (at count : ℕ) (before now : Option (List ℕ × ℕ)) → FailsAmong failed (names_of (take count (drop at ws))) before now → FailsAmong failed (names_of ws) before now
@@ -116,7 +112,7 @@ fails_among true ws at count before now failed = record { name = failed.name; pl
 pub reads_within : (failed : Bool) (ws : List LoadWords) (at count : ℕ) (a b d : Outside) → b ≡ a → OnlyReadsAmong failed (names_of (take count (drop at ws))) b d → OnlyReadsAmong failed (names_of ws) a d
 reads_within failed ws at count a b d same only =
     let some : OnlyReadsAmong failed (names_of (take count (drop at ws))) a d =
-    subst (λ (o : Outside). OnlyReadsAmong failed (names_of (take count (drop at ws))) o d) same only in
+    rw (← same) only in
     record { held = some.held; faults = some.faults; lost = some.lost; spoiled = some.spoiled; last = fails_among failed ws at count a.last d.last some.last }
 
 -- a read that went well changes nothing that is known

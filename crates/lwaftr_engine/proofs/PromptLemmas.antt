@@ -51,9 +51,7 @@ pub left_demo : (P : ℕ → ℕ → Type 0) (r : AtOnce) (seed count workers s 
 left_demo P r seed count workers s c w is (inl left) holds =
     let same_seed : seed ≡ s = cc (sym is ∙ left) in
     let same_count : count ≡ c = cc (sym is ∙ left) in
-    let Q : ℕ → Type 0 = λ n. P n count in
-    let R : ℕ → Type 0 = λ n. P s n in
-    subst R same_count (subst Q same_seed holds)
+    rw (← same_count) (rw (← same_seed) holds)
 left_demo P r seed count workers s c w is (inr short) holds = absurd (cc (sym is ∙ short))
 
 pub run_not_demo : (r : AtOnce) (run : RunJob) (s c w : ℕ) → r ≡ at_once.Run run → IsLeft (at_once.Demo s c w) r → ⊥
@@ -80,9 +78,7 @@ answered_so run (Some m) = λ s asked. inr tt
 -- memory was short before anything was done
 pub no_run : (run : RunJob) (s : Status) (w : World) (history : Option HistoryValue) → s ≡ status.OutOfMemory → history ≡ None → KeepsRun run s w w history
 no_run run s w history short none =
-    let S : Status → Type 0 = λ t. KeepsRun run t w w history in
-    let H : Option HistoryValue → Type 0 = λ h. KeepsRun run status.OutOfMemory w w h in
-    subst S (sym short) (subst H (sym none) (record {
+    rw short (rw none (record {
       files = untouched run w.files.held w.said w.files;
       others = others_same run w.files.held w.files.held refl;
       due = answered_so run w.files.held;
@@ -94,9 +90,7 @@ no_run run s w history short none =
 
 pub no_show : (seed count : ℕ) (s : Status) (w : World) (history : Option HistoryValue) → s ≡ status.OutOfMemory → history ≡ None → KeepsDemo seed count s w w history
 no_show seed count s w history short none =
-    let S : Status → Type 0 = λ t. KeepsDemo seed count t w w history in
-    let H : Option HistoryValue → Type 0 = λ h. KeepsDemo seed count status.OutOfMemory w w h in
-    subst S (sym short) (subst H (sym none) (record {
+    rw short (rw none (record {
       kept = refl;
       line = inl refl;
       cause = record { lost = refl; spoiled = refl; faults = refl; puts = refl };
@@ -106,16 +100,10 @@ no_show seed count s w history short none =
 
 pub one_cause : (s : Status) (before now : World) → HasOneCause s before now → HasCause s before now
 one_cause status.OutOfMemory before now cause = record { spoiled = cause.spoiled; puts = cause.puts }
-one_cause status.Done before now cause = cause
-one_cause status.DoneRefused before now cause = cause
-one_cause status.Usage before now cause = cause
-one_cause status.ReadFault before now cause = cause
-one_cause status.WriteFault before now cause = cause
-one_cause (status.BadTable refusal) before now cause = cause
-one_cause (status.BadCapture refusal) before now cause = cause
+one_cause _ before now cause = cause
 
 pub not_usage : (run : RunJob) (s : Status) (before now : World) (history : Option HistoryValue) → KeepsRun run s before now history → s ≡ status.Usage → ⊥
-not_usage run s before now history kept is = let K : Status → Type 0 = λ t. KeepsRun run t before now history in (subst K is kept).has_history
+not_usage run s before now history kept is = (rw is at kept).has_history
 
 pub show_not_usage : (s : Status) → (s ≡ status.Done) ⊎ ((s ≡ status.WriteFault) ⊎ (s ≡ status.OutOfMemory)) → s ≡ status.Usage → ⊥
 show_not_usage s (inl done) is = absurd (cc (sym done ∙ is))

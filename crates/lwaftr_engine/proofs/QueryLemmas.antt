@@ -1,5 +1,5 @@
 -- What a question about a table file leaves.
-use Rattle.std.proofs.Common.{◌≡◌, inl, inr, ℕ, ◌≤◌, List, [], ◌∷◌, length, Option, Some, None, Result, Ok, Err, sym, ap, subst, arith}
+use Rattle.std.proofs.Common.{◌≡◌, inl, inr, ℕ, ◌≤◌, List, [], ◌∷◌, length, Option, Some, None, Result, Ok, Err, ap, arith, subst, sym}
 use Rattle.aftr_base.specs.Contents.{Contents, content, Told}
 use Rattle.aftr_base.specs.declared.numbers.V4.{V4}
 use Rattle.aftr_base.specs.declared.numbers.V6.{V6}
@@ -28,7 +28,7 @@ same_error x y e = cc
 -- a refused file is answered with its cause
 refuses : OneAnswer → (bytes : List ℕ) (x : FileRefused) → TableOf bytes (Err x) → RefusesAs bytes (status.BadTable x)
 refuses one bytes x is y = (
-  λ same. subst (λ e. TableOf bytes (Err e)) (same_status x y same) is,
+  λ same. rw (← (same_status x y same)) is,
   λ other. inl (ap status.BadTable (same_error x y (one bytes (Err x) (Err y) is other))),
 )
 
@@ -48,11 +48,7 @@ pub answered : (IsLine : List ℕ → Type 0) (line : List ℕ) (s : Status) (sa
 answered IsLine line status.Done said now it p = (line, it, p)
 answered IsLine line status.WriteFault said now it p = (line, it, p.0, p.1, p.2)
 answered IsLine line status.OutOfMemory said now it p = inr (line, it, p.0, p.1, p.2)
-answered IsLine line status.ReadFault said now it p = absurd p
-answered IsLine line (status.BadTable refusal) said now it p = absurd p
-answered IsLine line status.DoneRefused said now it p = absurd p
-answered IsLine line status.Usage said now it p = absurd p
-answered IsLine line (status.BadCapture refusal) said now it p = absurd p
+answered IsLine line _ said now it p = absurd p
 
 -- what is put of the line of an owner under the words of the file's table
 pub owner_answers : (h : Option Contents) (name : List ℕ) (v4 : V4) (port : ℕ) (t : BindingTable) (words slice : List ℕ) (owner : Option V6) (line put : List ℕ) (s : Status) (said now : Option (List ℕ))

@@ -174,20 +174,10 @@ shown_history seed count line said now history is summed = (line, is, some_not_n
 -- a line that cannot be put
 pub no_history : (seed count : ℕ) (s : Status) (line : List ℕ) (said now : Option (List ℕ)) (history : Option HistoryValue) → Puts s line said now → (s ≡ status.Done → ⊥) → history ≡ None → HasDemoHistory seed count s history
 no_history seed count status.Done line said now history put other none = absurd (other refl)
-no_history seed count status.WriteFault line said now history put other none = none
-no_history seed count status.OutOfMemory line said now history put other none = none
-no_history seed count status.ReadFault line said now history put other none = none
-no_history seed count (status.BadTable refusal) line said now history put other none = none
-no_history seed count status.DoneRefused line said now history put other none = none
-no_history seed count status.Usage line said now history put other none = none
-no_history seed count (status.BadCapture refusal) line said now history put other none = none
+no_history seed count _ line said now history put other none = none
 
 pub put_ends : (s : Status) (line : List ℕ) (said now : Option (List ℕ)) → Puts s line said now → (s ≡ status.Done) ⊎ ((s ≡ status.WriteFault) ⊎ (s ≡ status.OutOfMemory))
 put_ends status.Done line said now put = inl refl
 put_ends status.WriteFault line said now put = inr (inl refl)
 put_ends status.OutOfMemory line said now put = inr (inr refl)
-put_ends status.ReadFault line said now put = absurd put
-put_ends (status.BadTable refusal) line said now put = absurd put
-put_ends status.DoneRefused line said now put = absurd put
-put_ends status.Usage line said now put = absurd put
-put_ends (status.BadCapture refusal) line said now put = absurd put
+put_ends _ line said now put = absurd put
