@@ -1,4 +1,4 @@
-use Rattle.std.proofs.Common.{List, ℕ, ap, subst, sym}
+use Rattle.std.proofs.Common.{ap}
 use Rattle.aftr_base.specs.Memory.{SinkInMemory}
 use Rattle.lwaftr_engine.specs.Demos.{IsDemoLine}
 use Rattle.lwaftr_engine.proofs.QueryLemmas.{answered}
@@ -12,7 +12,7 @@ returns-clause-line g c =
     (ap (λ (s : SinkInMemory). s.out) c.new-line.ensures) c.run_made.new.history c.in-Done.ensures.left in
     let line = line_alone c.args.seed c.args.count c.run_made.new.out.out c.run_made.new.history demo in
     answered (IsDemoLine c.args.seed c.args.count) c.bytes.result.now c.put_line.result (o.out c.args.out.now) (o.out c.put_line.new.out)
-    (subst (λ (l : List ℕ). IsDemoLine c.args.seed c.args.count l) (sym c.bytes.ensures) line) c.put_line.ensures.puts
+    (rw c.bytes.ensures line) c.put_line.ensures.puts
 
 pub returns-clause-due : goal.returns-clause-due
 returns-clause-due g c =
@@ -29,7 +29,7 @@ returns-in-Done-put_line-clause-line g c =
     let demo = is_demo c.one_reading.ensures c.written_is_read.ensures c.args.seed c.args.count c.requires.most c.in-Ok.show c.in-Ok.ensures c.run_made.new.files c.new-line.result.out c.run_made.new.out.out
     (ap (λ (s : SinkInMemory). s.out) c.new-line.ensures) c.run_made.new.history c.in-Done.ensures.left in
     let line = line_alone c.args.seed c.args.count c.run_made.new.out.out c.run_made.new.history demo in
-    (c.bytes.result.now, subst (λ (l : List ℕ). IsDemoLine c.args.seed c.args.count l) (sym c.bytes.ensures) line, c.in-Done-put_line.ensures.puts)
+    (c.bytes.result.now, rw c.bytes.ensures line, c.in-Done-put_line.ensures.puts)
 
 pub returns-in-Done-put_line-clause-history : goal.returns-in-Done-put_line-clause-history
 returns-in-Done-put_line-clause-history g c =

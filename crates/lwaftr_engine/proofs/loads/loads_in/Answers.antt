@@ -1,7 +1,7 @@
-use Rattle.std.proofs.Common.{◌≡◌, ◌+◌, ◌-◌, Bool, Err, drop, take, sym, ◌∙◌, ap, subst, arith}
+use Rattle.std.proofs.Common.{◌≡◌, ◌+◌, ◌-◌, Err, drop, take, ◌∙◌, ap, arith}
 use Rattle.std.proofs.lemmas.Result.{err_from_is_err_and}
 use Rattle.aftr_base.specs.Outside.{Outside, has_failed}
-use Rattle.lwaftr_engine.specs.Loads.{IsFitFor, IsLoadOf, OnlyReadsAmong}
+use Rattle.lwaftr_engine.specs.Loads.{IsFitFor, IsLoadOf}
 use Rattle.lwaftr_engine.proofs.LoadLemmas.{names_of, read_all, reads_within, told_on, zipped_on}
 use Rattle.lwaftr_engine.proofs.loads.loads_in.Goals as goal
 
@@ -29,5 +29,4 @@ returns-in_err-batch-clause-reads g c =
     let a = f.outside c.args.files.now in
     let d = f.outside c.batch_in.new.files in
     let e = err_from_is_err_and c.from_residual-in_err-batch.result c.from_residual-in_err-batch.ensures.1 in
-    subst (λ (b : Bool). OnlyReadsAmong b (names_of ws) a d) (sym (ap (λ r. has_failed r) (e.1 ∙ ap Err e.2)))
-    (reads_within _ ws at (at + c.min-count.result - at) a (f.outside c.batches.files) d c.batches.invariant.outside c.in_err-batch.ensures.reads)
+    rw (ap (λ r. has_failed r) (e.1 ∙ ap Err e.2)) (reads_within _ ws at (at + c.min-count.result - at) a (f.outside c.batches.files) d c.batches.invariant.outside c.in_err-batch.ensures.reads)

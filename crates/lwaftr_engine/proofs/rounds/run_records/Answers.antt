@@ -2,7 +2,7 @@ use Rattle.std.proofs.Common.{ap, refl, sym, ◌∙◌, arith, ℕ, Option, subs
 use Rattle.area_swap.specs.declared.areas.Areas.{Areas}
 use Rattle.capture_io.specs.Rounds.{is_cut}
 use Rattle.lwaftr_engine.specs.Progress.{seats_of, setup_of, spot, ReadsOf, mark}
-use Rattle.lwaftr_engine.specs.Underway.{steps_of, IsInHand, ReadsPast, StandsBetween}
+use Rattle.lwaftr_engine.specs.Underway.{steps_of, ReadsPast, StandsBetween}
 use Rattle.lwaftr_engine.proofs.Adding.{adds_more, adds_none, goes_on, others_more, others_none, reads_on}
 use Rattle.lwaftr_engine.proofs.Apart.{apart}
 use Rattle.lwaftr_engine.proofs.BrokenLemmas.{not_begun}
@@ -161,22 +161,18 @@ rounds-preserved g c =
     let last = (f.outside c.step.new.files).last in
     let P : Pending → Type 0 = λ k. Moves h0 h2 (λ a n. StandsBetween x s.areas.plan u.seat.known.actor.draws (mark a c.args.progress.now (seats_of s) first) n c.step.new.progress (seats_of u) (steps_of k) now next last) in
     let Q : Round → Type 0 = λ k. Moves h0 h2 (λ a n. StandsBetween x s.areas.plan u.seat.known.actor.draws (mark a c.args.progress.now (seats_of s) first) n c.step.new.progress (seats_of u) (steps_of c.swap.new.x) now k last) in
-    let Y : Round → Type 0 = λ k. r.ready c.step.new.reader k.number in
-    let H : Round → Type 0 = λ k. IsInHand c.step.new.progress.number k in
-    let N : ℕ → Type 0 = λ n. IsInHand n next in
-    let R : Round → Type 0 = λ k. ReadsOf (is_cut k.ending) x.run.input (f.outside c.args.files.now) (f.outside c.step.new.files) in
     let is = sym c.replace-records.ensures.after in
     record {
       went = subst Q is (subst P (sym c.swap.ensures.x_after) (steps_on c.run_laws.ensures x (apart x.run c.requires.apart) s.areas.plan first here c.rounds.round c.args.progress.now c.rounds.progress (seats_of s)
           t u c.in_ok-next.ensures.duty (ap (λ (k : Areas). k.plan) c.rounds.invariant.same_areas) (steps_of c.rounds.pending) (f.outside c.rounds.files).last h0 h1 h2 c.rounds.invariant.went
           now well did.read did.wrote));
       can = goes_on t u c.in_ok-next.ensures.duty c.rounds.invariant.can well.after;
-      ready = subst Y is did.ready;
-      in_hand = subst H is (subst N (sym well.number) did.read.in_hand);
+      ready = rw (← is) did.ready;
+      in_hand = rw (← is) (rw well.number did.read.in_hand);
       same_areas = c.in_ok-next.ensures.duty.areas ∙ c.rounds.invariant.same_areas;
       adds = adds_more s t u c.rounds.invariant.adds adds;
       others = others_more x.run h0 h1 h2 c.rounds.invariant.others did.others;
-      reads = subst R is (reads_after (is_cut next.ending) x.run.input (f.outside c.args.files.now) (f.outside c.rounds.files) (f.outside c.step.new.files)
+      reads = rw (← is) (reads_after (is_cut next.ending) x.run.input (f.outside c.args.files.now) (f.outside c.rounds.files) (f.outside c.step.new.files)
           (record { faults = before.0; lost = before.1; spoiled = c.rounds.invariant.spoiled; last = before.2 }) did.reads);
       spoiled = did.spoiled ∙ c.rounds.invariant.spoiled;
     }

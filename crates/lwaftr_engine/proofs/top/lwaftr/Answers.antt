@@ -1,15 +1,14 @@
-use Rattle.std.proofs.Common.{◌≡◌, ◌⊎◌, ◌∙◌, ℕ, Option, None, refl, ap, sym, subst}
+use Rattle.std.proofs.Common.{◌≡◌, ◌⊎◌, ◌∙◌, ℕ, Option, None, refl, ap, sym}
 use Rattle.aftr_text.specs.Parts.{texts}
 use Rattle.aftr_text.specs.declared.jobs.Job.TheVariants as asked
 use Rattle.aftr_text.specs.declared.jobs.RunJob.{RunJob}
 use Rattle.area_swap.specs.Histories.{HistoryValue}
-use Rattle.lwaftr_engine.specs.Causes.{HasCause}
 use Rattle.lwaftr_engine.specs.Demos.{KeepsDemo}
 use Rattle.lwaftr_engine.specs.Migrations.{KeepsMigration}
 use Rattle.lwaftr_engine.specs.Promises.{KeepsRun}
 use Rattle.lwaftr_engine.specs.Prompt.{EndsSo}
 use Rattle.lwaftr_engine.specs.Questions.{IsOwnerLine, IsValidLine, KeepsQuestion}
-use Rattle.lwaftr_engine.specs.Worlds.{World, world}
+use Rattle.lwaftr_engine.specs.Worlds.{world}
 use Rattle.lwaftr_engine.specs.declared.at_once.AtOnce.TheVariants as at_once
 use Rattle.lwaftr_engine.specs.declared.status.Status.{Status}
 use Rattle.lwaftr_engine.specs.declared.status.Status.TheVariants as status
@@ -35,16 +34,14 @@ returns-in-Ended g c =
       untouched = λ nothing. ((e.no_job nothing).1.0, (e.no_job nothing).1.1, c.requires.none);
       run = λ run asks.
           let left = e.run run asks in
-          let K : World → Type 0 = λ w. KeepsRun run s old w h in
           let same : old ≡ new = same_world (sym (ap f.outside left.1.0)) (sym (ap o.out left.1.1)) (sym (ap o.faults left.1.1)) in
-          subst K same (no_run run s old h (short_run r run s c.in-Ended.is left.0) c.requires.none);
+          rw (← same) (no_run run s old h (short_run r run s c.in-Ended.is left.0) c.requires.none);
       check = λ name asks. so (λ t k. KeepsQuestion IsValidLine name t old new k) (e.check name asks);
       who = λ name v4 port asks. so (λ t k. KeepsQuestion (IsOwnerLine v4 port) name t old new k) (e.who name v4 port asks);
       demo = λ seed count workers asks.
           let left = e.demo seed count workers asks in
-          let K : World → Type 0 = λ w. KeepsDemo seed count s old w h in
           let same : old ≡ new = same_world (sym (ap f.outside left.1.0)) (sym (ap o.out left.1.1)) (sym (ap o.faults left.1.1)) in
-          subst K same (no_show seed count s old h (short_demo r seed count workers s c.in-Ended.is left.0) c.requires.none);
+          rw (← same) (no_show seed count s old h (short_demo r seed count workers s c.in-Ended.is left.0) c.requires.none);
       migrate = λ input output asks. so (λ t k. KeepsMigration input output t old new k) (e.migrate input output asks);
       cause = one_cause s old new (e.cause s c.in-Ended.is);
     }
@@ -72,14 +69,13 @@ returns-in-Run g c =
       no_job = λ nothing. absurd (nothing (asked.Run job) asked_for);
       untouched = λ nothing. absurd (nothing (asked.Run job) asked_for);
       run = λ run asks.
-          let K : World → Type 0 = λ w. KeepsRun job c.run_job.result w new h in
           let L : RunJob → Type 0 = λ j. KeepsRun j c.run_job.result old new h in
-          left_run L r job run is (e.run run asks).0 (subst K same c.run_job.ensures);
+          left_run L r job run is (e.run run asks).0 (rw (← same) c.run_job.ensures);
       check = λ name asks. absurd (not_run (λ s. KeepsQuestion IsValidLine name s old mid None) r job is (e.check name asks));
       who = λ name v4 port asks. absurd (not_run (λ s. KeepsQuestion (IsOwnerLine v4 port) name s old mid None) r job is (e.who name v4 port asks));
       demo = λ seed count workers asks. absurd (run_not_demo r job seed count workers is (e.demo seed count workers asks).0);
       migrate = λ input output asks. absurd (not_run (λ s. KeepsMigration input output s old mid None) r job is (e.migrate input output asks));
-      cause = let C : World → Type 0 = λ w. HasCause c.run_job.result w new in subst C same c.run_job.ensures.cause;
+      cause = rw (← same) c.run_job.ensures.cause;
     }
 
 pub show_demo-requires-clause-some : goal.show_demo-requires-clause-some
@@ -122,10 +118,9 @@ returns-in-Demo g c =
       check = λ name asks. absurd (not_demo (λ t. KeepsQuestion IsValidLine name t old mid None) r seed count workers is (e.check name asks));
       who = λ name v4 port asks. absurd (not_demo (λ t. KeepsQuestion (IsOwnerLine v4 port) name t old mid None) r seed count workers is (e.who name v4 port asks));
       demo = λ other_seed other_count other_workers asks.
-          let K : World → Type 0 = λ w. KeepsDemo seed count s w new h in
           let L : ℕ → ℕ → Type 0 = λ a b. KeepsDemo a b s old new h in
           left_demo L r seed count workers other_seed other_count other_workers is (e.demo other_seed other_count other_workers asks).0
-          (subst K same (record { kept = refl; line = shown.line; cause = shown.cause files; due = shown.due; history_is = shown.history }));
+          (rw (← same) (record { kept = refl; line = shown.line; cause = shown.cause files; due = shown.due; history_is = shown.history }));
       migrate = λ input output asks. absurd (not_demo (λ t. KeepsMigration input output t old mid None) r seed count workers is (e.migrate input output asks));
-      cause = let C : World → Type 0 = λ w. HasCause s w new in subst C same (one_cause s mid new (shown.cause files));
+      cause = rw (← same) (one_cause s mid new (shown.cause files));
     }
