@@ -2,6 +2,7 @@
 ghost use Rattle.std.specs.Prelude.{◌≡◌, ◌∷◌, ◌≤◌, [], IfOk, IsErr, IfSome};
 ghost use Rattle.aftr_base.specs.Appended.{Extends};
 ghost use Rattle.capture_io.specs.Packets.{packet_bytes};
+ghost use Rattle.fragmenter.specs.Pieces4.{fragments4};
 ghost use Rattle.fragmenter.specs.Pieces6.{fragments6};
 ghost use Rattle.ip_codec.specs.Packet4.{packet4, IsBounded4};
 ghost use Rattle.ip_codec.specs.Seen.{seen};
@@ -67,7 +68,7 @@ pub(crate) fn push_packet_outward(
         let count = push_whole_outward(out, stamp, packet)?;
         return Ok(count);
     }
-    let count = push_pieces4(out, stamp, &lowered_field(packet), mtu)?;
+    let count = push_cut_outward(out, stamp, packet, mtu)?;
     Ok(count)
 }
 
@@ -88,6 +89,25 @@ fn push_whole_outward(
     push_lowered(out, &packet.view)?;
     stamp.push_tail(out, len)?;
     Ok(1)
+}
+
+// Apart from the packet that fits, which takes fewer instructions so.
+#[inline(always)]
+fn push_cut_outward(
+    out: &mut Vec<u8>,
+    stamp: Stamp,
+    packet: &ReadPacket<'_>,
+    mtu: u16,
+) -> Result<u32, OutOfMemory>
+    requires alive { 1 ≤ packet.now.view.ttl }
+    requires least_mtu { 576 ≤ mtu }
+    ensures pushed { IfOk result (λ count. ArePushed (packet_bytes stamp.form stamp.seconds stamp.fraction)
+        (fragments4 (one_hop_on (packet4 packet.now.view)) mtu 0) out.old.items out.new.items count) }
+    ensures few { IfOk result (λ count. count ≤ MOST_PIECES4) }
+    ensures kept { IsErr result → Extends out.old.items out.new.items }
+{
+    let count = push_pieces4(out, stamp, &lowered_field(packet), mtu)?;
+    Ok(count)
 }
 
 // The packet with its time to live one less in the field, and not in the bytes of its header.

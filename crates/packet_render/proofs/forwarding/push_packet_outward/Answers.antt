@@ -1,9 +1,10 @@
 -- What is recorded is what the definition names, by whether the packet fits.
-use Rattle.std.proofs.Common.{◌<◌, ◌≤◌, ◌∷◌, [], ◌∙◌, ap, arith, sym}
+use Rattle.std.proofs.Common.{◌<◌, ◌≤◌, ◌∷◌, [], arith}
 use Rattle.capture_io.specs.Packets.{packet_bytes}
 use Rattle.fragmenter.specs.Pieces4.{fragments4}
-use Rattle.ip_codec.specs.Packet4.{Packet4, packet4, packet_len}
+use Rattle.ip_codec.specs.Packet4.{packet4, packet_len}
 use Rattle.softwire_encap.specs.Passing.{lowered}
+use Rattle.packet_render.specs.Pushed.{one_hop_on}
 use Rattle.packet_render.specs.Sent.{outward}
 use Rattle.packet_render.proofs.PushLemmas.{same_pushed}
 use Rattle.packet_render.proofs.SentLemmas.{outward-cut, outward-whole}
@@ -26,6 +27,5 @@ returns-clause-pushed c =
     let mtu = c.args.mtu in
     let record_of = packet_bytes c.args.stamp.form c.args.stamp.seconds c.args.stamp.fraction in
     let long : mtu < packet_len p = omega (arith, c.if-total_len-from.false, c.total_len.ensures, c.from.ensures) in
-    let cut = packet4 c.lowered_field.result in
-    same_pushed record_of (fragments4 cut mtu 0) (outward mtu p) c.args.out.now.items c.push_pieces4.new.out.items c.in_ok-count-2.count
-    (outward-cut p mtu packet.alone long ∙ sym (ap (λ (q : Packet4). fragments4 q mtu 0) c.lowered_field.ensures.fields)) c.in_ok-count-2.ensures.pushed
+    same_pushed record_of (fragments4 (one_hop_on p) mtu 0) (outward mtu p) c.args.out.now.items c.push_cut_outward.new.out.items c.in_ok-count-2.count
+    (outward-cut p mtu packet.alone long) c.in_ok-count-2.ensures.pushed
