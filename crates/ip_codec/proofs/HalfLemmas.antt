@@ -1,6 +1,6 @@
 -- A number of 16 bytes is that of its first eight and that of its last eight.
-use Rattle.std.proofs.Common.{◌≡◌, ◌*◌, ◌/◌, ◌%◌, ℕ, List, [], ◌∷◌, ◌++◌, ap, ◌∙◌, arith}
-use Rattle.std.specs.Int.{w64, w128, to_be_bytes}
+use Rattle.std.proofs.Common.{◌≡◌, ◌<◌, ◌+◌, ◌*◌, ◌/◌, ◌%◌, ℕ, List, [], ◌∷◌, ◌++◌, ap, ◌∙◌, arith}
+use Rattle.std.specs.Int.{w64, w128, swap_bytes, to_be_bytes, to_le_bytes}
 use Rattle.std.proofs.Math.Nat.{div-div-eq-div-mul}
 use borrow.Rule.Slice.PartMut.{put_mid}
 
@@ -42,3 +42,52 @@ pub halves : (n : ℕ) (x y : List ℕ) → x ≡ to_be_bytes w64 (n / half) →
 halves n x y first last =
     ap (λ (l : List ℕ). put_mid 8 8 (l ++ 0 ∷ 0 ∷ 0 ∷ 0 ∷ 0 ∷ 0 ∷ 0 ∷ 0 ∷ []) y) first
     ∙ (ap (λ (l : List ℕ). put_mid 8 8 (to_be_bytes w64 (n / half) ++ 0 ∷ 0 ∷ 0 ∷ 0 ∷ 0 ∷ 0 ∷ 0 ∷ 0 ∷ []) l) last ∙ whole n)
+
+-- A number of eight bytes, the first of them the highest, and the bytes of it.
+abbrev number : ℕ → ℕ → ℕ → ℕ → ℕ → ℕ → ℕ → ℕ → ℕ
+number a b c d e f g h =
+    a * 72057594037927936 + b * 281474976710656 + c * 1099511627776 + d * 4294967296 + e * 16777216 + f * 65536 + g * 256 + h
+
+byte0 : (a b c d e f g h : ℕ) → h < 256 → number a b c d e f g h % 256 ≡ h
+byte0 a b c d e f g h h_small = omega arith
+
+byte1 : (a b c d e f g h : ℕ) → g < 256 → h < 256 → number a b c d e f g h / 256 % 256 ≡ g
+byte1 a b c d e f g h g_small h_small = omega arith
+
+byte2 : (a b c d e f g h : ℕ) → f < 256 → g < 256 → h < 256 → number a b c d e f g h / 65536 % 256 ≡ f
+byte2 a b c d e f g h f_small g_small h_small = omega arith
+
+byte3 : (a b c d e f g h : ℕ) → e < 256 → f < 256 → g < 256 → h < 256 → number a b c d e f g h / 16777216 % 256 ≡ e
+byte3 a b c d e f g h e_small f_small g_small h_small = omega arith
+
+byte4 : (a b c d e f g h : ℕ) → d < 256 → e < 256 → f < 256 → g < 256 → h < 256 → number a b c d e f g h / 4294967296 % 256 ≡ d
+byte4 a b c d e f g h d_small e_small f_small g_small h_small = omega arith
+
+byte5 : (a b c d e f g h : ℕ) → c < 256 → d < 256 → e < 256 → f < 256 → g < 256 → h < 256 → number a b c d e f g h / 1099511627776 % 256 ≡ c
+byte5 a b c d e f g h c_small d_small e_small f_small g_small h_small = omega arith
+
+byte6 : (a b c d e f g h : ℕ) → b < 256 → c < 256 → d < 256 → e < 256 → f < 256 → g < 256 → h < 256 → number a b c d e f g h / 281474976710656 % 256 ≡ b
+byte6 a b c d e f g h b_small c_small d_small e_small f_small g_small h_small = omega arith
+
+byte7 : (a b c d e f g h : ℕ) → a < 256 → b < 256 → c < 256 → d < 256 → e < 256 → f < 256 → g < 256 → h < 256 → number a b c d e f g h / 72057594037927936 % 256 ≡ a
+byte7 a b c d e f g h a_small b_small c_small d_small e_small f_small g_small h_small = omega arith
+
+turned : (a b c d e f g h : ℕ) → a < 256 → b < 256 → c < 256 → d < 256 → e < 256 → f < 256 → g < 256 → h < 256 →
+    to_le_bytes w64 (number a b c d e f g h) ≡ h ∷ g ∷ f ∷ e ∷ d ∷ c ∷ b ∷ a ∷ []
+turned a b c d e f g h a_small b_small c_small d_small e_small f_small g_small h_small =
+    λ i. byte0 a b c d e f g h h_small i
+    ∷ byte1 a b c d e f g h g_small h_small i
+    ∷ byte2 a b c d e f g h f_small g_small h_small i
+    ∷ byte3 a b c d e f g h e_small f_small g_small h_small i
+    ∷ byte4 a b c d e f g h d_small e_small f_small g_small h_small i
+    ∷ byte5 a b c d e f g h c_small d_small e_small f_small g_small h_small i
+    ∷ byte6 a b c d e f g h b_small c_small d_small e_small f_small g_small h_small i
+    ∷ byte7 a b c d e f g h a_small b_small c_small d_small e_small f_small g_small h_small i
+    ∷ []
+
+-- What a number of eight bytes, turned round, has first is its last byte.
+pub half-turned : (n : ℕ) → to_le_bytes w64 (swap_bytes w64 n) ≡ to_be_bytes w64 n
+half-turned n =
+    turned (n % 256) (n / 256 % 256) (n / 65536 % 256) (n / 16777216 % 256) (n / 4294967296 % 256) (n / 1099511627776 % 256)
+    (n / 281474976710656 % 256) (n / 72057594037927936 % 256) (omega arith) (omega arith) (omega arith) (omega arith) (omega arith) (omega arith)
+    (omega arith) (omega arith)

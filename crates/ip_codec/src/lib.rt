@@ -11,7 +11,8 @@ mod rules;
 
 pub use items::{Item, ItemView, Outer};
 pub use packet4::{
-    HEADER4_LEN, Head4, Ip4Bad, Ip4View, head4_bytes, ip4, is_plain4, push_head4, put4, sum_of_both,
+    HEADER4_LEN, Head4, Ip4Bad, Ip4View, head4_bytes, ip4, is_plain4, push_head4, put4,
+    sum_of_both, view_of,
 };
 pub use packet6::{
     HEADER6_LEN, Head6, Ip6Bad, Ip6View, VERSION6, head6_bytes, ip6, is_ip6, known_ip6, push_head6,

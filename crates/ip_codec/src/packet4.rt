@@ -193,9 +193,9 @@ fn fills(sum: u64) -> bool
     sum % 65535 == 0
 }
 
-// The fields of a header, whatever they say of its lengths and its checksum.
+/// The fields of a header before a payload, whatever they say of its lengths and its checksum (RFC 791, section 3.1).
 #[inline(always)]
-pub(crate) fn view_of<'a>(header: &'a [u8], payload: &'a [u8]) -> Ip4View<'a>
+pub fn view_of<'a>(header: &'a [u8], payload: &'a [u8]) -> Ip4View<'a>
     requires { 20 ≤ length header.now }
     ensures { packet4 result ≡ fields4 header.now payload.now }
 {

@@ -1,6 +1,6 @@
 // IPv6 packets, read and written.
 ghost use Rattle.std.specs.Prelude.{◌≡◌, ◌+◌, ◌^◌, ◌<◌, ◌≤◌, ◌++◌, length, IfOk, IsErr, Ok, is_ok, true};
-ghost use Rattle.std.specs.Int.{w128, to_be_bytes};
+ghost use Rattle.std.specs.Int.{w64, w128, to_be_bytes};
 ghost use Rattle.aftr_base.specs.Appended.{Extends};
 ghost use Rattle.ip_codec.specs.Packet6.{ip6_of, packet6, Reads6, IsBounded6, version6, bytes6, fields6, header6, made6, payload_len};
 
@@ -124,6 +124,7 @@ pub fn put6(alloc: Global, head: &Head6, body: &[u8]) -> Result<Bytes, OutOfMemo
 
 /// Appends the fixed header with these fields, before a body of a length (RFC 8200, section 3). After an `Err` some of it may stand
 /// behind what stood there.
+#[inline(always)]
 pub fn push_head6(out: &mut Vec<u8>, head: &Head6, payload_len: u16) -> Result<(), OutOfMemory>
     ensures bytes { IfOk result (λ _. out.new.items ≡ out.old.items ++ header6 head.now payload_len) }
     ensures kept { IsErr result → Extends out.old.items out.new.items }
@@ -155,7 +156,15 @@ fn address_bytes(address: V6) -> [u8; 16]
     ensures { result ≡ to_be_bytes w128 address.0 }
 {
     let mut bytes = [0; 16];
-    bytes[..8].copy_from_slice(&((address.0 >> 64) as u64).to_be_bytes());
-    bytes[8..].copy_from_slice(&((address.0 % (1 << 64)) as u64).to_be_bytes());
+    bytes[..8].copy_from_slice(&half_bytes((address.0 >> 64) as u64));
+    bytes[8..].copy_from_slice(&half_bytes((address.0 % (1 << 64)) as u64));
     bytes
+}
+
+// Turned round as one number: where the bytes are taken one by one, a compiler takes them from the whole address, and turns nothing.
+#[inline(always)]
+fn half_bytes(half: u64) -> [u8; 8]
+    ensures { result ≡ to_be_bytes w64 half }
+{
+    half.swap_bytes().to_le_bytes()
 }

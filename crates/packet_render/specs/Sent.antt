@@ -59,7 +59,7 @@ is_forwarded verdict.Held = false
 -- a reply goes as it is, or in the tunnel to the sender (RFC 7596, section 6.2)
 abbrev pub along : Path → List ℕ → List ℕ
 along path.Plain packet = packet
-along (path.Tunnel from to hop) packet = wrapped from to hop packet
+along (path.Tunnel hop from to) packet = wrapped from to hop packet
 
 -- the ICMPv6 error to the subscriber's end of the tunnel that the packet's source failed the policy; it quotes the packet as it
 -- was in the tunnel, without what stood behind its total length (ours)

@@ -191,6 +191,7 @@ fn push_whole_inward(
 }
 
 // The packet's header is made apart, and its payload is cut where it stands.
+#[inline(always)]
 fn push_cut_inward(
     out: &mut Vec<u8>,
     stamp: Stamp,

@@ -40,6 +40,7 @@ pub(crate) fn push_pieces4(
 }
 
 // Appends the fragments of a tunnel packet that does not fit. What its body has behind that of the view stands in `rest`.
+#[inline(never)]
 pub(crate) fn push_pieces6(
     out: &mut Vec<u8>,
     stamp: Stamp,

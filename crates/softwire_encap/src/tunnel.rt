@@ -85,7 +85,8 @@ pub fn push_tunnel_head(
 }
 
 /// Appends the packet that `lower` makes, in the tunnel packet that `encap` makes of it. After an `Err` some of it may stand
-/// behind what stood there.
+/// behind what stood there. It is inlined down to the bytes, so that the packet's fields go through no memory.
+#[inline(always)]
 pub fn push_tunnelled(
     out: &mut Vec<u8>,
     from: V6,

@@ -53,7 +53,7 @@ module _ (t : BindingTable) (src dst : V6) (message : List ℕ) where
 
   sender_by : (quote : TunnelQuote) (way : Path) → LeadsTo t quote way → IsSubscriberAddress t quote.inner.src → HasQuotedSender t quote
   sender_by quote path.Plain leads found = absurd (both_ways (is_bound_address t quote.inner.src) leads (address_bound t quote.inner.src found))
-  sender_by quote (path.Tunnel from to hop) leads found =
+  sender_by quote (path.Tunnel hop from to) leads found =
       record { want = leads.1.0; key = leads.1.1.0; binding = leads.1.1.1.binding; owner = leads.1.1.1.owner }
 
   owed_on : (v : Verdict) → IsLawful t → verdict_in (lines t (item.Six58 src dst message)) ≡ Some v → IsRelayed v → IsOwedOn t src dst message

@@ -76,9 +76,9 @@ module _ (t : BindingTable) (lawful : IsLawful t) (src dst : V6) (message : List
       own_way : (v : Verdict) (end : Option V6) → owner_end t quote.inner.src (quoted_source quote) ≡ end →
           verdict_in (relay_refusals quote (is_bound_address t quote.inner.src) end) ≡ None →
           verdict_in (relay_ways t.softwire error.kind error.word end) ≡ Some v → P v
-      own_way v (Some to) is none first = own_relayed (path.Tunnel t.softwire.aftr to t.softwire.hop_limit) v leads first
+      own_way v (Some to) is none first = own_relayed (path.Tunnel t.softwire.hop_limit t.softwire.aftr to) v leads first
         where
-          leads : LeadsTo t quote (path.Tunnel t.softwire.aftr to t.softwire.hop_limit)
+          leads : LeadsTo t quote (path.Tunnel t.softwire.hop_limit t.softwire.aftr to)
           leads =
               let owned = owner_known t quote.inner.src (quoted_source quote) to lawful is in
               (refl, (owned.want, (owned.key, owned.owner)))
@@ -148,8 +148,8 @@ relay_decides : (t : BindingTable) (kind word : ℕ) (quote : TunnelQuote) (is_o
     (way : Path) × (verdict_in (relay_lines t.softwire kind word quote is_ours end) ≡ Some (relayed t.softwire kind word way))
 relay_decides t kind word quote true None found loud = absurd (found refl refl)
 relay_decides t kind word quote false None found loud = (path.Plain, rw loud refl)
-relay_decides t kind word quote true (Some to) found loud = (path.Tunnel t.softwire.aftr to t.softwire.hop_limit, rw loud refl)
-relay_decides t kind word quote false (Some to) found loud = (path.Tunnel t.softwire.aftr to t.softwire.hop_limit, rw loud refl)
+relay_decides t kind word quote true (Some to) found loud = (path.Tunnel t.softwire.hop_limit t.softwire.aftr to, rw loud refl)
+relay_decides t kind word quote false (Some to) found loud = (path.Tunnel t.softwire.hop_limit t.softwire.aftr to, rw loud refl)
 
 pub relays_all : (t : BindingTable) (i : Item) (v : Verdict) → verdict_in (lines t i) ≡ Some v → RelaysAll t i v
 relays_all t (item.Six58 src dst message) v is = λ permitted error found loud.

@@ -217,7 +217,7 @@ pub record RelayPermits (t : BindingTable) (src dst : V6) (message : List ℕ) :
 -- has the address
 abbrev pub LeadsTo : BindingTable → TunnelQuote → Path → Type 0
 LeadsTo t quote path.Plain = is_bound_address t quote.inner.src ≡ false
-LeadsTo t quote (path.Tunnel from to hop) =
+LeadsTo t quote (path.Tunnel hop from to) =
     (from ≡ t.softwire.aftr) × ((want : Want) × ((quoted_source quote ≡ key.At want) × IsOwner t quote.inner.src want to.0))
 
 -- this holds of the item if it is an ICMPv6 message

@@ -34,7 +34,7 @@ may_complain p = gets_answer (about p)
 
 -- the way back to a subscriber: the tunnel that its packet came through (RFC 7596, section 6.2)
 abbrev pub way_back : Softwire → Outer → Path
-way_back s outer = path.Tunnel s.aftr outer.src s.hop_limit
+way_back s outer = path.Tunnel s.hop_limit s.aftr outer.src
 
 -- the sender is another one than the owner, or there is no owner: ICMPv6, source address failed ingress/egress policy (RFC
 -- 7596, section 6.2; RFC 4443, section 2.4 (e))

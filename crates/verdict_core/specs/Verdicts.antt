@@ -186,7 +186,7 @@ relay_refusals q is_ours end =
 -- .. and the ways to it: to the subscriber that sent it, through its tunnel, or to the IPv4 network (RFC 2473, section 8).
 abbrev pub relay_ways : Softwire → ℕ → ℕ → Option V6 → List Line
 relay_ways s kind word end =
-    ways_to end (λ to. relayed s kind word (path.Tunnel s.aftr to s.hop_limit))
+    ways_to end (λ to. relayed s kind word (path.Tunnel s.hop_limit s.aftr to))
     ++ passes (relayed s kind word path.Plain) ∷ []
 
 abbrev pub relay_lines : Softwire → ℕ → ℕ → TunnelQuote → Bool → Option V6 → List Line

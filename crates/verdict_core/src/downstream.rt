@@ -24,7 +24,8 @@ use port_locate::Wants;
 use std::sync::ledger::Ledger;
 use table_words::{Steps, Words, look};
 
-#[inline(never)]
+// Inlined as `judge_up` is: what the words are read through stays in registers from one word to the next.
+#[inline(always)]
 pub fn judge_down<W: Words, L: Ledger>(
     words: &mut W,
     settings: &Softwire,

@@ -2,11 +2,12 @@
 use aftr_base::{V4, V6};
 use ip_codec::Rule;
 
-/// How a reply goes back: as it is, or in the tunnel to the sender.
+/// How a reply goes back: as it is, or in the tunnel to the sender. The hop limit stands before the addresses, where there is room: so a
+/// verdict, which is kept for each record of a round, has 80 bytes and not 96.
 #[derive(Clone, Copy, Debug, PartialEq, Eq)]
 pub enum Path {
     Plain,
-    Tunnel { from: V6, to: V6, hop: u8 },
+    Tunnel { hop: u8, from: V6, to: V6 },
 }
 
 /// What the sender of a dropped packet is told.
