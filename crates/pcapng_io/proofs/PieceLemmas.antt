@@ -1,6 +1,6 @@
 -- Blocks that are taken off the front of a piece, one more.
-use Rattle.std.proofs.Common.{◌≡◌, ℕ, ◌+◌, ◌-◌, ◌^◌, ◌<◌, ◌≤◌, Bool, List, [], ◌∷◌, ◌++◌, length, take, drop, map, All, Option, Some, None, Ok, refl, sym, ◌∙◌, ap, subst, append_assoc, arith}
-use Rattle.std.proofs.lemmas.List.{drop-drop, length-drop, length-map, length-take-le, map-append, take_rest}
+use Rattle.std.proofs.Common.{◌≡◌, ℕ, ◌+◌, ◌-◌, ◌^◌, ◌<◌, ◌≤◌, Bool, List, [], ◌∷◌, ◌++◌, length, get_or, take, drop, map, All, Option, Some, None, Ok, refl, sym, ◌∙◌, ap, subst, append_assoc, arith}
+use Rattle.std.proofs.lemmas.List.{drop-drop, get_or-append-add, length-drop, length-map, length-take-le, map-append, take_rest}
 use Rattle.std.proofs.lemmas.List.Elements.{All-nil}
 use Rattle.aftr_base.specs.Numbers.{span}
 use Rattle.capture_io.specs.declared.forms.CaptureBad.{CaptureBad}
@@ -23,7 +23,7 @@ use Rattle.pcapng_io.specs.Blocks.{block_in, interfaces_after, known_after, know
 use Rattle.pcapng_io.specs.Captures.{Gives, next_in, Splits}
 use Rattle.pcapng_io.specs.Files.{IsSound, IsSoundPacket}
 use Rattle.pcapng_io.specs.Fronts.{front_in, IsSoundFront}
-use Rattle.pcapng_io.specs.Pieces.{AreBlocks, Ended, IsOpen, place_of}
+use Rattle.pcapng_io.specs.Pieces.{AreBlocks, Ended, IsOpen, IsTimed, last_place, place_of}
 use Rattle.pcapng_io.specs.Rounds.{left_of}
 use Rattle.pcapng_io.proofs.StartLemmas.{Tells, at_start, front_said, front_told, open_before, open_short}
 use Rattle.pcapng_io.proofs.SplitLemmas.{record_end, split_on}
@@ -217,3 +217,72 @@ said_at known interfaces slice piece last used nth result said same says is =
 
 pub sound_said : (nth : ℕ) (result said : Front) → result ≡ said → IsSoundFront nth result → IsSoundFront nth said
 sound_said nth result said is sound = subst (IsSoundFront nth) is sound
+
+-- what is known so many bytes further on, behind a packet of this time
+abbrev pub known_further : Known → ℕ → ℕ → ℕ → Known
+known_further known more seconds nanos = record known { at = known.at + more; seconds = seconds; nanos = nanos }
+
+-- the number of the next packet, where there are more places than before
+abbrev pub number_further : ℕ → List Place → List Place → ℕ
+number_further number before now = number + (length now - length before)
+
+-- one packet more
+pub taken_further : (old : Seen) (known : Known) (interfaces : List Interface) (piece : List ℕ) (last : Bool) (number most : ℕ) (initial places pushed : List Place)
+    (begun used next total seconds nanos : ℕ) (p : Packet) (pl : Place) → begun ≤ used → length initial ≤ length places →
+    AreBlocks old (seen_by (known_further known (used - begun) seconds nanos) interfaces) piece last number most (map (placed piece) places) used (number_further next initial places) total →
+    IsSoundPacket (number_further next initial places) p →
+    front_in (seen_by (known_further known (used - begun) seconds nanos) interfaces) (drop used piece) last (number_further next initial places) ≡ front.Packet p →
+    pushed ≡ places ++ pl ∷ [] → pl ≡ place_of p used (known.at + (used - begun)) → length places < 16384 → total < most →
+    AreBlocks old (seen_by (known_further known (used + p.total - begun) p.seconds p.nanos) interfaces) piece last number most (map (placed piece) pushed) (used + p.total)
+    (number_further next initial pushed) (total + p.count)
+taken_further old known interfaces piece last number most initial places pushed begun used next total seconds nanos p pl forward grown t sound e items is few less =
+    let now = seen_by (known_further known (used - begun) seconds nanos) interfaces in
+    let at : known.at + (used + p.total - begun) ≡ known.at + (used - begun) + p.total = omega (arith, forward) in
+    let longer : length pushed ≡ length places + 1 = ap length items ∙ length_more places pl in
+    let one : number_further next initial places + 1 ≡ number_further next initial pushed = omega (arith, longer, grown) in
+    let behind : known_further known (used + p.total - begun) p.seconds p.nanos ≡ known_behind now.known p =
+    λ i. record known { at = at i; seconds = p.seconds; nanos = p.nanos } in
+    let P : ℕ → Type 0 = λ n. AreBlocks old (seen_by (known_further known (used + p.total - begun) p.seconds p.nanos) interfaces) piece last number most
+    (map (placed piece) pushed) (used + p.total) n (total + p.count) in
+    subst P one (packet_taken old now piece last number most places used (number_further next initial places) total t p sound e pushed pl
+    (known_further known (used + p.total - begun) p.seconds p.nanos) items is behind few less)
+
+pub last_pushed : (places pushed : List Place) (pl : Place) → pushed ≡ places ++ pl ∷ [] → last_place pushed ≡ pl
+last_pushed places pushed pl items =
+    let none : Place = record { seconds = 0; fraction = 0; from = 0; count = 0; next_at = 0 } in
+    let at : length (places ++ pl ∷ []) - 1 ≡ length places + 0 = omega (arith, length_more places pl) in
+    ap last_place items ∙ (ap (λ n. get_or (places ++ pl ∷ []) n none) at ∙ get_or-append-add places (pl ∷ []) 0 none)
+
+pub timed_behind : (known behind : Known) (p : Packet) (places pushed : List Place) (pl : Place) (from at : ℕ) → pushed ≡ places ++ pl ∷ [] → pl ≡ place_of p from at →
+    behind ≡ known_behind known p → IsTimed behind pushed
+timed_behind known behind p places pushed pl from at items is k =
+    let last : last_place pushed ≡ place_of p from at = last_pushed places pushed pl items ∙ is in
+    let longer : length pushed ≡ length places + 1 = ap length items ∙ length_more places pl in
+    record {
+      some = omega (arith, longer);
+      seconds = ap (λ (x : Place). x.seconds) last ∙ sym (ap (λ (x : Known). x.seconds) k);
+      nanos = ap (λ (x : Place). x.fraction) last ∙ sym (ap (λ (x : Known). x.nanos) k);
+    }
+
+-- what is known behind the packets that have these places
+abbrev pub known_by : Known → ℕ → List Place → Known
+known_by known more places = known_further known more (last_place places).seconds (last_place places).fraction
+
+-- the time that is kept with the place
+pub taken_timed : (old : Seen) (known : Known) (interfaces : List Interface) (piece : List ℕ) (last : Bool) (number most : ℕ) (places pushed : List Place) (more used from at next total : ℕ) (p : Packet)
+    (pl : Place) → pushed ≡ places ++ pl ∷ [] → pl ≡ place_of p from at →
+    AreBlocks old (seen_by (known_further known more p.seconds p.nanos) interfaces) piece last number most (map (placed piece) pushed) used next total →
+    AreBlocks old (seen_by (known_by known more pushed) interfaces) piece last number most (map (placed piece) pushed) used next total
+taken_timed old known interfaces piece last number most places pushed more used from at next total p pl items is t =
+    let P : Place → Type 0 = λ x. AreBlocks old (seen_by (known_further known more x.seconds x.fraction) interfaces) piece last number most (map (placed piece) pushed) used next total in
+    subst P (sym (last_pushed places pushed pl items ∙ is)) t
+
+-- the same by another writing of the place, of the number and of the last place
+pub taken_behind : (old : Seen) (known : Known) (interfaces : List Interface) (piece : List ℕ) (last : Bool) (number most : ℕ) (places : List Place)
+    (used further at next nth total : ℕ) (found : Place) → at ≡ known.at + further → nth ≡ next → found ≡ last_place places →
+    AreBlocks old (seen_by (known_by known further places) interfaces) piece last number most (map (placed piece) places) used next total →
+    AreBlocks old (seen_by (record known { at = at; seconds = found.seconds; nanos = found.fraction }) interfaces) piece last number most (map (placed piece) places) used nth total
+taken_behind old known interfaces piece last number most places used further at next nth total found at_is nth_is found_is t =
+    let P : ℕ → ℕ → Place → Type 0 = λ a n x. AreBlocks old (seen_by (record known { at = a; seconds = x.seconds; nanos = x.fraction }) interfaces) piece last number most
+    (map (placed piece) places) used n total in
+    subst (λ a. P a nth found) (sym at_is) (subst (λ n. P (known.at + further) n found) (sym nth_is) (subst (P (known.at + further) next) (sym found_is) t))

@@ -1,14 +1,17 @@
 -- What the front of what is left says of the block that stands there, where only the front was read.
-use Rattle.std.specs.Prelude.{ℕ, ◌^◌, ◌≤◌, nat_lt, Bool, true, false, not, ◌&&◌, if◌then◌else◌, List, length, Result, Ok, Err}
+use Rattle.std.specs.Prelude.{◌≡◌, ℕ, ◌^◌, ◌<◌, ◌≤◌, nat_lt, Bool, true, false, not, ◌&&◌, if◌then◌else◌, List, length, Result, Ok, Err}
 use Rattle.capture_io.specs.declared.forms.CaptureBad.{CaptureBad}
 use Rattle.pcapng_io.specs.declared.frame.Frame.{Frame}
 use Rattle.pcapng_io.specs.declared.block.Block.{Block}
 use Rattle.pcapng_io.specs.declared.block.Block.TheVariants as block
+use Rattle.pcapng_io.specs.declared.block.Known.{Known}
+use Rattle.pcapng_io.specs.declared.block.Packet.{Packet}
+use Rattle.pcapng_io.specs.declared.interface.Interface.{Interface}
 use Rattle.pcapng_io.specs.declared.fronts.Front.{Front}
 use Rattle.pcapng_io.specs.declared.fronts.Front.TheVariants as front
 use Rattle.pcapng_io.specs.declared.fronts.Sight.{Sight}
 use Rattle.pcapng_io.specs.declared.fronts.Sight.TheVariants as sight
-use Rattle.pcapng_io.specs.Seen.{Seen}
+use Rattle.pcapng_io.specs.Seen.{Seen, seen_by}
 use Rattle.pcapng_io.specs.Frames.{head_in}
 use Rattle.pcapng_io.specs.Blocks.{block_in}
 use Rattle.pcapng_io.specs.Files.{IsSound, IsSoundPacket}
@@ -42,6 +45,15 @@ IsSoundFront number (front.Passed p) = IsSound number (block.Passed p)
 IsSoundFront number front.End = Unit {0}
 IsSoundFront number (front.Bad refusal) = Unit {0}
 IsSoundFront number front.More = Unit {0}
+
+-- a packet is what the front says wherever its block stands, whatever its number is, and whether or not something follows
+abbrev pub IsSaidAnywhere : Bool → List Interface → List ℕ → Packet → Type 0
+IsSaidAnywhere big interfaces first p = (known : Known) (number : ℕ) (last : Bool) → known.big ≡ big → known.at ≤ 2 ^ 62 → number < 2 ^ 31 →
+    front_in (seen_by known interfaces) first last number ≡ front.Packet p
+
+-- and its parts are in range
+abbrev pub IsSoundAnywhere : Packet → Type 0
+IsSoundAnywhere p = (number : ℕ) → number < 2 ^ 31 → IsSoundPacket number p
 
 -- the front says nothing yet
 abbrev pub is_more : Front → Bool

@@ -1,5 +1,5 @@
 -- The whole blocks at the front of a piece of a file, and the packets in them.
-use Rattle.std.specs.Prelude.{◌≡◌, ℕ, ◌+◌, ◌^◌, ◌<◌, ◌≤◌, Bool, false, List, [], length, drop, map, All, Option, Result, Ok, Err}
+use Rattle.std.specs.Prelude.{◌≡◌, ℕ, ◌+◌, ◌-◌, ◌^◌, ◌<◌, ◌≤◌, Bool, false, List, [], length, get_or, drop, map, All, Option, Result, Ok, Err}
 use Rattle.aftr_base.specs.declared.lists.OutOfMemory.{OutOfMemory}
 use Rattle.aftr_base.specs.Contents.{Contents, content, Told}
 use Rattle.aftr_base.specs.Outside.{OnlyReads, Outside}
@@ -11,6 +11,7 @@ use Rattle.capture_io.specs.Fronts.{IsFront, IsStart}
 use Rattle.capture_io.specs.Records.{IsWithin, placed}
 use Rattle.capture_io.specs.Refusals.{EndsInRecords}
 use Rattle.capture_io.specs.Rounds.{GoesOn, IsCount, IsEnding, IsInNext, IsPlaced, Precedes, all_but_last, bytes_captured, is_cut}
+use Rattle.pcapng_io.specs.declared.block.Known.{Known}
 use Rattle.pcapng_io.specs.declared.block.Packet.{Packet}
 use Rattle.pcapng_io.specs.declared.interface.Interface.{Interface}
 use Rattle.pcapng_io.specs.declared.pieces.Taken.{Taken}
@@ -26,6 +27,16 @@ use Rattle.pcapng_io.specs.Rounds.{left_of}
 -- the place in a buffer of a packet whose block begins at `from` of it
 abbrev pub place_of : Packet → ℕ → ℕ → Place
 place_of p from at = record { seconds = p.seconds; fraction = p.nanos; from = from + p.start; count = p.count; next_at = at + p.total }
+
+-- the last of these places, where there is one
+abbrev pub last_place : List Place → Place
+last_place places = get_or places (length places - 1) (record { seconds = 0; fraction = 0; from = 0; count = 0; next_at = 0 })
+
+-- the last of these places, of which there is one, has the time of the last packet
+pub record IsTimed (known : Known) (places : List Place) : Type 0 where
+  pub some : 0 < length places
+  pub seconds : (last_place places).seconds ≡ known.seconds
+  pub nanos : (last_place places).fraction ≡ known.nanos
 
 -- Blocks that were taken off the front of a piece, which stands where `old` is seen: the records in them, how many bytes they
 -- have, the number of the next packet, and how many bytes were captured.

@@ -4,7 +4,7 @@ ghost use Rattle.pcapng_io.specs.declared.fronts.Front.TheVariants as front;
 ghost use Rattle.pcapng_io.specs.Blocks.{block_in, body_in};
 ghost use Rattle.pcapng_io.specs.Files.{IsSound, IsSoundPacket};
 ghost use Rattle.pcapng_io.specs.Frames.{enhanced_packet_type, frame_in, least_total};
-ghost use Rattle.pcapng_io.specs.Fronts.{front_in, front_seen, is_more, is_short, needed, IsSomeMissing, IsSoundFront};
+ghost use Rattle.pcapng_io.specs.Fronts.{front_in, front_seen, is_more, is_short, needed, IsSaidAnywhere, IsSomeMissing, IsSoundAnywhere, IsSoundFront};
 ghost use Rattle.pcapng_io.specs.Seen.{seen_by};
 
 use crate::block::{Block, FARTHEST, Known, Packet, Passed};
@@ -14,7 +14,7 @@ use crate::frame::{
 use crate::interface::{Interface, interface_of_front};
 use crate::long::MOST_KEPT;
 use crate::packets::{enhanced_of, section_of, simple_of};
-use capture_io::{CaptureBad, NgBad, word};
+use capture_io::{CaptureBad, MOST_RECORDS, NgBad, word};
 
 const LEAST_ENHANCED: u32 = 32;
 
@@ -88,10 +88,30 @@ pub fn quick_sight_of(
     ensures short { IsTrue (is_more (front_seen result)) → length first.now < 2 ^ 32 }
     ensures some { IsSomeMissing result }
 {
-    match plain_packet(known, interfaces, first, number) {
+    match plain_packet_at(known, interfaces, first, number) {
         Some(packet) => Sight::Packet(packet),
         None => sight_of(known, interfaces, first, last, number),
     }
+}
+
+// The plain packet at a place, under a number.
+#[inline(always)]
+fn plain_packet_at(
+    known: Known,
+    interfaces: &[Interface],
+    first: &[u8],
+    number: u32,
+) -> Option<Packet>
+    requires number { number ≤ 2 ^ 31 }
+    requires counted { All (λ interface. 0 < interface.ticks) interfaces.now }
+    ensures says { IfSome result (λ packet. (last : Bool) →
+        front_in (seen_by known interfaces.now) first.now last number ≡ front.Packet packet) }
+    ensures sound { IfSome result (λ packet. IsSoundPacket number packet) }
+{
+    if known.at > FARTHEST || number == MOST_RECORDS {
+        return None;
+    }
+    plain_packet(known.big, interfaces, first)
 }
 
 // The same of a block of any kind.
@@ -240,49 +260,29 @@ pub fn body_of_fields(
     }
 }
 
-/// The packet at the front, if an enhanced packet block stands there, all of it, and nothing refuses it. Nearly all blocks of a
+/// The packet at the front, if an enhanced packet block stands there, all of it, and nothing that it says is refused. The front then
+/// says this packet wherever the block stands and whatever its number is, where both are in range, so neither is asked for. Nearly all blocks of a
 /// capture are such ones, and less has to be asked for them than by `front_of`. None says nothing of what stands there.
 #[inline(always)]
-pub fn plain_packet(
-    known: Known,
-    interfaces: &[Interface],
-    first: &[u8],
-    number: u32,
-) -> Option<Packet>
-    requires number { number ≤ 2 ^ 31 }
+pub fn plain_packet(big: bool, interfaces: &[Interface], first: &[u8]) -> Option<Packet>
     requires counted { All (λ interface. 0 < interface.ticks) interfaces.now }
-    ensures says { IfSome result (λ packet. (last : Bool) →
-        front_in (seen_by known interfaces.now) first.now last number ≡ front.Packet packet) }
-    ensures sound { IfSome result (λ packet. IsSoundPacket number packet) }
-    ensures near { IfSome result (λ _. known.at ≤ 2 ^ 62) }
+    ensures says { IfSome result (IsSaidAnywhere big interfaces.now first.now) }
+    ensures sound { IfSome result IsSoundAnywhere }
 {
-    if known.big {
-        plain_by_order(true, known, interfaces, first, number)
+    if big {
+        plain_by_order(true, interfaces, first)
     } else {
-        plain_by_order(false, known, interfaces, first, number)
+        plain_by_order(false, interfaces, first)
     }
 }
 
 // The same, where the order is a constant, so that it is not asked for each number.
 #[inline(always)]
-fn plain_by_order(
-    big: bool,
-    known: Known,
-    interfaces: &[Interface],
-    first: &[u8],
-    number: u32,
-) -> Option<Packet>
-    requires order { big ≡ known.big }
-    requires number { number ≤ 2 ^ 31 }
+fn plain_by_order(big: bool, interfaces: &[Interface], first: &[u8]) -> Option<Packet>
     requires counted { All (λ interface. 0 < interface.ticks) interfaces.now }
-    ensures says { IfSome result (λ packet. (last : Bool) →
-        front_in (seen_by known interfaces.now) first.now last number ≡ front.Packet packet) }
-    ensures sound { IfSome result (λ packet. IsSoundPacket number packet) }
-    ensures near { IfSome result (λ _. known.at ≤ 2 ^ 62) }
+    ensures says { IfSome result (IsSaidAnywhere big interfaces.now first.now) }
+    ensures sound { IfSome result IsSoundAnywhere }
 {
-    if known.at > FARTHEST {
-        return None;
-    }
     let total = match enhanced_len(big, first) {
         Some(total) => total,
         None => return None,
@@ -292,7 +292,15 @@ fn plain_by_order(
         kind: ENHANCED_PACKET,
         total,
     };
-    let block = match enhanced_of(known, interfaces, first, frame, number) {
+    // Nothing is refused for this place, nor for the number 0.
+    let somewhere = Known {
+        at: 0,
+        big,
+        link: None,
+        seconds: 0,
+        nanos: 0,
+    };
+    let block = match enhanced_of(somewhere, interfaces, first, frame, 0) {
         Ok(block) => block,
         Err(_) => return None,
     };

@@ -1,18 +1,18 @@
 // The packets that stand in bytes that were read.
-ghost use Rattle.std.specs.Prelude.{◌≡◌, ℕ, ◌+◌, ◌^◌, ◌<◌, ◌≤◌, [], None, All, Bool, IfOk, IsErr, IsFalse, drop, length, map, vec_capacity};
+ghost use Rattle.std.specs.Prelude.{◌≡◌, ℕ, ◌+◌, ◌-◌, ◌^◌, ◌<◌, ◌≤◌, [], None, All, Bool, IfOk, IsErr, IsFalse, drop, length, map, vec_capacity};
 ghost use Rattle.capture_io.specs.Records.{IsWithin, placed};
 ghost use Rattle.capture_io.specs.Refusals.{EndsInRecords};
 ghost use Rattle.capture_io.specs.Rounds.{bytes_captured, is_cut};
 ghost use Rattle.pcapng_io.specs.Blocks.{interfaces_after};
-ghost use Rattle.pcapng_io.specs.Pieces.{AreBlocks, Ended, IsOpen, place_of};
+ghost use Rattle.pcapng_io.specs.Pieces.{AreBlocks, Ended, IsOpen, IsTimed, last_place, place_of};
 ghost use Rattle.pcapng_io.specs.Seen.{IsSoundSeen, Seen, seen_by};
 
-use crate::block::{Known, Packet, Passed};
+use crate::block::{FARTHEST, Known, Packet, Passed};
 use crate::fronts::{Front, front_of, plain_packet};
 use crate::interface::Interface;
 use crate::walk::{behind_packet, behind_passed, len_of};
 use aftr_base::OutOfMemory;
-use capture_io::{Ending, MOST_TAKEN, Place};
+use capture_io::{Ending, MOST_RECORDS, MOST_TAKEN, Place};
 
 /// How far blocks were taken off the front of a piece.
 #[derive(Clone, Copy)]
@@ -125,7 +125,8 @@ struct Run {
 }
 
 // Takes plain packets off the piece, from behind those that were taken on, until something else stands there or the round is full.
-// It stands apart, so that its loop has the registers for itself, and keeps what changes from packet to packet alone.
+// It stands apart, so that its loop has the registers for itself, and keeps what changes from packet to packet alone; what
+// holds of all packets of the piece is asked once.
 #[inline(never)]
 fn take_plain(
     before: Run,
@@ -139,6 +140,7 @@ fn take_plain(
     requires most { most_bytes ≤ 67108864 }
     requires size { length piece.now ≤ 2 ^ 63 }
     requires counted { All (λ interface. 0 < interface.ticks) interfaces.now }
+    requires timed { IsTimed before.known places.old.items }
     requires room { 16384 ≤ vec_capacity places.old }
     ensures taken { (old : Seen) (last : Bool) (number : ℕ) →
         AreBlocks old (seen_by before.known interfaces.now) piece.now last number most_bytes
@@ -150,43 +152,65 @@ fn take_plain(
     ensures forward { before.used ≤ result.used }
     ensures room { 16384 ≤ vec_capacity places.new }
 {
+    let begun = places.len();
+    let most = most_places(before, begun, piece.len());
     let mut used = before.used;
-    let mut at = before.known.at;
-    let mut seconds = before.known.seconds;
-    let mut nanos = before.known.nanos;
-    let mut next = before.number;
     let mut bytes = before.bytes;
-    'packets: while places.len() < MOST_TAKEN && bytes < most_bytes {
-        let here = Known {
-            at,
-            seconds,
-            nanos,
-            ..before.known
-        };
-        let packet = match plain_packet(here, interfaces, &piece[used..], next) {
+    'packets: while places.len() < most && bytes < most_bytes {
+        let packet = match plain_packet(before.known.big, interfaces, &piece[used..]) {
             Some(packet) => packet,
             None => break,
         };
-        places.push_reserved(place_of(packet, used, at));
-        let behind = behind_packet(here, packet);
+        places.push_reserved(place_of(packet, used, place_behind(before, used)));
         used += packet.total as usize;
-        at = behind.at;
-        seconds = behind.seconds;
-        nanos = behind.nanos;
-        next += 1;
         bytes += packet.count as usize;
     }
+    let last = last_of(places);
     Run {
         used,
         known: Known {
-            at,
-            seconds,
-            nanos,
+            at: place_behind(before, used),
+            seconds: last.seconds,
+            nanos: last.fraction,
             ..before.known
         },
-        number: next,
+        number: before.number + (places.len() - begun) as u32,
         bytes,
     }
+}
+
+// The most packets that a round may have behind a run, after which there are `begun`, in a piece that ends there: as many as a round has,
+// and none whose number or place might be refused.
+fn most_places(before: Run, begun: usize, end: usize) -> usize
+    requires inside { before.used ≤ end }
+    requires number { before.number ≤ 2 ^ 31 }
+    requires size { end ≤ 2 ^ 63 }
+    ensures few { result ≤ 16384 }
+    ensures numbered { result ≤ begun + (2 ^ 31 - before.number) }
+    ensures near { 0 < result → before.known.at + (end - before.used) ≤ 2 ^ 62 }
+{
+    let left = (end - before.used) as u64;
+    if before.known.at > FARTHEST || left > FARTHEST - before.known.at {
+        return 0;
+    }
+    MOST_TAKEN.min(begun.saturating_add((MOST_RECORDS - before.number) as usize))
+}
+
+// The last of the places, of which there is one.
+fn last_of(places: &[Place]) -> Place
+    requires { 0 < length places.now }
+    ensures { result ≡ last_place places.now }
+{
+    places[places.len() - 1]
+}
+
+// The place of the file behind the bytes that were taken.
+fn place_behind(before: Run, used: usize) -> u64
+    requires forward { before.used ≤ used }
+    requires place { before.known.at + (used - before.used) < 2 ^ 64 }
+    ensures { result ≡ before.known.at + (used - before.used) }
+{
+    before.known.at + (used - before.used) as u64
 }
 
 pub fn place_of(packet: Packet, from: usize, at: u64) -> Place

@@ -8,7 +8,7 @@ use Rattle.capture_io.specs.Records.{placed}
 use Rattle.pcapng_io.specs.Fronts.{is_more}
 use Rattle.pcapng_io.specs.Pieces.{AreBlocks}
 use Rattle.pcapng_io.specs.Seen.{seen_by}
-use Rattle.pcapng_io.proofs.PieceLemmas.{ended_bad, ended_end, is_open, packet_fits, packet_taken, packet_within, passed_taken, said_at, sound_said}
+use Rattle.pcapng_io.proofs.PieceLemmas.{ended_bad, ended_end, is_open, packet_fits, packet_taken, packet_within, passed_taken, said_at, sound_said, timed_behind}
 use Rattle.pcapng_io.proofs.RefusalLemmas.{block_refused, front_refused}
 use Rattle.pcapng_io.proofs.pieces.take_blocks.Goals as goal
 
@@ -47,6 +47,11 @@ take_plain-run-requires-clause-inside c =
     let p = c.in-Packet.packet in
     let said = said_at c.blocks-2.here c.blocks-2.interfaces.items c.deref.result.now c.args.piece.now c.args.last c.blocks-2.used c.blocks-2.next c.front_of.result (front.Packet p) c.deref.ensures.value c.front_of.ensures.says c.in-Packet.is in
     packet_fits now c.args.piece.now c.args.last c.blocks-2.used c.blocks-2.next p c.blocks-2.invariant.taken.inside said
+
+pub take_plain-run-requires-clause-timed : goal.take_plain-run-requires-clause-timed
+take_plain-run-requires-clause-timed c =
+    timed_behind c.blocks-2.here c.behind_packet.result c.in-Packet.packet c.blocks-2.places.items c.push_reserved.new.self.items c.place_of.result c.blocks-2.used c.blocks-2.here.at
+    c.push_reserved.ensures.items c.place_of.ensures c.behind_packet.ensures
 
 pub blocks-2-preserved-in-Packet : goal.blocks-2-preserved-in-Packet
 blocks-2-preserved-in-Packet c =
