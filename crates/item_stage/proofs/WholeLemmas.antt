@@ -1,16 +1,17 @@
 -- Records that carry a packet that is no fragment.
-use Rattle.std.proofs.Common.{◌≡◌, ◌==◌, ℕ, ◌*◌, ◌/◌, ◌%◌, arith, slice_index, take, Bool, true, false, not, List, length, refl, sym, ◌∙◌, ap, Option, Some, None, is_some, drop, if◌then◌else◌, Result, Ok, Err, is_ok, slice_get}
+use Rattle.std.proofs.Common.{◌≡◌, ◌==◌, ℕ, ◌+◌, ◌*◌, ◌/◌, ◌%◌, ◌^◌, ◌<◌, ◌≤◌, ◌++◌, arith, slice_index, take, Bool, true, false, not, List, length, refl, sym, subst, ◌∙◌, ap, Option, Some, None, is_some, drop, if◌then◌else◌, Result, Ok, Err, is_ok, slice_get}
 use Rattle.std.specs.Prelude.{option_and_then}
 use Rattle.std.proofs.lemmas.Bool.{and_parts, eqb-true, not-true}
 use Rattle.std.proofs.lemmas.List.{get_or-take, length-take-le}
 use Rattle.aftr_base.specs.Numbers.{big_endian}
 use Rattle.aftr_base.specs.Sums.{checksum}
-use Rattle.ip_codec.proofs.Laws.{ip4_of-joined, ip4_of-Ok, ip4_of-shaped}
+use Rattle.ip_codec.proofs.Laws.{ip4_of-header4, ip4_of-joined, ip4_of-Ok, ip4_of-shaped}
 use Rattle.ip_codec.specs.Packet4 as four
 use Rattle.ip_codec.specs.Packet6 as six
 use Rattle.ip_codec.specs.declared.items.Item.{Item}
 use Rattle.ip_codec.specs.declared.items.Item.TheVariants as item
 use Rattle.ip_codec.specs.declared.items.Outer.{Outer}
+use Rattle.ip_codec.specs.declared.packet4.Head4.{Head4}
 use Rattle.ip_codec.specs.declared.packet4.Ip4Bad.{Ip4Bad}
 use Rattle.ip_codec.specs.declared.packet6.Ip6Bad.{Ip6Bad}
 use Rattle.ipv6_chain.specs.Chains.{chain_of}
@@ -23,6 +24,7 @@ use Rattle.item_stage.specs.Items.{items_in}
 use Rattle.item_stage.specs.Looks.{carries_plain, is_extension}
 use Rattle.item_stage.specs.declared.entries.Entry.{Entry}
 use Rattle.item_stage.specs.Packets.{if_packet, packet_at, packet_in}
+use Rattle.item_stage.specs.Rejoined.{IsPacket}
 use Rattle.item_stage.proofs.LookLemmas.{ends_at_once, span_of_front}
 
 uncut : (packet : four.Packet4) (read : Result four.Packet4 Ip4Bad) → read ≡ Ok packet → four.is_plain read ≡ true → four.is_fragment packet ≡ false
@@ -68,7 +70,15 @@ tunnel_plain_item outer packet read is carries inner =
 
 -- ---- an item that is known to have a packet
 
--- a packet that was read is the same by its header and payload alone
+-- a packet that was read has the fields that its own header spells, and is the same by its header and payload alone
+by_own : (bytes : List ℕ) (packet : four.Packet4) → four.ip4_of bytes ≡ Ok packet → four.fields4 packet.header packet.payload ≡ packet
+by_own bytes packet is =
+    let spelt = ip4_of-Ok bytes packet is in
+    (λ i. four.fields4 (spelt.is i).header (spelt.is i).payload) ∙ sym spelt.is
+
+pub packet_is : (bytes : List ℕ) (packet : four.Packet4) → four.ip4_of bytes ≡ Ok packet → if_packet (four.ip4_of bytes) ≡ Some (four.fields4 packet.header packet.payload)
+packet_is bytes packet is = ap if_packet is ∙ ap Some (sym (by_own bytes packet is))
+
 alone : (bytes : List ℕ) (packet : four.Packet4) → four.ip4_of bytes ≡ Ok packet → four.ip4_of (four.whole4 packet) ≡ Ok packet
 alone bytes packet is =
     let spelt = ip4_of-Ok bytes packet is in
@@ -81,14 +91,41 @@ alone bytes packet is =
     ∙ get_or-take len bytes 0 0 (omega (arith, spelt.least)) in
     let total : four.total_len_of packet.header ≡ four.total_len_of bytes =
     ap (λ (l : List ℕ). four.total_len_of l) header_is ∙ ap big_endian (span_of_front len bytes 2 (omega (arith, size, spelt.least))) in
-    let fields : four.fields4 packet.header packet.payload ≡ packet =
-    (λ i. four.fields4 (spelt.is i).header (spelt.is i).payload) ∙ sym spelt.is in
     ip4_of-joined packet.header packet.payload shaped.least_header (ap (λ (n : ℕ). n / 16) first ∙ spelt.version)
     (ap (λ (n : ℕ). 4 * (n % 16)) first ∙ sym shaped.header_len) (total ∙ sym shaped.total_len) (ap checksum header_is ∙ spelt.sum)
-    ∙ ap Ok fields
+    ∙ ap Ok (by_own bytes packet is)
 
 own : (bytes : List ℕ) (packet : four.Packet4) → four.ip4_of bytes ≡ Ok packet → if_packet (four.ip4_of (four.whole4 packet)) ≡ Some packet
 own bytes packet is = ap if_packet (alone bytes packet is)
+
+pub is_packet : (bytes : List ℕ) (packet : four.Packet4) → four.ip4_of bytes ≡ Ok packet → four.IsBounded4 packet → IsPacket packet.header packet.payload
+is_packet bytes packet is bounded = record {
+  reads = alone bytes packet is ∙ ap Ok (sym (by_own bytes packet is));
+  bounded = subst four.IsBounded4 (sym (by_own bytes packet is)) bounded;
+}
+
+-- and so is one that was made of a header and a payload
+pub made_packet : (fields : Head4) (options header payload : List ℕ) → header ≡ four.header4 fields options (length payload) → fields.src.0 < 2 ^ 32 → fields.dst.0 < 2 ^ 32 →
+    fields.offset ≤ 8191 → length options % 4 ≡ 0 → length options ≤ 40 → 20 + length options + length payload ≤ 65535 →
+    fields.tos ≤ 255 → fields.id ≤ 65535 → fields.ttl ≤ 255 → fields.protocol ≤ 255 → IsPacket header payload
+made_packet fields options header payload is src dst offset words few most tos id ttl protocol =
+    let packet = four.made4 fields options payload in
+    let read : four.ip4_of (header ++ payload) ≡ Ok packet =
+    ap (λ (l : List ℕ). four.ip4_of (l ++ payload)) is ∙ ip4_of-header4 fields options payload src dst offset words few in
+    let fields_are : four.fields4 header payload ≡ packet = ap (λ (l : List ℕ). four.fields4 l payload) is ∙ by_own (header ++ payload) packet read in
+    let shaped = ip4_of-shaped (header ++ payload) packet read in
+    let bounded : four.IsBounded4 packet = record {
+      tos = tos;
+      id = id;
+      offset = offset;
+      ttl = ttl;
+      protocol = protocol;
+      whole_words = shaped.whole_words;
+      least_header = shaped.least_header;
+      most_header = shaped.most_header;
+      most = omega (arith, most);
+    } in
+    record { reads = read ∙ ap Ok (sym fields_are); bounded = subst four.IsBounded4 (sym fields_are) bounded }
 
 pub network_known : (bytes : List ℕ) → is_some (packet_in (item_alone (from_network (four.ip4_of bytes)))) ≡ true →
     packet_in (item_alone (from_network (four.ip4_of bytes))) ≡ if_packet (four.ip4_of bytes)

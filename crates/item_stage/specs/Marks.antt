@@ -15,8 +15,8 @@ use Rattle.item_stage.specs.declared.rows.Rows.{Rows}
 abbrev pub outcome_item : Outcome → Item
 outcome_item outcome.Held = item.Held
 outcome_item (outcome.Bad why) = item.Bad why
-outcome_item (outcome.Down datagram) = item.Down datagram.bytes
-outcome_item (outcome.Up outer datagram) = item.Up outer datagram.bytes
+outcome_item (outcome.Down datagram) = item.Down (datagram.header ++ datagram.payload)
+outcome_item (outcome.Up outer datagram) = item.Up outer (datagram.header ++ datagram.payload)
 outcome_item (outcome.Carries outer next body) = item_inside (behind_fragment outer next body)
 
 abbrev pub marked : Mark → Entry

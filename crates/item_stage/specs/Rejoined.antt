@@ -1,8 +1,7 @@
 -- IPv4 datagrams put together.
-use Rattle.std.specs.Prelude.{◌≡◌, ℕ, true, false, List, [], ◌++◌, drop, length, Result, Ok, Err, is_ok}
+use Rattle.std.specs.Prelude.{◌≡◌, ℕ, false, List, [], ◌++◌, drop, length, Ok}
 use Rattle.ip_codec.specs.Packet4 as four
 use Rattle.ip_codec.specs.declared.packet4.Head4.{Head4}
-use Rattle.ip_codec.specs.declared.packet4.Ip4Bad.{Ip4Bad}
 
 -- the fields of a header whose datagram is whole: no further fragment, offset 0
 abbrev pub whole_head : four.Packet4 → Head4
@@ -24,10 +23,7 @@ whole_head packet = record {
 abbrev pub rejoined : List ℕ → List ℕ → List ℕ
 rejoined head body = four.header4 (whole_head (four.fields4 head [])) (drop 20 head) (length body) ++ body
 
--- the bytes are an IPv4 packet, all of them
-abbrev pub read_bytes : Result four.Packet4 Ip4Bad → List ℕ
-read_bytes (Ok packet) = four.whole4 packet
-read_bytes (Err why) = []
-
-abbrev pub IsPacket : List ℕ → Type 0
-IsPacket bytes = (is_ok (four.ip4_of bytes) ≡ true) × (read_bytes (four.ip4_of bytes) ≡ bytes)
+-- a header and a payload are an IPv4 packet, all of them
+pub record IsPacket (header payload : List ℕ) : Type 0 where
+  pub reads : four.ip4_of (header ++ payload) ≡ Ok (four.fields4 header payload)
+  pub bounded : four.IsBounded4 (four.fields4 header payload)

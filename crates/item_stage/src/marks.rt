@@ -9,7 +9,7 @@ ghost use Rattle.item_stage.specs.Shown.{shown_inside};
 use crate::alone::{Inside, behind_fragment};
 use crate::joining::Datagram;
 use aftr_base::{Bytes, Numbers, OutOfMemory};
-use ip_codec::{ItemView, Outer, Rule, read_packet};
+use ip_codec::{ItemView, Outer, Rule};
 use std::alloc::Global;
 use std::marker::Model;
 
@@ -114,30 +114,17 @@ impl Outcome {
         match self {
             Outcome::Held => ItemView::Held,
             Outcome::Bad(why) => ItemView::Bad(*why),
-            Outcome::Down(datagram) => down_view(datagram),
-            Outcome::Up { outer, packet } => up_view(*outer, packet),
+            Outcome::Down(datagram) => ItemView::Down {
+                packet: datagram.parts().packet(),
+            },
+            Outcome::Up { outer, packet } => ItemView::Up {
+                outer: *outer,
+                inner: packet.parts().packet(),
+            },
             Outcome::Carries { outer, next, body } => {
                 view_inside(behind_fragment(*outer, *next, body.as_slice()))
             }
         }
-    }
-}
-
-fn down_view(datagram: &Datagram) -> ItemView<'_>
-    ensures { seen result ≡ item.Down datagram.now.bytes }
-{
-    match read_packet(datagram.bytes.as_slice()) {
-        Ok(packet) => ItemView::Down { packet },
-        Err(_) => ItemView::Bad(Rule::Ip4Malformed),
-    }
-}
-
-fn up_view(outer: Outer, datagram: &Datagram) -> ItemView<'_>
-    ensures { seen result ≡ item.Up outer datagram.now.bytes }
-{
-    match read_packet(datagram.bytes.as_slice()) {
-        Ok(inner) => ItemView::Up { outer, inner },
-        Err(inner) => ItemView::UpUnread { outer, inner },
     }
 }
 

@@ -1,16 +1,17 @@
 // The IPv4 packets of items that are known to have one.
-ghost use Rattle.std.specs.Prelude.{◌≡◌, drop, is_some, true};
+ghost use Rattle.std.specs.Prelude.{◌≡◌, Some, drop, is_some, true};
 ghost use Rattle.capture_io.specs.Frames.{said};
-ghost use Rattle.ip_codec.specs.Packet4.{ip4_of};
+ghost use Rattle.ip_codec.specs.Packet4.{fields4, ip4_of};
 ghost use Rattle.ip_codec.specs.Packet6.{ip6_of};
 ghost use Rattle.ip_codec.specs.declared.items.Outer.{Outer as OuterFields};
 ghost use Rattle.item_stage.specs.Alone.{at_end, behind_fragment, from_network, from_tunnel, in_frame, item_alone, item_of, item_inside};
 ghost use Rattle.item_stage.specs.Marks.{outcome_item};
 ghost use Rattle.item_stage.specs.Packets.{if_packet, packet_in};
 
+use crate::joining::Parts;
 use crate::marks::{Mark, Outcome};
 use capture_io::{Form, Frame, frame_of};
-use ip_codec::{IPV4_IN_IPV6, known_ip6};
+use ip_codec::{IPV4_IN_IPV6, known_ip6, known_packet};
 use ipv6_chain::{Chain, Start, walk};
 
 /// The bytes that the IPv4 packet of a record's item is read from, where the item is known to have one: whether they read is not
@@ -94,18 +95,33 @@ fn bytes_behind_fragment(next: u8, body: &[u8]) -> &[u8]
     }
 }
 
-/// The bytes that the packet of a mark's item is read from, which is known to have one. Few records have a mark.
+/// The packet of a mark's item, which is known to have one. Few records have a mark.
 #[cold]
 #[inline(never)]
-pub(crate) fn bytes_marked(mark: &Mark) -> &[u8]
+pub(crate) fn parts_marked(mark: &Mark) -> Parts<'_>
     requires { is_some (packet_in (outcome_item mark.now.outcome)) ≡ true }
-    ensures { packet_in (outcome_item mark.now.outcome) ≡ if_packet (ip4_of result.now) }
+    ensures { packet_in (outcome_item mark.now.outcome) ≡ Some (fields4 result.header.now result.payload.now) }
 {
     match &mark.outcome {
-        Outcome::Down(datagram) => datagram.bytes.as_slice(),
-        Outcome::Up { packet, .. } => packet.bytes.as_slice(),
-        Outcome::Carries { next, body, .. } => bytes_behind_fragment(*next, body.as_slice()),
+        Outcome::Down(datagram) => datagram.parts(),
+        Outcome::Up { packet, .. } => packet.parts(),
+        Outcome::Carries { next, body, .. } => {
+            parts_of(bytes_behind_fragment(*next, body.as_slice()))
+        }
         Outcome::Held => unreachable!(),
         Outcome::Bad(_) => unreachable!(),
+    }
+}
+
+/// The packet of bytes that are known to be one: they are not tested again.
+#[inline(always)]
+pub(crate) fn parts_of(bytes: &[u8]) -> Parts<'_>
+    requires { is_some (if_packet (ip4_of bytes.now)) ≡ true }
+    ensures { if_packet (ip4_of bytes.now) ≡ Some (fields4 result.header.now result.payload.now) }
+{
+    let packet = known_packet(bytes);
+    Parts {
+        header: packet.view.header,
+        payload: packet.view.payload,
     }
 }

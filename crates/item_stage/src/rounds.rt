@@ -3,11 +3,12 @@ ghost use Rattle.std.specs.Prelude.{◌≡◌, ◌<◌, ℕ, List, Some, length,
 ghost use Rattle.ip_codec.specs.Seen.{seen};
 ghost use Rattle.ip_codec.specs.declared.items.Item.{Item as Whole};
 
+use crate::joining::Parts;
 use crate::marks::Slot;
-use crate::packets::{bytes_known, bytes_marked};
+use crate::packets::{bytes_known, parts_marked, parts_of};
 use crate::reading::read_item_into;
 use capture_io::{Form, Records};
-use ip_codec::{ItemView, ReadPacket, known_packet};
+use ip_codec::{ItemView, ReadPacket};
 use std::marker::Model;
 
 /// The items of a round's records. Asking for one changes nothing, so many threads can ask at once, each for any of them.
@@ -61,9 +62,9 @@ impl<'a> Model for Items<'a> {
 impl<'a> Items<'a> {
     ghost use Rattle.std.specs.Option.{option_map};
     ghost use Rattle.std.specs.Prelude.{is_some, true};
-    ghost use Rattle.ip_codec.specs.Packet4.{ip4_of, packet4};
+    ghost use Rattle.ip_codec.specs.Packet4.{fields4, packet4};
     ghost use Rattle.item_stage.specs.Marks.{entries_by};
-    ghost use Rattle.item_stage.specs.Packets.{if_packet, packet_at};
+    ghost use Rattle.item_stage.specs.Packets.{packet_at};
 
     /// The entries of these records, in a capture of this form, by their marks.
     pub(crate) fn of(form: Form, records: &'a Records, marks: Vec<Slot>) -> Self
@@ -75,6 +76,11 @@ impl<'a> Items<'a> {
             records,
             marks,
         }
+    }
+
+    /// The memory of the marks.
+    pub(crate) fn into_room(self) -> Vec<Slot> {
+        self.marks
     }
 
     /// The first record's number of each datagram whose time is up with the record at this index, ascending.
@@ -96,19 +102,19 @@ impl<'a> Items<'a> {
         requires known { is_some (packet_at self.now index) ≡ true }
         ensures { packet_at self.now index ≡ Some (packet4 result.view) }
     {
-        known_packet(self.packet_bytes(index))
+        self.packet_parts(index).packet()
     }
 
-    // The bytes that it is read from.
+    // Where it stands.
     #[inline(always)]
-    fn packet_bytes(&self, index: usize) -> &[u8]
+    fn packet_parts(&self, index: usize) -> Parts<'_>
         requires inside { index < length self.now }
         requires known { is_some (packet_at self.now index) ≡ true }
-        ensures { packet_at self.now index ≡ if_packet (ip4_of result.now) }
+        ensures { packet_at self.now index ≡ Some (fields4 result.header.now result.payload.now) }
     {
         match self.marks[index].get() {
-            Some(mark) => bytes_marked(mark),
-            None => bytes_known(self.form, self.records.get(index).bytes),
+            Some(mark) => parts_marked(mark),
+            None => parts_of(bytes_known(self.form, self.records.get(index).bytes)),
         }
     }
 }

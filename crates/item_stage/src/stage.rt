@@ -19,6 +19,7 @@ use aftr_base::{Numbers, OutOfMemory};
 use capture_io::{Form, RecordView, Records, time_of};
 use std::alloc::Global;
 use std::marker::Model;
+use std::mem::replace;
 use std::thread::Threads;
 
 /// What takes the records of one capture, in their order, and says what each becomes. Fragments wait in it for the rest of
@@ -30,6 +31,8 @@ pub struct Stage {
     number: u32,
     failed: bool,
     rows: Rows,
+    // Memory for the marks of a round: those of one that is done.
+    room: Vec<Slot>,
 }
 
 impl Model for Stage {
@@ -56,6 +59,7 @@ impl Stage {
             number: 0,
             failed: false,
             rows: Rows::new(alloc)?,
+            room: Vec::new(alloc),
         })
     }
 
@@ -81,7 +85,8 @@ impl Stage {
         ensures failed { HasFailed self.old → IsErr result }
     {
         self.still_takes()?;
-        match take_all(alloc, self.form, &mut self.rows, records, start) {
+        let room = replace(&mut self.room, Vec::new(alloc));
+        match take_all(alloc, self.form, &mut self.rows, records, start, room) {
             Ok(marks) => {
                 self.number = number_behind(start, records.len());
                 Ok(Items::of(self.form, records, marks))
@@ -91,6 +96,13 @@ impl Stage {
                 Err(why)
             }
         }
+    }
+
+    /// Takes back the items of a round that is done: their memory serves the next.
+    pub fn take_back(&mut self, items: Items<'_>)
+        ensures { self.new ≡ self.old }
+    {
+        self.room = items.into_room();
     }
 
     /// The first record's number of each datagram of which some fragments came and others are missing, ascending.
@@ -122,13 +134,14 @@ fn number_behind(start: u32, count: usize) -> u32
     start + count as u32
 }
 
-// Gives records to the lanes, one after the other, the first of which has this number.
+// Gives records to the lanes, one after the other, the first of which has this number. Their marks stand in the room.
 fn take_all(
     alloc: Global,
     form: Form,
     rows: &mut Rows,
     records: &Records,
     start: u32,
+    room: Vec<Slot>,
 ) -> Result<Vec<Slot>, OutOfMemory>
     requires few { start + length records.now ≤ 2 ^ 31 }
     requires headers { HaveHeaders rows.old }
@@ -137,7 +150,9 @@ fn take_all(
     ensures count { IfOk result (λ marks. length marks.items ≡ length records.now) }
     ensures rows { IfOk result (λ _. rows.new ≡ rows_after form rows.old start records.now) }
 {
-    let mut marks = Vec::with_capacity(alloc, records.len())?;
+    let mut marks = room;
+    marks.clear();
+    marks.reserve(records.len())?;
     let mut index = 0;
     'records: while index < records.len() {
         let number = number_behind(start, index);

@@ -89,9 +89,7 @@ fn down_outcome(alloc: Global, answer: Answer) -> Result<Outcome, OutOfMemory>
 {
     match answer {
         Answer::Held => Ok(Outcome::Held),
-        Answer::Whole { head, body } => {
-            Ok(Outcome::Down(rejoin(alloc, head.as_slice(), body.as_slice())?))
-        }
+        Answer::Whole { head, body } => { Ok(Outcome::Down(rejoin(alloc, head.as_slice(), body)?)) }
         Answer::Refused(why) => Ok(Outcome::Bad(rule_of(why))),
     }
 }
@@ -147,7 +145,7 @@ fn up_outcome(alloc: Global, outer: Outer, answer: Answer) -> Result<Outcome, Ou
         Answer::Held => Ok(Outcome::Held),
         Answer::Whole { head, body } => Ok(Outcome::Up {
             outer,
-            packet: rejoin(alloc, head.as_slice(), body.as_slice())?,
+            packet: rejoin(alloc, head.as_slice(), body)?,
         }),
         Answer::Refused(why) => Ok(Outcome::Bad(rule_of(why))),
     }

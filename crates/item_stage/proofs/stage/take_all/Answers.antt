@@ -1,17 +1,18 @@
-use Rattle.std.proofs.Common.{◌≡◌, ◌∷◌, ◌++◌, [], ap, arith, length, length-append}
+use Rattle.std.proofs.Common.{◌≡◌, ◌∙◌, ◌∷◌, ◌++◌, [], ap, arith, length, length-append}
 use Rattle.capture_io.specs.Records as records
 use Rattle.item_stage.proofs.StepLemmas.{entries_start, next_entries, next_rows, rows_start}
 use Rattle.item_stage.proofs.stage.take_all.Goals as goal
 
 pub records-init : goal.records-init
-records-init c = (
-  omega arith,
-  c.requires.headers,
-  ap length c.in_ok-marks.ensures.items,
-  omega (arith, c.in_ok-marks.ensures.capacity, c.len.ensures),
-  entries_start c.args.form c.args.records.now c.args.rows.now c.args.start c.in_ok-marks.marks.items c.in_ok-marks.ensures.items,
-  rows_start c.args.form c.args.records.now c.args.rows.now c.args.start,
-)
+records-init c =
+    let none : c.reserve.new.self.items ≡ [] = c.reserve.ensures.items ∙ c.clear.ensures.items in (
+      omega arith,
+      c.requires.headers,
+      ap length none,
+      omega (arith, c.in_ok-reserve.ensures.ok, c.len.ensures),
+      entries_start c.args.form c.args.records.now c.args.rows.now c.args.start c.reserve.new.self.items none,
+      rows_start c.args.form c.args.records.now c.args.rows.now c.args.start,
+    )
 
 pub records-preserved : goal.records-preserved
 records-preserved c =
