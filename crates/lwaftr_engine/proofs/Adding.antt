@@ -1,50 +1,27 @@
 -- What rounds add, one after another.
-use Rattle.std.proofs.Common.{◌≡◌, ℕ, All, arith, inl, length, List, [], ◌++◌, Option, Some, None, refl, sym, ◌∙◌, ap, append-nil, append_assoc, subst}
-use Rattle.aftr_base.specs.Contents.{Contents, Moves}
-use Rattle.aftr_base.specs.Outside.{Outside}
-use Rattle.aftr_text.specs.declared.jobs.RunJob.{RunJob}
-use Rattle.capture_io.specs.Rounds.{is_cut}
-use Rattle.capture_io.specs.declared.rounds.Ending.{Ending}
-use Rattle.lwaftr_engine.specs.Finishing.{IsFirst}
-use Rattle.lwaftr_engine.specs.Progress.{AddsTo, IsOnDuty, ReadsOf, Setup}
-use Rattle.lwaftr_engine.specs.Runs.{OthersKept}
-use Rattle.lwaftr_engine.specs.Underway.{CanGoOn, IsSettledAt, StaysOnDuty}
-use Rattle.lwaftr_engine.specs.declared.rounds.Progress.{Progress}
-use Rattle.lwaftr_engine.specs.declared.shift.Shift.{Shift}
-use Rattle.swap_core.specs.Plans.{Tables}
-use Rattle.table_words.specs.Layout.{AreCompiled}
+use Rattle.lwaftr_engine.proofs.Words.{◌≡◌, ℕ, arith, inl, length, List, [], Option, Some, None, refl, sym, ◌∙◌, ap, append-nil, subst, Contents, Moves}
+use Rattle.lwaftr_engine.proofs.Words.{Outside, RunJob, is_cut, Ending, AddsTo, ReadsOf, Setup, OthersKept, CanGoOn, IsSettledAt, StaysOnDuty, Progress, Shift}
+use Rattle.lwaftr_engine.proofs.Words.{IsAtStart}
 use Rattle.lwaftr_engine.proofs.Moving.{moves_join}
-use Rattle.aftr_text.specs.declared.summaries.Totals.{Totals}
-use Rattle.run_output.specs.Counting.{IsWithin}
 
 pub adds_none : (s : Shift) → AddsTo s s
 adds_none s = record { drawn = []; draws = sym (append-nil s.seat.known.actor.draws); news = []; points = sym (append-nil s.desk.known.points) }
 
-pub adds_more : (s t u : Shift) → AddsTo s t → AddsTo t u → AddsTo s u
-adds_more s t u first second = record {
-  drawn = first.drawn ++ second.drawn;
-  draws = second.draws ∙ (ap (λ (l : List (ℕ × ℕ)). l ++ second.drawn) first.draws ∙ append_assoc s.seat.known.actor.draws first.drawn second.drawn);
-  news = first.news ++ second.news;
-  points = second.points ∙ (ap (λ (l : List ℕ). l ++ second.news) first.points ∙ append_assoc s.desk.known.points first.news second.news);
-}
-
 -- before the first round
-pub goes_first : {x : Setup} {plan : Tables} (s : Shift) (p : Progress) → length x.slots ≡ length x.run.loads → All AreCompiled plan.tables → IsOnDuty plan s → s.seat.known.actor.draws ≡ [] → IsFirst x.form x.run.errors p → CanGoOn x s p
-goes_first {x} {plan} s p loads compiled duty none first = record {
-  loads = loads;
-  compiled = let C : Tables → Type 0 = λ k. All AreCompiled k.tables in subst C (sym duty.its_plan) compiled;
-  duty = let D : Tables → Type 0 = λ k. IsOnDuty k s in subst D (sym duty.its_plan) duty;
-  drawn = ap (λ (l : List (ℕ × ℕ)). length l) none ∙ sym first.number;
+pub can_begin : {x : Setup} (s : Shift) (p : Progress) → IsAtStart x s p → CanGoOn x s p
+can_begin s p start = record {
+  loads = start.loads;
+  compiled = start.compiled;
+  duty = start.duty;
+  drawn = ap (λ (l : List (ℕ × ℕ)). length l) start.no_draws ∙ sym start.first.number;
   bounded = record {
-    number = omega (arith, first.number);
-    staged = first.staged ∙ sym first.number;
-    totals =
-        let W : Totals → Type 0 = λ t. IsWithin t p.number in
-        subst W (sym first.totals) (record { records = sym first.number; held = omega arith; forwarded = omega arith; dropped = omega arith; packets = omega arith });
-    rate = first.rate;
-    printed = omega (arith, first.printed);
+    number = omega (arith, start.first.number);
+    staged = start.first.staged ∙ sym start.first.number;
+    totals = rw start.first.totals (record { records = sym start.first.number; held = omega arith; forwarded = omega arith; dropped = omega arith; packets = omega arith });
+    rate = start.first.rate;
+    printed = omega (arith, start.first.printed);
   };
-  up_to_date = inl (ap (λ (l : List (ℕ × ℕ)). length l) none);
+  up_to_date = inl (ap (λ (l : List (ℕ × ℕ)). length l) start.no_draws);
 }
 
 -- behind a round that went well the next one can be judged

@@ -1,19 +1,9 @@
 -- Two courses that agree on the first records, and what these records write by both.
-use Rattle.std.proofs.Common.{◌≡◌, ℕ, zero, suc, ◌+◌, ◌<◌, ◌≤◌, Bool, true, false, not, List, [], ◌∷◌, ◌++◌, length, flat_map, Option, Some, slice_get, refl, sym, ◌∙◌, ap, arith}
-use Rattle.aftr_text.specs.Lines.{ended_text}
-use Rattle.capture_io.specs.Packets.{packet_bytes}
-use Rattle.capture_io.specs.Record.{nanoseconds}
-use Rattle.capture_io.specs.declared.forms.Form.{Form}
-use Rattle.capture_io.specs.declared.forms.Rec.{Rec}
-use Rattle.capture_io.specs.declared.written.Written.{Written}
-use Rattle.ip_codec.specs.declared.items.Item.{Item}
-use Rattle.item_stage.specs.Items.{entries_of, items_in, rows_of}
-use Rattle.item_stage.specs.Turns.{entries_from, no_rows, rows_after, turn}
-use Rattle.item_stage.specs.declared.entries.Entry.{Entry}
-use Rattle.item_stage.specs.declared.rows.Rows.{Rows}
-use Rattle.run_output.specs.Limiting.{IsLimited, Told, passed_in, tells, told_from, told_if}
-use Rattle.run_output.specs.Outputs.{Course, lines_from, packets_from, record_text, sent_unless, verdict_at}
-use Rattle.verdict_core.specs.Verdicts.{verdict_of}
+use Rattle.lwaftr_engine.proofs.Words.{◌≡◌, ℕ, zero, suc, ◌+◌, ◌<◌, ◌≤◌, Bool, true, false, not, List, [], ◌∷◌, ◌++◌, length, flat_map, Option, Some, slice_get}
+use Rattle.lwaftr_engine.proofs.Words.{refl, sym, ◌∙◌, ap, arith, ended_text, packet_bytes, nanoseconds, Form, Rec, Written, Item, entries_of, items_in}
+use Rattle.lwaftr_engine.proofs.Words.{rows_of, entries_from, no_rows, rows_after, turn, Entry, Rows, IsLimited, passed_in, tells, told_from, told_if, Course}
+use Rattle.lwaftr_engine.proofs.Words.{lines_from, packets_from, record_text, sent_unless, verdict_at, verdict_of}
+use Rattle.run_output.specs.Limiting.{Told}
 
 -- the entries of records do not depend on what comes behind them
 pub entries_count : (form : Form) (rows : Rows) (number : ℕ) (rs : List Rec) → length (entries_from form rows number rs) ≡ length rs

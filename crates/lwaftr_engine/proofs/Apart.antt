@@ -1,12 +1,7 @@
 -- The outputs of a run are files of their own.
-use Rattle.std.proofs.Common.{◌≡◌, ◌≢◌, ℕ, ◌+◌, Bool, true, false, List, [], ◌∷◌, refl, sym, ◌∙◌, ap, arith, map}
-use Rattle.std.specs.Prelude.{cond, bytes_eq}
-use Rattle.std.specs.List.{sum_by}
-use Rattle.std.proofs.lemmas.List.Sums.{sum_by-cons}
-use Rattle.std.proofs.lemmas.Slice.Eq.{bytes_eq-Decides}
-use Rattle.aftr_text.specs.Jobs.{AreApart, StandsOnce, how_many, names_of}
-use Rattle.aftr_text.specs.declared.jobs.LoadWords.{LoadWords}
-use Rattle.aftr_text.specs.declared.jobs.RunJob.{RunJob}
+use Rattle.lwaftr_engine.proofs.Words.{◌≡◌, ◌≢◌, ℕ, ◌+◌, Bool, true, false, List, [], ◌∷◌, refl, sym, ◌∙◌, ap, arith, map, cond, bytes_eq, sum_by, sum_by-cons}
+use Rattle.lwaftr_engine.proofs.Words.{bytes_eq-Decides, AreApart, StandsOnce, names_of, LoadWords, RunJob, Contents, OthersKept, content}
+use Rattle.aftr_text.specs.Jobs.{how_many}
 
 -- the names of the outputs differ from each other and from that of the capture
 pub record AreFilesApart (run : RunJob) : Type 0 where
@@ -16,6 +11,10 @@ pub record AreFilesApart (run : RunJob) : Type 0 where
   pub output_input : run.output ≢ run.input
   pub verdicts_input : run.verdicts ≢ run.input
   pub versions_input : run.versions ≢ run.input
+
+-- so the capture is kept
+pub input_kept : {run : RunJob} → AreFilesApart run → (a b : Contents) → OthersKept run a b → content b run.input ≡ content a run.input
+input_kept {run} far a b others = others run.input (λ e. far.output_input (sym e)) (λ e. far.verdicts_input (sym e)) (λ e. far.versions_input (sym e))
 
 abbrev is_same : List ℕ → List ℕ → ℕ
 is_same name other = cond (bytes_eq other name) 1 0
@@ -43,15 +42,26 @@ five name a b c d e rest =
     ∙ ap (λ (n : ℕ). is_same name c + n) (sum_by-cons (is_same name) d (e ∷ rest)
     ∙ ap (λ (n : ℕ). is_same name d + n) (sum_by-cons (is_same name) e rest))))
 
-pub apart : (run : RunJob) → AreApart run → AreFilesApart run
-apart run h = record {
-  output_verdicts = λ e. absurd (omega (arith, sum_of run.output (once run.output (names_of run) (h 0 [] (omega arith))), same_one run.output run.output refl, same_one run.verdicts run.output (sym e)));
-  output_versions = λ e. absurd (omega (arith, sum_of run.output (once run.output (names_of run) (h 0 [] (omega arith))), same_one run.output run.output refl, same_one run.versions run.output (sym e)));
-  verdicts_versions = λ e. absurd (omega (arith, sum_of run.verdicts (once run.verdicts (names_of run) (h 1 [] (omega arith))), same_one run.verdicts run.verdicts refl, same_one run.versions run.verdicts (sym e)));
-  output_input = λ e. absurd (omega (arith, sum_of run.output (once run.output (names_of run) (h 0 [] (omega arith))), same_one run.output run.output refl, same_one run.input run.output (sym e)));
-  verdicts_input = λ e. absurd (omega (arith, sum_of run.verdicts (once run.verdicts (names_of run) (h 1 [] (omega arith))), same_one run.verdicts run.verdicts refl, same_one run.input run.verdicts (sym e)));
-  versions_input = λ e. absurd (omega (arith, sum_of run.versions (once run.versions (names_of run) (h 2 [] (omega arith))), same_one run.versions run.versions refl, same_one run.input run.versions (sym e)));
-} where
-  sum_of : (name : List ℕ) → times name (names_of run) ≡ 1 →
-      is_same name run.input + (is_same name run.output + (is_same name run.verdicts + (is_same name run.versions + (is_same name run.table + times name (map (λ (load : LoadWords). load.name) run.loads))))) ≡ 1
-  sum_of name one = sym (five name run.input run.output run.verdicts run.versions run.table (map (λ (load : LoadWords). load.name) run.loads)) ∙ one
+module _ (run : RunJob) where
+  abbrev total : List ℕ → ℕ
+  total name =
+      is_same name run.input + (is_same name run.output + (is_same name run.verdicts + (is_same name run.versions + (is_same name run.table
+      + times name (map (λ (load : LoadWords). load.name) run.loads)))))
+
+  one : (name : List ℕ) → StandsOnce (names_of run) name → total name ≡ 1
+  one name stands =
+      sym (five name run.input run.output run.verdicts run.versions run.table (map (λ (load : LoadWords). load.name) run.loads)) ∙ once name (names_of run) stands
+
+  pub apart : AreApart run → AreFilesApart run
+  apart h =
+      let out = one run.output (h 0 [] (omega arith)) in
+      let verdicts = one run.verdicts (h 1 [] (omega arith)) in
+      let versions = one run.versions (h 2 [] (omega arith)) in
+      record {
+        output_verdicts = λ e. absurd (omega (arith, out, same_one run.output run.output refl, same_one run.verdicts run.output (sym e)));
+        output_versions = λ e. absurd (omega (arith, out, same_one run.output run.output refl, same_one run.versions run.output (sym e)));
+        verdicts_versions = λ e. absurd (omega (arith, verdicts, same_one run.verdicts run.verdicts refl, same_one run.versions run.verdicts (sym e)));
+        output_input = λ e. absurd (omega (arith, out, same_one run.output run.output refl, same_one run.input run.output (sym e)));
+        verdicts_input = λ e. absurd (omega (arith, verdicts, same_one run.verdicts run.verdicts refl, same_one run.input run.verdicts (sym e)));
+        versions_input = λ e. absurd (omega (arith, versions, same_one run.versions run.versions refl, same_one run.input run.versions (sym e)));
+      }

@@ -1,24 +1,10 @@
 -- Each record of a round has a draw of its own, so as many draws as items ask the table, or more.
-use Rattle.std.proofs.Common.{◌≡◌, ◌≢◌, ℕ, zero, suc, ◌+◌, ◌-◌, ◌<◌, ◌≤◌, ◌==◌, Bool, true, false, List, [], ◌∷◌, ◌++◌, length, take, get_or, Option, Some, ◌⊎◌, inl, inr, refl, sym, ◌∙◌, ap, arith}
-use Rattle.std.specs.Prelude.{cond}
-use Rattle.std.specs.List.{Contains, slice_get, sum_by}
-use Rattle.std.proofs.Math.Seq.{take-suc}
-use Rattle.std.proofs.lemmas.Bool.Decides.{eqb_tells}
-use Rattle.std.proofs.lemmas.List.{length-map, take_all}
-use Rattle.std.proofs.lemmas.List.FromFn.{length-range_with_len}
-use Rattle.std.proofs.lemmas.List.Sums.{sum_by-append, sum_by-cons, sum_by-le-sum_by}
-use Rattle.std.proofs.lemmas.Option.{slice_get-get_or}
-use Rattle.ip_codec.specs.declared.items.Item.{Item}
-use Rattle.ip_codec.specs.declared.items.Item.TheVariants as item
-use Rattle.item_stage.specs.Items.{items_in}
-use Rattle.item_stage.specs.declared.entries.Entry.{Entry}
-use Rattle.area_swap.specs.declared.board.View.{View}
-use Rattle.lwaftr_engine.specs.Runs.{all_asking}
-use Rattle.worker_gate.specs.Crews.{no_outcome}
-use Rattle.worker_gate.specs.Outcomes.{asking, asks, draw_of}
-use Rattle.worker_gate.specs.Rounds.{IsRound}
-use Rattle.worker_gate.specs.declared.outcomes.Outcome.{Outcome}
+use Rattle.lwaftr_engine.proofs.Words.{◌≡◌, ◌≢◌, ℕ, zero, suc, ◌+◌, ◌-◌, ◌<◌, ◌≤◌, ◌==◌, Bool, true, false, List, [], ◌∷◌, ◌++◌, length, take, get_or, Option}
+use Rattle.lwaftr_engine.proofs.Words.{Some, ◌⊎◌, inl, inr, refl, sym, ◌∙◌, ap, arith, cond, Contains, slice_get, sum_by, take-suc, eqb_tells, length-map}
+use Rattle.lwaftr_engine.proofs.Words.{take_all, length-range_with_len, sum_by-append, sum_by-cons, sum_by-le-sum_by, slice_get-get_or, Item, items_in, Entry}
+use Rattle.lwaftr_engine.proofs.Words.{View, all_asking, no_outcome, asking, asks, draw_of, IsRound, Outcome}
 use Rattle.lwaftr_engine.proofs.Elements.{number_at}
+use Rattle.ip_codec.specs.declared.items.Item.TheVariants as item
 
 -- where one element has so much more, the sum has
 gains : {A : Type 0} (f g : A → ℕ) (v : ℕ) (xs : List A) (k : ℕ) (x : A) → ((y : A) → f y ≤ g y) → f x + v ≤ g x → k < length xs → get_or xs k x ≡ x → sum_by f xs + v ≤ sum_by g xs

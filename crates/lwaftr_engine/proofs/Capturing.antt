@@ -1,111 +1,210 @@
--- What a run leaves that was ended by a fault, from the opening of its outputs on.
-use Rattle.std.proofs.Common.{◌≡◌, ℕ, List, [], ◌++◌, Option, Some, None, Result, Err, inl, inr, arith}
-use Rattle.std.specs.Prelude.{IfSome}
-use Rattle.aftr_base.specs.Contents.{Contents, content, Moves}
-use Rattle.aftr_base.specs.Outside.{Outside, Rises}
-use Rattle.aftr_base.specs.declared.outside.Fault.{Fault}
-use Rattle.aftr_base.specs.declared.outside.Fault.TheVariants as fault
-use Rattle.aftr_text.specs.Jobs.{IsRate}
-use Rattle.area_swap.specs.Histories.{HistoryValue}
-use Rattle.binding_rules.specs.Tables.{BindingTable}
-use Rattle.capture_io.specs.Rounds.{is_cut}
-use Rattle.capture_io.specs.declared.forms.Rec.{Rec}
-use Rattle.capture_io.specs.declared.rounds.Ending.{Ending}
-use Rattle.item_stage.specs.Stages.{Stands}
-use Rattle.lwaftr_engine.specs.Broken.{Breaks, IsBrokenFrom, Takes, TakesBehind}
-use Rattle.lwaftr_engine.specs.Ended.{AreSlotsOf, Ends, EndsBroken}
-use Rattle.lwaftr_engine.specs.Finishing.{IsFirst, IsHalfFinished}
-use Rattle.lwaftr_engine.specs.Fronts.{Stop, stop_by}
-use Rattle.lwaftr_engine.specs.Progress.{Goes, IsClosed, Seats, Setup, Spot, TakesOn, mark}
-use Rattle.lwaftr_engine.specs.RunLaws.{RunLaws}
-use Rattle.lwaftr_engine.specs.Runs.{IsPlanOf}
-use Rattle.lwaftr_engine.specs.Writing.{Did, DidFront, opening_steps}
-use Rattle.lwaftr_engine.specs.declared.rounds.Progress.{Progress}
-use Rattle.swap_core.specs.Plans.{IsPlan, Tables}
-use Rattle.swap_core.specs.declared.plan.Window.{Window}
-use Rattle.lwaftr_engine.proofs.Apart.{AreFilesApart}
-use Rattle.lwaftr_engine.proofs.Closing.{AreWritten, suits_bare}
-use Rattle.lwaftr_engine.proofs.Courses.{bare}
-use Rattle.lwaftr_engine.proofs.EndLemmas.{IsAtEnd, IsHalfDone, SomeLeft, are_written, half_done, same_input}
+-- What a run leaves from the opening of its outputs on.
+use Rattle.lwaftr_engine.proofs.Words.{AreAllPoints, AreBefore, AreSlotsOf, AreTaken, AreWritten, BindingTable, Bool, Breaks, CaptureBad, Contents, Did}
+use Rattle.lwaftr_engine.proofs.Words.{DidFront, Ending, Err, Fault, Finishes, FinishesPart, Goes, HistoryValue, IfSome, IsAtFirst, IsBroken, IsClosed, IsFront}
+use Rattle.lwaftr_engine.proofs.Words.{IsInput, IsPlan, IsPlanOf, IsRate, IsRun, IsWhole, LeavesBy, LeavesOpened, List, Moves, None, Ok, Option, Rec, Result}
+use Rattle.lwaftr_engine.proofs.Words.{Rises, RunLaws, Setup, Some, Spot, State, Stop, Tables, Takes, Window, World, ap, arith, content, ended_status, is_cut}
+use Rattle.lwaftr_engine.proofs.Words.{is_failure, length, opening_steps, refl, some_slot_refused, stop_by, ℕ, ◌++◌, ◌∙◌, ◌≡◌, false, inl, inr, true}
+use Rattle.lwaftr_engine.proofs.Apart.{AreFilesApart, input_kept}
+use Rattle.lwaftr_engine.proofs.Closing.{ClosedRun, suits_bare, is_run}
+use Rattle.lwaftr_engine.proofs.EndLemmas.{EndsAt, SomeLeft, ends_at, takes_by}
+use Rattle.lwaftr_engine.proofs.Writing.{IsOpening, opening_front, opened}
 use Rattle.lwaftr_engine.proofs.Fronting.{at_finish, at_opening, at_rounds}
-use Rattle.lwaftr_engine.proofs.Moving.{moves_by, moves_join}
-use Rattle.lwaftr_engine.proofs.UnderwayLemmas.{takes_by}
-use Rattle.lwaftr_engine.proofs.Writing.{IsOpened, IsOpening, opened, opening_front}
+use Rattle.lwaftr_engine.proofs.Courses.{bare}
+use Rattle.lwaftr_engine.proofs.Moving.{moves_by, moves_join, moves_none, moves_three}
+use Rattle.aftr_base.specs.declared.outside.Fault.TheVariants as fault
+use Rattle.capture_io.specs.declared.rounds.Ending.TheVariants as ending
 
--- where a read failed, all outputs were made; the records are the same by the bytes of the capture before these were opened
-behind_all : (x : Setup) → AreFilesApart x.run → {a b : Contents} → IsOpened x.run x.written a b → {reader : Spot} {number : ℕ} {rs : List Rec} {lost lost_now : ℕ} {last : Option (List ℕ × ℕ)} → number ≡ 0 →
-    Takes x.run.input reader (content b x.run.input) number rs lost lost_now last → TakesBehind 3 x.run.input reader (content a x.run.input) 0 rs lost lost_now last
-behind_all x far {a} {b} opened {reader} {rs} {lost} {lost_now} {last} start takes =
-    by_read (rw (← (same_input x far opened)) (rw (← start) takes)) where
-      by_read : Takes x.run.input reader (content a x.run.input) 0 rs lost lost_now last → TakesBehind 3 x.run.input reader (content a x.run.input) 0 rs lost lost_now last
-      by_read (inl all) = inl all
-      by_read (inr before) = inr (omega arith, before)
+-- a broken run, where the reader stands before the first record, under every list of tables of which the plan's words are
+abbrev pub Broken : Setup → Tables → Spot → Stop → Contents → Contents → Type 0
+Broken x plan reader stop old new = IsAtFirst reader x.form x.written (content old x.run.input) → (tables : ℕ → BindingTable) (windows : List Window) →
+    IsPlanOf tables windows plan → AreSlotsOf x.run windows x.slots → IsBroken x.run tables windows x.slots old new stop
 
--- a broken run, under every list of tables of which the plan's words are
-abbrev pub Broken : Setup → Tables → Spot → Stop → Option (List ℕ) → Option (List ℕ) → Contents → Contents → Type 0
-Broken x plan reader stop said now m n = (tables : ℕ → BindingTable) (windows : List Window) → IsPlanOf tables windows plan → AreSlotsOf x.run windows x.slots → reader.stood (content m x.run.input) → EndsBroken x tables windows reader m n said now stop
+-- a run from the opening of its outputs on, in the words of its capture
+module _ (x : Setup) (old : Contents) {first : Spot} (at_first : IsAtFirst first x.form x.written (content old x.run.input)) where
+  behind : {rs : List Rec} {last : Option (List ℕ × ℕ)} → AreBefore (first.left (content old x.run.input) 0) x.run.input first.at rs last →
+      AreBefore (IsInput (content old x.run.input) at_first.header) x.run.input at_first.header.ends_at rs last
+  behind {rs} part = record {
+    rest = part.rest;
+    ending = part.ending;
+    capture = at_first.all (rs ++ part.rest) part.ending part.capture;
+    place = part.place;
+    last_is = part.last_is;
+    in_records = omega (arith, at_first.at_is, part.in_records);
+    reached = part.reached;
+    next = part.next;
+  }
 
-pub ended_err : (x : Setup) (plan : Tables) (reader : Spot) (r : Result Ending Fault) (why : Fault) (a b : Option Contents) (said now : Option (List ℕ)) (before after : Outside) (history : Option HistoryValue) → r ≡ Err why → history ≡ None →
-    Moves a b (λ m n. Broken x plan reader (stop_by why before after) said now m n) → Moves a b (λ m n. Ends x plan reader r m n said now before after history)
-ended_err x plan reader r why a b said now before after history is none step =
+  pub takes_all : {rs : List Rec} (stop : Stop) →
+      Takes x.run.input first (content old x.run.input) rs stop.before.files.lost stop.after.files.lost stop.after.files.last → AreTaken x.run old at_first.header rs 3 stop
+  takes_all {rs} stop (inl (same, all)) = inl (same, (all.0, at_first.all rs all.0 all.1))
+  takes_all stop (inr (rose, part)) = inr (omega arith, (rose, behind part))
+
+  pub broken : {tables : ℕ → BindingTable} {windows : List Window} {rs : List Rec} {new : Contents} (made : ℕ) (stop : Stop) → AreTaken x.run old at_first.header rs made stop →
+      IsFront x.run tables windows x.slots x.form x.written rs made old new stop → IsBroken x.run tables windows x.slots old new stop
+  broken {rs = rs} made stop taken front = record {
+    header = at_first.header;
+    sound = at_first.sound;
+    records = rs;
+    made = made;
+    taken = taken;
+    front = rw (at_first.form_is, at_first.written_is) at front;
+  }
+
+  whole : {tables : ℕ → BindingTable} {windows : List Window} {rs : List Rec} {new : Contents} {said now : Option (List ℕ)} {history : Option HistoryValue} (ended : Option CaptureBad) →
+      first.left (content old x.run.input) 0 rs ended → IsRun x.run tables windows x.slots x.form x.written rs old new said now history →
+      IsWhole x.run tables windows x.slots old new said now history ended
+  whole {rs = rs} ended left run = record {
+    header = at_first.header;
+    records = rs;
+    capture = at_first.all rs ended left;
+    is_run = rw (at_first.form_is, at_first.written_is) at run;
+  }
+
+  pub leaves_ended : {tables : ℕ → BindingTable} {windows : List Window} {rs : List Rec} {new : Contents} (before now : World) {history : Option HistoryValue} (stop : Ending) →
+      EndsAt x.run.input first (content old x.run.input) rs stop now.files.last → IsRun x.run tables windows x.slots x.form x.written rs old new before.said now.said history →
+      (refused : Bool) → some_slot_refused x.slots ≡ refused → LeavesBy x.run tables windows x.slots (ended_status (Ok stop) refused) before now history old new
+  leaves_ended before now ending.End it run true is = (whole None it run, is)
+  leaves_ended before now ending.End it run false is = (whole None it run, is)
+  leaves_ended before now (ending.Bad refusal) it run refused is = inl (whole (Some refusal) it run)
+  leaves_ended {rs = rs} before now ending.ReadFault it run refused is =
+      inl (record { header = at_first.header; taken = rs; before = behind it; is_run = rw (at_first.form_is, at_first.written_is) at run })
+
+pub ended_err : (x : Setup) (plan : Tables) (reader : Spot) (r : Result Ending Fault) (why : Fault) (before now : World) (history : Option HistoryValue) → r ≡ Err why → history ≡ None →
+    Moves before.files.held now.files.held (Broken x plan reader (stop_by why before now)) → Moves before.files.held now.files.held (LeavesOpened x plan reader r before now history)
+ended_err x plan reader r why before now history is none step =
     rw is (by_fault why step) where
-      by_fault : (why : Fault) → Moves a b (λ m n. Broken x plan reader (stop_by why before after) said now m n) → Moves a b (λ m n. Ends x plan reader (Err why) m n said now before after history)
+      by_fault : (why : Fault) → Moves before.files.held now.files.held (Broken x plan reader (stop_by why before now)) →
+          Moves before.files.held now.files.held (LeavesOpened x plan reader (Err why) before now history)
       by_fault fault.Failed step =
-          moves_by a b _ _
-          (λ m n broken tables windows of stood. ((λ slots_of. broken tables windows of slots_of stood), none)) step
+          moves_by before.files.held now.files.held _ _ (λ m n broken at_first tables windows of. ((λ slots_of. broken at_first tables windows of slots_of), none)) step
       by_fault fault.OutOfMemory step =
-          moves_by a b _ _
-          (λ m n broken tables windows of stood. (inr (λ slots_of. broken tables windows of slots_of stood), none)) step
+          moves_by before.files.held now.files.held _ _ (λ m n broken at_first tables windows of. inr ((λ slots_of. broken at_first tables windows of slots_of), none)) step
 
-pub opening_broken : (laws : RunLaws) (x : Setup) (plan : Tables) → IsPlan plan → IfSome x.run.errors IsRate → (reader : Spot) (stop : Stop) → Rises stop.failed stop.before.spoiled stop.after.spoiled → stop.after.lost ≡ stop.before.lost → (said : Option (List ℕ)) → SomeLeft reader.left → (a b : Option Contents) →
-    Moves a b (DidFront x.run (opening_steps x.run x.written)) → Moves a b (λ m n. Broken x plan reader stop said said m n)
-opening_broken laws x plan planned rate reader stop rises same said some a b step =
-    moves_by a b _ _
-    (λ m n front tables windows of slots_of stood.
+-- memory was wanted before anything was done
+pub none_done : (x : Setup) (plan : Tables) (reader : Spot) (r : Result Ending Fault) (why : Fault) (w : World) (history : Option HistoryValue) →
+    r ≡ Err why → why ≡ fault.OutOfMemory → history ≡ None → Moves w.files.held w.files.held (LeavesOpened x plan reader r w w history)
+none_done x plan reader r why w history is wanted none =
+    rw (is ∙ ap Err wanted) (moves_none w.files.held w.files.held (LeavesOpened x plan reader (Err fault.OutOfMemory) w w history)
+    (λ m at_first tables windows of. inl (record { files = refl; sink = refl; none = none }, record { lost = refl; spoiled = refl; faults = refl; last = refl })) refl)
+
+pub opening_broken : (laws : RunLaws) (x : Setup) (plan : Tables) → IsPlan plan → IfSome x.run.errors IsRate → (reader : Spot) → SomeLeft reader.left → (stop : Stop) →
+    Rises stop.failed stop.before.files.spoiled stop.after.files.spoiled × (stop.after.said ≡ stop.before.said) → stop.after.files.lost ≡ stop.before.files.lost →
+    Moves stop.before.files.held stop.after.files.held (DidFront x.run (opening_steps x.run x.written)) →
+    Moves stop.before.files.held stop.after.files.held (Broken x plan reader stop)
+opening_broken laws x plan planned rate reader some stop nothing same step =
+    moves_by stop.before.files.held stop.after.files.held _ _
+    (λ m n front at_first tables windows of slots_of.
     let rest = some (content m x.run.input) 0 in
     let half : IsOpening x.run x.written m n = opening_front x.run x.written m n front in
-    record {
-      records = rest.0;
-      made = half.made;
-      taken = inl (same, (rest.1, rest.2));
-      front = at_opening laws x planned of rate rest.0 said stop rises half;
-    }) step
+    broken x m at_first half.made stop (inl (same, (rest.1, at_first.all rest.0 rest.1 rest.2))) (at_opening laws x planned of rate rest.0 stop nothing half)) step
 
-module _ (laws : RunLaws) (x : Setup) (far : AreFilesApart x.run) (plan : Tables) (draws : List (ℕ × ℕ)) (s0 s : Seats) (h : HistoryValue) (p : Progress) (first : Spot)
-    (start : IsFirst x.form x.run.errors p) (no_points : s0.points ≡ []) (rate : IfSome x.run.errors IsRate) where
-  pub rounds_broken : (closed : IsClosed plan draws s h) (stop : Stop) → Rises stop.failed stop.before.spoiled stop.after.spoiled → (lost : ℕ) → lost ≡ stop.before.lost → (said : Option (List ℕ)) (h0 h1 h2 : Option Contents) → Moves h0 h1 (Did x.run (opening_steps x.run x.written)) →
-      Moves h1 h2 (λ b d. Breaks x plan draws s.points (mark b p s0 first) d lost stop.after.lost stop.after.last) → Moves h0 h2 (λ a d. Broken x plan first stop said said a d)
-  rounds_broken closed stop rises lost lost_is said h0 h1 h2 opening breaking =
-      moves_join h0 h1 h2 _ _ _
-      (λ a b d did breaks tables windows of slots_of stood.
-      let open_now : IsOpened x.run x.written a b = opened x.run x.written a b did in
-      let here : first.stood (content b x.run.input) = rw (same_input x far open_now) stood in
-      let broken : IsBrokenFrom x plan draws s.points (mark b p s0 first) d lost stop.after.lost stop.after.last = breaks here in
+-- what is known of a run whose outputs were opened, and whose areas are closed
+pub record Captured : Type 1 where
+  pub laws : RunLaws
+  pub x : Setup
+  pub far : AreFilesApart x.run
+  pub rate : IfSome x.run.errors IsRate
+  pub plan : Tables
+  pub first : Spot
+  pub s : State
+  pub its_plan : s.plan ≡ plan
+  pub h : HistoryValue
+  pub closed : IsClosed s h
+  pub before : World
+  pub now : World
+  pub middle : Option Contents
+  pub opening : Moves before.files.held middle (Did x.run (opening_steps x.run x.written))
+
+module _ (r : Captured) where
+  abbrev pub closed_run : (a b : Contents) → Did r.x.run (opening_steps r.x.run r.x.written) a b → (tables : ℕ → BindingTable) (windows : List Window) →
+      IsPlanOf tables windows r.plan → ClosedRun
+  closed_run a b did tables windows of = record {
+    laws = r.laws;
+    x = r.x;
+    rate = r.rate;
+    tables = tables;
+    windows = windows;
+    s = r.s;
+    h = r.h;
+    of = rw r.its_plan of;
+    closed = r.closed;
+    old = a;
+    opened = b;
+    opening = opened r.x.run r.x.written a b did;
+  }
+
+  pub rounds_broken : (why : Fault) → Rises (is_failure why) r.before.files.spoiled r.now.files.spoiled × (r.now.said ≡ r.before.said) → (lost : ℕ) → lost ≡ r.before.files.lost →
+      Moves r.middle r.now.files.held (Breaks r.x r.s r.first lost r.now.files.lost r.now.files.last) →
+      Moves r.before.files.held r.now.files.held (Broken r.x r.plan r.first (stop_by why r.before r.now))
+  rounds_broken why nothing lost lost_is breaking =
+      moves_join r.before.files.held r.middle r.now.files.held _ _ _
+      (λ a b d did breaks at_first tables windows of slots_of.
+      let run = closed_run a b did tables windows of in
+      let stop = stop_by why r.before r.now in
+      let same = input_kept r.far a b run.opening.others in
+      let it = breaks (rw same at_first.stands) in
+      broken r.x a at_first 3 stop (takes_all r.x a at_first stop (rw (same, lost_is) at it.taken)) (at_rounds run slots_of stop nothing it)) r.opening breaking
+
+-- and whose records have ended
+pub record AtEnd : Type 1 where
+  pub run : Captured
+  pub reader : Spot
+  pub some : SomeLeft reader.left
+  pub stop : Ending
+  pub last : Option (List ℕ × ℕ)
+  pub last_is : run.now.files.last ≡ last
+  pub lost : Rises (is_cut (Some stop)) run.before.files.lost run.now.files.lost
+  pub count : length run.s.draws ≡ run.s.progress.number
+  pub placed : AreAllPoints run.s.plan.windows run.s.points run.s.progress.number
+  pub end : Option Contents
+  pub going : Moves run.middle end (Goes run.x run.s run.first reader (Some stop) last)
+
+-- these are its records
+record HasRecords (e : AtEnd) (run : ClosedRun) (now : Contents) : Type 0 where
+  pub rs : List Rec
+  pub ends : EndsAt run.x.run.input e.run.first (content run.old run.x.run.input) rs e.stop e.run.now.files.last
+  pub are : AreWritten run.x run.opened now run.s rs
+  pub placed : AreAllPoints run.windows run.s.points (length rs)
+  pub count : length run.s.draws ≡ length rs
+
+module _ (e : AtEnd) where
+  records_of : (a b d : Contents) (did : Did e.run.x.run (opening_steps e.run.x.run e.run.x.written) a b) → Goes e.run.x e.run.s e.run.first e.reader (Some e.stop) e.last b d →
+      IsAtFirst e.run.first e.run.x.form e.run.x.written (content a e.run.x.run.input) → (tables : ℕ → BindingTable) (windows : List Window) (of : IsPlanOf tables windows e.run.plan) →
+      HasRecords e (closed_run e.run a b did tables windows of) d
+  records_of a b d did goes at_first tables windows of =
+      let run = closed_run e.run a b did tables windows of in
+      let same = input_kept e.run.far a b run.opening.others in
+      let took = goes (rw same at_first.stands) in
       record {
-        records = broken.records ++ broken.rest;
-        made = 3;
-        taken = rw (← lost_is) (behind_all x far open_now start.number (broken.taken here));
-        front = at_rounds laws x of closed slots_of rate open_now start no_points said stop rises broken;
-      }) opening breaking
+        rs = took.records;
+        ends = rw e.last_is (ends_at e.stop e.some (rw same at took.taken));
+        are = took.written;
+        placed = rw (← took.taken.count) (rw (← run.of.same_windows) e.placed);
+        count = e.count ∙ took.taken.count;
+      }
 
-  module _ (q : Progress) (reader : Spot) (some : SomeLeft reader.left) (end : IsAtEnd plan draws s h q.number) (stop : Ending) (last : Option (List ℕ × ℕ)) (said now : Option (List ℕ)) (before after : Outside) (last_is : after.last ≡ last) (lost : Rises (is_cut (Some stop)) before.lost after.lost) where
-    at_finish_broken : (why : Fault) (a d e : Contents) → IsHalfDone x plan draws p q s0 s first reader (Some stop) last a d → ((taken : List Rec) → Stands q.stage taken → IsHalfFinished x q s.points taken why before.spoiled after.spoiled d e said now) → Broken x plan first (stop_by why before after) said now a e
-    at_finish_broken why a d e half done tables windows of slots_of stood =
-        let took : TakesOn x plan draws (mark half.middle p s0 first) (mark d q s reader) (Some stop) last = half.goes (rw (same_input x far half.opened) stood) in
-        let are : AreWritten x plan windows draws s half.middle (mark d q s reader) took.records = are_written start no_points of end took in
-        let stands = (are.written (bare tables s.points) (suits_bare of end.closed)).stands in
-        record {
-          records = took.records;
-          made = 3;
-          taken = rw last_is (behind_all x far half.opened start.number
-              (takes_by x.run.input first reader (content half.middle x.run.input) p.number q.number took.records stop before.lost after.lost last some took.forward took.within took.follows took.stopped lost));
-          front = at_finish laws x of end.closed slots_of rate half.opened why before after are (done took.records stands);
-        }
+  pub finish_broken : (why : Fault) →
+      Moves e.end e.run.now.files.held (FinishesPart e.run.x e.run.s.progress e.run.s.points (is_failure why) e.run.before.files.spoiled e.run.now.files.spoiled
+      e.run.before.said e.run.now.said) →
+      Moves e.run.before.files.held e.run.now.files.held (Broken e.run.x e.run.plan e.run.first (stop_by why e.run.before e.run.now))
+  finish_broken why finishing =
+      moves_three e.run.before.files.held e.run.middle e.end e.run.now.files.held _ _ _ _
+      (λ a b d n did goes half at_first tables windows of slots_of.
+      let r = e.run in
+      let run = closed_run r a b did tables windows of in
+      let it = records_of a b d did goes at_first tables windows of in
+      let stop = stop_by why r.before r.now in
+      let stands = (it.are (bare tables r.s.points) (suits_bare run.of run.closed)).stands in
+      broken r.x a at_first 3 stop (takes_all r.x a at_first stop (takes_by r.x.run.input r.first (content a r.x.run.input) e.stop e.lost it.ends))
+      (at_finish run slots_of why r.before r.now it.placed it.are (half it.rs stands))) e.run.opening e.going finishing
 
-    pub finish_broken : (why : Fault) (h0 h1 h2 h3 : Option Contents) → Moves h0 h1 (Did x.run (opening_steps x.run x.written)) →
-        Moves h1 h2 (λ b d. Goes x plan draws (mark b p s0 first) (mark d q s reader) (Some stop) last) →
-        Moves h2 h3 (λ d e. (taken : List Rec) → Stands q.stage taken → IsHalfFinished x q s.points taken why before.spoiled after.spoiled d e said now) →
-        Moves h0 h3 (λ a e. Broken x plan first (stop_by why before after) said now a e)
-    finish_broken why h0 h1 h2 h3 opening going finishing =
-        moves_join h0 h2 h3 _ _ _
-        (λ a d e u w. at_finish_broken why a d e u w) (half_done x plan draws p q s0 s first reader (Some stop) last h0 h1 h2 opening going) finishing
+  pub ends : Moves e.end e.run.now.files.held (Finishes e.run.x e.run.s.progress e.run.s.points e.run.before.said e.run.now.said) →
+      Moves e.run.before.files.held e.run.now.files.held (LeavesOpened e.run.x e.run.plan e.run.first (Ok e.stop) e.run.before e.run.now (Some e.run.h))
+  ends finishing =
+      moves_three e.run.before.files.held e.run.middle e.end e.run.now.files.held _ _ _ _
+      (λ a b d n did goes done at_first tables windows of.
+      let r = e.run in
+      let run = closed_run r a b did tables windows of in
+      let it = records_of a b d did goes at_first tables windows of in
+      leaves_ended r.x a at_first r.before r.now e.stop it.ends (is_run run it.placed it.are it.count done) (some_slot_refused r.x.slots) refl)
+      e.run.opening e.going finishing

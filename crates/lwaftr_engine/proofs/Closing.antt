@@ -1,150 +1,153 @@
 -- A run whose areas are closed: which course it had, and what its files are by that.
-use Rattle.std.proofs.Common.{◌≡◌, ℕ, ◌<◌, ◌≤◌, false, List, [], ◌∷◌, ◌++◌, length, take, drop, flat_map, Option, Some, refl, sym, ◌∙◌, ap, arith, append-nil, append_assoc}
-use Rattle.std.specs.Prelude.{nat_le}
-use Rattle.std.specs.Option.{option_map}
-use Rattle.std.proofs.lemmas.Grind.{flat_map-append}
-use Rattle.std.proofs.lemmas.List.{take-append-drop}
-use Rattle.std.proofs.lemmas.List.Sums.{count_by-le-length}
-use Rattle.aftr_base.specs.Contents.{Contents, content}
-use Rattle.aftr_text.specs.Lines.{ended_text, summary_text}
-use Rattle.aftr_text.specs.declared.summaries.Totals.{Totals}
-use Rattle.area_swap.specs.Histories.{HistoryValue}
-use Rattle.binding_rules.specs.Tables.{BindingTable, IsLawful}
-use Rattle.capture_io.specs.declared.forms.Form.{Form}
-use Rattle.capture_io.specs.declared.forms.Rec.{Rec}
-use Rattle.item_stage.specs.Items.{entries_of, items_in, unfinished_of}
-use Rattle.lwaftr_engine.specs.Finishing.{IsFinished, IsFirst, last_lines, last_versions}
-use Rattle.lwaftr_engine.specs.Fronts.{IsUnder}
-use Rattle.lwaftr_engine.specs.Progress.{HasWritten, IsClosed, IsLimitedRun, Mark, Past, Seats, Setup, Spot, Suits, loads_of, mark}
-use Rattle.lwaftr_engine.specs.RunLaws.{RunLaws}
-use Rattle.lwaftr_engine.specs.Runs.{IsCourse, IsHistoryOf, IsPlanOf, IsWritten, all_asking}
-use Rattle.lwaftr_engine.specs.declared.rounds.Progress.{Progress}
-use Rattle.reload_plan.specs.declared.loads.Slot.{Slot}
+use Rattle.lwaftr_engine.proofs.Words.{AreAllPoints, AreInWindows, AreWritten, BindingTable, Contents, Course, Finishes, HasWritten, HistoryValue, IfSome}
+use Rattle.lwaftr_engine.proofs.Words.{IsClosed, IsCourse, IsFinished, IsFirst, IsHistoryOf, IsLawful, IsLimitedRun, IsPlan, IsPlanOf, IsRate, IsRun, IsSameBut}
+use Rattle.lwaftr_engine.proofs.Words.{IsUnder, IsWritten, NoneIsDue, Option, Rec, RunLaws, Setup, Slot, Some, State, Suits, Tables, Window, Wrote, all_asking}
+use Rattle.lwaftr_engine.proofs.Words.{ap, append-nil, arith, content, count_by-le-length, ended_text, entries_of, false, flat_map, items_in, last_lines}
+use Rattle.lwaftr_engine.proofs.Words.{last_versions, length, lines_from, load_lines, loads_of, nat_le, no_totals, option_map, packets_from, refl, summary_text}
+use Rattle.lwaftr_engine.proofs.Words.{sym, take, totals_from, totals_of, unfinished_of, with_version, ◌++◌, ◌<◌, ◌∙◌, ◌∷◌, ◌≡◌, ◌≤◌, Form, List, Totals, [], ℕ}
+use Rattle.lwaftr_engine.proofs.Courses.{HasUnder, bare, some_course}
+use Rattle.lwaftr_engine.proofs.Writing.{IsOpened, wrote}
+use Rattle.lwaftr_engine.proofs.Begun.{lines_split}
+use Rattle.lwaftr_engine.proofs.Going.{wrote_more}
 use Rattle.reload_plan.specs.declared.loads.Slot.TheVariants as slot
-use Rattle.run_output.specs.Counting.{no_totals, totals_from, with_version}
-use Rattle.run_output.specs.Laws.{CountsAreTotals, IsSameBut}
-use Rattle.run_output.specs.Outputs.{Course, lines_from, packets_from, totals_of}
-use Rattle.run_output.specs.Versions.{NamedSlot, NoneIsDue, load_lines, slot_text}
-use Rattle.swap_core.specs.Plans.{Tables, table}
-use Rattle.swap_core.specs.Points.{AreAllPoints, in_force}
-use Rattle.swap_core.specs.declared.plan.Window.{Window}
-use Rattle.lwaftr_engine.proofs.Courses.{bare}
-use Rattle.lwaftr_engine.proofs.Writing.{IsOpened, did_none, wrote}
 
-pub suits_bare : {tables : ℕ → BindingTable} {windows : List Window} {plan : Tables} {draws : List (ℕ × ℕ)} {s : Seats} {h : HistoryValue} → IsPlanOf tables windows plan → IsClosed plan draws s h → Suits plan draws (bare tables s.points)
-suits_bare {tables} {draws} of closed = record {
-  tables = of.compiled;
-  versions = λ k d inside.
-      sym ((rw closed.points at closed.drawn.under) k d inside);
-}
+pub suits_bare : {tables : ℕ → BindingTable} {windows : List Window} {s : State} {h : HistoryValue} → IsPlanOf tables windows s.plan → IsClosed s h →
+    Suits s.plan s.draws (bare tables s.points)
+suits_bare of closed = record { tables = of.compiled; versions = λ k d inside. sym ((rw closed.points at closed.drawn.under) k d inside) }
 
 pub suits_same : {plan : Tables} {draws : List (ℕ × ℕ)} {c d : Course} → IsSameBut c d → Suits plan draws c → Suits plan draws d
-suits_same {plan} {draws} same suits = record {
-  tables = rw same.tables suits.tables;
-  versions = rw same.version suits.versions;
-}
+suits_same same suits = record { tables = rw same.tables suits.tables; versions = rw same.version suits.versions }
 
-pub none_due_yet : (slots : List Slot) → NoneIsDue [] slots
+none_due_yet : (slots : List Slot) → NoneIsDue [] slots
 none_due_yet [] = tt
 none_due_yet (slot.Version version ∷ rest) = refl
 none_due_yet (slot.Refused cause ∷ rest) = none_due_yet rest
 
 -- before the first record
-pub none_written : {x : Setup} (c : Course) (opened : Contents) {p : Progress} {s : Seats} (reader : Spot) → IsFirst x.form x.run.errors p → s.points ≡ [] → HasWritten x c opened (mark opened p s reader) []
-none_written {x} c opened {s} reader first none = record {
+pub none_written : {x : Setup} (c : Course) {opened now : Contents} {s : State} → IsFirst x.form x.run.errors s.progress → s.points ≡ [] → Wrote x.run [] [] [] opened now →
+    HasWritten x c opened now s []
+none_written {x} c first none wrote = record {
   stands = first.stands;
   stage_form = first.stage_form;
   number = first.number;
   entries = refl;
   asked = first.asked x.form c;
   totals = λ limited. first.totals;
-  files = λ later limited.
-      rw first.printed (wrote x.run [] [] [] opened opened (did_none x.run opened));
-  none_due =
-      rw first.printed (rw none (none_due_yet x.slots));
+  files = λ later limited. rw first.printed wrote;
+  none_due = rw first.printed (rw none (none_due_yet x.slots));
   spoken = λ number inside. absurd (omega (arith, inside));
   reads = omega arith;
 }
 
-abbrev pub first_past : {x : Setup} {plan : Tables} {draws : List (ℕ × ℕ)} (c : Course) → Suits plan draws c → (opened : Contents) {p : Progress} {s : Seats} (reader : Spot) → IsFirst x.form x.run.errors p → s.points ≡ [] → Past x plan draws (mark opened p s reader)
-first_past c suits opened reader first none = record { course = c; suits = suits; opened = opened; taken = []; written = none_written c opened reader first none }
+-- what is known of the points where the areas are closed
+module _ {s : State} {h : HistoryValue} (closed : IsClosed s h) where
+  pub its_planned : IsPlan s.plan
+  its_planned = rw (← closed.same_plan) closed.history.planned
 
--- what was written of these records, under every course that suits; each window that opened by then has its point
-pub record AreWritten (x : Setup) (plan : Tables) (windows : List Window) (draws : List (ℕ × ℕ)) (s : Seats) (opened : Contents) (m : Mark) (rs : List Rec) : Type 0 where
-  pub written : (c : Course) → Suits plan draws c → HasWritten x c opened m rs
-  pub placed : AreAllPoints windows s.points (length rs)
+  pub points_placed : AreInWindows s.plan.windows s.points (length s.draws)
+  points_placed = rw (← closed.points) (rw (← closed.same_plan) (rw closed.drawn.all closed.history.placed))
+
+  pub few_points : length s.points < length s.plan.tables
+  few_points = rw (← closed.points) (rw (← closed.same_plan) closed.history.few)
+
+-- a run whose outputs were opened and whose areas are closed, under tables of which the plan's words are
+pub record ClosedRun : Type 0 where
+  pub laws : RunLaws
+  pub x : Setup
+  pub rate : IfSome x.run.errors IsRate
+  pub tables : ℕ → BindingTable
+  pub windows : List Window
+  pub s : State
+  pub h : HistoryValue
+  pub of : IsPlanOf tables windows s.plan
+  pub closed : IsClosed s h
+  pub old : Contents
+  pub opened : Contents
+  pub opening : IsOpened x.run x.written old opened
 
 -- what a run wrote until its records ended, and the course of which that is
-pub record HasCourse (x : Setup) (tables : ℕ → BindingTable) (windows : List Window) (s : Seats) (opened : Contents) (m : Mark) (rs : List Rec) : Type 0 where
+pub record HasCourse (r : ClosedRun) (now : Contents) (rs : List Rec) : Type 0 where
   pub course : Course
-  pub is_course : IsCourse tables windows x.run.errors s.points x.form rs course
-  pub written : HasWritten x course opened m rs
-  pub limited : IsLimitedRun x course rs
+  pub is_course : IsCourse r.tables r.windows r.x.run.errors r.s.points r.x.form rs course
+  pub written : HasWritten r.x course r.opened now r.s rs
+  pub limited : IsLimitedRun r.x course rs
 
-module _ (laws : RunLaws) {tables : ℕ → BindingTable} {windows : List Window} {plan : Tables} {draws : List (ℕ × ℕ)} {s : Seats} {h : HistoryValue}
-    (of : IsPlanOf tables windows plan) (closed : IsClosed plan draws s h) (few : length s.points < length plan.tables) where
+module _ (r : ClosedRun) {rs : List Rec} where
   -- the table in force at a record is lawful
-  pub lawful_at : (c : Course) → c.tables ≡ tables → c.version ≡ in_force s.points → (number : ℕ) → IsLawful (c.tables (c.version number))
-  lawful_at c tables_are version_are number =
-      let lawful : (n : ℕ) → n < length plan.tables → IsLawful (c.tables n) = rw tables_are (λ n inside. (of.compiled n inside).lawful) in
-      lawful (c.version number) (omega (arith, few, count_by-le-length (λ (p : ℕ). nat_le p number) s.points, ap (λ (f : ℕ → ℕ). f number) version_are))
+  pub lawful_at : (c : Course) → IsUnder r.tables r.s.points r.x.run.errors r.x.form rs c → (number : ℕ) → IsLawful (c.tables (c.version number))
+  lawful_at c under number =
+      let lawful : (n : ℕ) → n < length r.s.plan.tables → IsLawful (c.tables n) = rw under.tables_are (λ n inside. (r.of.compiled n inside).lawful) in
+      lawful (c.version number)
+      (omega (arith, few_points r.closed, count_by-le-length (λ (p : ℕ). nat_le p number) r.s.points, ap (λ (f : ℕ → ℕ). f number) under.in_force_are))
 
   -- a course of these records under the points of the desk
-  abbrev pub course_with : {x : Setup} {opened : Contents} {m : Mark} {rs : List Rec} → AreWritten x plan windows draws s opened m rs → (c : Course) → IsUnder tables s.points x.run.errors x.form rs c → HasCourse x tables windows s opened m rs
-  course_with are c under = record {
+  abbrev pub course_with : {now : Contents} → AreAllPoints r.windows r.s.points (length rs) → AreWritten r.x r.opened now r.s rs → (c : Course) →
+      IsUnder r.tables r.s.points r.x.run.errors r.x.form rs c → HasCourse r now rs
+  course_with placed are c under = record {
     course = c;
     is_course = record {
       tables_are = under.tables_are;
       in_force_are = under.in_force_are;
       loaded = under.loaded;
-      placed = are.placed;
+      placed = placed;
       limited = under.limited;
-      access = λ number i at. laws.access (c.tables (c.version number)) i (lawful_at c under.tables_are under.in_force_are number);
-      sends = λ number i at. laws.sends (c.tables (c.version number)) i (lawful_at c under.tables_are under.in_force_are number);
+      access = λ number i at. r.laws.access (c.tables (c.version number)) i (lawful_at c under number);
+      sends = λ number i at. r.laws.sends (c.tables (c.version number)) i (lawful_at c under number);
     };
-    written = are.written c (suits_same (record { tables = under.tables_are; version = under.in_force_are; loaded = under.loaded }) (suits_bare of closed));
+    written = are c (suits_same (record { tables = under.tables_are; version = under.in_force_are; loaded = under.loaded }) (suits_bare r.of r.closed));
     limited = under.limited;
   }
 
-pub all_lines : (points : List ℕ) (k : ℕ) (loads : List NamedSlot) → load_lines points (take k loads) ++ load_lines points (drop k loads) ≡ load_lines points loads
-all_lines points k loads =
-    sym (flat_map-append (λ (load : NamedSlot). slot_text points load.name load.slot) (take k loads) (drop k loads)) ∙ ap (λ (l : List NamedSlot). load_lines points l) (take-append-drop k loads)
+  -- what was counted are the totals of the run
+  pub totals_are : {now : Contents} (has : HasCourse r now rs) → with_version r.s.progress.totals (length r.s.points) ≡ totals_of has.course r.x.form rs
+  totals_are has =
+      ap (λ (t : Totals). with_version t (length r.s.points)) (has.written.totals has.limited)
+      ∙ (ap (λ (n : ℕ). with_version (totals_from has.course no_totals 0 (entries_of r.x.form rs)) n) (sym has.is_course.loaded)
+      ∙ sym (r.laws.totals has.course r.x.form rs has.written.entries))
 
--- what was counted are the totals of the run
-pub totals_are : {x : Setup} → CountsAreTotals → {tables : ℕ → BindingTable} {windows : List Window} {s : Seats} {q : Progress} {reader : Spot} {b d : Contents} {rs : List Rec} (has : HasCourse x tables windows s b (mark d q s reader) rs) →
-    with_version q.totals (length s.points) ≡ totals_of has.course x.form rs
-totals_are {x} counts {s} {rs} has =
-    ap (λ (t : Totals). with_version t (length s.points)) (has.written.totals has.limited)
-    ∙ (ap (λ (n : ℕ). with_version (totals_from has.course no_totals 0 (entries_of x.form rs)) n) (sym has.is_course.loaded) ∙ sym (counts has.course x.form rs has.written.entries))
+  -- the files of a run: opened, filled round by round, and finished
+  pub is_written : {now e : Contents} {said took : Option (List ℕ)} (has : HasCourse r now rs) → IsFinished r.x r.s.progress r.s.points rs now e said took →
+      IsWritten r.x.run r.x.slots has.course r.s.points r.x.form r.x.written rs r.old e said took
+  is_written {now} {e} {said} has done =
+      let P = packets_from has.course r.x.written 0 rs (entries_of r.x.form rs) in
+      let L = lines_from has.course 0 (entries_of r.x.form rs) in
+      let more = last_versions r.x r.s.progress r.s.points in
+      let versions = content r.opened r.x.run.versions in
+      let all = wrote_more (has.written.files [] has.limited) (wrote r.x.run more [] (last_lines r.s.progress rs) now e done.did) in
+      record {
+        output = all.output ∙ (ap (λ (l : List ℕ). content r.opened r.x.run.output ++ l) (append-nil P) ∙ ap (λ (l : List ℕ). l ++ P) r.opening.output);
+        verdicts = all.verdicts ∙ (ap (λ (l : List ℕ). l ++ (L ++ last_lines r.s.progress rs)) r.opening.verdicts
+            ∙ ap (λ (f : Form). L ++ flat_map (ended_text false) (unfinished_of f rs)) has.written.stage_form);
+        versions = all.versions_is
+            ∙ (ap (λ (l : List ℕ). versions ++ (load_lines l (take r.s.progress.printed (loads_of r.x)) ++ more)) (append-nil r.s.points)
+            ∙ (ap (λ (l : List ℕ). versions ++ l) (lines_split r.s.points r.s.progress.printed (loads_of r.x))
+            ∙ ap (λ (l : List ℕ). l ++ load_lines r.s.points (loads_of r.x)) r.opening.versions));
+        others = λ name u v w. all.others name u v w ∙ r.opening.others name u v w;
+        summary = done.took ∙ ap (λ (t : Totals). option_map (λ (taken : List ℕ). taken ++ summary_text t) said) (totals_are has);
+      }
 
--- the files of a run: opened, filled round by round, and finished
-pub is_written : {x : Setup} → CountsAreTotals → {tables : ℕ → BindingTable} {windows : List Window} {s : Seats} {q : Progress} {reader : Spot} {a b d e : Contents} {said now : Option (List ℕ)} {rs : List Rec} →
-    IsOpened x.run x.written a b → (has : HasCourse x tables windows s b (mark d q s reader) rs) → IsFinished x q s.points rs d e said now →
-    IsWritten x.run x.slots has.course s.points x.form x.written rs a e said now
-is_written {x} counts {s} {q} {b} {d} {e} {said} {rs} opened has done =
-    let P = packets_from has.course x.written 0 rs (entries_of x.form rs) in
-    let L = lines_from has.course 0 (entries_of x.form rs) in
-    let V = load_lines s.points (take q.printed (loads_of x)) in
-    let files = has.written.files [] has.limited in
-    let last = wrote x.run (last_versions x q s.points) [] (last_lines q rs) d e done.did in
-    let O = content b x.run.versions in
-    record {
-      output = last.output ∙ (append-nil (content d x.run.output) ∙ (files.output ∙ ap (λ (l : List ℕ). l ++ P) opened.output));
-      verdicts = last.verdicts ∙ (ap (λ (l : List ℕ). l ++ last_lines q rs) (files.verdicts ∙ ap (λ (l : List ℕ). l ++ L) opened.verdicts)
-          ∙ ap (λ (f : Form). L ++ flat_map (ended_text false) (unfinished_of f rs)) has.written.stage_form);
-      versions = last.versions_is ∙ (ap (λ (l : List ℕ). l ++ last_versions x q s.points) (files.versions_is ∙ ap (λ (l : List ℕ). content b x.run.versions ++ load_lines l (take q.printed (loads_of x))) (append-nil s.points))
-          ∙ (append_assoc O V (last_versions x q s.points) ∙ (ap (λ (l : List ℕ). content b x.run.versions ++ l) (all_lines s.points q.printed (loads_of x)) ∙ ap (λ (l : List ℕ). l ++ load_lines s.points (loads_of x)) opened.versions)));
-      others = λ name u v w. last.others name u v w ∙ (files.others name u v w ∙ opened.others name u v w);
-      summary = done.took ∙ ap (λ (t : Totals). option_map (λ (taken : List ℕ). taken ++ summary_text t) said) (totals_are counts has);
-    }
+  is_history : length r.s.draws ≡ length rs → all_asking (items_in (entries_of r.x.form rs)) ≤ r.s.reads →
+      IsHistoryOf r.tables r.windows r.s.points r.x.form rs (Some r.h)
+  is_history count asked = record {
+    value = r.h;
+    is = refl;
+    plan = rw r.closed.same_plan r.of;
+    same_points = r.closed.points;
+    records = sym r.closed.drawn.all ∙ count;
+    reads = omega (arith, asked, r.closed.reads);
+  }
 
-pub is_history : (x : Setup) {tables : ℕ → BindingTable} {windows : List Window} {plan : Tables} {draws : List (ℕ × ℕ)} {s : Seats} {h : HistoryValue} {rs : List Rec} → IsPlanOf tables windows plan → IsClosed plan draws s h →
-    length draws ≡ length rs → all_asking (items_in (entries_of x.form rs)) ≤ s.reads → IsHistoryOf tables windows s.points x.form rs (Some h)
-is_history x {tables} {windows} {plan} {h} of closed count asked = record {
-  value = h;
-  is = refl;
-  plan = rw closed.same_plan of;
-  same_points = closed.points;
-  records = sym closed.drawn.all ∙ count;
-  reads = omega (arith, asked, closed.reads);
-}
+  -- and the run of them
+  pub is_run : {now e : Contents} {said took : Option (List ℕ)} → AreAllPoints r.windows r.s.points (length rs) → AreWritten r.x r.opened now r.s rs → length r.s.draws ≡ length rs →
+      Finishes r.x r.s.progress r.s.points said took now e →
+      IsRun r.x.run r.tables r.windows r.x.slots r.x.form r.x.written rs r.old e said took (Some r.h)
+  is_run {now} placed are count done =
+      let some : HasUnder r.tables r.s.points r.x.run.errors r.x.form rs = some_course r.laws.limits r.tables r.s.points r.x.run.errors r.x.form rs r.rate in
+      let has : HasCourse r now rs = course_with placed are some.course some.under in
+      record {
+        points = r.s.points;
+        course = has.course;
+        is_course = has.is_course;
+        outputs = is_written has (done rs has.written.stands);
+        is_history = is_history count has.written.reads;
+      }

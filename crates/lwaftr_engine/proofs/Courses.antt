@@ -1,26 +1,12 @@
 -- The course of all records of a run by the points whose lines are whole, and that of the first records by all points: what these
 -- records write is a front of what all of them write.
-use Rattle.std.proofs.Common.{subst, ◌≡◌, ℕ, ◌+◌, ◌<◌, ◌≤◌, false, List, ◌++◌, length, take, flat_map, Option, refl, sym, ◌∙◌, ap, arith, append_assoc}
-use Rattle.std.specs.Prelude.{IfSome}
-use Rattle.aftr_text.specs.Jobs.{IsRate}
-use Rattle.aftr_text.specs.Lines.{ended_text}
-use Rattle.binding_rules.specs.Tables.{BindingTable}
-use Rattle.capture_io.specs.Packets.{file_head}
-use Rattle.capture_io.specs.declared.forms.Form.{Form}
-use Rattle.capture_io.specs.declared.forms.Rec.{Rec}
-use Rattle.capture_io.specs.declared.written.Written.{Written}
-use Rattle.item_stage.specs.Items.{entries_of, unfinished_of}
-use Rattle.item_stage.specs.declared.entries.Entry.{Entry}
-use Rattle.item_stage.specs.Turns.{no_rows}
-use Rattle.run_output.specs.Laws.{AreJoined, IsLimitedAs, LimitsAreSome}
-use Rattle.run_output.specs.Limiting.{IsLimited, rate_of}
-use Rattle.run_output.specs.Outputs.{Course, lines_from, output_of, packets_from, verdicts_of}
-use Rattle.swap_core.specs.Points.{in_force}
-use Rattle.lwaftr_engine.specs.RunLaws.{RunLaws}
-use Rattle.lwaftr_engine.specs.Fronts.{IsFrontOf, IsUnder}
+use Rattle.lwaftr_engine.proofs.Words.{subst, ◌≡◌, ℕ, ◌+◌, ◌<◌, ◌≤◌, false, List, ◌++◌, length, flat_map, Option, refl, sym, ◌∙◌, ap, arith, append_assoc}
+use Rattle.lwaftr_engine.proofs.Words.{IfSome, IsRate, ended_text, BindingTable, file_head, Form, Rec, Written, entries_of, unfinished_of, Entry, no_rows}
+use Rattle.lwaftr_engine.proofs.Words.{AreJoined, IsLimitedAs, LimitsAreSome, IsLimited, rate_of, Course, lines_from, output_of, packets_from, verdicts_of}
+use Rattle.lwaftr_engine.proofs.Words.{in_force, RunLaws, IsFrontOf, IsUnder, []}
 use Rattle.lwaftr_engine.proofs.Alike.{AreAlike, entries_are, entries_behind, entries_count, limited_same, lines_same, packets_same}
 use Rattle.lwaftr_engine.proofs.Marked.{IsAskedFor, limits_exist}
-use Rattle.lwaftr_engine.proofs.Parts.{front_more, front_part}
+use Rattle.lwaftr_engine.proofs.Parts.{front_in}
 
 pub record HasUnder (tables : ℕ → BindingTable) (points : List ℕ) (errors : Option ℕ) (form : Form) (rs : List Rec) : Type 0 where
   pub course : Course
@@ -84,18 +70,19 @@ module _ (laws : RunLaws) (taken rest : List Rec) (points : List ℕ) {tables : 
         ap (λ (es : List Entry). lines_from c 0 es) (entries_are form taken rest)
         ∙ (joined.lines ∙ ap (λ (l : List ℕ). l ++ lines_from c (0 + length taken) (entries_behind form taken rest)) (sym (lines_same c (with_points c points) (length taken) alike 0 (entries_of form taken) less)))
 
-    pub output_front : (part : ℕ) → IsFrontOf (output_of c w form (taken ++ rest)) (file_head w ++ take part (packets_from (with_points c points) w 0 taken (entries_of form taken)))
-    output_front part =
+    pub output_front : {part : List ℕ} → IsFrontOf (packets_from (with_points c points) w 0 taken (entries_of form taken)) part →
+        IsFrontOf (output_of c w form (taken ++ rest)) (file_head w ++ part)
+    output_front {part} front =
         let P = packets_from (with_points c points) w 0 taken (entries_of form taken) in
         let M = packets_from c w (0 + length taken) rest (entries_behind form taken rest) in
-        (length (file_head w ++ take part P), front_more (output_of c w form (taken ++ rest)) (file_head w) P M part (ap (λ (l : List ℕ). file_head w ++ l) packets_first ∙ sym (append_assoc (file_head w) P M)))
+        front_in (output_of c w form (taken ++ rest)) (file_head w) P M part (ap (λ (l : List ℕ). file_head w ++ l) packets_first ∙ sym (append_assoc (file_head w) P M)) front
 
-    pub verdicts_front : (part : ℕ) → IsFrontOf (verdicts_of c form (taken ++ rest)) (take part (lines_from (with_points c points) 0 (entries_of form taken)))
-    verdicts_front part =
+    pub verdicts_front : {part : List ℕ} → IsFrontOf (lines_from (with_points c points) 0 (entries_of form taken)) part → IsFrontOf (verdicts_of c form (taken ++ rest)) part
+    verdicts_front {part} front =
         let L = lines_from (with_points c points) 0 (entries_of form taken) in
         let M = lines_from c (0 + length taken) (entries_behind form taken rest) in
         let U = flat_map (ended_text false) (unfinished_of form (taken ++ rest)) in
-        (length (take part L), front_part (verdicts_of c form (taken ++ rest)) L (M ++ U) part (ap (λ (l : List ℕ). l ++ U) lines_first ∙ append_assoc L M U))
+        front_in (verdicts_of c form (taken ++ rest)) [] L (M ++ U) part (ap (λ (l : List ℕ). l ++ U) lines_first ∙ append_assoc L M U) front
 
     -- the first records write the same by both
     pub verdicts_same : verdicts_of (with_points c points) form taken ≡ verdicts_of c form taken

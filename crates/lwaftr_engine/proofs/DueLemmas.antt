@@ -1,27 +1,12 @@
 -- The status that is due, and the one that comes.
-use Rattle.std.proofs.Common.{◌≡◌, ℕ, Bool, true, false, List, [], ◌∷◌, drop, Option, Some, None, Result, Ok, Err, ◌⊎◌, inl, inr, refl, sym, ◌∙◌, ap}
-use Rattle.aftr_base.specs.Contents.{Contents, content, Moves, Told}
-use Rattle.aftr_base.specs.Outside.{Outside}
-use Rattle.aftr_text.specs.declared.jobs.LoadWords.{LoadWords}
-use Rattle.aftr_text.specs.declared.jobs.RunJob.{RunJob}
-use Rattle.area_swap.specs.Histories.{HistoryValue}
-use Rattle.binding_file.specs.Files.{TableOf}
-use Rattle.binding_file.specs.declared.refusals.FileRefused.{FileRefused}
-use Rattle.binding_rules.specs.Tables.{BindingTable}
-use Rattle.capture_io.specs.declared.forms.CaptureBad.{CaptureBad}
-use Rattle.capture_io.specs.declared.forms.Form.{Form}
-use Rattle.capture_io.specs.declared.forms.Rec.{Rec}
-use Rattle.lwaftr_engine.specs.Causes.{IsFault}
-use Rattle.lwaftr_engine.specs.Endings.{IsWholeRun}
-use Rattle.lwaftr_engine.specs.Inputs.{Header, IsInput, IsInputBy, header_by, header_of, in_blocks, in_classic}
-use Rattle.lwaftr_engine.specs.Promises.{AsksDone, IsAskedFor, Leaves}
-use Rattle.lwaftr_engine.specs.Tables.{Answer, AreAnswers, some_refused}
-use Rattle.lwaftr_engine.specs.declared.status.Status.{Status}
+use Rattle.lwaftr_engine.proofs.Words.{◌≡◌, ℕ, Bool, true, false, List, [], ◌∷◌, drop, Option, Some, None, Result, Ok, Err, ◌⊎◌, inl, inr, refl, sym, ◌∙◌, ap}
+use Rattle.lwaftr_engine.proofs.Words.{Contents, content, Moves, Told, LoadWords, RunJob, HistoryValue, TableOf, FileRefused, BindingTable, CaptureBad, Form}
+use Rattle.lwaftr_engine.proofs.Words.{Rec, IsFault, IsWholeRun, Header, IsInput, IsInputBy, header_by, header_of, in_blocks, in_classic, AsksDone, IsAskedFor}
+use Rattle.lwaftr_engine.proofs.Words.{Leaves, Answer, AreAnswers, some_refused, Status, Seen, World}
+use Rattle.lwaftr_engine.proofs.Laws.{OneAnswer, OneReading}
 use Rattle.lwaftr_engine.specs.declared.status.Status.TheVariants as status
 use Rattle.pcapng_io.specs.Captures as blocks
 use Rattle.pcapng_io.specs.Rounds as rounds
-use Rattle.pcapng_io.specs.Seen.{Seen}
-use Rattle.lwaftr_engine.proofs.Laws.{OneAnswer, OneReading}
 
 -- what is left of a pcapng file is one list with one ending
 abbrev pub OneLeft : Type 0
@@ -116,18 +101,20 @@ module _ (one : AreSingle) (run : RunJob) (m : Contents) where
   due_refused refusal bad status.DoneRefused due = absurd (no_table due.first refusal due.tables.table bad)
   due_refused refusal bad _ due = absurd due
 
-  pub is_due : (result : Status) (new : Contents) (said now : Option (List ℕ)) (before after : Outside) (history : Option HistoryValue) → Leaves run result m new said now before after history →
+  pub is_due : (result : Status) (before now : World) (history : Option HistoryValue) (new : Contents) → Leaves run result before now history m new →
       (s : Status) → IsAskedFor run m s → (result ≡ s) ⊎ IsFault result
-  is_due status.Done new said now before after history f s due = inl (due_whole f s due)
-  is_due status.DoneRefused new said now before after history f s due = inl (due_whole f s due)
-  is_due (status.BadCapture refusal) new said now before after history (inl w) s due = inl (due_whole w.1 s due)
-  is_due (status.BadCapture refusal) new said now before after history (inr b) s due = inl (due_header b.first refusal b.table b.header s due)
-  is_due (status.BadTable refusal) new said now before after history f s due = inl (due_refused refusal f.0 s due)
-  is_due status.Usage new said now before after history f s due = absurd f
-  is_due _ new said now before after history f s due = inr tt
+  is_due status.Done before now history new f s due = inl (due_whole f s due)
+  is_due status.DoneRefused before now history new f s due = inl (due_whole f s due)
+  is_due (status.BadCapture refusal) before now history new (inl w) s due = inl (due_whole w.1 s due)
+  is_due (status.BadCapture refusal) before now history new (inr b) s due = inl (due_header b.first refusal b.table b.header s due)
+  is_due (status.BadTable refusal) before now history new f s due = inl (due_refused refusal f.0 s due)
+  is_due status.Usage before now history new f s due = absurd f
+  is_due _ before now history new f s due = inr tt
 
-pub due_told : AreSingle → (run : RunJob) (result : Status) (a b : Option Contents) (said now : Option (List ℕ)) (before after : Outside) (history : Option HistoryValue) →
-    Moves a b (λ old new. Leaves run result old new said now before after history) → Told a (λ m. (s : Status) → IsAskedFor run m s → (result ≡ s) ⊎ IsFault result)
-due_told one run result None b said now before after history moves = tt
-due_told one run result (Some m) None said now before after history moves = absurd moves
-due_told one run result (Some m) (Some o) said now before after history moves = is_due one run m result o said now before after history moves
+pub due_told : AreSingle → (run : RunJob) (result : Status) (before now : World) (history : Option HistoryValue) →
+    Moves before.files.held now.files.held (Leaves run result before now history) → Told before.files.held (λ m. (s : Status) → IsAskedFor run m s → (result ≡ s) ⊎ IsFault result)
+due_told one run result before now history moves = by_held before.files.held now.files.held moves where
+  by_held : (a b : Option Contents) → Moves a b (Leaves run result before now history) → Told a (λ m. (s : Status) → IsAskedFor run m s → (result ≡ s) ⊎ IsFault result)
+  by_held None b moves = tt
+  by_held (Some m) None moves = absurd moves
+  by_held (Some m) (Some o) moves = is_due one run m result before now history o moves

@@ -1,11 +1,7 @@
 -- Elements of lists, and what holds of all of them.
-use Rattle.std.proofs.Common.{◌≡◌, ℕ, ◌+◌, ◌<◌, List, ◌++◌, All, length, get_or, map, Option, Some, sym, subst, ◌∙◌, ap, arith, length-append}
-use Rattle.std.proofs.lemmas.List.{length-map}
-use Rattle.std.specs.List.{Contains, range_with_len, slice_get}
-use Rattle.std.specs.Option.{option_map}
-use Rattle.std.proofs.lemmas.List.{get_or_append_left, get_or-append-add}
-use Rattle.std.proofs.lemmas.List.FromFn.{get_or-range_with_len, length-range_with_len}
-use Rattle.std.proofs.lemmas.Option.{get_or_from_slice_get, slice_get-map, slice_get_within}
+use Rattle.lwaftr_engine.proofs.Words.{◌≡◌, ℕ, ◌+◌, ◌<◌, List, ◌++◌, All, length, get_or, map, Option, Some, sym, subst, ◌∙◌, ap, arith, length-append}
+use Rattle.lwaftr_engine.proofs.Words.{length-map, Contains, range_with_len, slice_get, option_map, get_or_append_left, get_or-append-add}
+use Rattle.lwaftr_engine.proofs.Words.{get_or-range_with_len, length-range_with_len, get_or_from_slice_get, slice_get-map, slice_get_within}
 
 -- what holds of all holds of one
 pub all_at : {A : Type 0} (P : A → Type 0) (xs : List A) (k : ℕ) (x : A) → All P xs → slice_get xs k ≡ Some x → P x

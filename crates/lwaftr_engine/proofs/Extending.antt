@@ -1,16 +1,8 @@
 -- The points that came so far, and those that come by the last record: each table whose window opens by then gets its point.
-use Rattle.std.proofs.Common.{◌≡◌, ℕ, Bool, false, cond, nat_le, zero, suc, ◌+◌, ◌-◌, ◌<◌, ◌≤◌, ◌⊎◌, List, [], ◌∷◌, ◌++◌, length, get_or, slice_index, refl, ◌∙◌, ap, arith, inl, inr, append-nil, append_assoc, length-append}
-use Rattle.std.specs.Prelude.{min}
-use Rattle.std.proofs.lemmas.Bool.{cases_lt}
-use borrow.Author.Tests.{lt-leb}
-use Rattle.std.proofs.lemmas.List.{get_or_append_left}
-use Rattle.std.proofs.lemmas.List.Sums.{sum_by-cons}
-use Rattle.std.proofs.lemmas.List.Elements.{All-get_or}
-use Rattle.swap_core.specs.Plans.{IsNotBefore, IsPlan, IsWindow, Tables, always, window}
-use Rattle.swap_core.specs.Points.{AreAllPoints, AreInWindows, in_force}
-use Rattle.swap_core.specs.declared.plan.Window.{Window}
-use Rattle.swap_core.proofs.PlanLemmas.{window_at}
-use Rattle.swap_core.proofs.Pointing.{settled_points}
+use Rattle.lwaftr_engine.proofs.Words.{◌≡◌, ℕ, Bool, false, cond, nat_le, zero, suc, ◌+◌, ◌-◌, ◌<◌, ◌≤◌, ◌⊎◌, List, [], ◌∷◌, ◌++◌, length, get_or, slice_index}
+use Rattle.lwaftr_engine.proofs.Words.{refl, ◌∙◌, ap, arith, inl, inr, append-nil, append_assoc, length-append, min, cases_lt, lt-leb, get_or_append_left}
+use Rattle.lwaftr_engine.proofs.Words.{sum_by-cons, All-get_or, IsNotBefore, IsPlan, IsWindow, Tables, always, window, AreAllPoints, AreInWindows, in_force}
+use Rattle.lwaftr_engine.proofs.Words.{Window, window_at, settled_points}
 
 last_got : (points : List ℕ) (x : ℕ) → slice_index (points ++ x ∷ []) (length points) ≡ x
 last_got [] x = refl

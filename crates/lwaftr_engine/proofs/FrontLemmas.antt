@@ -1,17 +1,9 @@
 -- The front of a file, joined from pieces; and that the front of a table file says what the file says.
-use Rattle.std.proofs.Common.{◌≡◌, ℕ, ◌+◌, ◌<◌, nat_lt, Bool, true, if◌then◌else◌, List, ◌++◌, length, length-take, take, drop, Option, Some, None, Result, Ok, Err, sym, ◌∙◌, ap, inl, inr, subst, arith, length-append}
-use Rattle.std.proofs.Math.Seq.{take-add}
-use Rattle.std.proofs.lemmas.Bool.{cases_lt}
-use Rattle.std.proofs.lemmas.Bool.Decides.{nat_tests}
-use Rattle.std.proofs.lemmas.List.{take_all}
-use Rattle.binding_file.specs.declared.refusals.FileError.{FileError}
+use Rattle.lwaftr_engine.proofs.Words.{◌≡◌, ℕ, ◌+◌, ◌<◌, nat_lt, Bool, true, if◌then◌else◌, List, ◌++◌, length, length-take, take, drop, Option, Some, None}
+use Rattle.lwaftr_engine.proofs.Words.{Result, Ok, Err, sym, ◌∙◌, ap, inl, inr, subst, arith, length-append, take-add, cases_lt, nat_tests, take_all, FileError}
+use Rattle.lwaftr_engine.proofs.Words.{IsFileCause, TableOf, TextOf, fits, most_bytes, Then, FileRefused, BindingTable, Contents, content, Told}
 use Rattle.binding_file.specs.declared.refusals.FileError.TheVariants as file_error
-use Rattle.binding_file.specs.Files.{IsFileCause, TableOf, TextOf, fits, most_bytes}
-use Rattle.binding_file.specs.Keys.{Then}
-use Rattle.binding_file.specs.declared.refusals.FileRefused.{FileRefused}
 use Rattle.binding_file.specs.declared.refusals.FileRefused.TheVariants as refused
-use Rattle.binding_rules.specs.Tables.{BindingTable}
-use Rattle.aftr_base.specs.Contents.{Contents, content, Told}
 
 -- what was read of the front, and then right behind it
 pub front_joined : (a b : Option Contents) (name list piece : List ℕ) (have count : ℕ) → b ≡ a → have ≡ length list

@@ -1,27 +1,10 @@
 -- What a round's outcomes are under a course of the run.
-use Rattle.std.proofs.Common.{◌≡◌, ℕ, ◌+◌, ◌-◌, ◌<◌, ◌≤◌, List, [], All, length, get_or, Some, sym, subst, ◌∙◌, ap, arith}
-use Rattle.std.proofs.lemmas.List.{length-map}
-use Rattle.std.specs.List.{range_with_len, slice_get}
-use Rattle.std.proofs.lemmas.List.FromFn.{length-range_with_len}
-use Rattle.std.proofs.lemmas.Option.{slice_get-get_or, slice_get_within}
-use Rattle.area_swap.specs.Values.{IsDesk}
-use Rattle.area_swap.specs.declared.board.View.{View}
-use Rattle.binding_rules.specs.Tables.{BindingTable, IsLawful}
-use Rattle.ip_codec.specs.declared.items.Item.{Item}
-use Rattle.ip_codec.specs.declared.items.Item.TheVariants as item
-use Rattle.item_stage.specs.Items.{items_in}
-use Rattle.item_stage.specs.declared.entries.Entry.{Entry}
-use Rattle.lwaftr_engine.specs.Progress.{Suits}
-use Rattle.run_output.specs.Outputs.{Course}
-use Rattle.run_output.specs.Rendering.{AreFitting, HasOutcomes}
-use Rattle.swap_core.specs.Plans.{Tables, table}
-use Rattle.table_words.specs.Layout.{AreCompiled, IsCompiled}
-use Rattle.verdict_core.specs.Fitting.{Fits, HasRoom}
-use Rattle.verdict_core.specs.Verdicts.{verdict_of}
-use Rattle.worker_gate.specs.Outcomes.{draw_of}
-use Rattle.worker_gate.specs.Rounds.{IsRound}
-use Rattle.worker_gate.specs.declared.outcomes.Outcome.{Outcome}
+use Rattle.lwaftr_engine.proofs.Words.{◌≡◌, ℕ, ◌+◌, ◌-◌, ◌<◌, ◌≤◌, List, [], All, length, get_or, Some, sym, subst, ◌∙◌, ap, arith, length-map, range_with_len}
+use Rattle.lwaftr_engine.proofs.Words.{slice_get, length-range_with_len, slice_get-get_or, slice_get_within, IsDesk, View, BindingTable, IsLawful, Item}
+use Rattle.lwaftr_engine.proofs.Words.{items_in, Entry, Suits, Course, AreFitting, HasOutcomes, Tables, table, AreCompiled, IsCompiled, Fits, HasRoom}
+use Rattle.lwaftr_engine.proofs.Words.{verdict_of, draw_of, IsRound, Outcome}
 use Rattle.lwaftr_engine.proofs.Elements.{all_among, all_at, all_behind, number_at}
+use Rattle.ip_codec.specs.declared.items.Item.TheVariants as item
 
 -- what is known of a round once it is judged
 pub record IsJudgedRound (plan : Tables) (items : List Item) (start end points : ℕ) (before after : View) (all : List Outcome) : Type 0 where

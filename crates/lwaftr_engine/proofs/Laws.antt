@@ -1,11 +1,5 @@
 -- The laws of the layers below that the lemmas take, as the law functions state them.
-use Rattle.std.proofs.Common.{◌≡◌, ℕ, Bool, List, Option, Result}
-use Rattle.binding_file.specs.Files.{TableOf}
-use Rattle.binding_file.specs.declared.refusals.FileRefused.{FileRefused}
-use Rattle.binding_rules.specs.Tables.{BindingTable}
-use Rattle.capture_io.specs.Capture.{Splits}
-use Rattle.capture_io.specs.declared.forms.CaptureBad.{CaptureBad}
-use Rattle.capture_io.specs.declared.forms.Rec.{Rec}
+use Rattle.lwaftr_engine.proofs.Words.{◌≡◌, ℕ, Bool, List, Option, Result, TableOf, FileRefused, BindingTable, Splits, CaptureBad, Rec}
 
 -- a file has one answer as a table
 abbrev pub OneAnswer : Type 0

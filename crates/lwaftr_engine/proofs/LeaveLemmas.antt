@@ -1,31 +1,11 @@
 -- What a run leaves by its table files, and the status that is due.
-use Rattle.std.proofs.Common.{subst, ◌≡◌, ℕ, suc, List, [], ◌∷◌, ◌++◌, Option, Some, None, Ok, inl, inr, refl, sym, ◌∙◌, ap, arith}
-use Rattle.std.specs.List.{Contains}
-use Rattle.std.specs.Prelude.{map}
-use Rattle.std.proofs.lemmas.List.Elements.{Contains-append_left, Contains-append_right}
-use Rattle.aftr_base.specs.Contents.{Contents, content, Moves, Told}
-use Rattle.aftr_base.specs.Outside.{Outside}
-use Rattle.aftr_text.specs.declared.jobs.LoadWords.{LoadWords}
-use Rattle.aftr_text.specs.declared.jobs.RunJob.{RunJob}
-use Rattle.area_swap.specs.Histories.{HistoryValue}
-use Rattle.binding_file.specs.Files.{TableOf}
-use Rattle.binding_rules.specs.Tables.{BindingTable}
-use Rattle.lwaftr_engine.specs.Causes.{FailsIn, IsReadOf}
-use Rattle.lwaftr_engine.specs.Ended.{AreSlotsOf}
-use Rattle.lwaftr_engine.specs.Endings.{AreTables, IsBehindTable, IsUnread, table_names}
-use Rattle.lwaftr_engine.specs.Loads.{AreFitFor, AreLoadsOf}
-use Rattle.lwaftr_engine.specs.Planned.{IsMade, LeavesBy, LeavesMade, some_slot_refused}
-use Rattle.lwaftr_engine.specs.Promises.{Leaves}
-use Rattle.lwaftr_engine.specs.Runs.{IsPlanOf}
-use Rattle.lwaftr_engine.specs.Tables.{Answer, slots_in, some_refused, table_by, windows_in}
-use Rattle.lwaftr_engine.specs.declared.status.Status.{Status}
+use Rattle.lwaftr_engine.proofs.Words.{◌≡◌, ℕ, suc, List, [], ◌∷◌, ◌++◌, Option, Some, None, Ok, inl, inr, refl, sym, ◌∙◌, ap, arith, Contains, map}
+use Rattle.lwaftr_engine.proofs.Words.{Contains-append_left, Contains-append_right, Contents, content, Told, LoadWords, RunJob, HistoryValue, TableOf}
+use Rattle.lwaftr_engine.proofs.Words.{BindingTable, FailsIn, IsReadOf, AreSlotsOf, AreTables, IsBehindTable, IsUnread, table_names, AreFitFor, AreLoadsOf}
+use Rattle.lwaftr_engine.proofs.Words.{IsMade, LeavesBy, LeavesMade, some_slot_refused, Leaves, IsPlanOf, Answer, slots_in, some_refused, table_by, windows_in}
+use Rattle.lwaftr_engine.proofs.Words.{Status, Load, Made, Slot, Window, Bool, CaptureBad, IsBrokenRun, IsStopped, IsWhole, IsWholeRun, Stop, World, AreAnswers}
+use Rattle.lwaftr_engine.proofs.PlanLemmas.{answers_of, plan_is, refused_are, slots_are, slots_of_run, AreLoadedAs}
 use Rattle.lwaftr_engine.specs.declared.status.Status.TheVariants as status
-use Rattle.reload_plan.specs.declared.loads.Load.{Load}
-use Rattle.reload_plan.specs.declared.loads.Made.{Made}
-use Rattle.reload_plan.specs.declared.loads.Slot.{Slot}
-use Rattle.swap_core.specs.declared.plan.Window.{Window}
-use Rattle.lwaftr_engine.proofs.Moving.{told_then}
-use Rattle.lwaftr_engine.proofs.PlanLemmas.{answers_of, are_answers, loaded_as, plan_is, refused_are, slots_are, slots_of_run}
 
 abbrev name_in : Option (List ℕ × ℕ) → List ℕ
 name_in None = []
@@ -35,13 +15,13 @@ same_read : (name other : List ℕ) (a b : ℕ) (last : Option (List ℕ × ℕ)
 same_read name other a b last e f = ap name_in (sym e ∙ f)
 
 -- a read of a table file that failed
-pub unread_tables : (run : RunJob) (m : Contents) (said : Option (List ℕ)) (last : Option (List ℕ × ℕ)) → IsReadOf (table_names run) last →
-    IsBehindTable run m last → IsUnread run m m said said None last
-unread_tables run m said last failed accepted =
+pub unread_tables : (run : RunJob) (m : Contents) (said now : Option (List ℕ)) (last : Option (List ℕ × ℕ)) → now ≡ said → IsReadOf (table_names run) last →
+    IsBehindTable run m last → IsUnread run m m said now None last
+unread_tables run m said now last same failed accepted =
     let among : (place : ℕ) → last ≡ Some (run.input, place) → Contains (table_names run) run.input = λ place last_is.
     rw (← (same_read failed.name run.input failed.place place last failed.last_is last_is)) failed.among in
     record {
-      kept = record { files = refl; sink = refl; none = refl };
+      kept = record { files = refl; sink = same; none = refl };
       early = λ in_records. in_records.apart (among in_records.place in_records.last_is);
       behind_table = accepted;
     }
@@ -51,68 +31,77 @@ pub record AreRead (run : RunJob) (t : BindingTable) (ls : List Load) (m : Conte
   pub table : TableOf (content m run.table) (Ok t)
   pub loads : AreLoadsOf m run.loads ls
 
-pub are_read : (run : RunJob) (t : BindingTable) (ls : List Load) (h0 h1 : Option Contents) → h1 ≡ h0 → Told h0 (λ m. TableOf (content m run.table) (Ok t)) → Told h1 (λ m. AreLoadsOf m run.loads ls) → Told h0 (λ m. AreRead run t ls m)
-are_read run t ls None h1 same table loads = tt
-are_read run t ls (Some m) h1 same table loads =
-    let T : Option Contents → Type 0 = λ h. Told h (λ m. AreLoadsOf m run.loads ls) in record { table = table; loads = subst T same loads }
+pub are_read : (run : RunJob) (t : BindingTable) (ls : List Load) (h : Option Contents) → Told h (λ m. TableOf (content m run.table) (Ok t)) → Told h (λ m. AreLoadsOf m run.loads ls) →
+    Told h (λ m. AreRead run t ls m)
+are_read run t ls None table loads = tt
+are_read run t ls (Some m) table loads = record { table = table; loads = loads }
 
-module _ (run : RunJob) (t : BindingTable) (ls : List Load) (made : Made) (of : IsMade t ls made) (fit : AreFitFor run.loads ls) (old new : Contents) (said now : Option (List ℕ)) (before after : Outside) (history : Option HistoryValue) (read : AreRead run t ls old) where
+-- a run that is made of tables that were read
+pub record ReadRun : Type 0 where
+  pub run : RunJob
+  pub t : BindingTable
+  pub ls : List Load
+  pub made : Made
+  pub of : IsMade t ls made
+  pub fit : AreFitFor run.loads ls
+  pub old : Contents
+  pub read : AreRead run t ls old
+
+module _ (r : ReadRun) where
+  abbrev found : (answers : List Answer) × AreAnswers r.old r.run.loads answers × AreLoadedAs answers r.ls
+  found = answers_of r.old r.run.loads r.ls r.read.loads
+
   abbrev answers : List Answer
-  answers = answers_of old run.loads ls read.loads
+  answers = found.0
 
   abbrev its_tables : ℕ → BindingTable
-  its_tables = table_by t answers
+  its_tables = table_by r.t answers
 
   abbrev its_windows : List Window
-  its_windows = windows_in run.loads answers
+  its_windows = windows_in r.run.loads answers
 
   abbrev its_slots : List Slot
   its_slots = slots_in 0 answers
 
-  tables : AreTables run old t answers
-  tables = record { table = read.table; loads = are_answers old run.loads ls read.loads }
+  tables : AreTables r.run r.old r.t answers
+  tables = record { table = r.read.table; loads = found.1 }
 
-  slots : made.slots ≡ its_slots
-  slots = of.slots ∙ slots_are answers ls (loaded_as old run.loads ls read.loads) 0
+  slots : r.made.slots ≡ its_slots
+  slots = r.of.slots ∙ slots_are answers r.ls found.2 0
 
-  refused : some_refused answers ≡ some_slot_refused made.slots
-  refused = sym (refused_are answers 0) ∙ ap (λ (l : List Slot). some_slot_refused l) (sym slots)
+  plan : IsPlanOf its_tables its_windows r.made.plan
+  plan = plan_is r.t r.of.words answers r.run.loads r.ls r.made.plan r.of.compiled r.of.plan r.fit found.2
 
-  plan : IsPlanOf its_tables its_windows made.plan
-  plan = plan_is t of.words answers run.loads ls made.plan of.compiled of.plan fit (loaded_as old run.loads ls read.loads)
+  slots_of : AreSlotsOf r.run its_windows its_slots
+  slots_of = slots_of_run r.run r.old answers found.1
 
-  slots_of : AreSlotsOf run its_windows its_slots
-  slots_of = slots_of_run run old answers (are_answers old run.loads ls read.loads)
+  whole_run : {refused : Bool} {new : Contents} {said now : Option (List ℕ)} {history : Option HistoryValue} {ending : Option CaptureBad} →
+      IsWhole r.run its_tables its_windows its_slots r.old new said now history ending → some_refused answers ≡ refused → IsWholeRun r.run r.old new said now history ending refused
+  whole_run whole same = record { first = r.t; answers = answers; tables = tables; some_load_refused = same; whole = whole }
 
-  by_status : (result : Status) → LeavesBy run its_tables its_windows its_slots result old new said now before after history →
-      (some_slot_refused its_slots ≡ some_refused answers) → Leaves run result old new said now before after history
-  by_status status.Done left same = record { first = t; answers = answers; tables = tables; some_load_refused = sym same ∙ left.1; whole = left.0 }
-  by_status status.DoneRefused left same = record { first = t; answers = answers; tables = tables; some_load_refused = sym same ∙ left.1; whole = left.0 }
-  by_status (status.BadCapture refusal) (inl whole) same =
-      inl (some_refused answers, record { first = t; answers = answers; tables = tables; some_load_refused = refl; whole = whole })
-  by_status (status.BadCapture refusal) (inr bad) same = inr (record { first = t; table = read.table; header = bad.0; kept = bad.1 })
-  by_status status.ReadFault (inl cut) same = inl (record { first = t; answers = answers; tables = tables; cut = cut })
-  by_status status.ReadFault (inr early) same = inr (record {
+  broken_run : {new : Contents} {stop : Stop} {history : Option HistoryValue} → IsStopped r.run its_tables its_windows its_slots stop history r.old new → IsBrokenRun r.run r.old new stop history
+  broken_run left = record { first = r.t; answers = answers; tables = tables; broken = left.0 slots_of; none = left.1 }
+
+  by_status : (result : Status) (before now : World) (history : Option HistoryValue) (new : Contents) → LeavesBy r.run its_tables its_windows its_slots result before now history r.old new →
+      some_slot_refused its_slots ≡ some_refused answers → Leaves r.run result before now history r.old new
+  by_status status.Done before now history new left same = whole_run left.0 (sym same ∙ left.1)
+  by_status status.DoneRefused before now history new left same = whole_run left.0 (sym same ∙ left.1)
+  by_status (status.BadCapture refusal) before now history new (inl whole) same = inl (some_refused answers, whole_run whole refl)
+  by_status (status.BadCapture refusal) before now history new (inr bad) same = inr (record { first = r.t; table = r.read.table; header = bad.0; kept = bad.1 })
+  by_status status.ReadFault before now history new (inl cut) same = inl (record { first = r.t; answers = answers; tables = tables; cut = cut })
+  by_status status.ReadFault before now history new (inr early) same = inr (record {
     kept = early.1;
-    early = λ r. early.0 r.header r.place r.sound r.last_is r.has_end r.behind;
-    behind_table = λ name place last_is apart. (t, read.table);
+    early = λ k. early.0 k.header k.place k.sound k.last_is k.has_end k.behind;
+    behind_table = λ name place last_is apart. (r.t, r.read.table);
   })
-  by_status status.WriteFault left same = record { first = t; answers = answers; tables = tables; broken = left.0 slots_of; none = left.1 }
-  by_status status.OutOfMemory (inl kept) same = inl kept
-  by_status status.OutOfMemory (inr broken) same = inr (record { first = t; answers = answers; tables = tables; broken = broken.0 slots_of; none = broken.1 })
-  by_status _ left same = absurd left
+  by_status status.WriteFault before now history new left same = broken_run left
+  by_status status.OutOfMemory before now history new (inl kept) same = inl kept
+  by_status status.OutOfMemory before now history new (inr left) same = inr (broken_run left)
+  by_status _ before now history new left same = absurd left
 
-  pub leaves : (result : Status) → LeavesMade run made.plan made.slots result old new said now before after history → Leaves run result old new said now before after history
-  leaves result left =
-      by_status result (rw (← slots) (left its_tables its_windows plan)) (refused_are answers 0)
-
-pub leaves_told : (run : RunJob) (t : BindingTable) (ls : List Load) (made : Made) → IsMade t ls made → AreFitFor run.loads ls → (result : Status) (said now : Option (List ℕ)) (before after : Outside) (history : Option HistoryValue) (h0 h1 h2 h3 : Option Contents) →
-    h1 ≡ h0 → h2 ≡ h1 → Told h0 (λ m. TableOf (content m run.table) (Ok t)) → Told h1 (λ m. AreLoadsOf m run.loads ls) →
-    Moves h2 h3 (λ m n. LeavesMade run made.plan made.slots result m n said now before after history) → Moves h0 h3 (λ m n. Leaves run result m n said now before after history)
-leaves_told run t ls made of fit result said now before after history h0 h1 h2 h3 same1 same2 table loads left =
-    told_then h0 h2 h3 (λ m. AreRead run t ls m) (λ m n. LeavesMade run made.plan made.slots result m n said now before after history) (λ m n. Leaves run result m n said now before after history)
-    (λ m n read made_left. leaves run t ls made of fit m n said now before after history read result made_left)
-    (same2 ∙ same1) (are_read run t ls h0 h1 same1 table loads) left
+  pub leaves : (result : Status) (before now : World) (history : Option HistoryValue) (new : Contents) → LeavesMade r.run r.made.plan r.made.slots result before now history r.old new →
+      Leaves r.run result before now history r.old new
+  leaves result before now history new left = by_status result before now history new (rw (← slots) (left its_tables its_windows plan)) (refused_are answers 0)
 
 -- reads of the capture are among those of all files
 pub among_all : (run : RunJob) (result : Status) (old new : Option (List ℕ × ℕ)) → FailsIn (run.input ∷ []) result old new → FailsIn (table_names run ++ run.input ∷ []) result old new

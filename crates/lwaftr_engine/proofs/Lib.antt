@@ -3,7 +3,6 @@ mod Alike
 mod Apart
 mod Asking
 mod Begun
-mod BrokenLemmas
 mod Capturing
 mod Closing
 mod Courses
@@ -12,7 +11,6 @@ mod Elements
 mod EndLemmas
 mod Exits
 mod Extending
-mod Finishes
 mod FrontLemmas
 mod Fronting
 mod Going
@@ -45,3 +43,4 @@ mod UnderwayLemmas
 mod UnopenedLemmas
 mod WriteLemmas
 mod Writing
+mod Words

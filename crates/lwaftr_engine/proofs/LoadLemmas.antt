@@ -1,25 +1,11 @@
 -- Loads that are read in batches.
-use Rattle.std.proofs.Common.{◌≡◌, ℕ, suc, ◌+◌, Bool, false, true, List, [], ◌∷◌, ◌++◌, take, drop, get_or, Option, Some, None, Ok, Err, sym, ◌∙◌, ap, arith, subst}
-use Rattle.std.specs.List.{AllZip, Contains, slice_get}
-use Rattle.std.specs.Prelude.{map}
-use Rattle.std.proofs.Math.Seq.{take-add, take-suc}
-use Rattle.std.proofs.lemmas.List.{map-append, take-append-drop}
-use Rattle.std.proofs.lemmas.List.Elements.{Contains-append_left, Contains-append_right}
-use Rattle.std.proofs.lemmas.Option.{get_or_from_slice_get, slice_get_within}
-use Rattle.std.proofs.lemmas.Slice.Zip.{all_zipped_more}
-use Rattle.aftr_base.specs.Contents.{Contents, Told, content}
-use Rattle.aftr_base.specs.Outside.{OnlyReads, Outside}
-use Rattle.aftr_text.specs.declared.jobs.LoadWords.{LoadWords}
-use Rattle.lwaftr_engine.specs.Loads.{AreFitFor, AreLoadsOf, FailsAmong, HasWindowOf, IsFileOf, IsFitFor, IsLoadOf, OnlyReadsAmong}
-use Rattle.lwaftr_engine.specs.Tables.{Answer}
-use Rattle.reload_plan.specs.Accepted.{IsSound}
-use Rattle.load_files.specs.Texts.{IsLoadOfFile, IsLoadedAs}
-use Rattle.reload_plan.specs.declared.loads.Load.{Load}
-use Rattle.reload_plan.specs.declared.loads.Loaded.{Loaded}
-use Rattle.reload_plan.specs.declared.loads.Loaded.TheVariants as loaded
-use Rattle.load_files.specs.declared.files.LoadFile.{LoadFile}
+use Rattle.lwaftr_engine.proofs.Words.{◌≡◌, ℕ, suc, ◌+◌, Bool, false, true, List, [], ◌∷◌, ◌++◌, take, drop, get_or, Option, Some, None, Ok, Err, sym, ◌∙◌, ap}
+use Rattle.lwaftr_engine.proofs.Words.{arith, subst, AllZip, Contains, slice_get, map, take-add, take-suc, map-append, take-append-drop, Contains-append_left}
+use Rattle.lwaftr_engine.proofs.Words.{Contains-append_right, get_or_from_slice_get, slice_get_within, all_zipped_more, Contents, Told, content, Outside}
+use Rattle.lwaftr_engine.proofs.Words.{LoadWords, AreFitFor, AreLoadsOf, FailsAmong, HasWindowOf, IsFileOf, IsFitFor, IsLoadOf, OnlyReadsAmong, Answer, IsSound}
+use Rattle.lwaftr_engine.proofs.Words.{IsLoadOfFile, IsLoadedAs, Load, Loaded, LoadFile, TableOf, read_well}
 use Rattle.lwaftr_engine.proofs.FrontLemmas.{table_of_front}
-use Rattle.binding_file.specs.Files.{TableOf}
+use Rattle.reload_plan.specs.declared.loads.Loaded.TheVariants as loaded
 
 abbrev pub names_of : List LoadWords → List (List ℕ)
 names_of words = map (λ (load : LoadWords). load.name) words
@@ -59,17 +45,15 @@ zipped_on {A} {B} R xs ys zs more at count n many is before next =
     let behind : AllZip R (take count (drop at xs)) zs = rw (← many) next in
     rw is (rw (take-add at count xs) (joined R (take at xs) (take count (drop at xs)) ys zs before behind))
 
-pub told_more : {A B : Type 0} (R : Contents → A → B → Type 0) (a b : Option Contents) (xs : List A) (ys more : List B) (at : ℕ) (x : A) (y : B) → b ≡ a → slice_get xs at ≡ Some x → more ≡ ys ++ y ∷ [] →
-    Told a (λ m. AllZip (R m) (take at xs) ys) → Told b (λ m. R m x y) → Told a (λ m. AllZip (R m) (take (at + 1) xs) more)
-told_more R None b xs ys more at x y same is pushed told one = tt
-told_more R (Some m) b xs ys more at x y same is pushed told one =
-    zipped_more (R m) xs ys more at x y is pushed told (subst (λ (o : Option Contents). Told o (λ m. R m x y)) same one)
+pub told_more : {A B : Type 0} (R : Contents → A → B → Type 0) (h : Option Contents) (xs : List A) (ys more : List B) (at : ℕ) (x : A) (y : B) → slice_get xs at ≡ Some x → more ≡ ys ++ y ∷ [] →
+    Told h (λ m. AllZip (R m) (take at xs) ys) → Told h (λ m. R m x y) → Told h (λ m. AllZip (R m) (take (at + 1) xs) more)
+told_more R None xs ys more at x y is pushed told one = tt
+told_more R (Some m) xs ys more at x y is pushed told one = zipped_more (R m) xs ys more at x y is pushed told one
 
-pub told_on : {A B : Type 0} (R : Contents → A → B → Type 0) (a b : Option Contents) (xs : List A) (ys zs more : List B) (at count n : ℕ) → b ≡ a → n ≡ count → more ≡ ys ++ zs →
-    Told a (λ m. AllZip (R m) (take at xs) ys) → Told b (λ m. AllZip (R m) (take n (drop at xs)) zs) → Told a (λ m. AllZip (R m) (take (at + count) xs) more)
-told_on R None b xs ys zs more at count n same many is told next = tt
-told_on {A} R (Some m) b xs ys zs more at count n same many is told next =
-    zipped_on (R m) xs ys zs more at count n many is told (subst (λ (o : Option Contents). Told o (λ m. AllZip (R m) (take n (drop at xs)) zs)) same next)
+pub told_on : {A B : Type 0} (R : Contents → A → B → Type 0) (h : Option Contents) (xs : List A) (ys zs more : List B) (at count n : ℕ) → n ≡ count → more ≡ ys ++ zs →
+    Told h (λ m. AllZip (R m) (take at xs) ys) → Told h (λ m. AllZip (R m) (take n (drop at xs)) zs) → Told h (λ m. AllZip (R m) (take (at + count) xs) more)
+told_on R None xs ys zs more at count n many is told next = tt
+told_on R (Some m) xs ys zs more at count n many is told next = zipped_on (R m) xs ys zs more at count n many is told next
 
 said : (m : Contents) (w : LoadWords) (f : LoadFile) (l : Load) → IsFileOf m w f → IsLoadOfFile f l → IsLoadOf m w l
 said m w f l file load = record {
@@ -115,22 +99,7 @@ reads_within failed ws at count a b d same only =
     rw (← same) only in
     record { held = some.held; faults = some.faults; lost = some.lost; spoiled = some.spoiled; last = fails_among failed ws at count a.last d.last some.last }
 
--- a read that went well changes nothing that is known
-pub read_well : (a b d : Outside) (name : List ℕ) → b ≡ a → OnlyReads false name (λ _. Unit {0}) b d → d ≡ a
-read_well a b d name same only = is_same ∙ same where
-  by_parts : (held : Option Contents) (faults lost spoiled : ℕ) (last : Option (List ℕ × ℕ)) → held ≡ b.held → faults ≡ b.faults → lost ≡ b.lost → spoiled ≡ b.spoiled → last ≡ b.last →
-      (let o : Outside = record { held = held; faults = faults; lost = lost; spoiled = spoiled; last = last } in o) ≡ b
-  by_parts held faults lost spoiled last e0 e1 e2 e3 e4 =
-      ap (λ (h : Option Contents). let o : Outside = record { held = h; faults = faults; lost = lost; spoiled = spoiled; last = last } in o) e0
-      ∙ (ap (λ (n : ℕ). let o : Outside = record { held = b.held; faults = n; lost = lost; spoiled = spoiled; last = last } in o) e1
-      ∙ (ap (λ (n : ℕ). let o : Outside = record { held = b.held; faults = b.faults; lost = n; spoiled = spoiled; last = last } in o) e2
-      ∙ (ap (λ (n : ℕ). let o : Outside = record { held = b.held; faults = b.faults; lost = b.lost; spoiled = n; last = last } in o) e3
-      ∙ ap (λ (l : Option (List ℕ × ℕ)). let o : Outside = record { held = b.held; faults = b.faults; lost = b.lost; spoiled = b.spoiled; last = l } in o) e4)))
-
-  is_same : d ≡ b
-  is_same = by_parts d.held d.faults d.lost d.spoiled d.last only.held only.faults only.lost only.spoiled only.last
-
 -- reads of many files that went well change nothing that is known
-pub read_all : (a b d : Outside) (names : List (List ℕ)) → b ≡ a → OnlyReadsAmong false names b d → d ≡ a
-read_all a b d names same only =
-    read_well a b d [] same (record { held = only.held; faults = only.faults; lost = only.lost; spoiled = only.spoiled; last = only.last })
+pub read_all : {a b d : Outside} {names : List (List ℕ)} → b ≡ a → OnlyReadsAmong false names b d → d ≡ a
+read_all {b = b} {d = d} same only =
+    read_well [] (λ _. Unit {0}) b d (record { held = only.held; faults = only.faults; lost = only.lost; spoiled = only.spoiled; last = only.last }) ∙ same

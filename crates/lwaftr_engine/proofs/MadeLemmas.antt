@@ -1,16 +1,7 @@
 -- The plan that is made of loads.
-use Rattle.std.proofs.Common.{◌≡◌, ℕ, zero, suc, ◌+◌, ◌<◌, List, [], ◌∷◌, length, All, Result, Ok, Err, refl, sym, ◌∙◌, ap, arith}
-use Rattle.std.specs.List.{slice_index_or}
-use Rattle.std.specs.Prelude.{IfOk}
-use Rattle.aftr_base.specs.declared.lists.OutOfMemory.{OutOfMemory}
-use Rattle.aftr_text.specs.Jobs.{AreRising, IsLoad, windows_of}
-use Rattle.aftr_text.specs.declared.jobs.LoadWords.{LoadWords}
-use Rattle.lwaftr_engine.specs.Loads.{AreFitFor}
-use Rattle.reload_plan.specs.Accepted.{AreSound, IsSound, slots_from}
-use Rattle.reload_plan.specs.declared.loads.Load.{Load}
-use Rattle.reload_plan.specs.declared.loads.Made.{Made}
-use Rattle.swap_core.specs.Plans.{IsWindow, always}
-use Rattle.swap_core.specs.declared.plan.Window.{Window}
+use Rattle.lwaftr_engine.proofs.Words.{◌≡◌, ℕ, zero, suc, ◌+◌, ◌<◌, List, [], ◌∷◌, length, All, Result, Ok, Err, refl, sym, ◌∙◌, ap, arith, slice_index_or}
+use Rattle.lwaftr_engine.proofs.Words.{IfOk, OutOfMemory, AreRising, IsLoad, windows_of, LoadWords, AreFitFor, AreSound, IsSound, slots_from, Load, Made}
+use Rattle.lwaftr_engine.proofs.Words.{IsWindow, always, Window}
 
 pub length_fit : (ws : List LoadWords) (ls : List Load) → AreFitFor ws ls → length ls ≡ length ws
 length_fit [] [] fit = refl

@@ -1,15 +1,8 @@
 -- For every list of times there are marks that a limit gives, and a limiter that was asked about just these times.
-use Rattle.std.proofs.Common.{◌≡◌, ℕ, ◌+◌, ◌-◌, ◌*◌, ◌≤◌, max, Bool, true, false, List, [], ◌∷◌, ◌++◌, length, Option, Some, None, refl, sym, ap, arith, inl, inr, append-nil, append_assoc}
-use Rattle.std.specs.Prelude.{IfSome, replicate}
-use Rattle.std.proofs.lemmas.Bool.{cases_lt, true≢false}
-use Rattle.aftr_text.specs.Jobs.{IsRate}
-use Rattle.capture_io.specs.declared.forms.Form.{Form}
-use Rattle.capture_io.specs.declared.forms.Rec.{Rec}
-use Rattle.error_limit.specs.Limits.{Bucket, Stands, second}
-use Rattle.error_limit.proofs.Marking.{kept, sent}
-use Rattle.item_stage.specs.declared.entries.Entry.{Entry}
-use Rattle.run_output.specs.Limiting.{HasAsked, rate_of, times_of, told_from}
-use Rattle.run_output.specs.Outputs.{Course}
+use Rattle.lwaftr_engine.proofs.Words.{◌≡◌, ℕ, ◌+◌, ◌-◌, ◌*◌, ◌≤◌, max, Bool, true, false, List, [], ◌∷◌, ◌++◌, length, Option, Some, None, refl, sym, ap}
+use Rattle.lwaftr_engine.proofs.Words.{arith, inl, inr, append-nil, append_assoc, IfSome, replicate, cases_lt, true≢false, IsRate, Form, Rec, Bucket, second}
+use Rattle.lwaftr_engine.proofs.Words.{kept, sent, Entry, HasAsked, rate_of, times_of, told_from, Course}
+use Rattle.error_limit.specs.Limits.{Stands}
 
 -- a limiter that was asked about these times
 pub record AreMarked (rate : ℕ) (times : List ℕ) : Type 0 where

@@ -1,17 +1,10 @@
 -- What a migration leaves.
-use Rattle.std.proofs.Common.{◌≡◌, ℕ, List, [], ◌++◌, length, take, Option, Some, None, Ok, inr, refl, sym, ◌∙◌, ap, arith, append-nil}
-use Rattle.std.specs.Option.{option_map}
-use Rattle.aftr_base.specs.Contents.{Contents, content, Moves, Told, Writes}
-use Rattle.aftr_text.specs.Lines.{migrated_text}
-use Rattle.binding_file.specs.Files.{TableOf, TextOf}
-use Rattle.binding_rules.specs.Tables.{BindingTable}
-use Rattle.lwaftr_engine.specs.Answered.{Puts}
-use Rattle.lwaftr_engine.specs.Migrations.{HoldsText, IsMigratedLine, LeavesMigrated, in_edition_two}
+use Rattle.lwaftr_engine.proofs.Words.{◌≡◌, ℕ, List, [], ◌++◌, length, take, Option, Some, None, Ok, inr, refl, sym, ◌∙◌, ap, arith, append-nil, option_map}
+use Rattle.lwaftr_engine.proofs.Words.{Contents, content, Moves, Told, Writes, migrated_text, TableOf, TextOf, BindingTable, Puts, HoldsText, IsMigratedLine}
+use Rattle.lwaftr_engine.proofs.Words.{LeavesMigrated, in_edition_two, World, Status}
 use Rattle.lwaftr_engine.specs.Questions.{TookFront}
-use Rattle.lwaftr_engine.specs.Worlds.{World}
-use Rattle.lwaftr_engine.specs.declared.status.Status.{Status}
-use Rattle.lwaftr_engine.specs.declared.status.Status.TheVariants as status
 use Rattle.lwaftr_engine.proofs.Moving.{moves_join, told_then}
+use Rattle.lwaftr_engine.specs.declared.status.Status.TheVariants as status
 
 nothing_more : (line : List ℕ) (said : Option (List ℕ)) → said ≡ option_map (λ taken. taken ++ take 0 line) said
 nothing_more line None = refl

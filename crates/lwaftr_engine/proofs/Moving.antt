@@ -1,6 +1,5 @@
 -- What is told of the files, from step to step.
-use Rattle.std.proofs.Common.{◌≡◌, Option, Some, None}
-use Rattle.aftr_base.specs.Contents.{Contents, Moves, Told}
+use Rattle.lwaftr_engine.proofs.Words.{◌≡◌, Option, Some, None, Contents, Moves, Told}
 
 -- two steps are one
 pub moves_join : (a b c : Option Contents) (P Q R : Contents → Contents → Type 0) → ((m n o : Contents) → P m n → Q n o → R m o) → Moves a b P → Moves b c Q → Moves a c R
@@ -10,6 +9,13 @@ moves_join None (Some n) c P Q R both first second = absurd first
 moves_join (Some m) None c P Q R both first second = absurd first
 moves_join (Some m) (Some n) None P Q R both first second = second
 moves_join (Some m) (Some n) (Some o) P Q R both first second = both m n o first second
+
+-- and three
+pub moves_three : (a b c d : Option Contents) (P Q R S : Contents → Contents → Type 0) → ((m n o p : Contents) → P m n → Q n o → R o p → S m p) →
+    Moves a b P → Moves b c Q → Moves c d R → Moves a d S
+moves_three a b c d P Q R S all first second third =
+    let T : Contents → Contents → Type 0 = λ n p. (o : Contents) × Q n o × R o p in
+    moves_join a b d P T S (λ m n p u w. all m n w.0 p u w.1 w.2) first (moves_join b c d Q R T (λ n o p v w. (o, v, w)) second third)
 
 -- a step that does nothing
 pub moves_none : (a b : Option Contents) (P : Contents → Contents → Type 0) → ((m : Contents) → P m m) → b ≡ a → Moves a b P
@@ -35,3 +41,13 @@ told_moves (Some m) (Some o) P Q R both told step = both m o told step
 pub told_then : (a b c : Option Contents) (P : Contents → Type 0) (Q R : Contents → Contents → Type 0) → ((m o : Contents) → P m → Q m o → R m o) → b ≡ a → Told a P → Moves b c Q → Moves a c R
 told_then a b c P Q R both same told step =
     told_moves a c P Q R both told (rw (← same) step)
+
+-- a step, whose last state is told of once more
+pub moves_told : (a b c : Option Contents) (P Q : Contents → Contents → Type 0) (T : Contents → Type 0) (R : Contents → Contents → Type 0) →
+    ((m n o : Contents) → P m n → Q n o → T o → R m o) → Moves a b P → Moves b c Q → Told c T → Moves a c R
+moves_told None None None P Q T R all first second told = tt
+moves_told None None (Some o) P Q T R all first second told = second
+moves_told None (Some n) c P Q T R all first second told = absurd first
+moves_told (Some m) None c P Q T R all first second told = absurd first
+moves_told (Some m) (Some n) None P Q T R all first second told = second
+moves_told (Some m) (Some n) (Some o) P Q T R all first second told = all m n o first second told

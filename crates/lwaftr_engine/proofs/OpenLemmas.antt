@@ -1,21 +1,9 @@
 -- A capture that is opened, by the names and values that the calls had.
-use Rattle.std.proofs.Common.{◌≡◌, ℕ, false, List, Option, Some, None, Ok, refl}
-use Rattle.aftr_base.specs.Contents.{Contents, content, Moves, Told}
-use Rattle.aftr_base.specs.Outside.{OnlyReads, Outside}
-use Rattle.aftr_text.specs.declared.jobs.RunJob.{RunJob}
-use Rattle.area_swap.specs.Histories.{HistoryValue}
-use Rattle.capture_io.specs.declared.written.Written.{Written}
-use Rattle.lwaftr_engine.specs.Planned.{IsAtFirst, LeavesMade}
-use Rattle.lwaftr_engine.specs.Progress.{Spot, spot}
-use Rattle.lwaftr_engine.specs.declared.status.Status.{Status}
-use Rattle.pcapng_io.specs.Captures as blocks
-use Rattle.pcapng_io.specs.Either.{IsFresh, OpensEither, form_either, left_either, place_either, stands_either, written_as}
-use Rattle.pcapng_io.specs.declared.either.Reader.{Reader}
-use Rattle.pcapng_io.specs.declared.either.Reader.TheVariants as reader
-use Rattle.reload_plan.specs.declared.loads.Slot.{Slot}
-use Rattle.swap_core.specs.Plans.{Tables}
+use Rattle.lwaftr_engine.proofs.Words.{◌≡◌, ℕ, List, Option, Some, None, Ok, refl, Contents, content, Told, Written, IsAtFirst, Spot, spot, IsFresh}
+use Rattle.lwaftr_engine.proofs.Words.{OpensEither, form_either, left_either, place_either, stands_either, written_as, Reader}
 use Rattle.lwaftr_engine.proofs.JobLemmas.{blocks_first, classic_first}
-use Rattle.lwaftr_engine.proofs.LoadLemmas.{read_well}
+use Rattle.pcapng_io.specs.Captures as blocks
+use Rattle.pcapng_io.specs.declared.either.Reader.TheVariants as reader
 
 abbrev spot_of : Reader → Spot
 spot_of r = spot (stands_either r) (left_either r) (place_either r)
@@ -33,9 +21,3 @@ pub opened_first : (r : Reader) (w : Written) → w ≡ written_as r → IsFresh
     → Told h0 (λ m. OpensEither (Ok r) (content m k)) → Told h1 (λ m. IsAtFirst (spot_of r) (form_either r) w (content m name))
 opened_first r w w_is fresh k name named h0 h1 same opened =
     rw w_is (opened_told r name h1 fresh (rw same (rw (← named) opened)))
-
--- what is left behind a read that went well
-pub left_behind : (run : RunJob) (plan : Tables) (slots : List Slot) (result : Status) (name : List ℕ) (Inside : ℕ → Type 0) (a b d : Outside) (said now : Option (List ℕ)) (history : Option HistoryValue) → OnlyReads false name Inside a b →
-    Moves b.held d.held (λ m n. LeavesMade run plan slots result m n said now b d history) → Moves a.held d.held (λ m n. LeavesMade run plan slots result m n said now a d history)
-left_behind run plan slots result name Inside a b d said now history only left =
-    rw (← (read_well a a b name refl (record { held = only.held; faults = only.faults; lost = only.lost; spoiled = only.spoiled; last = only.last }))) left

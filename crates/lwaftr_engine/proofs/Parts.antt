@@ -1,6 +1,6 @@
 -- Parts of a list that are fronts of it.
-use Rattle.std.proofs.Common.{◌≡◌, ℕ, List, ◌++◌, length, take, drop, sym, ◌∙◌, ap, append_assoc, take-append-drop}
-use Rattle.std.proofs.Math.Seq.{take-append_seam}
+use Rattle.lwaftr_engine.proofs.Words.{◌≡◌, ℕ, List, ◌++◌, length, take, drop, sym, ◌∙◌, ap, append_assoc, take-append-drop, take-append_seam, IsFrontOf, []}
+use Rattle.lwaftr_engine.proofs.Words.{append-nil, take-length}
 
 -- what stands before something more is a front of both
 pub front_of : {A : Type 0} (whole part rest : List A) → whole ≡ part ++ rest → part ≡ take (length part) whole
@@ -17,3 +17,16 @@ pub front_more : (whole part next rest : List ℕ) (count : ℕ) → whole ≡ (
 front_more whole part next rest count is =
     let cut : part ++ next ≡ (part ++ take count next) ++ drop count next = ap (λ (l : List ℕ). part ++ l) (sym (take-append-drop count next)) ∙ sym (append_assoc part (take count next) (drop count next)) in
     front_of whole (part ++ take count next) (drop count next ++ rest) (is ∙ (ap (λ (l : List ℕ). l ++ rest) cut ∙ append_assoc (part ++ take count next) (drop count next) rest))
+
+-- a list is a front of itself
+pub all_of : (list : List ℕ) → IsFrontOf list list
+all_of list = (length list, sym (take-length list))
+
+-- so is a front of what stands in the middle, behind what stands before it
+pub front_in : (whole first next rest part : List ℕ) → whole ≡ (first ++ next) ++ rest → IsFrontOf next part → IsFrontOf whole (first ++ part)
+front_in whole first next rest part is (count, same) =
+    (length (first ++ take count next), ap (λ (l : List ℕ). first ++ l) same ∙ front_more whole first next rest count is)
+
+-- and where nothing follows
+pub front_at_end : (whole first next part : List ℕ) → first ++ next ≡ whole → IsFrontOf next part → IsFrontOf whole (first ++ part)
+front_at_end whole first next part is front = front_in whole first next [] part (sym is ∙ sym (append-nil (first ++ next))) front

@@ -1,39 +1,11 @@
 -- The plan of the loads that were read, in the words of what their files say.
-use Rattle.std.proofs.Common.{◌≡◌, ℕ, cond, count_by, zero, suc, ◌+◌, ◌<◌, List, [], ◌∷◌, ◌++◌, length, get_or, Ok, Err, refl, ◌∙◌, ap, arith}
-use Rattle.std.specs.Prelude.{slice_index_or}
-use Rattle.aftr_base.specs.Contents.{Contents}
-use Rattle.aftr_text.specs.declared.jobs.LoadWords.{LoadWords}
-use Rattle.binding_file.specs.declared.refusals.FileRefused.{FileRefused}
-use Rattle.binding_rules.specs.Tables.{BindingTable}
-use Rattle.std.proofs.lemmas.List.Sums.{sum_by-cons}
-use Rattle.aftr_text.specs.declared.jobs.RunJob.{RunJob}
-use Rattle.lwaftr_engine.specs.Ended.{AreNumbered, AreSlotsOf}
-use Rattle.lwaftr_engine.specs.Fronts.{is_table}
-use Rattle.lwaftr_engine.specs.Loads.{AreFitFor, AreLoadsOf}
-use Rattle.lwaftr_engine.specs.Planned.{some_slot_refused}
-use Rattle.lwaftr_engine.specs.Runs.{IsPlanOf}
-use Rattle.lwaftr_engine.specs.Tables.{Answer, AreAnswers, slots_in, some_refused, table_by, tables_in, windows_in}
-use Rattle.reload_plan.specs.Accepted.{accepted, slot_of, slots_from, window_in, windows_read, words_in, words_read}
-use Rattle.load_files.specs.Texts.{IsLoadedAs}
-use Rattle.reload_plan.specs.declared.loads.Load.{Load}
-use Rattle.reload_plan.specs.declared.loads.Loaded.{Loaded}
+use Rattle.lwaftr_engine.proofs.Words.{◌≡◌, ℕ, cond, count_by, zero, suc, ◌+◌, ◌<◌, List, [], ◌∷◌, ◌++◌, length, get_or, Ok, Err, refl, ◌∙◌, ap, arith}
+use Rattle.lwaftr_engine.proofs.Words.{slice_index_or, Contents, LoadWords, FileRefused, BindingTable, sum_by-cons, RunJob, AreNumbered, AreSlotsOf, is_table}
+use Rattle.lwaftr_engine.proofs.Words.{AreFitFor, AreLoadsOf, some_slot_refused, IsPlanOf, Answer, AreAnswers, slots_in, some_refused, table_by, tables_in}
+use Rattle.lwaftr_engine.proofs.Words.{windows_in, accepted, slot_of, slots_from, window_in, windows_read, words_in, words_read, IsLoadedAs, Load, Loaded, Slot}
+use Rattle.lwaftr_engine.proofs.Words.{Tables, Window, IsCompiled}
 use Rattle.reload_plan.specs.declared.loads.Loaded.TheVariants as loaded
-use Rattle.reload_plan.specs.declared.loads.Slot.{Slot}
 use Rattle.reload_plan.specs.declared.loads.Slot.TheVariants as slot
-use Rattle.swap_core.specs.Plans.{Tables}
-use Rattle.swap_core.specs.declared.plan.Window.{Window}
-use Rattle.table_words.specs.Layout.{IsCompiled}
-
--- what the loads' files say
-abbrev pub answers_of : (m : Contents) (ws : List LoadWords) (ls : List Load) → AreLoadsOf m ws ls → List Answer
-answers_of m [] [] h = []
-answers_of m (w ∷ ws) (l ∷ ls) h = h.0.answer ∷ answers_of m ws ls h.1
-answers_of m _ _ h = absurd h
-
-pub are_answers : (m : Contents) (ws : List LoadWords) (ls : List Load) (h : AreLoadsOf m ws ls) → AreAnswers m ws (answers_of m ws ls h)
-are_answers m [] [] h = tt
-are_answers m (w ∷ ws) (l ∷ ls) h = (h.0.says, are_answers m ws ls h.1)
-are_answers m _ _ h = absurd h
 
 -- loads, each as its answer says
 abbrev pub AreLoadedAs : List Answer → List Load → Type 0
@@ -41,10 +13,13 @@ AreLoadedAs [] [] = Unit {0}
 AreLoadedAs (a ∷ answers) (l ∷ ls) = IsLoadedAs a l.loaded × AreLoadedAs answers ls
 AreLoadedAs _ _ = ⊥
 
-pub loaded_as : (m : Contents) (ws : List LoadWords) (ls : List Load) (h : AreLoadsOf m ws ls) → AreLoadedAs (answers_of m ws ls h) ls
-loaded_as m [] [] h = tt
-loaded_as m (w ∷ ws) (l ∷ ls) h = (h.0.is, loaded_as m ws ls h.1)
-loaded_as m _ _ h = absurd h
+-- what the loads' files say
+pub answers_of : (m : Contents) (ws : List LoadWords) (ls : List Load) → AreLoadsOf m ws ls → (answers : List Answer) × AreAnswers m ws answers × AreLoadedAs answers ls
+answers_of m [] [] h = ([], tt, tt)
+answers_of m (w ∷ ws) (l ∷ ls) h =
+    let rest = answers_of m ws ls h.1 in
+    (h.0.answer ∷ rest.0, (h.0.says, rest.1), (h.0.is, rest.2))
+answers_of m _ _ h = absurd h
 
 slot_step : (before : ℕ) (a : Answer) (x : Loaded) (rest : List Load) (answers : List Answer) → IsLoadedAs a x → ((n : ℕ) → slots_from n rest ≡ slots_in n answers) →
     slot_of x (before + 1) ∷ slots_from (before + length (words_in x)) rest ≡ slots_in before (a ∷ answers)

@@ -1,21 +1,9 @@
 -- What the run of the demonstration is told.
-use Rattle.std.proofs.Common.{◌≡◌, true, ℕ, ◌≤◌, List, [], ◌∷◌, cond, unwrap_or, codes, Some, None, refl, sym, ◌∙◌, ap, arith}
-use Rattle.std.proofs.lemmas.List.Elements.{All-cons, All-nil}
-use Rattle.std.proofs.lemmas.Cmp.{eq_by_cmp_equiv}
-use Rattle.std.specs.Ordering.{nat_cmp, eq_by_cmp}
-use Rattle.std.specs.Cmp.Lexicographic.{slice_cmp, nat_list_cmp_total}
-use Rattle.std.specs.FinMap.{get, get-insert, insert}
-use Rattle.aftr_base.specs.Contents.{Contents, content}
-use Rattle.aftr_text.specs.Jobs.{AreApart, IsLoad, StandsOnce, how_many, names_of}
-use Rattle.aftr_text.specs.declared.jobs.LoadWords.{LoadWords}
-use Rattle.aftr_text.specs.declared.jobs.RunJob.{RunJob}
-use Rattle.binding_rules.specs.Tables.{BindingTable}
-use Rattle.lwaftr_engine.specs.Demos.{middle}
-use Rattle.lwaftr_engine.specs.Shows.{IsDemoJob, IsDemoMade, IsShow}
-use Rattle.reload_plan.specs.declared.loads.Made.{Made}
-use Rattle.swap_core.specs.Plans.{IsWindow}
-use Rattle.swap_core.specs.declared.plan.Window.{Window}
-use Rattle.traffic_gen.specs.Traffic.{capture_of, table_from}
+use Rattle.lwaftr_engine.proofs.Words.{◌≡◌, true, ℕ, ◌≤◌, List, [], ◌∷◌, cond, unwrap_or, codes, Some, None, refl, sym, ◌∙◌, ap, arith, All-cons, All-nil}
+use Rattle.lwaftr_engine.proofs.Words.{eq_by_cmp_equiv, nat_cmp, eq_by_cmp, slice_cmp, nat_list_cmp_total, get, get-insert, insert, Contents, content, AreApart}
+use Rattle.lwaftr_engine.proofs.Words.{IsLoad, StandsOnce, names_of, LoadWords, RunJob, BindingTable, middle, IsDemoJob, IsDemoMade, IsShow, Made, IsWindow}
+use Rattle.lwaftr_engine.proofs.Words.{Window, capture_of, table_from}
+use Rattle.aftr_text.specs.Jobs.{how_many}
 
 -- the names of the run are apart
 abbrev run_of : ℕ → Window → RunJob

@@ -1,23 +1,11 @@
 -- What a question about a table file leaves.
-use Rattle.std.proofs.Common.{◌≡◌, inl, inr, ℕ, ◌≤◌, List, [], ◌∷◌, length, Option, Some, None, Result, Ok, Err, ap, arith, subst, sym}
-use Rattle.aftr_base.specs.Contents.{Contents, content, Told}
-use Rattle.aftr_base.specs.declared.numbers.V4.{V4}
-use Rattle.aftr_base.specs.declared.numbers.V6.{V6}
-use Rattle.binding_file.specs.Files.{TableOf}
-use Rattle.binding_file.specs.declared.refusals.FileRefused.{FileRefused}
-use Rattle.binding_rules.specs.Bindings.{bound}
-use Rattle.binding_rules.specs.Tables.{BindingTable}
-use Rattle.binding_rules.specs.declared.binding.Binding.{Binding}
-use Rattle.binding_rules.specs.declared.binding.Want.TheVariants as want
-use Rattle.lwaftr_engine.specs.Answered.{IsNoTable, IsOwnerText, Puts}
-use Rattle.lwaftr_engine.specs.Questions.{Answers, IsLineOf, IsOwnerLine, NamesOwner, RefusesAs}
-use Rattle.lwaftr_engine.specs.declared.table_file.NoTable.{NoTable}
-use Rattle.lwaftr_engine.specs.declared.table_file.NoTable.TheVariants as none
-use Rattle.lwaftr_engine.specs.declared.status.Status.{Status}
-use Rattle.lwaftr_engine.specs.declared.status.Status.TheVariants as status
+use Rattle.lwaftr_engine.proofs.Words.{◌≡◌, inl, inr, ℕ, ◌≤◌, List, [], ◌∷◌, length, Option, Some, None, Result, Ok, Err, ap, arith, subst, sym, Contents}
+use Rattle.lwaftr_engine.proofs.Words.{content, Told, V4, V6, TableOf, FileRefused, bound, BindingTable, Binding, IsNoTable, IsOwnerText, Puts, Answers}
+use Rattle.lwaftr_engine.proofs.Words.{IsLineOf, IsOwnerLine, NamesOwner, RefusesAs, NoTable, Status, first_b4, IsCompiled}
 use Rattle.lwaftr_engine.proofs.Laws.{OneAnswer}
-use Rattle.table_words.specs.Answers.{first_b4}
-use Rattle.table_words.specs.Layout.{IsCompiled}
+use Rattle.binding_rules.specs.declared.binding.Want.TheVariants as want
+use Rattle.lwaftr_engine.specs.declared.table_file.NoTable.TheVariants as none
+use Rattle.lwaftr_engine.specs.declared.status.Status.TheVariants as status
 
 same_status : (x y : FileRefused) → status.BadTable x ≡ status.BadTable y → x ≡ y
 same_status x y e = cc

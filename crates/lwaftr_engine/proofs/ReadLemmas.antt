@@ -1,11 +1,8 @@
 -- Which reads failed: none, or one of the capture.
-use Rattle.std.proofs.Common.{◌≡◌, ℕ, Bool, true, false, List, inl, inr, ◌∙◌}
-use Rattle.aftr_base.specs.Outside.{FailsAt, OnlyReads, Outside, Rises}
-use Rattle.capture_io.specs.declared.forms.CaptureError.{CaptureError}
-use Rattle.lwaftr_engine.specs.Causes.{FailsBehind, MayFailIn}
-use Rattle.lwaftr_engine.specs.declared.status.Status.{Status}
-use Rattle.lwaftr_engine.specs.declared.status.Status.TheVariants as status
+use Rattle.lwaftr_engine.proofs.Words.{◌≡◌, ℕ, Bool, true, false, List, inl, inr, ◌∙◌, FailsAt, OnlyReads, Outside, Rises, CaptureError, FailsBehind, MayFailIn}
+use Rattle.lwaftr_engine.proofs.Words.{Status}
 use Rattle.lwaftr_engine.proofs.UnopenedLemmas.{failed_as}
+use Rattle.lwaftr_engine.specs.declared.status.Status.TheVariants as status
 
 pub none_failed : (name : List ℕ) (a b : Outside) → b.lost ≡ a.lost → b.last ≡ a.last → MayFailIn name a b
 none_failed name a b lost last = inl (lost, last)

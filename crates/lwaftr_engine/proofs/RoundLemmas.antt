@@ -1,15 +1,6 @@
 -- The parts of a round, as they are shown.
-use Rattle.std.proofs.Common.{◌≡◌, ℕ, ◌≤◌, List, [], ◌++◌, drop, ◌∙◌, ap}
-use Rattle.aftr_text.specs.declared.jobs.LoadWords.{LoadWords}
-use Rattle.std.specs.Prelude.{Bool, false, string_bytes}
-use Rattle.aftr_base.specs.Outside.{OnlyWrites, Outside}
-use Rattle.lwaftr_engine.specs.Progress.{ReadsOf, Setup, loads_of}
-use Rattle.lwaftr_engine.specs.Writing.{round_steps}
-use Rattle.lwaftr_engine.specs.declared.rounds.Pending.{Pending}
-use Rattle.run_output.specs.Rendering.{lines_in, packets_in}
-use Rattle.run_output.specs.Versions.{NoneIsDue, between, load_lines, named}
-use Rattle.run_output.specs.declared.parts.Part.{Part}
-use Rattle.lwaftr_engine.specs.Underway.{AreNewLines, steps_of}
+use Rattle.lwaftr_engine.proofs.Words.{◌≡◌, ℕ, ◌≤◌, List, [], ◌++◌, drop, ◌∙◌, ap, LoadWords, Bool, false, string_bytes, OnlyWrites, Outside, ReadsOf, Setup}
+use Rattle.lwaftr_engine.proofs.Words.{loads_of, round_steps, Pending, lines_in, packets_in, NoneIsDue, between, load_lines, named, Part, AreNewLines, steps_of}
 
 -- the new lines of tables stand behind nothing
 pub new_lines_are : (x : Setup) (loads : List LoadWords) → loads ≡ x.run.loads → (points now news shown : List ℕ) (from to : ℕ) (vs before after : List ℕ) → now ≡ points ++ news → from ≤ to → before ≡ [] → shown ≡ now → vs ≡ after →

@@ -1,21 +1,9 @@
 -- The run of the demonstration.
-use Rattle.std.proofs.Common.{◌≡◌, ℕ, List, [], ◌∷◌, ◌++◌, length, All, Result, Ok, Err, refl, ◌∙◌, ap, subst}
-use Rattle.std.specs.Prelude.{IfOk}
-use Rattle.aftr_base.specs.declared.lists.OutOfMemory.{OutOfMemory}
-use Rattle.aftr_text.specs.declared.jobs.LoadWords.{LoadWords}
-use Rattle.binding_rules.specs.Tables.{BindingTable}
-use Rattle.lwaftr_engine.specs.Demos.{middle}
-use Rattle.lwaftr_engine.specs.Planned.{some_slot_refused}
-use Rattle.lwaftr_engine.specs.Runs.{IsPlanOf}
-use Rattle.lwaftr_engine.specs.Shows.{IsDemoMade, two_tables}
-use Rattle.reload_plan.specs.Accepted.{accepted, slots_from}
-use Rattle.reload_plan.specs.declared.loads.Load.{Load}
-use Rattle.reload_plan.specs.declared.loads.Loaded.TheVariants as loaded
-use Rattle.reload_plan.specs.declared.loads.Made.{Made}
-use Rattle.reload_plan.specs.declared.loads.Slot.{Slot}
-use Rattle.swap_core.specs.declared.plan.Window.{Window}
-use Rattle.table_words.specs.Layout.{AreCompiled, IsCompiled}
+use Rattle.lwaftr_engine.proofs.Words.{◌≡◌, ℕ, List, [], ◌∷◌, ◌++◌, length, All, Result, Ok, Err, refl, ◌∙◌, ap, subst, IfOk, OutOfMemory, LoadWords}
+use Rattle.lwaftr_engine.proofs.Words.{BindingTable, middle, some_slot_refused, IsPlanOf, IsDemoMade, two_tables, accepted, slots_from, Load, Made, Slot}
+use Rattle.lwaftr_engine.proofs.Words.{Window, AreCompiled, IsCompiled}
 use Rattle.lwaftr_engine.proofs.PlanLemmas.{plan_is}
+use Rattle.reload_plan.specs.declared.loads.Loaded.TheVariants as loaded
 
 -- the words of the one load
 abbrev one_words : Window → LoadWords

@@ -1,44 +1,17 @@
 -- The run over the generated capture is the demonstration's.
-use Rattle.std.proofs.Common.{◌≡◌, ℕ, zero, suc, ◌+◌, ◌<◌, ◌≤◌, ◌%◌, ◌^◌, nat_le, cond, Bool, true, false, List, [], ◌∷◌, length, map, All, drop, Option, Some, None, Result, Ok, ◌⊎◌, inl, inr, refl, sym, ◌∙◌, ap, subst, arith, le-leb}
-use Rattle.std.specs.Prelude.{◌&&◌, nat_lt, IsNone, IsSome, count_by}
-use Rattle.std.specs.List.{range_with_len}
-use Rattle.std.proofs.lemmas.List.Elements.{All-cons, All-nil}
-use Rattle.std.proofs.lemmas.List.FromFn.{length-map-range_with_len}
-use Rattle.std.proofs.lemmas.List.Sums.{sum_by-cons}
-use Rattle.aftr_base.specs.Contents.{Contents, content}
-use Rattle.aftr_base.specs.Outside.{nothing_known}
-use Rattle.aftr_text.specs.declared.jobs.RunJob.{RunJob}
-use Rattle.area_swap.specs.Histories.{HistoryValue}
-use Rattle.capture_io.specs.Capture.{IsCapture}
-use Rattle.capture_io.specs.Capture as classic
-use Rattle.capture_io.specs.Written.{IsRecordable, TimedPacket, capture_bytes, timed, written_form}
-use Rattle.capture_io.specs.declared.forms.CaptureBad.{CaptureBad}
-use Rattle.capture_io.specs.declared.forms.Form.{Form}
-use Rattle.capture_io.specs.declared.forms.Rec.{Rec}
-use Rattle.ip_codec.specs.Packet6.{bytes6}
-use Rattle.lwaftr_engine.specs.Answered.{Puts}
-use Rattle.lwaftr_engine.specs.Demos.{HasDemoHistory, IsDemo, IsDemoLine, demo_tables, middle, middle_window}
-use Rattle.lwaftr_engine.specs.Endings.{IsWhole}
-use Rattle.lwaftr_engine.specs.Inputs.{Header, IsInput, IsInputBy}
-use Rattle.lwaftr_engine.specs.Planned.{LeavesMade}
-use Rattle.lwaftr_engine.specs.Runs.{IsCourse, IsHistoryOf}
-use Rattle.lwaftr_engine.specs.Shows.{IsShow}
-use Rattle.lwaftr_engine.specs.declared.demo.Show.{Show}
-use Rattle.lwaftr_engine.specs.declared.status.Status.{Status}
-use Rattle.lwaftr_engine.specs.declared.status.Status.TheVariants as status
-use Rattle.pcapng_io.specs.Captures.{is_pcapng}
-use Rattle.reload_plan.specs.declared.loads.Slot.{Slot}
-use Rattle.swap_core.specs.Points.{AreAllPoints}
-use Rattle.swap_core.specs.declared.plan.Window.{Window}
-use Rattle.traffic_gen.specs.Drawing.{drawn, state_after}
-use Rattle.traffic_gen.specs.Traffic.{capture_of, generated, packet4_of, packet_by, tunnel_head, way_of}
-use Rattle.traffic_gen.specs.declared.generator.Draw.{Draw}
-use Rattle.traffic_gen.specs.declared.generator.Kind.{Kind}
-use Rattle.traffic_gen.specs.declared.generator.Kind.TheVariants as kind
-use Rattle.traffic_gen.specs.declared.packets.Way.{Way}
+use Rattle.lwaftr_engine.proofs.Words.{◌≡◌, ℕ, zero, suc, ◌+◌, ◌<◌, ◌≤◌, ◌%◌, ◌^◌, nat_le, cond, Bool, true, false, List, [], ◌∷◌, length, map, All, drop}
+use Rattle.lwaftr_engine.proofs.Words.{Option, Some, None, Result, Ok, ◌⊎◌, inl, inr, refl, sym, ◌∙◌, ap, subst, arith, le-leb, ◌&&◌, nat_lt, IsNone, IsSome}
+use Rattle.lwaftr_engine.proofs.Words.{count_by, range_with_len, All-cons, All-nil, length-map-range_with_len, sum_by-cons, Contents, content, RunJob}
+use Rattle.lwaftr_engine.proofs.Words.{HistoryValue, IsCapture, IsRecordable, TimedPacket, capture_bytes, timed, written_form, CaptureBad, Form, Rec, bytes6}
+use Rattle.lwaftr_engine.proofs.Words.{Puts, HasDemoHistory, IsDemo, IsDemoLine, demo_tables, middle, middle_window, IsWhole, Header, IsInput, IsInputBy}
+use Rattle.lwaftr_engine.proofs.Words.{IsCourse, IsHistoryOf, IsShow, Show, Status, is_pcapng, Slot, AreAllPoints, Window, drawn, state_after, capture_of}
+use Rattle.lwaftr_engine.proofs.Words.{generated, packet4_of, packet_by, tunnel_head, way_of, Draw, Kind, Way, HasSummary, BindingTable, IsPlanOf}
+use Rattle.lwaftr_engine.proofs.Words.{some_slot_refused}
 use Rattle.lwaftr_engine.proofs.Laws.{OneReading}
 use Rattle.lwaftr_engine.proofs.SummaryLemmas.{some_summed}
-use Rattle.lwaftr_engine.specs.Promises.{HasSummary}
+use Rattle.capture_io.specs.Capture as classic
+use Rattle.lwaftr_engine.specs.declared.status.Status.TheVariants as status
+use Rattle.traffic_gen.specs.declared.generator.Kind.TheVariants as kind
 
 -- packets that can be recorded are read as they were written
 abbrev pub WrittenIsRead : Type 0
@@ -143,9 +116,10 @@ shows one written seed count few run slots old new line history no_limit holds w
       is_history = inr (subst H points_are r.is_history);
     }
 
--- the same of a sink in memory that had nothing (what is known of the files says nothing at `Done`)
+-- the same of a sink in memory that had nothing
 pub is_demo : OneReading → WrittenIsRead → (seed count : ℕ) → count ≤ 1000000 → (show : Show) → IsShow seed count show → (new : Contents) (before line : List ℕ) → before ≡ [] → (history : Option HistoryValue) →
-    LeavesMade show.job show.made.plan show.made.slots status.Done show.files new (Some before) (Some line) nothing_known nothing_known history → IsDemo seed count line history
+    ((tables : ℕ → BindingTable) (windows : List Window) → IsPlanOf tables windows show.made.plan →
+    IsWhole show.job tables windows show.made.slots show.files new (Some before) (Some line) history None × (some_slot_refused show.made.slots ≡ false)) → IsDemo seed count line history
 is_demo one written seed count few show is new before line none history leaves =
     let W : List ℕ → Type 0 = λ said. IsWhole show.job demo_tables (middle_window count) show.made.slots show.files new (Some said) (Some line) history None in
     shows one written seed count few show.job show.made.slots show.files new line history is.job.no_limit is.holds (subst W none (leaves demo_tables (middle_window count) is.plan).0)

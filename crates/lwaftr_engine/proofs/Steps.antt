@@ -1,13 +1,6 @@
 -- What is read, round after round.
-use Rattle.std.proofs.Common.{◌≡◌, ◌⊎◌, ℕ, ◌+◌, ◌<◌, ◌≤◌, List, ◌++◌, All, length, inl, inr, arith, append_assoc}
-use Rattle.capture_io.specs.declared.forms.Rec.{Rec}
-use Rattle.capture_io.specs.Rounds.{Left, Precedes}
-use Rattle.area_swap.specs.declared.board.View.{View}
-use Rattle.area_swap.specs.Values.{HasWholeShare}
-use Rattle.lwaftr_engine.specs.Progress.{IsUpToDate, Suits}
-use Rattle.run_output.specs.Outputs.{Course}
-use Rattle.swap_core.specs.Plans.{Tables, window}
-use Rattle.worker_gate.specs.Reloading.{IsSettled, NoneIsLeft, WaitsFor}
+use Rattle.lwaftr_engine.proofs.Words.{◌≡◌, ◌⊎◌, ℕ, ◌+◌, ◌<◌, ◌≤◌, List, ◌++◌, All, length, inl, inr, arith, append_assoc, Rec, Left, Precedes, View}
+use Rattle.lwaftr_engine.proofs.Words.{HasWholeShare, IsUpToDate, Suits, Course, Tables, window, IsSettled, NoneIsLeft, WaitsFor}
 use Rattle.lwaftr_engine.proofs.Elements.{all_before}
 
 pub no_further : (rs : List Rec) (here there : ℕ) → here ≤ there → All (λ r. r.next_at ≤ here) rs → All (λ r. r.next_at ≤ there) rs

@@ -1,12 +1,6 @@
 -- What the sink took of a summary, and the history that goes with it.
-use Rattle.std.proofs.Common.{◌≡◌, ℕ, List, ◌++◌, length, Option, Some, None, refl, sym, ◌∙◌, ap}
-use Rattle.std.specs.Option.{option_map}
-use Rattle.std.specs.Prelude.{IsSome}
-use Rattle.area_swap.specs.Histories.{AreDrawn, HistoryValue, IsHistory}
-use Rattle.lwaftr_engine.specs.Finishing.{last_line}
-use Rattle.lwaftr_engine.specs.Promises.{HasSummary, IsSummedUp}
-use Rattle.lwaftr_engine.specs.declared.rounds.Progress.{Progress}
-use Rattle.run_output.specs.Counting.{IsWithin, with_version}
+use Rattle.lwaftr_engine.proofs.Words.{◌≡◌, ℕ, List, ◌++◌, length, Option, Some, None, refl, sym, ◌∙◌, ap, option_map, IsSome, AreDrawn, HistoryValue}
+use Rattle.lwaftr_engine.proofs.Words.{IsHistory, last_line, HasSummary, IsSummedUp, Progress, IsWithin, with_version}
 
 -- the areas that were closed, and the line of the whole run
 pub summed_up : (p : Progress) (points : List ℕ) (draws : List (ℕ × ℕ)) (h : HistoryValue) (said now : Option (List ℕ)) → IsHistory h → AreDrawn h draws → length draws ≡ p.number → IsWithin p.totals p.number → points ≡ h.points →

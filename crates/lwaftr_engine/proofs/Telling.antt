@@ -1,15 +1,8 @@
 -- The points of the tables whose lines are whole: no other table was in force for a record that was written.
-use Rattle.std.proofs.Common.{◌≡◌, ℕ, zero, suc, ◌+◌, ◌-◌, ◌<◌, ◌≤◌, Bool, true, if◌then◌else◌, cond, nat_le, List, [], ◌∷◌, ◌++◌, length, take, drop, count_by, slice_index, slice_get, None, refl, sym, ◌∙◌, ap, arith, inl, inr, length-append, le-leb}
-use borrow.Author.Tests.{lt-leb}
-use Rattle.std.proofs.lemmas.Bool.{cases_lt}
-use Rattle.std.proofs.lemmas.List.Sums.{sum_by-cons}
-use Rattle.aftr_text.specs.declared.jobs.LoadWords.{LoadWords}
-use Rattle.reload_plan.specs.declared.loads.Slot.{Slot}
+use Rattle.lwaftr_engine.proofs.Words.{◌≡◌, ℕ, zero, suc, ◌+◌, ◌-◌, ◌<◌, ◌≤◌, Bool, true, if◌then◌else◌, cond, nat_le, List, [], ◌∷◌, ◌++◌, length, take, drop}
+use Rattle.lwaftr_engine.proofs.Words.{count_by, slice_index, slice_get, None, refl, sym, ◌∙◌, ap, arith, inl, inr, length-append, le-leb, lt-leb, cases_lt}
+use Rattle.lwaftr_engine.proofs.Words.{sum_by-cons, LoadWords, Slot, NoneIsDue, load_lines, named, slot_text, in_force, AreNumbered, is_table, whole_lines}
 use Rattle.reload_plan.specs.declared.loads.Slot.TheVariants as slot
-use Rattle.run_output.specs.Versions.{NoneIsDue, load_lines, named, slot_text}
-use Rattle.swap_core.specs.Points.{in_force}
-use Rattle.lwaftr_engine.specs.Ended.{AreNumbered}
-use Rattle.lwaftr_engine.specs.Fronts.{is_table, whole_lines}
 
 abbrev one : Bool → ℕ
 one b = cond b 1 0

@@ -1,27 +1,13 @@
 -- A capture that cannot be opened.
-use Rattle.std.proofs.Common.{◌≡◌, ℕ, ◌<◌, Bool, true, false, List, Option, Some, None, Result, Err, inl, inr, refl, sym, ap, subst}
-use Rattle.aftr_base.specs.Contents.{Contents, content, Moves, Told}
-use Rattle.aftr_base.specs.Outside.{FailsAt, OnlyReads, Outside}
-use Rattle.aftr_text.specs.declared.jobs.RunJob.{RunJob}
-use Rattle.area_swap.specs.Histories.{HistoryValue}
-use Rattle.capture_io.specs.Answers.{Agrees, is_read_fault}
-use Rattle.capture_io.specs.Header as classic_header
-use Rattle.capture_io.specs.Refusals.{RefusesHeader}
-use Rattle.capture_io.specs.declared.forms.CaptureError.{CaptureError}
-use Rattle.capture_io.specs.declared.forms.CaptureError.TheVariants as failure
-use Rattle.lwaftr_engine.specs.Causes.{NoneOfFilesRose}
-use Rattle.lwaftr_engine.specs.Inputs.{header_by, header_of, in_blocks, in_classic}
-use Rattle.lwaftr_engine.specs.Planned.{IsEarly, LeavesMade, unopened_status}
-use Rattle.lwaftr_engine.specs.Promises.{HasHistory}
-use Rattle.lwaftr_engine.specs.Runs.{OthersKept}
-use Rattle.lwaftr_engine.specs.declared.status.Status.{Status}
-use Rattle.pcapng_io.specs.Answers.{IsInHeader}
-use Rattle.pcapng_io.specs.Either.{IsInHead, IsInHeadBy, OpensEither, RefusesBy}
-use Rattle.pcapng_io.specs.declared.either.Reader.{Reader}
-use Rattle.pcapng_io.specs.Captures as blocks
-use Rattle.reload_plan.specs.declared.loads.Slot.{Slot}
-use Rattle.swap_core.specs.Plans.{Tables}
+use Rattle.lwaftr_engine.proofs.Words.{◌≡◌, ℕ, ◌<◌, Bool, true, false, List, Option, Some, None, Result, Err, inl, inr, refl, sym, ap, subst, Contents, content}
+use Rattle.lwaftr_engine.proofs.Words.{Moves, Told, FailsAt, OnlyReads, Outside, RunJob, Agrees, is_read_fault, RefusesHeader, CaptureError, NoneOfFilesRose}
+use Rattle.lwaftr_engine.proofs.Words.{header_by, header_of, in_blocks, in_classic, IsEarly, LeavesMade, unopened_status, HasHistory, OthersKept, IsInHeader}
+use Rattle.lwaftr_engine.proofs.Words.{IsInHead, IsInHeadBy, OpensEither, RefusesBy, Reader, Slot, Tables, World}
 use Rattle.lwaftr_engine.proofs.JobLemmas.{early_blocks, early_classic}
+use Rattle.lwaftr_engine.proofs.Moving.{moves_none}
+use Rattle.capture_io.specs.Header as classic_header
+use Rattle.capture_io.specs.declared.forms.CaptureError.TheVariants as failure
+use Rattle.pcapng_io.specs.Captures as blocks
 
 -- a read failed, by an answer of some call
 abbrev pub failed_as : (T : Type 0) → CaptureError → Bool
@@ -75,41 +61,27 @@ either_unopened run h k named error old last =
     let P : List ℕ → Type 0 = λ q. Told h (λ m. OpensEither (Err error) (content m q)) → FailsAt (failed_as Reader error) q (IsInHead h q) old last → Told h (λ m. IsUnopened run m last error) in
     subst P (sym named) (by_name run h error old last)
 
-leaves_by_error : (run : RunJob) (plan : Tables) (slots : List Slot) (error : CaptureError) (m : Contents) (said : Option (List ℕ)) (before after : Outside) → IsShort before after error → IsUnopened run m after.last error →
-    LeavesMade run plan slots (unopened_status error) m m said said before after None
-leaves_by_error run plan slots (failure.Bad refusal) m said before after short why = λ tables windows of. inr (why, record { files = refl; sink = refl; none = refl })
-leaves_by_error run plan slots failure.ReadFault m said before after short why = λ tables windows of. inr (why, record { files = refl; sink = refl; none = refl })
-leaves_by_error run plan slots failure.OutOfMemory m said before after short why = λ tables windows of. inl (record { files = refl; sink = refl; none = refl }, short)
+by_error : (run : RunJob) (plan : Tables) (slots : List Slot) (error : CaptureError) (m : Contents) (before now : World) → now.said ≡ before.said → IsShort before.files now.files error →
+    IsUnopened run m now.files.last error → LeavesMade run plan slots (unopened_status error) before now None m m
+by_error run plan slots (failure.Bad refusal) m before now same short why = λ tables windows of. inr (why, record { files = refl; sink = same; none = refl })
+by_error run plan slots failure.ReadFault m before now same short why = λ tables windows of. inr (why, record { files = refl; sink = same; none = refl })
+by_error run plan slots failure.OutOfMemory m before now same short why = λ tables windows of. inl (record { files = refl; sink = same; none = refl }, short)
 
-by_held : (run : RunJob) (plan : Tables) (slots : List Slot) (error : CaptureError) (h : Option Contents) (said : Option (List ℕ)) (before after : Outside) → IsShort before after error → Told h (λ m. IsUnopened run m after.last error) →
-    Moves h h (λ m n. LeavesMade run plan slots (unopened_status error) m n said said before after None)
-by_held run plan slots error None said before after short why = tt
-by_held run plan slots error (Some m) said before after short why = leaves_by_error run plan slots error m said before after short why
+pub unopened_leaves : (run : RunJob) (plan : Tables) (slots : List Slot) (error : CaptureError) (before now : World) → now.files.held ≡ before.files.held → now.said ≡ before.said →
+    IsShort before.files now.files error → Told before.files.held (λ m. IsUnopened run m now.files.last error) →
+    Moves before.files.held now.files.held (LeavesMade run plan slots (unopened_status error) before now None)
+unopened_leaves run plan slots error before now held same short why =
+    let H : Option Contents → Type 0 = λ h. Moves before.files.held h (LeavesMade run plan slots (unopened_status error) before now None) in
+    subst H (sym held) (by_held before.files.held why) where
+      by_held : (h : Option Contents) → Told h (λ m. IsUnopened run m now.files.last error) → Moves h h (LeavesMade run plan slots (unopened_status error) before now None)
+      by_held None why = tt
+      by_held (Some m) why = by_error run plan slots error m before now same short why
 
-pub unopened_leaves : (run : RunJob) (plan : Tables) (slots : List Slot) (error : CaptureError) (result : Status) (h0 h1 : Option Contents) (said : Option (List ℕ)) (before after : Outside) (history : Option HistoryValue) →
-    result ≡ unopened_status error → history ≡ None → h1 ≡ h0 → IsShort before after error → Told h0 (λ m. IsUnopened run m after.last error) → Moves h0 h1 (λ m n. LeavesMade run plan slots result m n said said before after history)
-unopened_leaves run plan slots error result h0 h1 said before after history is none same short why =
-    let S : Status → Type 0 = λ s. Moves h0 h1 (λ m n. LeavesMade run plan slots s m n said said before after history) in
-    let N : Option HistoryValue → Type 0 = λ k. Moves h0 h1 (λ m n. LeavesMade run plan slots (unopened_status error) m n said said before after k) in
-    let H : Option Contents → Type 0 = λ h. Moves h0 h (λ m n. LeavesMade run plan slots (unopened_status error) m n said said before after None) in
-    subst S (sym is) (subst N (sym none) (subst H (sym same) (by_held run plan slots error h0 said before after short why)))
-
-history_by_error : (input : List ℕ) (error : CaptureError) (last : Option (List ℕ × ℕ)) (said : Option (List ℕ)) → RefusesHeader error → HasHistory input (unopened_status error) last said said None
+-- where the capture is not opened there is no history
+pub history_by_error : (input : List ℕ) (error : CaptureError) (last : Option (List ℕ × ℕ)) (said : Option (List ℕ)) → RefusesHeader error → HasHistory input (unopened_status error) last said said None
 history_by_error input (failure.Bad refusal) last said refuses = (refuses, refl)
 history_by_error input failure.ReadFault last said refuses = refl
 history_by_error input failure.OutOfMemory last said refuses = refl
 
--- where the capture is not opened there is no history
-pub unopened_history : (input : List ℕ) (error : CaptureError) (result : Status) (last : Option (List ℕ × ℕ)) (said : Option (List ℕ)) (history : Option HistoryValue) → result ≡ unopened_status error → history ≡ None → RefusesHeader error →
-    HasHistory input result last said said history
-unopened_history input error result last said history is none refuses =
-    let S : Status → Type 0 = λ s. HasHistory input s last said said history in
-    let N : Option HistoryValue → Type 0 = λ k. HasHistory input (unopened_status error) last said said k in
-    subst S (sym is) (subst N (sym none) (history_by_error input error last said refuses))
-
 pub others_same : (run : RunJob) (h0 h1 : Option Contents) → h1 ≡ h0 → Moves h0 h1 (OthersKept run)
-others_same run h0 h1 same =
-    let H : Option Contents → Type 0 = λ h. Moves h0 h (OthersKept run) in subst H (sym same) (by_told h0) where
-      by_told : (h : Option Contents) → Moves h h (OthersKept run)
-      by_told None = tt
-      by_told (Some m) = λ name u v w. refl
+others_same run h0 h1 same = moves_none h0 h1 _ (λ m name u v w. refl) same

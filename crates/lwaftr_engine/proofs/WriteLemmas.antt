@@ -1,8 +1,6 @@
 -- What is put behind a file part by part.
-use Rattle.std.proofs.Common.{◌≡◌, ℕ, zero, suc, ◌+◌, ◌≤◌, List, [], ◌∷◌, ◌++◌, length, take, drop, flat_map, Option, Some, sym, ◌∙◌, ap, arith, append_assoc, length-append, length-take-le}
-use Rattle.std.specs.List.{slice_get}
-use Rattle.aftr_base.specs.Contents.{Contents, content, Moves, Writes}
-use Rattle.run_output.specs.declared.parts.Part.{Part}
+use Rattle.lwaftr_engine.proofs.Words.{◌≡◌, ℕ, zero, suc, ◌+◌, ◌≤◌, List, [], ◌∷◌, ◌++◌, length, take, drop, flat_map, Option, Some, sym, ◌∙◌, ap, arith}
+use Rattle.lwaftr_engine.proofs.Words.{append_assoc, length-append, length-take-le, slice_get, Contents, content, Moves, Writes, Part}
 use Rattle.lwaftr_engine.proofs.Moving.{moves_join}
 use Rattle.lwaftr_engine.proofs.Parts.{front_more}
 

@@ -1,18 +1,13 @@
 -- Steps of writing: how they join, and what the files hold by them.
-use Rattle.std.proofs.Common.{◌≡◌, ℕ, zero, suc, ◌+◌, ◌≤◌, nat_lt, Bool, true, false, if◌then◌else◌, List, [], ◌∷◌, ◌++◌, length, take, Option, refl, sym, ◌∙◌, ap, append-nil, append_assoc}
-use Rattle.std.proofs.Math.Seq.{take-append-add, take-length}
-use Rattle.aftr_base.specs.Contents.{Contents, content, Moves, Writes}
-use Rattle.aftr_text.specs.Lines.{initial_text}
-use Rattle.aftr_text.specs.declared.jobs.RunJob.{RunJob}
-use Rattle.capture_io.specs.Packets.{file_head}
-use Rattle.capture_io.specs.declared.written.Written.{Written}
-use Rattle.lwaftr_engine.specs.Fronts.{HoldsFront}
-use Rattle.lwaftr_engine.specs.Progress.{Wrote}
-use Rattle.lwaftr_engine.specs.Runs.{OthersKept}
-use Rattle.lwaftr_engine.specs.Writing.{Did, DidFront, File, Step, add, adds, holds, make, name_of, opening_steps, out_file, round_steps, same_file, verdicts_file, versions_file}
+use Rattle.lwaftr_engine.proofs.Words.{◌≡◌, ℕ, zero, suc, ◌+◌, ◌≤◌, nat_lt, Bool, true, false, if◌then◌else◌, List, [], ◌∷◌, ◌++◌, length, take, Option, refl}
+use Rattle.lwaftr_engine.proofs.Words.{sym, ◌∙◌, ap, append-nil, append_assoc, take-append-add, take-length, Contents, content, Moves, Writes, initial_text}
+use Rattle.lwaftr_engine.proofs.Words.{RunJob, file_head, Written, HoldsFront, Wrote, OthersKept, Did, DidFront, File, Step, add, adds, holds, make, name_of}
+use Rattle.lwaftr_engine.proofs.Words.{opening_steps, out_file, round_steps, same_file, verdicts_file, versions_file, BreaksLast, DidBoth, Fault, IfErr, IfOk}
+use Rattle.lwaftr_engine.proofs.Words.{OnOk, Result, inl, inr, Err, Ok, arith, cases_lt, take_all, ◌-◌}
 use Rattle.lwaftr_engine.proofs.Apart.{AreFilesApart}
 use Rattle.lwaftr_engine.proofs.Moving.{moves_by, moves_join, moves_none}
 use Rattle.lwaftr_engine.proofs.Parts.{front_part}
+use Rattle.lwaftr_engine.proofs.Going.{wrote_same}
 
 -- what is put behind a file, seen from any file
 if_same : (t : Bool) (held : List ℕ) (byte : ℕ) (bytes : List ℕ) →
@@ -97,6 +92,26 @@ module _ (run : RunJob) where
   pub no_more : (a b : List Step) (h0 h1 h2 : Option Contents) → h2 ≡ h1 → Moves h0 h1 (Did run a) → Moves h0 h2 (DidFront run (a ++ b))
   no_more a b h0 h1 h2 same first = joined_front a b h0 h1 h2 first (no_step b h1 h2 same)
 
+  -- what is written whole is written to a front
+  pub fronts_of : (u : List Step) (h0 h1 h2 : Option Contents) → h2 ≡ h1 → Moves h0 h1 (Did run u) → Moves h0 h2 (DidFront run u)
+  fronts_of u h0 h1 h2 same did =
+      rw same (moves_by h0 h1 _ _ (λ m n did. front_of_all run u m n did) did)
+
+  -- both are written
+  pub both_of : (u v : List Step) (r : Result Unit Fault) (h0 h1 h2 : Option Contents) → Moves h0 h1 (Did run u) → OnOk r (Moves h1 h2 (Did run v)) →
+      IfOk r (λ _. Moves h0 h2 (DidBoth run u v))
+  both_of u v (Ok done) h0 h1 h2 one two = moves_join h0 h1 h2 _ _ _ (λ a m n w z. (m, w, z)) one two
+  both_of u v (Err why) h0 h1 h2 one two = tt
+
+  -- the last round could not be judged, or is put in part
+  pub cut_left : (u v : List Step) (Well : Type 0) (h0 h1 : Option Contents) → Moves h0 h1 (Did run u) → Moves h0 h1 (BreaksLast run u Well v)
+  cut_left u v Well h0 h1 did = moves_by h0 h1 _ _ (λ m n done. inl (front_of_all run u m n done)) did
+
+  pub cut_of : (u v : List Step) (Well : Type 0) (r : Result Unit Fault) (h0 h1 h2 : Option Contents) → Well → Moves h0 h1 (Did run u) →
+      IfErr r (λ _. Moves h1 h2 (DidFront run v)) → IfErr r (λ _. Moves h0 h2 (BreaksLast run u Well v))
+  cut_of u v Well (Ok done) h0 h1 h2 well one two = tt
+  cut_of u v Well (Err why) h0 h1 h2 well one two = moves_join h0 h1 h2 _ _ _ (λ a m n w z. inr (well, (m, w, z))) one two
+
 -- the calls of the files, as steps; a file may be named in another writing
 module _ (run : RunJob) (far : AreFilesApart run) where
   each : (m n : Contents) (file : File) (f : List ℕ → List ℕ) → Writes m n (name_of run file) (f (content m (name_of run file))) → (other : File) →
@@ -171,18 +186,13 @@ opened_with run head line m n did = record {
 pub opened : (run : RunJob) (w : Written) (m n : Contents) → Did run (opening_steps run w) m n → IsOpened run w m n
 opened run w m n did = opened_with run (file_head w) (initial_text run.table) m n did
 
--- a front of bytes for one file and of more steps is one of the bytes, or all of them and a front of the others
-data Cut (file : File) (count : ℕ) (bytes : List ℕ) (rest : List Step) : Type 0 where
-  within : take count (adds file bytes ++ rest) ≡ adds file (take count bytes) → Cut file count bytes rest
-  beyond : (left : ℕ) → take count (adds file bytes ++ rest) ≡ adds file bytes ++ take left rest → Cut file count bytes rest
-
-cut_at : (file : File) (count : ℕ) (bytes : List ℕ) (rest : List Step) → Cut file count bytes rest
-cut_at file zero bytes rest = within refl
-cut_at file (suc count) [] rest = beyond (suc count) refl
-cut_at file (suc count) (byte ∷ bytes) rest = more (cut_at file count bytes rest) where
-  more : Cut file count bytes rest → Cut file (suc count) (byte ∷ bytes) rest
-  more (within is) = within (ap (λ (l : List Step). add file byte ∷ l) is)
-  more (beyond left is) = beyond left (ap (λ (l : List Step). add file byte ∷ l) is)
+-- a front of bytes for one file and of more steps
+take_both : (count : ℕ) (file : File) (bytes : List ℕ) (rest : List Step) → take count (adds file bytes ++ rest) ≡ adds file (take count bytes) ++ take (count - length bytes) rest
+take_both zero file bytes rest = let none : 0 ≡ 0 - length bytes = omega arith in ap (λ (n : ℕ). take n rest) none
+take_both (suc count) file [] rest = let same : suc count ≡ suc count - 0 = omega arith in ap (λ (n : ℕ). take n rest) same
+take_both (suc count) file (byte ∷ bytes) rest =
+    let same : count - length bytes ≡ suc count - suc (length bytes) = omega arith in
+    ap (λ (l : List Step). add file byte ∷ l) (take_both count file bytes rest ∙ ap (λ (n : ℕ). adds file (take count bytes) ++ take n rest) same)
 
 -- So many outputs are made, in this order, and each holds a front of what it begins with.
 pub record IsOpening (run : RunJob) (w : Written) (old new : Contents) : Type 0 where
@@ -196,14 +206,12 @@ pub opening_front : (run : RunJob) (w : Written) (m n : Contents) → DidFront r
 opening_front run w m n (zero, did) = record { made = 0; output = did.files out_file; verdicts = did.files verdicts_file; versions = did.files versions_file; others = did.others }
 opening_front run w m n (suc zero, did) = record { made = 1; output = (0, did.files out_file); verdicts = did.files verdicts_file; versions = did.files versions_file; others = did.others }
 opening_front run w m n (suc (suc zero), did) = record { made = 2; output = (0, did.files out_file); verdicts = (0, did.files verdicts_file); versions = did.files versions_file; others = did.others }
-opening_front run w m n (suc (suc (suc count)), did) = by_head (cut_at out_file count (file_head w) (adds versions_file (initial_text run.table))) where
-  by_head : Cut out_file count (file_head w) (adds versions_file (initial_text run.table)) → IsOpening run w m n
-  by_head (within is) =
-      let it = opened_with run (take count (file_head w)) [] m n (rw (← (is ∙ sym (append-nil (adds out_file (take count (file_head w)))))) did) in
-      record { made = 3; output = (count, it.output); verdicts = (0, it.verdicts); versions = (0, it.versions); others = it.others }
-  by_head (beyond left is) =
-      let it = opened_with run (file_head w) (take left (initial_text run.table)) m n (rw (← (is ∙ ap (λ (l : List Step). adds out_file (file_head w) ++ l) (take_adds left versions_file (initial_text run.table)))) did) in
-      record { made = 3; output = (length (file_head w), it.output ∙ sym (take-length (file_head w))); verdicts = (0, it.verdicts); versions = (left, it.versions); others = it.others }
+opening_front run w m n (suc (suc (suc count)), did) =
+    let line = initial_text run.table in
+    let shown = take_both count out_file (file_head w) (adds versions_file line)
+    ∙ ap (λ (l : List Step). adds out_file (take count (file_head w)) ++ l) (take_adds (count - length (file_head w)) versions_file line) in
+    let it = opened_with run (take count (file_head w)) (take (count - length (file_head w)) line) m n (rw (← shown) did) in
+    record { made = 3; output = (count, it.output); verdicts = (0, it.verdicts); versions = (count - length (file_head w), it.versions); others = it.others }
 
 -- a round is written
 pub wrote : (run : RunJob) (versions packets lines : List ℕ) (m n : Contents) → Did run (round_steps versions packets lines) m n → Wrote run versions packets lines m n
@@ -220,18 +228,17 @@ pub data WroteFront (run : RunJob) (versions packets lines : List ℕ) (old new 
   in_others : (p l : ℕ) → Wrote run versions (take p packets) (take l lines) old new → WroteFront run versions packets lines old new
 
 pub wrote_front : (run : RunJob) (versions packets lines : List ℕ) (m n : Contents) → DidFront run (round_steps versions packets lines) m n → WroteFront run versions packets lines m n
-wrote_front run versions packets lines m n front = by_versions (cut_at versions_file front.0 versions (adds out_file packets ++ adds verdicts_file lines)) where
-  by_packets : (left : ℕ) → Cut out_file left packets (adds verdicts_file lines) → Did run (adds versions_file versions ++ take left (adds out_file packets ++ adds verdicts_file lines)) m n → WroteFront run versions packets lines m n
-  by_packets left (within is) did =
-      let shown : take left (adds out_file packets ++ adds verdicts_file lines) ≡ adds out_file (take left packets) ++ [] = is ∙ sym (append-nil (adds out_file (take left packets))) in
-      in_others left 0 (wrote run versions (take left packets) [] m n (rw (← (ap (λ (l : List Step). adds versions_file versions ++ l) shown)) did))
-  by_packets left (beyond more is) did =
-      let shown : take left (adds out_file packets ++ adds verdicts_file lines) ≡ adds out_file (take (length packets) packets) ++ adds verdicts_file (take more lines) =
-      is ∙ (ap (λ (l : List Step). adds out_file packets ++ l) (take_adds more verdicts_file lines) ∙ ap (λ (l : List ℕ). adds out_file l ++ adds verdicts_file (take more lines)) (sym (take-length packets))) in
-      in_others (length packets) more (wrote run versions (take (length packets) packets) (take more lines) m n (rw (← (ap (λ (l : List Step). adds versions_file versions ++ l) shown)) did))
-
-  by_versions : Cut versions_file front.0 versions (adds out_file packets ++ adds verdicts_file lines) → WroteFront run versions packets lines m n
-  by_versions (within is) =
-      in_tables front.0 (wrote run (take front.0 versions) [] [] m n (rw (← (is ∙ sym (append-nil (adds versions_file (take front.0 versions))))) front.1))
-  by_versions (beyond left is) =
-      by_packets left (cut_at out_file left packets (adds verdicts_file lines)) (rw (← is) front.1)
+wrote_front run versions packets lines m n (count, did) =
+    let k = count - length versions in
+    let shown : take count (round_steps versions packets lines) ≡ round_steps (take count versions) (take k packets) (take (k - length packets) lines) =
+    take_both count versions_file versions (adds out_file packets ++ adds verdicts_file lines)
+    ∙ ap (λ (l : List Step). adds versions_file (take count versions) ++ l) (take_both k out_file packets (adds verdicts_file lines)
+    ∙ ap (λ (l : List Step). adds out_file (take k packets) ++ l) (take_adds (k - length packets) verdicts_file lines)) in
+    let w = wrote run (take count versions) (take k packets) (take (k - length packets) lines) m n (rw (← shown) did) in
+    elim (cases_lt count (length versions)) [
+      | inl less ↦
+          let none : count - length versions ≡ 0 = omega arith in
+          let nor : count - length versions - length packets ≡ 0 = omega arith in
+          in_tables count (wrote_same refl (ap (λ (x : ℕ). take x packets) none) (ap (λ (x : ℕ). take x lines) nor) w)
+      | inr more ↦ in_others k (k - length packets) (wrote_same (take_all count versions more) refl refl w)
+    ]

@@ -36,20 +36,24 @@ pub record IsWhole (run : RunJob) (tables : ℕ → BindingTable) (windows : Lis
   pub capture : IsInput (content old run.input) header records ending
   pub is_run : IsRun run tables windows slots header.form header.written records old new said now history
 
--- A run cut short by a read that failed at a place of the capture behind its header: it took the records that end at or before it,
--- and the next one, if there is one, ends behind it.
+-- Of the records that are there behind some place, these are those that end at or before the place of a read of the file that failed:
+-- the next one, if there is one, ends behind it.
+pub record AreBefore (AreThere : List Rec → Option CaptureBad → Type 0) (name : List ℕ) (start : ℕ) (rs : List Rec) (last : Option (List ℕ × ℕ)) : Type 0 where
+  pub rest : List Rec
+  pub ending : Option CaptureBad
+  pub capture : AreThere (rs ++ rest) ending
+  pub place : ℕ
+  pub last_is : last ≡ Some (name, place)
+  pub in_records : start ≤ place
+  pub reached : All (λ r. r.next_at ≤ place) rs
+  pub next : IsBehind place rest
+
+-- a run cut short by a read that failed at a place of the capture behind its header: it took the records before it
 pub record IsCut (run : RunJob) (tables : ℕ → BindingTable) (windows : List Window) (slots : List Slot) (old new : Contents) (said now : Option (List ℕ))
     (history : Option HistoryValue) (last : Option (List ℕ × ℕ)) : Type 0 where
   pub header : Header
   pub taken : List Rec
-  pub rest : List Rec
-  pub ending : Option CaptureBad
-  pub capture : IsInput (content old run.input) header (taken ++ rest) ending
-  pub place : ℕ
-  pub last_is : last ≡ Some (run.input, place)
-  pub in_records : header.ends_at ≤ place
-  pub reached : All (λ r. r.next_at ≤ place) taken
-  pub next : IsBehind place rest
+  pub before : AreBefore (IsInput (content old run.input) header) run.input header.ends_at taken last
   pub is_run : IsRun run tables windows slots header.form header.written taken old new said now history
 
 -- a run of all whole records under the tables of its files; some load was refused, or none

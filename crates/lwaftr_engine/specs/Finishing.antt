@@ -1,36 +1,21 @@
 -- What is written when the records have ended.
-use Rattle.std.specs.Prelude.{◌≡◌, ◌⊎◌, ℕ, false, List, [], ◌++◌, drop, flat_map, length, take, Option, None, Result, Ok, Err}
+use Rattle.std.specs.Prelude.{◌≡◌, ◌⊎◌, ℕ, Bool, false, List, [], ◌++◌, drop, flat_map, length, take, Option, None, Result, Ok, Err}
 use Rattle.std.specs.Option.{option_map}
 use Rattle.aftr_base.specs.Contents.{Contents}
 use Rattle.aftr_base.specs.Outside.{Rises}
 use Rattle.aftr_base.specs.declared.outside.Fault.{Fault}
 use Rattle.aftr_text.specs.Lines.{ended_text, summary_text}
 use Rattle.area_swap.specs.Histories.{HistoryValue}
-use Rattle.capture_io.specs.declared.forms.Form.{Form}
 use Rattle.capture_io.specs.declared.forms.Rec.{Rec}
 use Rattle.capture_io.specs.declared.rounds.Ending.{Ending}
 use Rattle.item_stage.specs.Items.{unfinished_of}
 use Rattle.item_stage.specs.Stages.{Stands}
-use Rattle.lwaftr_engine.specs.Fronts.{is_failure}
 use Rattle.lwaftr_engine.specs.declared.rounds.Progress.{Progress}
 use Rattle.lwaftr_engine.specs.Promises.{HasSummary}
 use Rattle.lwaftr_engine.specs.Progress.{Setup, loads_of}
 use Rattle.lwaftr_engine.specs.Writing.{Did, DidFront, Step, round_steps}
-use Rattle.run_output.specs.Counting.{no_totals, with_version}
-use Rattle.run_output.specs.Limiting.{HasAsked, rate_of}
-use Rattle.run_output.specs.Outputs.{Course}
+use Rattle.run_output.specs.Counting.{with_version}
 use Rattle.run_output.specs.Versions.{load_lines}
-
--- how far a run has come before its first record
-pub record IsFirst (form : Form) (errors : Option ℕ) (p : Progress) : Type 0 where
-  pub stands : Stands p.stage []
-  pub stage_form : p.stage.form ≡ form
-  pub staged : p.stage.number ≡ 0
-  pub number : p.number ≡ 0
-  pub totals : p.totals ≡ no_totals
-  pub rate : rate_of p.limit ≡ errors
-  pub asked : (form : Form) (c : Course) → HasAsked form [] [] c p.limit
-  pub printed : p.printed ≡ 0
 
 -- the last lines of tables, of the points of the whole run, and those of the datagrams that were never whole
 abbrev pub last_versions : Setup → Progress → List ℕ → List ℕ
@@ -55,14 +40,18 @@ abbrev pub TookFront : List ℕ → Option (List ℕ) → Option (List ℕ) → 
 TookFront line said now = (count : ℕ) × (now ≡ option_map (λ out. out ++ take count line) said)
 
 -- where a call failed, it is an append while the lines are not whole, and a put behind them
-abbrev pub IsHalfFinished : Setup → Progress → List ℕ → List Rec → Fault → ℕ → ℕ → Contents → Contents → Option (List ℕ) → Option (List ℕ) → Type 0
-IsHalfFinished x p points taken why spoiled spoiled_now old new said now =
-    (Rises (is_failure why) spoiled spoiled_now × (DidFront x.run (last_steps x p points taken) old new × (now ≡ said)))
+abbrev pub IsHalfFinished : Setup → Progress → List ℕ → List Rec → Bool → ℕ → ℕ → Option (List ℕ) → Option (List ℕ) → Contents → Contents → Type 0
+IsHalfFinished x p points taken failed spoiled spoiled_now said now old new =
+    (Rises failed spoiled spoiled_now × (DidFront x.run (last_steps x p points taken) old new × (now ≡ said)))
     ⊎ ((spoiled_now ≡ spoiled) × (Did x.run (last_steps x p points taken) old new × TookFront (last_line p points) said now))
 
-abbrev pub Finishes : Setup → Progress → List ℕ → List Rec → Result Unit Fault → ℕ → ℕ → Contents → Contents → Option (List ℕ) → Option (List ℕ) → Type 0
-Finishes x p points taken (Ok done) spoiled spoiled_now old new said now = IsFinished x p points taken old new said now
-Finishes x p points taken (Err why) spoiled spoiled_now old new said now = IsHalfFinished x p points taken why spoiled spoiled_now old new said now
+-- so it was done, whichever records the stage stands for: whole, or in part
+abbrev pub Finishes : Setup → Progress → List ℕ → Option (List ℕ) → Option (List ℕ) → Contents → Contents → Type 0
+Finishes x p points said now old new = (taken : List Rec) → Stands p.stage taken → IsFinished x p points taken old new said now
+
+abbrev pub FinishesPart : Setup → Progress → List ℕ → Bool → ℕ → ℕ → Option (List ℕ) → Option (List ℕ) → Contents → Contents → Type 0
+FinishesPart x p points failed spoiled spoiled_now said now old new =
+    (taken : List Rec) → Stands p.stage taken → IsHalfFinished x p points taken failed spoiled spoiled_now said now old new
 
 -- there is a history with its summary where all is written, and none after a fault
 abbrev pub HasHistoryBy : Result Ending Fault → Option (List ℕ) → Option (List ℕ) → Option HistoryValue → Type 0

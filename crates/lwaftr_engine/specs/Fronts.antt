@@ -1,9 +1,9 @@
 -- What the outputs hold where a run was ended by a file or a sink that cannot be written, or for want of memory.
-use Rattle.std.specs.Prelude.{◌≡◌, ◌⊎◌, ℕ, suc, ◌-◌, ◌<◌, ◌≤◌, nat_le, nat_lt, Bool, true, false, if◌then◌else◌, List, [], ◌∷◌, ◌++◌, All, count_by, length}
-use Rattle.std.specs.Prelude.{take, Option, Some, None, Ok}
+use Rattle.std.specs.Prelude.{◌≡◌, ◌⊎◌, ℕ, suc, ◌-◌, ◌<◌, nat_le, nat_lt, Bool, true, false, if◌then◌else◌, List, [], ◌∷◌, ◌++◌, count_by, length}
+use Rattle.std.specs.Prelude.{take, Option, None, Ok}
 use Rattle.std.specs.Option.{option_map}
 use Rattle.aftr_base.specs.Contents.{Contents, content}
-use Rattle.aftr_base.specs.Outside.{Outside, Rises, Rose}
+use Rattle.aftr_base.specs.Outside.{Rises, Rose}
 use Rattle.aftr_base.specs.declared.outside.Fault.{Fault}
 use Rattle.aftr_base.specs.declared.outside.Fault.TheVariants as fault
 use Rattle.aftr_text.specs.Lines.{initial_text, summary_text}
@@ -14,10 +14,11 @@ use Rattle.capture_io.specs.declared.forms.CaptureBad.{CaptureBad}
 use Rattle.capture_io.specs.declared.forms.Form.{Form}
 use Rattle.capture_io.specs.declared.forms.Rec.{Rec}
 use Rattle.capture_io.specs.declared.written.Written.{Written}
-use Rattle.lwaftr_engine.specs.Endings.{AreTables, IsBehind}
+use Rattle.lwaftr_engine.specs.Endings.{AreBefore, AreTables}
 use Rattle.lwaftr_engine.specs.Inputs.{Header, IsInput, header_of}
 use Rattle.lwaftr_engine.specs.Runs.{OthersKept}
 use Rattle.lwaftr_engine.specs.Tables.{Answer, slots_in, table_by, windows_in}
+use Rattle.lwaftr_engine.specs.Worlds.{World}
 use Rattle.item_stage.specs.Items.{entries_of}
 use Rattle.reload_plan.specs.declared.loads.Slot.{Slot}
 use Rattle.reload_plan.specs.declared.loads.Slot.TheVariants as slot
@@ -64,17 +65,17 @@ pub record IsUnder (tables : ℕ → BindingTable) (points : List ℕ) (errors :
   pub loaded : c.loaded ≡ length points
   pub limited : IsLimited errors form rs (entries_of form rs) c
 
--- By what a run was ended, a call of the outside that failed or want of memory, and what is known of the files before it and then.
+-- By what a run was ended, a call of the outside that failed or want of memory, and what is known of the outside before it and then.
 pub record Stop : Type 0 where
   pub failed : Bool
-  pub before : Outside
-  pub after : Outside
+  pub before : World
+  pub after : World
 
 abbrev pub is_failure : Fault → Bool
 is_failure fault.Failed = true
 is_failure fault.OutOfMemory = false
 
-abbrev pub stop_by : Fault → Outside → Outside → Stop
+abbrev pub stop_by : Fault → World → World → Stop
 stop_by why before after = record { failed = is_failure why; before = before; after = after }
 
 -- The outputs are whole, and the sink took a front of the summary.
@@ -91,7 +92,7 @@ pub record IsAtSummary (run : RunJob) (slots : List Slot) (c : Course) (points :
 -- records under those tables alone whose lines VERSIONS holds whole. The sink took nothing, and where a call failed it is a create or
 -- an append; or no such call failed, all outputs are whole, and the sink took a front of the summary.
 pub record IsFront (run : RunJob) (tables : ℕ → BindingTable) (windows : List Window) (slots : List Slot) (form : Form) (written : Written) (rs : List Rec)
-    (made : ℕ) (old new : Contents) (said now : Option (List ℕ)) (stop : Stop) : Type 0 where
+    (made : ℕ) (old new : Contents) (stop : Stop) : Type 0 where
   pub points : List ℕ
   pub placed : AreAllPoints windows points (length rs)
   pub course : Course
@@ -102,40 +103,30 @@ pub record IsFront (run : RunJob) (tables : ℕ → BindingTable) (windows : Lis
   pub verdicts : HoldsFront (nat_lt 1 made) (verdicts_of shown form rs) (content old run.verdicts) (content new run.verdicts)
   pub versions : HoldsFront (nat_lt 2 made) (versions_of run.table (named run.loads slots) points) (content old run.versions) (content new run.versions)
   pub others : OthersKept run old new
-  pub sink : (Rises stop.failed stop.before.spoiled stop.after.spoiled × (now ≡ said))
-      ⊎ ((stop.after.spoiled ≡ stop.before.spoiled) × IsAtSummary run slots course points form written rs new said now)
-
--- These are the records that end at or before the place of the read that failed: the next one, if there is one, ends behind it.
-pub record AreBefore (run : RunJob) (old : Contents) (header : Header) (rs : List Rec) (last : Option (List ℕ × ℕ)) : Type 0 where
-  pub rest : List Rec
-  pub ending : Option CaptureBad
-  pub capture : IsInput (content old run.input) header (rs ++ rest) ending
-  pub place : ℕ
-  pub last_is : last ≡ Some (run.input, place)
-  pub in_records : header.ends_at ≤ place
-  pub reached : All (λ r. r.next_at ≤ place) rs
-  pub next : IsBehind place rest
+  pub sink : (Rises stop.failed stop.before.files.spoiled stop.after.files.spoiled × (stop.after.said ≡ stop.before.said))
+      ⊎ ((stop.after.files.spoiled ≡ stop.before.files.spoiled)
+      × IsAtSummary run slots course points form written rs new stop.before.said stop.after.said)
 
 -- These are all whole records of the capture where no read failed, and those before it where one did: then all outputs were made.
 abbrev pub AreTaken : RunJob → Contents → Header → List Rec → ℕ → Stop → Type 0
 AreTaken run old header rs made stop =
-    ((stop.after.lost ≡ stop.before.lost) × ((ending : Option CaptureBad) × IsInput (content old run.input) header rs ending))
-    ⊎ ((2 < made) × (Rose stop.before.lost stop.after.lost × AreBefore run old header rs stop.after.last))
+    ((stop.after.files.lost ≡ stop.before.files.lost) × ((ending : Option CaptureBad) × IsInput (content old run.input) header rs ending))
+    ⊎ ((2 < made) × (Rose stop.before.files.lost stop.after.files.lost
+    × AreBefore (IsInput (content old run.input) header) run.input header.ends_at rs stop.after.files.last))
 
 -- the run began under a header that is accepted, and was ended by a fault
-pub record IsBroken (run : RunJob) (tables : ℕ → BindingTable) (windows : List Window) (slots : List Slot) (old new : Contents) (said now : Option (List ℕ))
-    (stop : Stop) : Type 0 where
+pub record IsBroken (run : RunJob) (tables : ℕ → BindingTable) (windows : List Window) (slots : List Slot) (old new : Contents) (stop : Stop) : Type 0 where
   pub header : Header
   pub sound : header_of (content old run.input) ≡ Ok header
   pub records : List Rec
   pub made : ℕ
   pub taken : AreTaken run old header records made stop
-  pub front : IsFront run tables windows slots header.form header.written records made old new said now stop
+  pub front : IsFront run tables windows slots header.form header.written records made old new stop
 
 -- it began under tables that are accepted
-pub record IsBrokenRun (run : RunJob) (old new : Contents) (said now : Option (List ℕ)) (stop : Stop) (history : Option HistoryValue) : Type 0 where
+pub record IsBrokenRun (run : RunJob) (old new : Contents) (stop : Stop) (history : Option HistoryValue) : Type 0 where
   pub first : BindingTable
   pub answers : List Answer
   pub tables : AreTables run old first answers
-  pub broken : IsBroken run (table_by first answers) (windows_in run.loads answers) (slots_in 0 answers) old new said now stop
+  pub broken : IsBroken run (table_by first answers) (windows_in run.loads answers) (slots_in 0 answers) old new stop
   pub none : history ≡ None

@@ -1,6 +1,6 @@
 -- The promises of the program's calls stand in Promises, Questions, Migrations, Demos and Prompt, over Causes, Endings, Fronts, Inputs,
--- Runs, Statuses, Tables and Worlds. What stands in Answered, Broken, Ended, Finishing, Loads, Planned, Progress, RunLaws, Shows,
--- Underway and Writing is for the parts of the engine alone.
+-- Runs, Statuses, Tables and Worlds. What stands in Answered, Broken, Finishing, Loads, Planned, Progress, RunLaws, Shows, Underway and
+-- Writing is for the parts of the engine alone.
 pub mod Causes
 pub mod Demos
 pub mod Endings
@@ -19,7 +19,6 @@ pub mod Loads
 pub mod Progress
 pub mod RunLaws
 pub mod Broken
-pub mod Ended
 pub mod Finishing
 pub mod Planned
 pub mod Shows

@@ -1,7 +1,7 @@
 -- What the parts of a run's job are told, and what they leave.
-use Rattle.std.specs.Prelude.{◌≡◌, ◌⊎◌, ℕ, ◌≤◌, Bool, true, false, if◌then◌else◌, List, [], ◌∷◌, All, length, Option, Some, None, IfSome, Result, Ok, Err}
+use Rattle.std.specs.Prelude.{◌≡◌, ◌⊎◌, ℕ, ◌+◌, ◌≤◌, Bool, true, false, if◌then◌else◌, List, [], ◌∷◌, All, count_by, length, Option, Some, None}
+use Rattle.std.specs.Prelude.{IfSome, Result, Ok, Err}
 use Rattle.aftr_base.specs.Contents.{Contents, content}
-use Rattle.aftr_base.specs.Outside.{Outside}
 use Rattle.aftr_base.specs.declared.outside.Fault.{Fault}
 use Rattle.aftr_base.specs.declared.outside.Fault.TheVariants as fault
 use Rattle.aftr_text.specs.Jobs.{AreApart, AreRising, IsLoad, IsRate, IsWorkers, windows_of}
@@ -17,12 +17,12 @@ use Rattle.capture_io.specs.declared.rounds.Ending.{Ending}
 use Rattle.capture_io.specs.declared.rounds.Ending.TheVariants as ending
 use Rattle.capture_io.specs.declared.written.Written.{Written}
 use Rattle.lwaftr_engine.specs.Causes.{NoneOfFilesRose}
-use Rattle.lwaftr_engine.specs.Ended.{AreSlotsOf}
 use Rattle.lwaftr_engine.specs.Endings.{IsCut, IsUntouched, IsWhole}
-use Rattle.lwaftr_engine.specs.Fronts.{IsBroken, stop_by}
+use Rattle.lwaftr_engine.specs.Fronts.{IsBroken, Stop, is_table, stop_by}
 use Rattle.lwaftr_engine.specs.Inputs.{Header, IsInput, header_of}
-use Rattle.lwaftr_engine.specs.Progress.{Spot}
+use Rattle.lwaftr_engine.specs.Progress.{Setup, Spot}
 use Rattle.lwaftr_engine.specs.Runs.{IsPlanOf}
+use Rattle.lwaftr_engine.specs.Worlds.{World}
 use Rattle.lwaftr_engine.specs.declared.status.Status.{Status}
 use Rattle.lwaftr_engine.specs.declared.status.Status.TheVariants as status
 use Rattle.reload_plan.specs.Accepted.{accepted, slots_from}
@@ -85,28 +85,48 @@ abbrev pub IsEarly : List ℕ → List ℕ → Option (List ℕ × ℕ) → Type
 IsEarly name bytes last = (header : Header) (place : ℕ) → header_of bytes ≡ Ok header → last ≡ Some (name, place) → header.has_end ≡ true →
     header.ends_at ≤ place → ⊥
 
--- what a run leaves under tables that were read, by its status
-abbrev pub LeavesBy : RunJob → (ℕ → BindingTable) → List Window → List Slot → Status → Contents → Contents → Option (List ℕ) → Option (List ℕ) → Outside →
-    Outside → Option HistoryValue → Type 0
-LeavesBy run tables windows slots status.Done old new said now before after history = IsWhole run tables windows slots old new said now history None
-    × (some_slot_refused slots ≡ false)
-LeavesBy run tables windows slots status.DoneRefused old new said now before after history = IsWhole run tables windows slots old new said now history None
-    × (some_slot_refused slots ≡ true)
-LeavesBy run tables windows slots (status.BadCapture refusal) old new said now before after history =
-    IsWhole run tables windows slots old new said now history (Some refusal)
-    ⊎ ((header_of (content old run.input) ≡ Err refusal) × IsUntouched old new said now history)
-LeavesBy run tables windows slots status.ReadFault old new said now before after history =
-    IsCut run tables windows slots old new said now history after.last
-    ⊎ (IsEarly run.input (content old run.input) after.last × IsUntouched old new said now history)
-LeavesBy run tables windows slots status.WriteFault old new said now before after history =
-    (AreSlotsOf run windows slots → IsBroken run tables windows slots old new said now (stop_by fault.Failed before after)) × (history ≡ None)
-LeavesBy run tables windows slots status.OutOfMemory old new said now before after history =
-    (IsUntouched old new said now history × NoneOfFilesRose before after)
-    ⊎ ((AreSlotsOf run windows slots → IsBroken run tables windows slots old new said now (stop_by fault.OutOfMemory before after)) × (history ≡ None))
-LeavesBy run tables windows slots _ old new said now before after history = ⊥
+-- the versions of the loads are counted from one, behind so many that are tables
+abbrev pub AreNumbered : ℕ → List Slot → Type 0
+AreNumbered before [] = Unit {0}
+AreNumbered before (slot.Version version ∷ slots) = (version ≡ before + 1) × AreNumbered (before + 1) slots
+AreNumbered before (slot.Refused cause ∷ slots) = AreNumbered before slots
 
-abbrev pub LeavesMade : RunJob → Tables → List Slot → Status → Contents → Contents → Option (List ℕ) → Option (List ℕ) → Outside → Outside →
-    Option HistoryValue → Type 0
-LeavesMade run plan slots result old new said now before after history =
-    (tables : ℕ → BindingTable) (windows : List Window) → IsPlanOf tables windows plan →
-    LeavesBy run tables windows slots result old new said now before after history
+-- what became of the loads, and the windows of those that are tables
+pub record AreSlotsOf (run : RunJob) (windows : List Window) (slots : List Slot) : Type 0 where
+  pub numbered : AreNumbered 0 slots
+  pub windows_are : length windows ≡ count_by is_table slots
+  pub loads_are : length slots ≡ length run.loads
+
+-- the run was ended by a fault, and there is no history
+abbrev pub IsStopped : RunJob → (ℕ → BindingTable) → List Window → List Slot → Stop → Option HistoryValue → Contents → Contents → Type 0
+IsStopped run tables windows slots stop history old new =
+    (AreSlotsOf run windows slots → IsBroken run tables windows slots old new stop) × (history ≡ None)
+
+-- what a run leaves under tables that were read, by its status
+abbrev pub LeavesBy : RunJob → (ℕ → BindingTable) → List Window → List Slot → Status → World → World → Option HistoryValue → Contents → Contents → Type 0
+LeavesBy run tables windows slots status.Done before now history old new =
+    IsWhole run tables windows slots old new before.said now.said history None × (some_slot_refused slots ≡ false)
+LeavesBy run tables windows slots status.DoneRefused before now history old new =
+    IsWhole run tables windows slots old new before.said now.said history None × (some_slot_refused slots ≡ true)
+LeavesBy run tables windows slots (status.BadCapture refusal) before now history old new =
+    IsWhole run tables windows slots old new before.said now.said history (Some refusal)
+    ⊎ ((header_of (content old run.input) ≡ Err refusal) × IsUntouched old new before.said now.said history)
+LeavesBy run tables windows slots status.ReadFault before now history old new =
+    IsCut run tables windows slots old new before.said now.said history now.files.last
+    ⊎ (IsEarly run.input (content old run.input) now.files.last × IsUntouched old new before.said now.said history)
+LeavesBy run tables windows slots status.WriteFault before now history old new =
+    IsStopped run tables windows slots (stop_by fault.Failed before now) history old new
+LeavesBy run tables windows slots status.OutOfMemory before now history old new =
+    (IsUntouched old new before.said now.said history × NoneOfFilesRose before.files now.files)
+    ⊎ IsStopped run tables windows slots (stop_by fault.OutOfMemory before now) history old new
+LeavesBy run tables windows slots _ before now history old new = ⊥
+
+-- under every list of tables of which the plan's words are
+abbrev pub LeavesMade : RunJob → Tables → List Slot → Status → World → World → Option HistoryValue → Contents → Contents → Type 0
+LeavesMade run plan slots result before now history old new = (tables : ℕ → BindingTable) (windows : List Window) → IsPlanOf tables windows plan →
+    LeavesBy run tables windows slots result before now history old new
+
+-- the same from the opening of its outputs on, where the reader stands before the first record
+abbrev pub LeavesOpened : Setup → Tables → Spot → Result Ending Fault → World → World → Option HistoryValue → Contents → Contents → Type 0
+LeavesOpened x plan reader ended before now history old new = IsAtFirst reader x.form x.written (content old x.run.input) →
+    LeavesMade x.run plan x.slots (ended_status ended (some_slot_refused x.slots)) before now history old new

@@ -48,23 +48,17 @@ pub record Spot : Type 1 where
 abbrev pub spot : (List ℕ → Type 0) → Left → ℕ → Spot
 spot stood left at = record { stood = stood; left = left; at = at }
 
--- the points so far, and how many words of the areas were read
-pub record Seats : Type 0 where
+-- How far a run has come, and what the workers have done: the plan of the tables, the records that were drawn, the points so far, and
+-- how many words of the areas were read.
+pub record State : Type 0 where
+  pub progress : Progress
+  pub plan : Tables
+  pub draws : List (ℕ × ℕ)
   pub points : List ℕ
   pub reads : ℕ
 
-abbrev pub seats_of : Shift → Seats
-seats_of s = record { points = s.desk.known.points; reads = s.seat.known.reads }
-
--- what the files hold, how far the run has come, what the workers have done, and where the reader stands
-pub record Mark : Type 1 where
-  pub held : Contents
-  pub progress : Progress
-  pub seats : Seats
-  pub reader : Spot
-
-abbrev pub mark : Contents → Progress → Seats → Spot → Mark
-mark held progress seats reader = record { held = held; progress = progress; seats = seats; reader = reader }
+abbrev pub state_of : Progress → Shift → State
+state_of p s = record { progress = p; plan = s.areas.plan; draws = s.seat.known.actor.draws; points = s.desk.known.points; reads = s.seat.known.reads }
 
 -- the workers' seat and the desk between two rounds
 pub record IsOnDuty (plan : Tables) (s : Shift) : Type 0 where
@@ -77,11 +71,11 @@ pub record IsOnDuty (plan : Tables) (s : Shift) : Type 0 where
   pub room : s.crew.room ≡ 16384
 
 -- the areas are closed
-pub record IsClosed (plan : Tables) (draws : List (ℕ × ℕ)) (s : Seats) (h : HistoryValue) : Type 0 where
-  pub same_plan : h.plan ≡ plan
+pub record IsClosed (s : State) (h : HistoryValue) : Type 0 where
+  pub same_plan : h.plan ≡ s.plan
   pub points : h.points ≡ s.points
   pub reads : h.reads ≡ s.reads
-  pub drawn : AreDrawn h draws
+  pub drawn : AreDrawn h s.draws
   pub history : IsHistory h
 
 -- How far tables are told of behind so many draws: none was made, or no table is left, or its window is not open yet.
@@ -120,31 +114,23 @@ IsLimitedRun x c taken = IsLimited x.run.errors x.form taken (entries_of x.form 
 
 -- Since the outputs were opened, these records were taken; the lines of the tables in force, and the records' packets and lines,
 -- stand behind what was there. Points that come later change nothing of that.
-pub record HasWritten (x : Setup) (c : Course) (opened : Contents) (m : Mark) (taken : List Rec) : Type 0 where
-  pub stands : Stands m.progress.stage taken
-  pub stage_form : m.progress.stage.form ≡ x.form
-  pub number : m.progress.number ≡ length taken
+pub record HasWritten (x : Setup) (c : Course) (opened now : Contents) (s : State) (taken : List Rec) : Type 0 where
+  pub stands : Stands s.progress.stage taken
+  pub stage_form : s.progress.stage.form ≡ x.form
+  pub number : s.progress.number ≡ length taken
   pub entries : length (entries_of x.form taken) ≡ length taken
-  pub asked : HasAsked x.form taken (entries_of x.form taken) c m.progress.limit
-  pub totals : IsLimitedRun x c taken → m.progress.totals ≡ totals_from c no_totals 0 (entries_of x.form taken)
+  pub asked : HasAsked x.form taken (entries_of x.form taken) c s.progress.limit
+  pub totals : IsLimitedRun x c taken → s.progress.totals ≡ totals_from c no_totals 0 (entries_of x.form taken)
   pub files : (later : List ℕ) → IsLimitedRun x c taken →
-      Wrote x.run (load_lines (m.seats.points ++ later) (take m.progress.printed (loads_of x))) (packets_from c x.written 0 taken (entries_of x.form taken))
-      (lines_from c 0 (entries_of x.form taken)) opened m.held
-  pub none_due : NoneIsDue m.seats.points (drop m.progress.printed x.slots)
-  pub spoken : (number : ℕ) → number < length taken → c.version number ≤ length m.seats.points
-  pub reads : all_asking (items_in (entries_of x.form taken)) ≤ m.seats.reads
+      Wrote x.run (load_lines (s.points ++ later) (take s.progress.printed (loads_of x))) (packets_from c x.written 0 taken (entries_of x.form taken))
+      (lines_from c 0 (entries_of x.form taken)) opened now
+  pub none_due : NoneIsDue s.points (drop s.progress.printed x.slots)
+  pub spoken : (number : ℕ) → number < length taken → c.version number ≤ length s.points
+  pub reads : all_asking (items_in (entries_of x.form taken)) ≤ s.reads
 
--- what was written up to a mark, under some course that suits the plan and the draws
-pub record Past (x : Setup) (plan : Tables) (draws : List (ℕ × ℕ)) (m : Mark) : Type 0 where
-  pub course : Course
-  pub suits : Suits plan draws course
-  pub opened : Contents
-  pub taken : List Rec
-  pub written : HasWritten x course opened m taken
-
--- and up to a later one: these records more
-abbrev pub WritesOn : Setup → Tables → List (ℕ × ℕ) → Mark → Mark → List Rec → Type 0
-WritesOn x plan draws a b records = (past : Past x plan draws a) → HasWritten x past.course past.opened b (past.taken ++ records)
+-- under every course that suits the plan and the draws so far
+abbrev pub AreWritten : Setup → Contents → Contents → State → List Rec → Type 0
+AreWritten x opened now s taken = (c : Course) → Suits s.plan s.draws c → HasWritten x c opened now s taken
 
 -- a read of the record that is next failed, at a place from its beginning on and before its end
 pub record IsCutAt (name : List ℕ) (reader : Spot) (bytes : List ℕ) (number : ℕ) (last : Option (List ℕ × ℕ)) : Type 0 where
@@ -160,20 +146,24 @@ Stops name reader bytes number (Some (ending.Bad refusal)) last = reader.left by
 Stops name reader bytes number (Some ending.ReadFault) last = IsCutAt name reader bytes number last
 Stops name reader bytes number None last = Unit {0}
 
--- What rounds did, from one state to another: they took the next records of the capture, and wrote what these records write, under
--- every course that suits the plan and the draws so far.
-pub record TakesOn (x : Setup) (plan : Tables) (draws : List (ℕ × ℕ)) (a b : Mark) (stop : Option Ending) (last : Option (List ℕ × ℕ)) : Type 0 where
-  pub records : List Rec
-  pub stands : b.reader.stood (content a.held x.run.input)
-  pub input : content b.held x.run.input ≡ content a.held x.run.input
-  pub follows : Precedes a.reader.left b.reader.left (content a.held x.run.input) a.progress.number records b.progress.number
-  pub forward : a.reader.at ≤ b.reader.at
-  pub within : All (λ r. r.next_at ≤ b.reader.at) records
-  pub stopped : Stops x.run.input b.reader (content a.held x.run.input) b.progress.number stop last
-  pub written : WritesOn x plan draws a b records
+-- the reader took these records from the first one on
+pub record HasTaken (name : List ℕ) (first now : Spot) (bytes : List ℕ) (rs : List Rec) (number : ℕ) (stop : Option Ending)
+    (last : Option (List ℕ × ℕ)) : Type 0 where
+  pub stands : now.stood bytes
+  pub count : number ≡ length rs
+  pub follows : Precedes first.left now.left bytes 0 rs number
+  pub forward : first.at ≤ now.at
+  pub within : All (λ r. r.next_at ≤ now.at) rs
+  pub stopped : Stops name now bytes number stop last
 
-abbrev pub Goes : Setup → Tables → List (ℕ × ℕ) → Mark → Mark → Option Ending → Option (List ℕ × ℕ) → Type 0
-Goes x plan draws a b stop last = a.reader.stood (content a.held x.run.input) → TakesOn x plan draws a b stop last
+-- rounds took these records of the capture, and wrote what they write
+pub record TakesOn (x : Setup) (s : State) (first reader : Spot) (stop : Option Ending) (last : Option (List ℕ × ℕ)) (opened now : Contents) : Type 0 where
+  pub records : List Rec
+  pub taken : HasTaken x.run.input first reader (content opened x.run.input) records s.progress.number stop last
+  pub written : AreWritten x opened now s records
+
+abbrev pub Goes : Setup → State → Spot → Spot → Option Ending → Option (List ℕ × ℕ) → Contents → Contents → Type 0
+Goes x s first reader stop last opened now = first.stood (content opened x.run.input) → TakesOn x s first reader stop last opened now
 
 -- A call that reads this file, and writes: where a read failed, it is one of this file.
 pub record ReadsOf (failed : Bool) (name : List ℕ) (before now : Outside) : Type 0 where

@@ -2,7 +2,6 @@
 use Rattle.std.specs.Prelude.{◌≡◌, ◌⊎◌, ℕ, Bool, true, false, List, [], ◌∷◌, ◌++◌, length, Option, Some, None, Ok, Err}
 use Rattle.std.specs.Option.{option_map}
 use Rattle.aftr_base.specs.Contents.{Contents, content, Moves, Told}
-use Rattle.aftr_base.specs.Outside.{Outside}
 use Rattle.aftr_base.specs.declared.outside.Fault.TheVariants as fault
 use Rattle.aftr_text.specs.Lines.{summary_text}
 use Rattle.aftr_text.specs.declared.jobs.RunJob.{RunJob}
@@ -24,19 +23,21 @@ use Rattle.lwaftr_engine.specs.declared.status.Status.{Status}
 use Rattle.lwaftr_engine.specs.declared.status.Status.TheVariants as status
 
 -- what the files hold at a status, what the sink took, and the history
-abbrev pub Leaves : RunJob → Status → Contents → Contents → Option (List ℕ) → Option (List ℕ) → Outside → Outside → Option HistoryValue → Type 0
-Leaves run status.Done old new said now before after history = IsWholeRun run old new said now history None false
-Leaves run status.DoneRefused old new said now before after history = IsWholeRun run old new said now history None true
-Leaves run (status.BadCapture refusal) old new said now before after history =
-    ((refused : Bool) × IsWholeRun run old new said now history (Some refusal) refused) ⊎ IsBadHeader run old new said now history refusal
-Leaves run status.ReadFault old new said now before after history =
-    IsCutRun run old new said now history after.last ⊎ IsUnread run old new said now history after.last
-Leaves run (status.BadTable refusal) old new said now before after history =
-    TableOf (content old run.table) (Err refusal) × IsUntouched old new said now history
-Leaves run status.WriteFault old new said now before after history = IsBrokenRun run old new said now (stop_by fault.Failed before after) history
-Leaves run status.OutOfMemory old new said now before after history =
-    (IsUntouched old new said now history × NoneOfFilesRose before after) ⊎ IsBrokenRun run old new said now (stop_by fault.OutOfMemory before after) history
-Leaves run status.Usage old new said now before after history = ⊥
+abbrev pub Leaves : RunJob → Status → World → World → Option HistoryValue → Contents → Contents → Type 0
+Leaves run status.Done before now history old new = IsWholeRun run old new before.said now.said history None false
+Leaves run status.DoneRefused before now history old new = IsWholeRun run old new before.said now.said history None true
+Leaves run (status.BadCapture refusal) before now history old new =
+    ((refused : Bool) × IsWholeRun run old new before.said now.said history (Some refusal) refused)
+    ⊎ IsBadHeader run old new before.said now.said history refusal
+Leaves run status.ReadFault before now history old new =
+    IsCutRun run old new before.said now.said history now.files.last ⊎ IsUnread run old new before.said now.said history now.files.last
+Leaves run (status.BadTable refusal) before now history old new =
+    TableOf (content old run.table) (Err refusal) × IsUntouched old new before.said now.said history
+Leaves run status.WriteFault before now history old new = IsBrokenRun run old new (stop_by fault.Failed before now) history
+Leaves run status.OutOfMemory before now history old new =
+    (IsUntouched old new before.said now.said history × NoneOfFilesRose before.files now.files)
+    ⊎ IsBrokenRun run old new (stop_by fault.OutOfMemory before now) history
+Leaves run status.Usage before now history old new = ⊥
 
 -- The status that the table files and the capture ask for, whatever the outside does: the first table's refusal, else the
 -- capture's, else `DoneRefused` where a load is refused, else `Done`.
@@ -102,7 +103,7 @@ HasHistory input _ last said now history = history ≡ None
 -- a run, and what it leaves
 pub record KeepsRun (run : RunJob) (result : Status) (before now : World) (history : Option HistoryValue) : Type 0 where
   -- what the files hold, what the sink took, and the history
-  pub files : Moves before.files.held now.files.held (λ old new. Leaves run result old new before.said now.said before.files now.files history)
+  pub files : Moves before.files.held now.files.held (Leaves run result before now history)
   -- other names hold what they held
   pub others : Moves before.files.held now.files.held (OthersKept run)
   -- which status it is

@@ -5,7 +5,8 @@ use Rattle.aftr_base.specs.Outside.{Outside, Rises, Rose, has_failed}
 use Rattle.aftr_base.specs.declared.outside.Fault.{Fault}
 use Rattle.aftr_text.specs.declared.summaries.Totals.{Totals}
 use Rattle.capture_io.specs.Refusals.{EndsInRecords}
-use Rattle.capture_io.specs.Rounds.{GoesOn, IsPlaced, Precedes, is_cut}
+use Rattle.capture_io.specs.Rounds.{GoesOn, IsPlaced, is_cut}
+use Rattle.capture_io.specs.declared.forms.Form.{Form}
 use Rattle.capture_io.specs.declared.forms.Rec.{Rec}
 use Rattle.capture_io.specs.declared.rounds.Ending.TheVariants as ending
 use Rattle.capture_io.specs.declared.rounds.Round.{Round}
@@ -13,21 +14,21 @@ use Rattle.error_limit.specs.Limits.{Bucket}
 use Rattle.item_stage.specs.Items.{entries_of, items_in}
 use Rattle.item_stage.specs.Stages.{Staged, Stands}
 use Rattle.item_stage.specs.declared.entries.Entry.{Entry}
-use Rattle.lwaftr_engine.specs.Broken.{BeginsOn}
+use Rattle.lwaftr_engine.specs.Broken.{IsCutFrom}
 use Rattle.lwaftr_engine.specs.Causes.{MayFailIn}
-use Rattle.lwaftr_engine.specs.Progress.{AddsTo, IsInRange, IsOnDuty, IsUpToDate, Mark, ReadsOf, Seats, Setup, Spot, Stops, Suits, WritesOn, loads_of, mark}
-use Rattle.lwaftr_engine.specs.Progress.{seats_of}
+use Rattle.lwaftr_engine.specs.Progress.{AddsTo, AreWritten, HasTaken, IsInRange, IsOnDuty, IsUpToDate, ReadsOf, Setup, Spot, State, Stops, Suits, loads_of}
+use Rattle.lwaftr_engine.specs.Progress.{state_of}
 use Rattle.lwaftr_engine.specs.Runs.{OthersKept, all_asking}
 use Rattle.lwaftr_engine.specs.Writing.{Did, DidFront, Step, round_steps}
 use Rattle.lwaftr_engine.specs.declared.rounds.Pending.{Pending}
 use Rattle.lwaftr_engine.specs.declared.rounds.Progress.{Progress}
 use Rattle.lwaftr_engine.specs.declared.shift.Shift.{Shift}
+use Rattle.run_output.specs.Counting.{no_totals}
 use Rattle.run_output.specs.Limiting.{HasAsked, IsLimited, rate_of}
 use Rattle.run_output.specs.Outputs.{Course}
 use Rattle.run_output.specs.Rendering.{HasOutcomes, IsCourseOf, IsRendered, lines_in, packets_in}
 use Rattle.run_output.specs.Versions.{NoneIsDue, between, load_lines}
 use Rattle.run_output.specs.declared.parts.Part.{Part}
-use Rattle.swap_core.specs.Plans.{Tables}
 use Rattle.table_words.specs.Layout.{AreCompiled}
 use Rattle.worker_gate.specs.Reloading.{IsSettled}
 use Rattle.worker_gate.specs.declared.outcomes.Outcome.{Outcome}
@@ -59,34 +60,25 @@ pub record AreNewLines (x : Setup) (points now news : List ℕ) (from to : ℕ) 
   pub none_due : NoneIsDue now (drop to x.slots)
 
 -- a round was judged, and this is what it writes
-pub record HasJudged (x : Setup) (plan : Tables) (draws : List (ℕ × ℕ)) (p q : Progress) (s t : Seats) (records : List Rec) (made : Pending) : Type 0 where
+pub record HasJudged (x : Setup) (p q : State) (records : List Rec) (made : Pending) : Type 0 where
   pub news : List ℕ
   pub entries : List Entry
   pub outcomes : List Outcome
-  pub numbered : q.number ≡ p.number + length records
-  pub staged : IsStaged p.stage q.stage records entries
+  pub numbered : q.progress.number ≡ p.progress.number + length records
+  pub staged : IsStaged p.progress.stage q.progress.stage records entries
   pub outcomes_count : length outcomes ≡ length entries
-  pub versions : All (λ o. o.version ≤ length t.points) outcomes
-  pub reads : s.reads + all_asking (items_in entries) ≤ t.reads
-  pub rate : rate_of p.limit ≡ x.run.errors
-  pub rendered : AreRendered x p.number records entries outcomes p.limit q.limit p.totals q.totals made.rendered
-  pub new_lines : AreNewLines x s.points t.points news p.printed q.printed (string_bytes made.versions)
-  pub have : (c : Course) → Suits plan draws c → HasOutcomes c p.number entries outcomes
+  pub versions : All (λ o. o.version ≤ length q.points) outcomes
+  pub reads : p.reads + all_asking (items_in entries) ≤ q.reads
+  pub rate : rate_of p.progress.limit ≡ x.run.errors
+  pub rendered : AreRendered x p.progress.number records entries outcomes p.progress.limit q.progress.limit p.progress.totals q.progress.totals made.rendered
+  pub new_lines : AreNewLines x p.points q.points news p.progress.printed q.progress.printed (string_bytes made.versions)
+  pub have : (c : Course) → Suits p.plan q.draws c → HasOutcomes c p.progress.number entries outcomes
 
--- the outputs hold fronts of what the first of these records write, whichever points come later
-pub record IsCutFrom (x : Setup) (plan : Tables) (draws : List (ℕ × ℕ)) (points : List ℕ) (a : Mark) (now : Contents) (records : List Rec) : Type 0 where
-  pub input : content now x.run.input ≡ content a.held x.run.input
-  pub first : List Rec
-  pub others : List Rec
-  pub all : records ≡ first ++ others
-  pub begun : BeginsOn x plan draws points a now first
-
--- From one state on these records were judged; what the last of them write is not in the outputs yet.
-pub record IsPending (x : Setup) (plan : Tables) (draws : List (ℕ × ℕ)) (a : Mark) (now : Contents) (p : Progress) (s : Seats) (u : List Step)
-    (records : List Rec) : Type 0 where
-  pub input : content now x.run.input ≡ content a.held x.run.input
-  pub whole : (next : Contents) → Did x.run u now next → WritesOn x plan draws a (mark next p s a.reader) records
-  pub part : (next : Contents) → DidFront x.run u now next → IsCutFrom x plan draws s.points a next records
+-- Since the outputs were opened these records were judged; what the last of them write is not in the outputs yet.
+pub record IsPending (x : Setup) (s : State) (steps : List Step) (opened now : Contents) (records : List Rec) : Type 0 where
+  pub input : content now x.run.input ≡ content opened x.run.input
+  pub whole : (next : Contents) → Did x.run steps now next → AreWritten x opened next s records
+  pub part : (next : Contents) → DidFront x.run steps now next → IsCutFrom x s opened next records
 
 -- what was read, and how the records stopped
 pub record IsNext (name : List ℕ) (before now : Spot) (number : ℕ) (bytes : List ℕ) (round : Round) (last : Option (List ℕ × ℕ)) : Type 0 where
@@ -105,25 +97,15 @@ pub record IsCutNext (name : List ℕ) (before now : Spot) (number : ℕ) (bytes
 abbrev pub ReadsPast : List ℕ → Spot → Spot → ℕ → List ℕ → ℕ → ℕ → Option (List ℕ × ℕ) → Type 0
 ReadsPast name before now number bytes lost lost_now last = (lost_now ≡ lost) ⊎ (Rose lost lost_now × IsCutNext name before now number bytes last)
 
--- the reader took these records and those of a round
-pub record HasTaken (name : List ℕ) (first now : Spot) (bytes : List ℕ) (number : ℕ) (records : List Rec) (round : Round)
-    (last : Option (List ℕ × ℕ)) : Type 0 where
-  pub stands : now.stood bytes
-  pub count : round.number ≡ number + length (records ++ round.records)
-  pub follows : Precedes first.left now.left bytes number (records ++ round.records) round.number
-  pub forward : first.at ≤ now.at
-  pub within : All (λ r. r.next_at ≤ now.at) (records ++ round.records)
-  pub stopped : Stops name now bytes round.number round.ending last
-
 -- some records were judged, the last of them are not written, and the next round is read
-pub record IsUnderWay (x : Setup) (plan : Tables) (draws : List (ℕ × ℕ)) (a : Mark) (now : Contents) (p : Progress) (s : Seats) (u : List Step) (reader : Spot)
-    (round : Round) (last : Option (List ℕ × ℕ)) : Type 0 where
+pub record IsUnderWay (x : Setup) (s : State) (steps : List Step) (first reader : Spot) (round : Round) (last : Option (List ℕ × ℕ))
+    (opened now : Contents) : Type 0 where
   pub records : List Rec
-  pub pending : IsPending x plan draws a now p s u records
-  pub taken : HasTaken x.run.input a.reader reader (content a.held x.run.input) a.progress.number records round last
+  pub pending : IsPending x s steps opened now records
+  pub taken : HasTaken x.run.input first reader (content opened x.run.input) (records ++ round.records) round.number round.ending last
 
-abbrev pub StandsBetween : Setup → Tables → List (ℕ × ℕ) → Mark → Contents → Progress → Seats → List Step → Spot → Round → Option (List ℕ × ℕ) → Type 0
-StandsBetween x plan draws a now p s u reader round last = a.reader.stood (content a.held x.run.input) → IsUnderWay x plan draws a now p s u reader round last
+abbrev pub StandsBetween : Setup → State → List Step → Spot → Spot → Round → Option (List ℕ × ℕ) → Contents → Contents → Type 0
+StandsBetween x s steps first reader round last opened now = first.stood (content opened x.run.input) → IsUnderWay x s steps first reader round last opened now
 
 -- the round that is judged next
 pub record IsInHand (number : ℕ) (round : Round) : Type 0 where
@@ -132,6 +114,26 @@ pub record IsInHand (number : ℕ) (round : Round) : Type 0 where
   pub few : length round.records ≤ 16384
   pub some : round.ending ≡ None → 0 < length round.records
   pub in_records : EndsInRecords round.ending
+
+-- how far a run has come before its first record
+pub record IsFirst (form : Form) (errors : Option ℕ) (p : Progress) : Type 0 where
+  pub stands : Stands p.stage []
+  pub stage_form : p.stage.form ≡ form
+  pub staged : p.stage.number ≡ 0
+  pub number : p.number ≡ 0
+  pub totals : p.totals ≡ no_totals
+  pub rate : rate_of p.limit ≡ errors
+  pub asked : (form : Form) (c : Course) → HasAsked form [] [] c p.limit
+  pub printed : p.printed ≡ 0
+
+-- what the first round begins with
+pub record IsAtStart (x : Setup) (shift : Shift) (p : Progress) : Type 0 where
+  pub loads : length x.slots ≡ length x.run.loads
+  pub compiled : All AreCompiled shift.areas.plan.tables
+  pub duty : IsOnDuty shift.areas.plan shift
+  pub no_draws : shift.seat.known.actor.draws ≡ []
+  pub no_points : shift.desk.known.points ≡ []
+  pub first : IsFirst x.form x.run.errors p
 
 -- what the next round begins with, whatever is read for it
 pub record CanGoOn (x : Setup) (shift : Shift) (p : Progress) : Type 0 where
@@ -164,7 +166,7 @@ pub record IsSettledAt (x : Setup) (now : Shift) (q : Progress) : Type 0 where
 
 -- a round went well
 pub record WentWell (x : Setup) (before now : Shift) (p q : Progress) (round : Round) (made : Pending) : Type 0 where
-  pub judged : HasJudged x before.areas.plan now.seat.known.actor.draws p q (seats_of before) (seats_of now) round.records made
+  pub judged : HasJudged x (state_of p before) (state_of q now) round.records made
   pub after : IsSettledAt x now q
   pub number : q.number ≡ round.number
 
@@ -187,16 +189,6 @@ pub record PutsAndReads (x : Setup) (u : List Step) (number : ℕ) (before now :
   pub capture_read : MayFailIn x.run.input a b
   pub others : Moves a.held b.held (OthersKept x.run)
   pub spoiled : Rises (has_failed r) a.spoiled b.spoiled
-
--- both are written
-abbrev pub DidBoth : Setup → List Step → List Step → Contents → Contents → Type 0
-DidBoth x u v old new = (between : Contents) × Did x.run u old between × Did x.run v between new
-
--- a front of the first is written, or all of it and a front of what the last round writes
-abbrev pub BreaksLast : Setup → Shift → Shift → Progress → Progress → Round → List Step → Pending → Contents → Contents → Type 0
-BreaksLast x before now p q round u made old new =
-    DidFront x.run u old new
-    ⊎ (WentWell x before now p q round made × ((between : Contents) × Did x.run u old between × DidFront x.run (steps_of made) between new))
 
 -- it has nothing that is to be written
 pub record IsNothing (p : Pending) : Type 0 where

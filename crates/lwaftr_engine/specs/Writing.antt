@@ -1,5 +1,5 @@
 -- What a run writes, step by step: done whole, or to a front.
-use Rattle.std.specs.Prelude.{◌≡◌, ℕ, Bool, true, false, if◌then◌else◌, List, [], ◌∷◌, ◌++◌, take}
+use Rattle.std.specs.Prelude.{◌≡◌, ◌⊎◌, ℕ, Bool, true, false, if◌then◌else◌, List, [], ◌∷◌, ◌++◌, take}
 use Rattle.aftr_base.specs.Contents.{Contents, content}
 use Rattle.aftr_text.specs.Lines.{initial_text}
 use Rattle.aftr_text.specs.declared.jobs.RunJob.{RunJob}
@@ -48,6 +48,15 @@ pub record Did (run : RunJob) (steps : List Step) (old new : Contents) : Type 0 
 -- the first few of them were
 abbrev pub DidFront : RunJob → List Step → Contents → Contents → Type 0
 DidFront run steps old new = (count : ℕ) × Did run (take count steps) old new
+
+-- these were done, and then those
+abbrev pub DidBoth : RunJob → List Step → List Step → Contents → Contents → Type 0
+DidBoth run steps others old new = (between : Contents) × Did run steps old between × Did run others between new
+
+-- a front of these was done; or all of them, a round went well, and a front of the others was done
+abbrev pub BreaksLast : RunJob → List Step → Type 0 → List Step → Contents → Contents → Type 0
+BreaksLast run steps Well others old new =
+    DidFront run steps old new ⊎ (Well × ((between : Contents) × Did run steps old between × DidFront run others between new))
 
 -- the outputs are opened: all three are made, then the header of the capture is written and the line of the first table
 abbrev pub opening_steps : RunJob → Written → List Step

@@ -1,6 +1,6 @@
 // What a run writes when its records have ended.
 ghost use Rattle.std.specs.Option.{option_map};
-ghost use Rattle.std.specs.Prelude.{◌≡◌, ◌++◌, ◌<◌, ◌^◌, ◌≤◌, IfOk, List, OnOk, drop, false, flat_map, length, string_bytes};
+ghost use Rattle.std.specs.Prelude.{◌≡◌, ◌++◌, ◌<◌, ◌^◌, ◌≤◌, IfErr, IfOk, List, OnOk, drop, false, flat_map, length, string_bytes};
 ghost use Rattle.aftr_base.specs.Contents.{Moves};
 ghost use Rattle.aftr_base.specs.Outside.{has_failed};
 ghost use Rattle.aftr_text.specs.Jobs.{AreApart};
@@ -8,7 +8,7 @@ ghost use Rattle.aftr_text.specs.Lines.{ended_text};
 ghost use Rattle.capture_io.specs.declared.forms.Rec.{Rec as Record};
 ghost use Rattle.item_stage.specs.Items.{unfinished_of};
 ghost use Rattle.item_stage.specs.Stages.{Stands};
-ghost use Rattle.lwaftr_engine.specs.Finishing.{Finishes, last_line};
+ghost use Rattle.lwaftr_engine.specs.Finishing.{Finishes, FinishesPart, last_line};
 ghost use Rattle.lwaftr_engine.specs.Progress.{OneRises, loads_of, setup_of};
 ghost use Rattle.lwaftr_engine.specs.Runs.{OthersKept};
 ghost use Rattle.run_output.specs.Counting.{with_version};
@@ -81,9 +81,11 @@ pub fn finish<F: Files, O: Sink>(
     requires same { length (setup_of task).slots ≡ length (setup_of task).run.loads }
     requires inside { progress.now.printed ≤ length (setup_of task).slots }
     requires few { length points.now < 2 ^ 32 }
-    ensures finished { Moves (F.outside files.old).held (F.outside files.new).held (λ m n. (taken : List Record) → Stands progress.now.stage taken →
-        Finishes (setup_of task.entry) progress.now points.now taken result (F.outside files.old).spoiled (F.outside files.new).spoiled
-        m n (O.out out.old) (O.out out.new)) }
+    ensures finished { IfOk result (λ _. Moves (F.outside files.old).held (F.outside files.new).held
+        (Finishes (setup_of task.entry) progress.now points.now (O.out out.old) (O.out out.new))) }
+    ensures cut { IfErr result (λ _. Moves (F.outside files.old).held (F.outside files.new).held
+        (FinishesPart (setup_of task.entry) progress.now points.now (has_failed result) (F.outside files.old).spoiled (F.outside files.new).spoiled
+        (O.out out.old) (O.out out.new))) }
     ensures others { Moves (F.outside files.old).held (F.outside files.new).held (OthersKept (setup_of task.entry).run) }
     ensures summary { OnOk result (O.out out.new ≡ option_map (λ taken. taken ++ last_line progress.now points.now) (O.out out.old)) }
     ensures faults { OnOk result ((F.outside files.new).faults ≡ (F.outside files.old).faults) }

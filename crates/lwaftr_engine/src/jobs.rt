@@ -114,8 +114,9 @@ fn run_opened<R: Threads + Wait + Sync, F: Files, O: Sink, C: CaptureReader, G: 
     requires opened { Told (F.outside files.old).held (λ m. IsAtFirst (spot (C.stands reader.old) (C.left reader.old) (C.at reader.old))
         (C.form reader.old) written (content m job.now.input)) }
     requires none { history.old ≡ None }
-    ensures left { Moves (F.outside files.old).held (F.outside files.new).held (λ m n. LeavesMade job.now made.plan made.slots result
-        m n (O.out out.old) (O.out out.new) (F.outside files.old) (F.outside files.new) history.new) }
+    ensures left { Moves (F.outside files.old).held (F.outside files.new).held (LeavesMade job.now made.plan made.slots result
+        (world (F.outside files.old) (O.out out.old) (O.faults out.old))
+        (world (F.outside files.new) (O.out out.new) (O.faults out.new)) history.new) }
     ensures others { Moves (F.outside files.old).held (F.outside files.new).held (OthersKept job.now) }
     ensures cause { HasCause result (world (F.outside files.old) (O.out out.old) (O.faults out.old))
         (world (F.outside files.new) (O.out out.new) (O.faults out.new)) }
@@ -150,8 +151,9 @@ pub fn run_made<R: Threads + Wait + Sync, F: Files, O: Sink, G: Gate + Sync>(
     requires compiled { All AreCompiled made.plan.tables }
     requires count { length made.slots ≡ length job.now.loads }
     requires none { history.old ≡ None }
-    ensures left { Moves (F.outside files.old).held (F.outside files.new).held (λ m n. LeavesMade job.now made.plan made.slots result
-        m n (O.out out.old) (O.out out.new) (F.outside files.old) (F.outside files.new) history.new) }
+    ensures left { Moves (F.outside files.old).held (F.outside files.new).held (LeavesMade job.now made.plan made.slots result
+        (world (F.outside files.old) (O.out out.old) (O.faults out.old))
+        (world (F.outside files.new) (O.out out.new) (O.faults out.new)) history.new) }
     ensures others { Moves (F.outside files.old).held (F.outside files.new).held (OthersKept job.now) }
     ensures cause { HasCause result (world (F.outside files.old) (O.out out.old) (O.faults out.old))
         (world (F.outside files.new) (O.out out.new) (O.faults out.new)) }

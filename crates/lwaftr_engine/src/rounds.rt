@@ -9,11 +9,11 @@ ghost use Rattle.capture_io.specs.Refusals.{EndsInRecords};
 ghost use Rattle.capture_io.specs.Rounds.{is_cut};
 ghost use Rattle.lwaftr_engine.specs.Broken.{Breaks};
 ghost use Rattle.lwaftr_engine.specs.Causes.{MayFailIn};
-ghost use Rattle.lwaftr_engine.specs.Progress.{AddsTo, Goes, IsOnDuty, ReadsOf, mark, seats_of, setup_of, spot};
+ghost use Rattle.lwaftr_engine.specs.Progress.{Goes, IsOnDuty, ReadsOf, setup_of, spot, state_of};
 ghost use Rattle.lwaftr_engine.specs.Runs.{OthersKept};
-ghost use Rattle.lwaftr_engine.specs.Underway.{BreaksLast, CanGoOn, CanJudge, DidBoth, HasRead, IsNothing, IsSettledAt};
+ghost use Rattle.lwaftr_engine.specs.Underway.{CanJudge, HasRead, IsAtStart, IsNothing, IsSettledAt};
 ghost use Rattle.lwaftr_engine.specs.Underway.{PutsAndReads, StaysOnDuty, WentWell, steps_of};
-ghost use Rattle.lwaftr_engine.specs.Writing.{Did, DidFront};
+ghost use Rattle.lwaftr_engine.specs.Writing.{BreaksLast, Did, DidBoth, DidFront};
 
 use crate::known::run_laws;
 use crate::outputs::write_round;
@@ -98,7 +98,7 @@ fn judge<R: Threads + Wait + Sync, G: Gate + Sync>(
         &mut progress.totals,
         &mut made.rendered,
     )?;
-    drop(items);
+    progress.stage.take_back(items);
     made.versions.clear();
     let printed = push_new_versions(
         alloc,
@@ -287,9 +287,10 @@ fn last_steps<R: Threads + Wait + Sync, F: Files, G: Gate + Sync>(
     ensures well { IfOk result (λ _. WentWell (setup_of task.entry) shift.old shift.new progress.old progress.new round.now made.new) }
     ensures duty { StaysOnDuty shift.old shift.new round.now.number }
     ensures wrote { IfOk result (λ _. Moves (F.outside files.old).held (F.outside files.new).held
-        (DidBoth (setup_of task.entry) (steps_of before.now) (steps_of made.new))) }
+        (DidBoth (setup_of task.entry).run (steps_of before.now) (steps_of made.new))) }
     ensures begun { IfErr result (λ _. Moves (F.outside files.old).held (F.outside files.new).held
-        (BreaksLast (setup_of task.entry) shift.old shift.new progress.old progress.new round.now (steps_of before.now) made.new)) }
+        (BreaksLast (setup_of task.entry).run (steps_of before.now)
+        (WentWell (setup_of task.entry) shift.old shift.new progress.old progress.new round.now made.new) (steps_of made.new))) }
     ensures others { Moves (F.outside files.old).held (F.outside files.new).held (OthersKept (setup_of task.entry).run) }
     ensures writes { OnlyWrites (has_failed result) (F.outside files.old) (F.outside files.new) }
 {
@@ -312,31 +313,27 @@ pub fn run_records<R: Threads + Wait + Sync, F: Files, C: CaptureReader, G: Gate
 ) -> Result<Ending, Fault>
     requires apart { AreApart (setup_of task).run }
     requires workers { (1 ≤ (setup_of task).run.workers) × ((setup_of task).run.workers ≤ 16) }
-    requires can { CanGoOn (setup_of task) shift.old progress.old }
+    requires start { IsAtStart (setup_of task) shift.old progress.old }
     requires ready { C.ready reader.old progress.old.number }
     requires nothing { IsNothing room.pending }
 
     // Where all went well.
-    ensures went { IfOk result (λ ending. Moves (F.outside files.old).held (F.outside files.new).held (λ m n.
-        Goes (setup_of task.entry) shift.old.areas.plan shift.new.seat.known.actor.draws
-        (mark m progress.old (seats_of shift.old) (spot (C.stands reader.old) (C.left reader.old) (C.at reader.old)))
-        (mark n progress.new (seats_of shift.new) (spot (C.stands reader.new) (C.left reader.new) (C.at reader.new)))
-        (Some ending) (F.outside files.new).last)) }
+    ensures went { IfOk result (λ ending. Moves (F.outside files.old).held (F.outside files.new).held
+        (Goes (setup_of task.entry) (state_of progress.new shift.new) (spot (C.stands reader.old) (C.left reader.old) (C.at reader.old))
+        (spot (C.stands reader.new) (C.left reader.new) (C.at reader.new)) (Some ending) (F.outside files.new).last)) }
     ensures after { IfOk result (λ _. IsSettledAt (setup_of task.entry) shift.new progress.new) }
     ensures reads { IfOk result (λ ending. ReadsOf (is_cut (Some ending)) (setup_of task.entry).run.input (F.outside files.old) (F.outside files.new)) }
     ensures in_records { IfOk result (λ ending. EndsInRecords (Some ending)) }
 
     // Where they could not be written to their end.
-    ensures broken { IfErr result (λ _. Moves (F.outside files.old).held (F.outside files.new).held (λ m n.
-        Breaks (setup_of task.entry) shift.old.areas.plan shift.new.seat.known.actor.draws shift.new.desk.known.points
-        (mark m progress.old (seats_of shift.old) (spot (C.stands reader.old) (C.left reader.old) (C.at reader.old))) n
+    ensures broken { IfErr result (λ _. Moves (F.outside files.old).held (F.outside files.new).held
+        (Breaks (setup_of task.entry) (state_of progress.new shift.new) (spot (C.stands reader.old) (C.left reader.old) (C.at reader.old))
         (F.outside files.old).lost (F.outside files.new).lost (F.outside files.new).last)) }
 
     // Whatever came.
     ensures capture_read { MayFailIn (setup_of task.entry).run.input (F.outside files.old) (F.outside files.new) }
     ensures areas { shift.new.areas ≡ shift.old.areas }
     ensures duty { IsOnDuty shift.new.areas.plan shift.new }
-    ensures adds { AddsTo shift.old shift.new }
     ensures others { Moves (F.outside files.old).held (F.outside files.new).held (OthersKept (setup_of task.entry).run) }
     ensures spoiled { Rises (has_failed result) (F.outside files.old).spoiled (F.outside files.new).spoiled }
 {

@@ -6,11 +6,12 @@ ghost use Rattle.aftr_text.specs.Jobs.{AreApart, IsRate, IsWorkers};
 ghost use Rattle.capture_io.specs.Refusals.{EndsInRecords};
 ghost use Rattle.capture_io.specs.Rounds.{is_cut};
 ghost use Rattle.lwaftr_engine.specs.Causes.{MayFailIn};
-ghost use Rattle.lwaftr_engine.specs.Ended.{Ends};
-ghost use Rattle.lwaftr_engine.specs.Finishing.{HasHistoryBy, IsFirst};
+ghost use Rattle.lwaftr_engine.specs.Finishing.{HasHistoryBy};
+ghost use Rattle.lwaftr_engine.specs.Planned.{LeavesOpened};
 ghost use Rattle.lwaftr_engine.specs.Progress.{OneRises, ReadsOf, setup_of, spot};
 ghost use Rattle.lwaftr_engine.specs.Runs.{OthersKept};
-ghost use Rattle.lwaftr_engine.specs.Underway.{IsNothing};
+ghost use Rattle.lwaftr_engine.specs.Underway.{IsFirst, IsNothing};
+ghost use Rattle.lwaftr_engine.specs.Worlds.{world};
 ghost use Rattle.table_words.specs.Layout.{AreCompiled};
 
 use crate::finishing::finish;
@@ -104,9 +105,10 @@ pub fn run_capture<R: Threads + Wait + Sync, F: Files, O: Sink, C: CaptureReader
     requires compiled { All AreCompiled plan.tables }
     requires ready { C.ready reader.old 0 }
     requires none { history.old ≡ None }
-    ensures ended { Moves (F.outside files.old).held (F.outside files.new).held (λ m n.
-        Ends (setup_of task.entry) plan (spot (C.stands reader.old) (C.left reader.old) (C.at reader.old)) result
-        m n (O.out out.old) (O.out out.new) (F.outside files.old) (F.outside files.new) history.new) }
+    ensures left { Moves (F.outside files.old).held (F.outside files.new).held (LeavesOpened (setup_of task.entry) plan
+        (spot (C.stands reader.old) (C.left reader.old) (C.at reader.old)) result
+        (world (F.outside files.old) (O.out out.old) (O.faults out.old))
+        (world (F.outside files.new) (O.out out.new) (O.faults out.new)) history.new) }
     ensures history { HasHistoryBy result (O.out out.old) (O.out out.new) history.new }
     ensures in_records { IfOk result (λ ending. EndsInRecords (Some ending)) }
     ensures others { Moves (F.outside files.old).held (F.outside files.new).held (OthersKept (setup_of task.entry).run) }

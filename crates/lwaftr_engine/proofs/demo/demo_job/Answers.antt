@@ -1,5 +1,4 @@
-use Rattle.std.proofs.Common.{List, [], ◌∷◌, ◌++◌, ◌∙◌, ap}
-use Rattle.aftr_text.specs.declared.jobs.LoadWords.{LoadWords}
+use Rattle.lwaftr_engine.proofs.Words.{List, [], ◌∷◌, ◌++◌, ◌∙◌, ap, LoadWords}
 use Rattle.lwaftr_engine.proofs.Prepared.{demo_job}
 use Rattle.lwaftr_engine.proofs.demo.demo_job.Goals as goal
 

@@ -1,6 +1,4 @@
-use Rattle.std.proofs.Common.{ap}
-use Rattle.aftr_base.specs.Memory.{SinkInMemory}
-use Rattle.lwaftr_engine.specs.Demos.{IsDemoLine}
+use Rattle.lwaftr_engine.proofs.Words.{ap, SinkInMemory, IsDemoLine}
 use Rattle.lwaftr_engine.proofs.QueryLemmas.{answered}
 use Rattle.lwaftr_engine.proofs.Showing.{is_demo, line_alone, no_history, put_ends, shown_history}
 use Rattle.lwaftr_engine.proofs.demo.show_demo.Goals as goal

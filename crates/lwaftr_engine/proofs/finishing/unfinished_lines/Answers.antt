@@ -1,5 +1,4 @@
-use Rattle.std.proofs.Common.{false, flat_map, ◌∙◌}
-use Rattle.aftr_text.specs.Lines.{ended_text}
+use Rattle.lwaftr_engine.proofs.Words.{false, flat_map, ◌∙◌, ended_text}
 use Rattle.lwaftr_engine.proofs.LineLemmas.{behind_none}
 use Rattle.lwaftr_engine.proofs.finishing.unfinished_lines.Goals as goal
 

@@ -1,5 +1,4 @@
-use Rattle.std.proofs.Common.{◌≡◌, ◌≤◌, ◌-◌, length, drop}
-use Rattle.lwaftr_engine.specs.Planned.{some_slot_refused}
+use Rattle.lwaftr_engine.proofs.Words.{◌≡◌, ◌≤◌, ◌-◌, length, drop, some_slot_refused}
 use Rattle.lwaftr_engine.proofs.jobs.has_refused.Given as goal
 
 abbrev pub invariant-slots : goal.invariant-slots

@@ -1,4 +1,4 @@
-use Rattle.std.proofs.Common.{arith}
+use Rattle.lwaftr_engine.proofs.Words.{arith}
 use Rattle.lwaftr_engine.proofs.MadeLemmas.{are_sound, counted, length_fit}
 use Rattle.lwaftr_engine.proofs.jobs.made_of.Goals as goal
 

@@ -1,19 +1,39 @@
-use Rattle.std.proofs.Common.{[]}
-use Rattle.lwaftr_engine.proofs.RunLemmas.{keeps_run, keeps_unread}
+use Rattle.lwaftr_engine.proofs.Words.{Err, [], world, ◌≡◌, read_well}
+use Rattle.lwaftr_engine.proofs.RunLemmas.{MadeRun, keeps_run, keeps_unread}
+use Rattle.lwaftr_engine.proofs.LoadLemmas.{read_all}
 use Rattle.lwaftr_engine.proofs.jobs.run_job.Goals as goal
+use Rattle.aftr_base.specs.declared.outside.Fault.TheVariants as fault
 
 pub returns-in-Err-Failed : goal.returns-in-Err-Failed
 returns-in-Err-Failed g c =
     let f = g.F.Files in
-    keeps_unread c.args.job.now c.in-Ok.table c.loads_in.result (cc (c.in-Err-Failed.is, c.in-Err-Failed.field-0-is)) c.as_str.result.now c.as_str.ensures c.as_slice.result.now c.as_slice.ensures (f.outside c.args.files.now) (f.outside c.table_in.new.files) (f.outside c.loads_in.new.files)
-    (g.O.Sink.out c.args.out.now) (g.O.Sink.faults c.args.out.now) c.args.history.now c.requires.none c.in-Ok.ensures.reads c.loads_in.ensures.reads c.in-Ok.ensures.table
+    let a = f.outside c.args.files.now in
+    let first = read_well _ _ _ _ c.in-Ok.ensures.reads in
+    let is : c.loads_in.result ≡ Err fault.Failed = cc (c.in-Err-Failed.is, c.in-Err-Failed.field-0-is) in
+    keeps_unread c.args.job.now c.in-Ok.table a (f.outside c.loads_in.new.files) (g.O.Sink.out c.args.out.now) (g.O.Sink.faults c.args.out.now) c.args.history.now c.requires.none
+    (rw (is, c.as_slice.ensures, first) at c.loads_in.ensures.reads) (rw c.as_str.ensures at c.in-Ok.ensures.table)
 
 pub returns : goal.returns
 returns g c =
     let f = g.F.Files in
     let o = g.O.Sink in
-    keeps_run (record { table = c.one_table.ensures.answer; capture = c.one_reading.ensures; blocks_left = λ seen. c.one_left.ensures (record { seen = seen; ahead = [] }) }) c.args.job.now c.in-Ok.table c.in-Ok-loads_in.loads.items c.in-Ok-made_of.made (c.in-Ok-made_of.ensures.made c.in-Ok.table c.in-Ok-compile.ensures.words)
-    c.as_str.result.now c.as_slice.result.now c.as_str.ensures c.as_slice.ensures (f.outside c.args.files.now) (f.outside c.table_in.new.files) (f.outside c.loads_in.new.files) (f.outside c.run_made.new.files)
-    (o.out c.args.out.now) (o.out c.run_made.new.out) (o.faults c.args.out.now) (o.faults c.run_made.new.out) c.run_made.result c.run_made.new.history
-    c.in-Ok.ensures.reads c.in-Ok-loads_in.ensures.reads c.in-Ok.ensures.table c.in-Ok-loads_in.ensures.loads c.in-Ok-loads_in.ensures.fit
+    let a = f.outside c.args.files.now in
+    let d = f.outside c.loads_in.new.files in
+    let first = read_well _ _ _ _ c.in-Ok.ensures.reads in
+    let run : MadeRun = record {
+      one = record { table = c.one_table.ensures.answer; capture = c.one_reading.ensures; blocks_left = λ seen. c.one_left.ensures (record { seen = seen; ahead = [] }) };
+      run = c.args.job.now;
+      t = c.in-Ok.table;
+      ls = c.in-Ok-loads_in.loads.items;
+      made = c.in-Ok-made_of.made;
+      of = c.in-Ok-made_of.ensures.made c.in-Ok.table c.in-Ok-compile.ensures.words;
+      fit = rw c.as_slice.ensures at c.in-Ok-loads_in.ensures.fit;
+      a = a;
+      said = o.out c.args.out.now;
+      puts = o.faults c.args.out.now;
+      now = world (f.outside c.run_made.new.files) (o.out c.run_made.new.out) (o.faults c.run_made.new.out);
+      table = rw c.as_str.ensures at c.in-Ok.ensures.table;
+      loads = rw (c.as_slice.ensures, first) at c.in-Ok-loads_in.ensures.loads;
+    } in
+    keeps_run run d c.run_made.result c.run_made.new.history (read_all first c.in-Ok-loads_in.ensures.reads)
     c.run_made.ensures.left c.run_made.ensures.others c.run_made.ensures.cause c.run_made.ensures.failed_read c.run_made.ensures.capture_read c.run_made.ensures.has_history

@@ -1,4 +1,4 @@
-use Rattle.verdict_core.specs.Verdicts.{verdict_of}
+use Rattle.lwaftr_engine.proofs.Words.{verdict_of}
 use Rattle.lwaftr_engine.proofs.known.run_laws.Goals as goal
 
 pub returns : goal.returns

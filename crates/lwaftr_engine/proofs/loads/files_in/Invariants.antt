@@ -1,7 +1,4 @@
-use Rattle.std.proofs.Common.{◌≡◌, ◌≤◌, ◌-◌, length, take}
-use Rattle.std.specs.List.{AllZip}
-use Rattle.aftr_base.specs.Contents.{Told}
-use Rattle.lwaftr_engine.specs.Loads.{HasWindowOf, IsFileOf}
+use Rattle.lwaftr_engine.proofs.Words.{◌≡◌, ◌≤◌, ◌-◌, length, take, AllZip, Told, HasWindowOf, IsFileOf}
 use Rattle.lwaftr_engine.proofs.loads.files_in.Given as goal
 
 abbrev pub invariant-files : goal.invariant-files

@@ -1,8 +1,5 @@
-use Rattle.std.proofs.Common.{◌≡◌, ◌+◌, ◌-◌, Err, drop, take, ◌∙◌, ap, arith}
-use Rattle.std.proofs.lemmas.Result.{err_from_is_err_and}
-use Rattle.aftr_base.specs.Outside.{Outside, has_failed}
-use Rattle.lwaftr_engine.specs.Loads.{IsFitFor, IsLoadOf}
-use Rattle.lwaftr_engine.proofs.LoadLemmas.{names_of, read_all, reads_within, told_on, zipped_on}
+use Rattle.lwaftr_engine.proofs.Words.{◌≡◌, ◌+◌, ◌-◌, Err, ◌∙◌, ap, arith, err_from_is_err_and, has_failed, IsFitFor, IsLoadOf}
+use Rattle.lwaftr_engine.proofs.LoadLemmas.{read_all, reads_within, told_on, zipped_on}
 use Rattle.lwaftr_engine.proofs.loads.loads_in.Goals as goal
 
 pub batches-preserved : goal.batches-preserved
@@ -15,10 +12,10 @@ batches-preserved g c =
     let many : n ≡ count = omega arith in
     record {
       within = omega (arith, c.batches.invariant.within, c.min-count.ensures);
-      loads = told_on IsLoadOf (f.outside c.args.files.now).held (f.outside c.batches.files).held ws c.batches.loads.items c.in_ok-batch.batch.items c.append.new.self.items at count n
-          (ap (λ (o : Outside). o.held) c.batches.invariant.outside) many c.in_ok-append.ensures.items c.batches.invariant.loads c.in_ok-batch.ensures.loads;
+      loads = told_on IsLoadOf (f.outside c.args.files.now).held ws c.batches.loads.items c.in_ok-batch.batch.items c.append.new.self.items at count n
+          many c.in_ok-append.ensures.items c.batches.invariant.loads (rw c.batches.invariant.outside at c.in_ok-batch.ensures.loads);
       fit = zipped_on IsFitFor ws c.batches.loads.items c.in_ok-batch.batch.items c.append.new.self.items at count n many c.in_ok-append.ensures.items c.batches.invariant.fit c.in_ok-batch.ensures.fit;
-      outside = read_all (f.outside c.args.files.now) (f.outside c.batches.files) (f.outside c.batch_in.new.files) (names_of (take n (drop at ws))) c.batches.invariant.outside c.in_ok-batch.ensures.reads;
+      outside = read_all c.batches.invariant.outside c.in_ok-batch.ensures.reads;
     }
 
 pub returns-in_err-batch-clause-reads : goal.returns-in_err-batch-clause-reads

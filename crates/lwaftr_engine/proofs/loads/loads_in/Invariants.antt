@@ -1,6 +1,4 @@
-use Rattle.std.proofs.Common.{◌≡◌, ◌≤◌, ◌-◌, length, take}
-use Rattle.aftr_base.specs.Contents.{Told}
-use Rattle.lwaftr_engine.specs.Loads.{AreFitFor, AreLoadsOf}
+use Rattle.lwaftr_engine.proofs.Words.{◌≡◌, ◌≤◌, ◌-◌, length, take, Told, AreFitFor, AreLoadsOf}
 use Rattle.lwaftr_engine.proofs.loads.loads_in.Given as goal
 
 abbrev pub invariant-batches : goal.invariant-batches

@@ -1,5 +1,4 @@
-use Rattle.std.proofs.Common.{ap, length}
-use Rattle.lwaftr_engine.specs.Worlds.{world}
+use Rattle.lwaftr_engine.proofs.Words.{ap, length, world}
 use Rattle.lwaftr_engine.proofs.MigrateLemmas.{migrated, no_line}
 use Rattle.lwaftr_engine.proofs.migrating.migrate.Goals as goal
 

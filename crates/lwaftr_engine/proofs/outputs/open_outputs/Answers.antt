@@ -1,6 +1,4 @@
-use Rattle.std.proofs.Common.{◌∙◌, [], ◌∷◌, ap, refl}
-use Rattle.aftr_text.specs.Lines.{initial_text}
-use Rattle.lwaftr_engine.specs.Writing.{make, out_file, verdicts_file, versions_file}
+use Rattle.lwaftr_engine.proofs.Words.{◌∙◌, [], ◌∷◌, ap, refl, initial_text, make, out_file, verdicts_file, versions_file}
 use Rattle.lwaftr_engine.proofs.Apart.{apart}
 use Rattle.lwaftr_engine.proofs.Exits.{if_err}
 use Rattle.lwaftr_engine.proofs.LineLemmas.{behind_nothing}

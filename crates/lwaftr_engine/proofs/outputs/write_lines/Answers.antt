@@ -1,7 +1,4 @@
-use Rattle.std.proofs.Common.{ℕ, List, length, refl, sym, ◌∙◌, ap, arith}
-use Rattle.std.proofs.lemmas.Option.{slice_get_read}
-use Rattle.run_output.specs.Rendering.{lines_in}
-use Rattle.run_output.specs.declared.parts.Part.{Part}
+use Rattle.lwaftr_engine.proofs.Words.{ℕ, List, length, refl, sym, ◌∙◌, ap, arith, slice_get_read, lines_in, Part}
 use Rattle.lwaftr_engine.proofs.Exits.{appended_err}
 use Rattle.lwaftr_engine.proofs.WriteLemmas.{cut_parts}
 use Rattle.lwaftr_engine.proofs.outputs.write_lines.Goals as goal

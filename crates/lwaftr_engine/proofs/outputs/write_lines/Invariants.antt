@@ -1,6 +1,4 @@
-use Rattle.std.proofs.Common.{◌≡◌, ◌≤◌, ◌-◌, ◌++◌, length, take}
-use Rattle.aftr_base.specs.Contents.{Moves, Writes, content}
-use Rattle.run_output.specs.Rendering.{lines_in}
+use Rattle.lwaftr_engine.proofs.Words.{◌≡◌, ◌≤◌, ◌-◌, ◌++◌, length, take, Moves, Writes, content, lines_in}
 use Rattle.lwaftr_engine.proofs.outputs.write_lines.Given as goal
 
 abbrev pub invariant-parts : goal.invariant-parts

@@ -1,7 +1,4 @@
-use Rattle.run_output.specs.Rendering.{packets_in}
-use Rattle.run_output.specs.declared.parts.Part.{Part}
-use Rattle.std.proofs.Common.{ℕ, List, length, refl, sym, ◌∙◌, ap, arith}
-use Rattle.std.proofs.lemmas.Option.{slice_get_read}
+use Rattle.lwaftr_engine.proofs.Words.{packets_in, Part, ℕ, List, length, refl, sym, ◌∙◌, ap, arith, slice_get_read}
 use Rattle.lwaftr_engine.proofs.Exits.{appended_err}
 use Rattle.lwaftr_engine.proofs.WriteLemmas.{cut_parts}
 use Rattle.lwaftr_engine.proofs.outputs.write_packets.Goals as goal

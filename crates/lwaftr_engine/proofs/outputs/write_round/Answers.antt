@@ -1,5 +1,4 @@
-use Rattle.std.proofs.Common.{refl}
-use Rattle.lwaftr_engine.specs.Writing.{out_file, verdicts_file, versions_file}
+use Rattle.lwaftr_engine.proofs.Words.{refl, out_file, verdicts_file, versions_file}
 use Rattle.lwaftr_engine.proofs.Apart.{apart}
 use Rattle.lwaftr_engine.proofs.Exits.{if_err}
 use Rattle.lwaftr_engine.proofs.Writing.{added, cut, joined, joined_front, more_front}

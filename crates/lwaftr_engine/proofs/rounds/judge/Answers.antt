@@ -1,6 +1,4 @@
-use Rattle.std.proofs.Common.{arith, refl, rules}
-use Rattle.std.specs.Prelude.{string_bytes}
-use Rattle.lwaftr_engine.specs.Progress.{setup_of}
+use Rattle.lwaftr_engine.proofs.Words.{arith, refl, rules, string_bytes, setup_of}
 use Rattle.lwaftr_engine.proofs.Adding.{adds_none}
 use Rattle.lwaftr_engine.proofs.RoundLemmas.{new_lines_are}
 use Rattle.lwaftr_engine.proofs.rounds.judge.Goals as goal
@@ -17,7 +15,12 @@ returns-clause-well g c =
         entries = c.in_ok-items.items;
         outcomes = new.crew.outcomes;
         numbered = c.requires.can.in_hand.numbered;
-        staged = record { entries = c.in_ok-items.ensures.entries; stands = c.in_ok-items.ensures.stands; count = c.in_ok-items.ensures.count; form = c.in_ok-items.ensures.form };
+        staged = rw (c.take_back.ensures) (record {
+          entries = c.in_ok-items.ensures.entries;
+          stands = c.in_ok-items.ensures.stands;
+          count = c.in_ok-items.ensures.count;
+          form = c.in_ok-items.ensures.form;
+        });
         outcomes_count = c.judge_round.ensures.fitting.count;
         versions = c.judge_round.ensures.versions;
         reads = c.judge_round.ensures.reads;

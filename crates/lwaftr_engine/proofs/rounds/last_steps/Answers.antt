@@ -1,9 +1,7 @@
-use Rattle.std.proofs.Common.{arith, refl}
-use Rattle.lwaftr_engine.specs.Progress.{setup_of}
-use Rattle.lwaftr_engine.specs.Underway.{steps_of}
+use Rattle.lwaftr_engine.proofs.Words.{arith, refl, setup_of, steps_of}
 use Rattle.lwaftr_engine.proofs.Adding.{adds_none}
 use Rattle.lwaftr_engine.proofs.Exits.{if_err}
-use Rattle.lwaftr_engine.proofs.UnderwayLemmas.{both_of, cut_left, cut_of}
+use Rattle.lwaftr_engine.proofs.Writing.{both_of, cut_left, cut_of}
 use Rattle.lwaftr_engine.proofs.rounds.last_steps.Goals as goal
 
 pub returns-in_err-put-clause-duty : goal.returns-in_err-put-clause-duty
@@ -14,16 +12,18 @@ returns-in_err-put-clause-duty g c =
 pub returns-in_err-judge-clause-begun : goal.returns-in_err-judge-clause-begun
 returns-in_err-judge-clause-begun g c =
     let f = g.F.Files in
-    if_err _ c.from_residual-in_err-judge.result (cut_left (setup_of c.args.task) c.args.shift.now c.judge.new.shift c.args.progress.now c.judge.new.progress c.args.round.now (steps_of c.args.before.now) c.judge.new.made
+    if_err _ c.from_residual-in_err-judge.result (cut_left (setup_of c.args.task).run (steps_of c.args.before.now) (steps_of c.judge.new.made) _
     (f.outside c.args.files.now).held (f.outside c.put.new.files).held c.in_ok-put.ensures.wrote)
 
 pub returns-clause-wrote : goal.returns-clause-wrote
 returns-clause-wrote g c =
     let f = g.F.Files in
-    both_of (setup_of c.args.task) (steps_of c.args.before.now) (steps_of c.judge.new.made) c.put-2.result (f.outside c.args.files.now).held (f.outside c.put.new.files).held (f.outside c.put-2.new.files).held c.in_ok-put.ensures.wrote c.put-2.ensures.wrote
+    both_of (setup_of c.args.task).run (steps_of c.args.before.now) (steps_of c.judge.new.made) c.put-2.result
+    (f.outside c.args.files.now).held (f.outside c.put.new.files).held (f.outside c.put-2.new.files).held c.in_ok-put.ensures.wrote c.put-2.ensures.wrote
 
 pub returns-clause-begun : goal.returns-clause-begun
 returns-clause-begun g c =
     let f = g.F.Files in
-    cut_of (setup_of c.args.task) c.args.shift.now c.judge.new.shift c.args.progress.now c.judge.new.progress c.args.round.now (steps_of c.args.before.now) c.judge.new.made c.put-2.result (f.outside c.args.files.now).held (f.outside c.put.new.files).held (f.outside c.put-2.new.files).held
+    cut_of (setup_of c.args.task).run (steps_of c.args.before.now) (steps_of c.judge.new.made) _ c.put-2.result
+    (f.outside c.args.files.now).held (f.outside c.put.new.files).held (f.outside c.put-2.new.files).held
     c.in_ok-judge.ensures.well c.in_ok-put.ensures.wrote c.put-2.ensures.begun

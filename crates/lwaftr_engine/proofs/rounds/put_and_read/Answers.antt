@@ -1,9 +1,7 @@
-use Rattle.std.proofs.Common.{◌∙◌, rules}
-use Rattle.capture_io.specs.Rounds.{is_cut}
-use Rattle.lwaftr_engine.specs.Progress.{setup_of, spot}
-use Rattle.lwaftr_engine.specs.Underway.{steps_of}
+use Rattle.lwaftr_engine.proofs.Words.{◌∙◌, rules, is_cut, setup_of, spot, steps_of}
 use Rattle.lwaftr_engine.proofs.ReadLemmas.{failed_by, fails_after, none_failed}
-use Rattle.lwaftr_engine.proofs.UnderwayLemmas.{fronts_of, not_read, read_none, read_past}
+use Rattle.lwaftr_engine.proofs.Writing.{fronts_of}
+use Rattle.lwaftr_engine.proofs.UnderwayLemmas.{not_read, read_none, read_past}
 use Rattle.lwaftr_engine.proofs.rounds.put_and_read.Goals as goal
 
 pub returns-in_err-put : goal.returns-in_err-put
@@ -29,7 +27,7 @@ returns-in_err-round g c =
     let wrote = c.in_ok-put.ensures in
     let read = c.in_err-round.ensures in
     let lost = read.lost ∙ wrote.writes.lost in
-    not_read a b c.from_residual-in_err-round.result c.from_residual-in_err-round.ensures.0 (search rules) (fronts_of x (steps_of c.args.pending.now) a.held m.held b.held read.held wrote.wrote)
+    not_read a b c.from_residual-in_err-round.result c.from_residual-in_err-round.ensures.0 (search rules) (fronts_of x.run (steps_of c.args.pending.now) a.held m.held b.held read.held wrote.wrote)
     (read_none x.run.input (spot (r.stands c.args.reader.now) (r.left c.args.reader.now) (r.at c.args.reader.now)) (spot (r.stands c.read_next.new.reader) (r.left c.read_next.new.reader) (r.at c.read_next.new.reader))
     c.args.number b.held a.lost b.lost b.last lost) (none_failed x.run.input a b lost (read.last ∙ wrote.writes.last)) (rw read.held wrote.others)
 
@@ -49,7 +47,7 @@ returns g c =
     let got = rw (← read.held) at read.read in
     record {
       wrote = search rules;
-      part = fronts_of x (steps_of c.args.pending.now) a.held m.held b.held read.held wrote.wrote;
+      part = fronts_of x.run (steps_of c.args.pending.now) a.held m.held b.held read.held wrote.wrote;
       read = got;
       past = read_past x before now c.args.number b.held a.lost b.lost b.last round got (rw (← wrote.writes.lost) read.reads.lost);
       ready = read.ready;

@@ -1,59 +1,71 @@
-use Rattle.std.proofs.Common.{Err, Some, Result, refl, ◌∙◌, ap}
-use Rattle.std.proofs.lemmas.Result.{err_from_is_err_and}
-use Rattle.aftr_base.specs.declared.outside.Fault.{Fault}
-use Rattle.capture_io.specs.Rounds.{is_cut}
-use Rattle.capture_io.specs.declared.rounds.Ending.{Ending}
-use Rattle.lwaftr_engine.specs.Fronts.{stop_by}
-use Rattle.lwaftr_engine.specs.Progress.{seats_of, setup_of, spot}
-use Rattle.lwaftr_engine.proofs.Adding.{goes_first, others_more}
+use Rattle.lwaftr_engine.proofs.Words.{Err, ap, err_from_is_err_and, refl, setup_of, spot, state_of, stop_by, world, ◌∙◌, Areas, IsOnDuty, Tables, subst, sym}
+use Rattle.lwaftr_engine.proofs.Capturing.{AtEnd, Captured, ended_err, ends, finish_broken, none_done, opening_broken, rounds_broken}
 use Rattle.lwaftr_engine.proofs.Apart.{apart}
-use Rattle.lwaftr_engine.proofs.Capturing.{ended_err, finish_broken, opening_broken, rounds_broken}
-use Rattle.area_swap.specs.declared.areas.Areas.{Areas}
-use Rattle.lwaftr_engine.proofs.EndLemmas.{at_end, ends}
-use Rattle.lwaftr_engine.proofs.Exits.{rises_by}
 use Rattle.lwaftr_engine.proofs.ReadLemmas.{fails_after, fails_before, none_failed}
+use Rattle.lwaftr_engine.proofs.Adding.{others_more}
+use Rattle.lwaftr_engine.proofs.EndLemmas.{points_at_end}
 use Rattle.lwaftr_engine.proofs.SummaryLemmas.{summed_up}
 use Rattle.lwaftr_engine.proofs.run.run_capture.Goals as goal
 
-pub run_records-taken-requires-clause-can : goal.run_records-taken-requires-clause-can
-run_records-taken-requires-clause-can g c κs within =
-    goes_first c.in_ok-shift.shift c.in_ok-progress.progress c.requires.loads c.requires.compiled c.in_ok-shift.ensures.duty c.in_ok-shift.ensures.drawn c.in_ok-progress.ensures
+pub run_records-taken-requires-clause-start : goal.run_records-taken-requires-clause-start
+run_records-taken-requires-clause-start g c κs within =
+    let its_plan = c.in_ok-shift.ensures.duty.its_plan in
+    let D : Tables → Type 0 = λ k. IsOnDuty k c.in_ok-shift.shift in
+    record {
+      loads = c.requires.loads;
+      compiled = rw its_plan c.requires.compiled;
+      duty = subst D (sym its_plan) c.in_ok-shift.ensures.duty;
+      no_draws = c.in_ok-shift.ensures.drawn;
+      no_points = c.in_ok-shift.ensures.points;
+      first = c.in_ok-progress.ensures;
+    }
 
-pub returns-clause-ended : goal.returns-clause-ended
-returns-clause-ended g c =
+pub returns-clause-left : goal.returns-clause-left
+returns-clause-left g c =
     let f = g.F.Files in
     let o = g.O.Sink in
-    let r = g.C.CaptureReader in
+    let k = g.C.CaptureReader in
     let x = setup_of c.args.task in
-    let far = apart x.run c.requires.apart in
-    let first = spot (r.stands c.args.reader.now) (r.left c.args.reader.now) (r.at c.args.reader.now) in
-    let said = o.out c.args.out.now in
-    let h0 = (f.outside c.args.files.now).held in
-    let h1 = (f.outside c.open_outputs.new.files).held in
-    let h2 = (f.outside c.run_records-taken.new.files).held in
-    let s = c.in_ok-shift.shift in
-    let u = c.run_records-taken.new.shift in
-    let its_plan = ap (λ (k : Areas). k.plan) c.in_ok-ending.ensures.areas ∙ c.in_ok-shift.ensures.duty.its_plan in
-    let closed = rw its_plan at c.end_shift-closed.ensures in
-    let last = (f.outside c.run_records-taken.new.files).last in
-    let q = c.run_records-taken.new.progress in
-    let reader = spot (r.stands c.run_records-taken.new.reader) (r.left c.run_records-taken.new.reader) (r.at c.run_records-taken.new.reader) in
-    let h3 = (f.outside c.finish.new.files).held in
-    let now = o.out c.finish.new.out in
-    ends c.run_laws.ensures x far c.args.plan u.seat.known.actor.draws (seats_of s) (seats_of u) c.end_shift-closed.result c.in_ok-progress.progress q first reader c.in_ok-ending.ending last said now (f.outside c.args.files.now) (f.outside c.finish.new.files) c.in_ok-finish.ensures.last
-    (λ bytes number. c.some_left.ensures c.run_records-taken.new.reader bytes number) c.in_ok-progress.ensures c.in_ok-shift.ensures.points c.requires.errors
-    (at_end c.run_laws.ensures.points c.args.plan u.seat.known u.desk.known (seats_of u) c.end_shift-closed.result q.number closed c.in_ok-ending.ensures.after.settled c.in_ok-ending.ensures.duty.whole
-    (c.in_ok-ending.ensures.duty.desk_areas.same_plan ∙ its_plan) refl c.in_ok-ending.ensures.after.drawn)
-    h0 h1 h2 h3
-    c.in_ok-open_outputs.ensures.opened
-    (rw c.in_ok-shift.ensures.duty.its_plan at c.in_ok-ending.ensures.went)
-    (rw (c.points.ensures.points ∙ closed.points) at c.in_ok-finish.ensures.finished)
+    let a = f.outside c.args.files.now in
+    let b = f.outside c.finish.new.files in
+    let taken = c.in_ok-ending.ensures in
+    let r : Captured = record {
+      laws = c.run_laws.ensures;
+      x = x;
+      far = apart x.run c.requires.apart;
+      rate = c.requires.errors;
+      plan = c.args.plan;
+      first = spot (k.stands c.args.reader.now) (k.left c.args.reader.now) (k.at c.args.reader.now);
+      s = state_of c.run_records-taken.new.progress c.run_records-taken.new.shift;
+      its_plan = ap (λ (w : Areas). w.plan) taken.areas ∙ c.in_ok-shift.ensures.duty.its_plan;
+      h = c.end_shift-closed.result;
+      closed = c.end_shift-closed.ensures c.run_records-taken.new.progress;
+      before = world a (o.out c.args.out.now) (o.faults c.args.out.now);
+      now = world b (o.out c.finish.new.out) (o.faults c.finish.new.out);
+      middle = (f.outside c.open_outputs.new.files).held;
+      opening = c.in_ok-open_outputs.ensures.opened;
+    } in
+    let end : AtEnd = record {
+      run = r;
+      reader = spot (k.stands c.run_records-taken.new.reader) (k.left c.run_records-taken.new.reader) (k.at c.run_records-taken.new.reader);
+      some = λ bytes number. c.some_left.ensures c.run_records-taken.new.reader bytes number;
+      stop = c.in_ok-ending.ending;
+      last = (f.outside c.run_records-taken.new.files).last;
+      last_is = c.in_ok-finish.ensures.last;
+      lost = rw (← c.in_ok-open_outputs.ensures.writes.lost) (rw c.in_ok-finish.ensures.lost taken.reads.lost);
+      count = taken.after.drawn;
+      placed = points_at_end c.run_laws.ensures.points r.closed taken.after taken.duty;
+      end = (f.outside c.run_records-taken.new.files).held;
+      going = taken.went;
+    } in
+    ends end (rw (c.points.ensures.points ∙ r.closed.points) at c.in_ok-finish.ensures.finished)
 
 pub returns-clause-history : goal.returns-clause-history
 returns-clause-history g c =
     let o = g.O.Sink in
+    let closed = c.end_shift-closed.ensures c.run_records-taken.new.progress in
     summed_up c.run_records-taken.new.progress c.points.result.now c.run_records-taken.new.shift.seat.known.actor.draws c.end_shift-closed.result (o.out c.args.out.now) (o.out c.finish.new.out)
-    c.end_shift-closed.ensures.history c.end_shift-closed.ensures.drawn c.in_ok-ending.ensures.after.drawn c.in_ok-ending.ensures.after.bounded.totals c.points.ensures.points c.in_ok-finish.ensures.summary
+    closed.history closed.drawn c.in_ok-ending.ensures.after.drawn c.in_ok-ending.ensures.after.bounded.totals c.points.ensures.points c.in_ok-finish.ensures.summary
 
 pub returns-in_err-open_outputs-clause-capture_read : goal.returns-in_err-open_outputs-clause-capture_read
 returns-in_err-open_outputs-clause-capture_read g c =
@@ -79,98 +91,112 @@ returns-clause-capture_read g c =
     fails_after name (f.outside c.args.files.now) (f.outside c.open_outputs.new.files) (f.outside c.finish.new.files) c.in_ok-open_outputs.ensures.writes.lost c.in_ok-open_outputs.ensures.writes.last
     (fails_before name (f.outside c.open_outputs.new.files) (f.outside c.run_records-taken.new.files) (f.outside c.finish.new.files) c.in_ok-finish.ensures.lost c.in_ok-finish.ensures.last c.in_ok-ending.ensures.capture_read)
 
-pub returns-in_err-open_outputs-clause-ended : goal.returns-in_err-open_outputs-clause-ended
-returns-in_err-open_outputs-clause-ended g c =
+pub returns-in_err-shift-clause-left : goal.returns-in_err-shift-clause-left
+returns-in_err-shift-clause-left g c =
     let f = g.F.Files in
     let o = g.O.Sink in
-    let r = g.C.CaptureReader in
-    let x = setup_of c.args.task in
-    let far = apart x.run c.requires.apart in
-    let first = spot (r.stands c.args.reader.now) (r.left c.args.reader.now) (r.at c.args.reader.now) in
-    let said = o.out c.args.out.now in
-    let h0 = (f.outside c.args.files.now).held in
-    let h1 = (f.outside c.open_outputs.new.files).held in
-    let before = f.outside c.args.files.now in
-    let after = f.outside c.open_outputs.new.files in
-    let why = c.in_err-open_outputs.field-0.0 in
-    let answer : Result Unit Fault = Err c.in_err-open_outputs.field-0.0 in
-    let e = err_from_is_err_and c.from_residual-in_err-open_outputs.result c.from_residual-in_err-open_outputs.ensures.1 in
-    ended_err x c.args.plan first c.from_residual-in_err-open_outputs.result why h0 h1 said said before after c.args.history.now (e.1 ∙ ap Err e.2) c.requires.none
-    (opening_broken c.run_laws.ensures x c.args.plan c.len.ensures.rules c.requires.errors first (stop_by why before after) (rises_by answer why before.spoiled after.spoiled refl c.in_err-open_outputs.ensures.writes.spoiled) c.in_err-open_outputs.ensures.writes.lost said (λ bytes number. c.some_left.ensures c.args.reader.now bytes number) h0 h1
-    c.in_err-open_outputs.ensures.half)
+    let k = g.C.CaptureReader in
+    let w = world (f.outside c.args.files.now) (o.out c.args.out.now) (o.faults c.args.out.now) in
+    let first = spot (k.stands c.args.reader.now) (k.left c.args.reader.now) (k.at c.args.reader.now) in
+    let e = err_from_is_err_and c.from_residual-in_err-shift.result c.from_residual-in_err-shift.ensures.1 in
+    none_done (setup_of c.args.task) c.args.plan first c.from_residual-in_err-shift.result e.0 w c.args.history.now e.1 e.2 c.requires.none
 
-pub returns-in_err-ending-clause-ended : goal.returns-in_err-ending-clause-ended
-returns-in_err-ending-clause-ended g c =
+pub returns-in_err-open_outputs-clause-left : goal.returns-in_err-open_outputs-clause-left
+returns-in_err-open_outputs-clause-left g c =
     let f = g.F.Files in
     let o = g.O.Sink in
-    let r = g.C.CaptureReader in
+    let k = g.C.CaptureReader in
     let x = setup_of c.args.task in
-    let far = apart x.run c.requires.apart in
-    let first = spot (r.stands c.args.reader.now) (r.left c.args.reader.now) (r.at c.args.reader.now) in
-    let said = o.out c.args.out.now in
-    let h0 = (f.outside c.args.files.now).held in
-    let h1 = (f.outside c.open_outputs.new.files).held in
-    let h2 = (f.outside c.run_records-taken.new.files).held in
-    let s = c.in_ok-shift.shift in
-    let u = c.run_records-taken.new.shift in
-    let its_plan = ap (λ (k : Areas). k.plan) c.in_err-ending.ensures.areas ∙ c.in_ok-shift.ensures.duty.its_plan in
-    let closed = rw its_plan at c.end_shift-closed.ensures in
-    let last = (f.outside c.run_records-taken.new.files).last in
-    let q = c.run_records-taken.new.progress in
-    let reader = spot (r.stands c.run_records-taken.new.reader) (r.left c.run_records-taken.new.reader) (r.at c.run_records-taken.new.reader) in
-    let before = f.outside c.args.files.now in
-    let after = f.outside c.run_records-taken.new.files in
+    let a = f.outside c.args.files.now in
+    let b = f.outside c.open_outputs.new.files in
+    let before = world a (o.out c.args.out.now) (o.faults c.args.out.now) in
+    let now = world b (o.out c.args.out.now) (o.faults c.args.out.now) in
+    let first = spot (k.stands c.args.reader.now) (k.left c.args.reader.now) (k.at c.args.reader.now) in
+    let why = c.in_err-open_outputs.field-0.0 in
+    let broke = c.in_err-open_outputs.ensures in
+    let e = err_from_is_err_and c.from_residual-in_err-open_outputs.result c.from_residual-in_err-open_outputs.ensures.1 in
+    ended_err x c.args.plan first c.from_residual-in_err-open_outputs.result why before now c.args.history.now (e.1 ∙ ap Err e.2) c.requires.none
+    (opening_broken c.run_laws.ensures x c.args.plan c.len.ensures.rules c.requires.errors first (λ bytes number. c.some_left.ensures c.args.reader.now bytes number)
+    (stop_by why before now) (broke.writes.spoiled, refl) broke.writes.lost broke.half)
+
+pub returns-in_err-ending-clause-left : goal.returns-in_err-ending-clause-left
+returns-in_err-ending-clause-left g c =
+    let f = g.F.Files in
+    let o = g.O.Sink in
+    let k = g.C.CaptureReader in
+    let x = setup_of c.args.task in
+    let a = f.outside c.args.files.now in
+    let b = f.outside c.run_records-taken.new.files in
+    let opened = c.in_ok-open_outputs.ensures in
     let why = c.in_err-ending.field-0.0 in
-    let answer : Result Ending Fault = Err c.in_err-ending.field-0.0 in
-    let rises = rw c.in_ok-open_outputs.ensures.writes.spoiled at (rises_by answer why (f.outside c.open_outputs.new.files).spoiled after.spoiled refl c.in_err-ending.ensures.spoiled) in
+    let broke = c.in_err-ending.ensures in
     let e = err_from_is_err_and c.from_residual-in_err-ending.result c.from_residual-in_err-ending.ensures.1 in
-    ended_err x c.args.plan first c.from_residual-in_err-ending.result why h0 h2 said said before after c.args.history.now (e.1 ∙ ap Err e.2) c.requires.none
-    (rounds_broken c.run_laws.ensures x far c.args.plan u.seat.known.actor.draws (seats_of s) (seats_of u) c.end_shift-closed.result
-    c.in_ok-progress.progress first c.in_ok-progress.ensures c.in_ok-shift.ensures.points c.requires.errors closed (stop_by why before after) rises (f.outside c.open_outputs.new.files).lost c.in_ok-open_outputs.ensures.writes.lost said h0 h1 h2
-    c.in_ok-open_outputs.ensures.opened
-    (rw c.in_ok-shift.ensures.duty.its_plan at c.in_err-ending.ensures.broken))
+    let r : Captured = record {
+      laws = c.run_laws.ensures;
+      x = x;
+      far = apart x.run c.requires.apart;
+      rate = c.requires.errors;
+      plan = c.args.plan;
+      first = spot (k.stands c.args.reader.now) (k.left c.args.reader.now) (k.at c.args.reader.now);
+      s = state_of c.run_records-taken.new.progress c.run_records-taken.new.shift;
+      its_plan = ap (λ (w : Areas). w.plan) broke.areas ∙ c.in_ok-shift.ensures.duty.its_plan;
+      h = c.end_shift-closed.result;
+      closed = c.end_shift-closed.ensures c.run_records-taken.new.progress;
+      before = world a (o.out c.args.out.now) (o.faults c.args.out.now);
+      now = world b (o.out c.args.out.now) (o.faults c.args.out.now);
+      middle = (f.outside c.open_outputs.new.files).held;
+      opening = c.in_ok-open_outputs.ensures.opened;
+    } in
+    ended_err x c.args.plan r.first c.from_residual-in_err-ending.result why r.before r.now c.args.history.now (e.1 ∙ ap Err e.2) c.requires.none
+    (rounds_broken r why (rw opened.writes.spoiled at broke.spoiled, refl) (f.outside c.open_outputs.new.files).lost opened.writes.lost broke.broken)
 
 pub returns-in_err-ending-clause-others : goal.returns-in_err-ending-clause-others
 returns-in_err-ending-clause-others g c =
     let f = g.F.Files in
     others_more (setup_of c.args.task).run (f.outside c.args.files.now).held (f.outside c.open_outputs.new.files).held (f.outside c.run_records-taken.new.files).held c.in_ok-open_outputs.ensures.others c.in_err-ending.ensures.others
 
-pub returns-in_err-finish-clause-ended : goal.returns-in_err-finish-clause-ended
-returns-in_err-finish-clause-ended g c =
+pub returns-in_err-finish-clause-left : goal.returns-in_err-finish-clause-left
+returns-in_err-finish-clause-left g c =
     let f = g.F.Files in
     let o = g.O.Sink in
-    let r = g.C.CaptureReader in
+    let k = g.C.CaptureReader in
     let x = setup_of c.args.task in
-    let far = apart x.run c.requires.apart in
-    let first = spot (r.stands c.args.reader.now) (r.left c.args.reader.now) (r.at c.args.reader.now) in
-    let said = o.out c.args.out.now in
-    let h0 = (f.outside c.args.files.now).held in
-    let h1 = (f.outside c.open_outputs.new.files).held in
-    let h2 = (f.outside c.run_records-taken.new.files).held in
-    let s = c.in_ok-shift.shift in
-    let u = c.run_records-taken.new.shift in
-    let its_plan = ap (λ (k : Areas). k.plan) c.in_ok-ending.ensures.areas ∙ c.in_ok-shift.ensures.duty.its_plan in
-    let closed = rw its_plan at c.end_shift-closed.ensures in
-    let last = (f.outside c.run_records-taken.new.files).last in
-    let q = c.run_records-taken.new.progress in
-    let reader = spot (r.stands c.run_records-taken.new.reader) (r.left c.run_records-taken.new.reader) (r.at c.run_records-taken.new.reader) in
-    let h3 = (f.outside c.finish.new.files).held in
-    let now = o.out c.finish.new.out in
-    let before = f.outside c.args.files.now in
-    let after = f.outside c.finish.new.files in
+    let a = f.outside c.args.files.now in
+    let b = f.outside c.finish.new.files in
+    let taken = c.in_ok-ending.ensures in
     let why = c.in_err-finish.field-0.0 in
-    let cut = is_cut (Some c.in_ok-ending.ending) in
     let e = err_from_is_err_and c.from_residual-in_err-finish.result c.from_residual-in_err-finish.ensures.1 in
-    ended_err x c.args.plan first c.from_residual-in_err-finish.result why h0 h3 said now before after c.args.history.now (e.1 ∙ ap Err e.2) c.requires.none
-    (finish_broken c.run_laws.ensures x far c.args.plan u.seat.known.actor.draws (seats_of s) (seats_of u) c.end_shift-closed.result
-    c.in_ok-progress.progress first c.in_ok-progress.ensures c.in_ok-shift.ensures.points c.requires.errors q reader
-    (λ bytes number. c.some_left.ensures c.run_records-taken.new.reader bytes number)
-    (at_end c.run_laws.ensures.points c.args.plan u.seat.known u.desk.known (seats_of u) c.end_shift-closed.result q.number closed c.in_ok-ending.ensures.after.settled c.in_ok-ending.ensures.duty.whole
-    (c.in_ok-ending.ensures.duty.desk_areas.same_plan ∙ its_plan) refl c.in_ok-ending.ensures.after.drawn)
-    c.in_ok-ending.ending last said now before after c.in_err-finish.ensures.last (rw (← c.in_ok-open_outputs.ensures.writes.lost) (rw c.in_err-finish.ensures.lost c.in_ok-ending.ensures.reads.lost)) why h0 h1 h2 h3
-    c.in_ok-open_outputs.ensures.opened
-    (rw c.in_ok-shift.ensures.duty.its_plan at c.in_ok-ending.ensures.went)
-    (rw (c.points.ensures.points ∙ closed.points, c.in_ok-ending.ensures.spoiled ∙ c.in_ok-open_outputs.ensures.writes.spoiled) at c.in_err-finish.ensures.finished))
+    let r : Captured = record {
+      laws = c.run_laws.ensures;
+      x = x;
+      far = apart x.run c.requires.apart;
+      rate = c.requires.errors;
+      plan = c.args.plan;
+      first = spot (k.stands c.args.reader.now) (k.left c.args.reader.now) (k.at c.args.reader.now);
+      s = state_of c.run_records-taken.new.progress c.run_records-taken.new.shift;
+      its_plan = ap (λ (w : Areas). w.plan) taken.areas ∙ c.in_ok-shift.ensures.duty.its_plan;
+      h = c.end_shift-closed.result;
+      closed = c.end_shift-closed.ensures c.run_records-taken.new.progress;
+      before = world a (o.out c.args.out.now) (o.faults c.args.out.now);
+      now = world b (o.out c.finish.new.out) (o.faults c.finish.new.out);
+      middle = (f.outside c.open_outputs.new.files).held;
+      opening = c.in_ok-open_outputs.ensures.opened;
+    } in
+    let end : AtEnd = record {
+      run = r;
+      reader = spot (k.stands c.run_records-taken.new.reader) (k.left c.run_records-taken.new.reader) (k.at c.run_records-taken.new.reader);
+      some = λ bytes number. c.some_left.ensures c.run_records-taken.new.reader bytes number;
+      stop = c.in_ok-ending.ending;
+      last = (f.outside c.run_records-taken.new.files).last;
+      last_is = c.in_err-finish.ensures.last;
+      lost = rw (← c.in_ok-open_outputs.ensures.writes.lost) (rw c.in_err-finish.ensures.lost taken.reads.lost);
+      count = taken.after.drawn;
+      placed = points_at_end c.run_laws.ensures.points r.closed taken.after taken.duty;
+      end = (f.outside c.run_records-taken.new.files).held;
+      going = taken.went;
+    } in
+    ended_err x c.args.plan r.first c.from_residual-in_err-finish.result why r.before r.now c.args.history.now (e.1 ∙ ap Err e.2) c.requires.none
+    (finish_broken end why (rw (c.points.ensures.points ∙ r.closed.points, taken.spoiled ∙ c.in_ok-open_outputs.ensures.writes.spoiled) at c.in_err-finish.ensures.cut))
 
 pub returns-in_err-finish-clause-others : goal.returns-in_err-finish-clause-others
 returns-in_err-finish-clause-others g c =

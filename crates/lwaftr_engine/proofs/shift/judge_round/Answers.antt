@@ -1,4 +1,4 @@
-use Rattle.std.proofs.Common.{arith, length, refl, rules}
+use Rattle.lwaftr_engine.proofs.Words.{arith, length, refl, rules}
 use Rattle.lwaftr_engine.proofs.Asking.{round_asked}
 use Rattle.lwaftr_engine.proofs.Judging.{are_fitting, has_outcomes, judged_round}
 use Rattle.lwaftr_engine.proofs.Steps.{none_is_due}

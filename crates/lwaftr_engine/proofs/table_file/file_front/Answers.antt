@@ -1,4 +1,4 @@
-use Rattle.std.proofs.Common.{◌++◌, ◌∙◌, ap, arith}
+use Rattle.lwaftr_engine.proofs.Words.{◌++◌, ◌∙◌, ap, arith}
 use Rattle.aftr_base.proofs.OutsideLemmas.{read_well}
 use Rattle.lwaftr_engine.proofs.FrontLemmas.{front_longer}
 use Rattle.lwaftr_engine.proofs.table_file.file_front.Goals as goal

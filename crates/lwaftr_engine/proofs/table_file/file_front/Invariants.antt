@@ -1,5 +1,4 @@
-use Rattle.std.proofs.Common.{◌≡◌, ◌≤◌, ◌-◌, length, take}
-use Rattle.aftr_base.specs.Contents.{Told, content}
+use Rattle.lwaftr_engine.proofs.Words.{◌≡◌, ◌≤◌, ◌-◌, length, take, Told, content}
 use Rattle.lwaftr_engine.proofs.table_file.file_front.Given as goal
 
 abbrev pub invariant-pieces : goal.invariant-pieces

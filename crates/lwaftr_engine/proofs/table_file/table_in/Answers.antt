@@ -1,4 +1,4 @@
-use Rattle.std.proofs.Common.{Ok}
+use Rattle.lwaftr_engine.proofs.Words.{Ok}
 use Rattle.lwaftr_engine.proofs.FrontLemmas.{refusal_told, table_told}
 use Rattle.lwaftr_engine.proofs.table_file.table_in.Goals as goal
 

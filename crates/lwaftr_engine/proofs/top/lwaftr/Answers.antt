@@ -1,80 +1,64 @@
-use Rattle.std.proofs.Common.{◌≡◌, ◌⊎◌, ◌∙◌, ℕ, Option, None, refl, ap, sym}
-use Rattle.aftr_text.specs.Parts.{texts}
-use Rattle.aftr_text.specs.declared.jobs.Job.TheVariants as asked
-use Rattle.aftr_text.specs.declared.jobs.RunJob.{RunJob}
-use Rattle.area_swap.specs.Histories.{HistoryValue}
-use Rattle.lwaftr_engine.specs.Demos.{KeepsDemo}
-use Rattle.lwaftr_engine.specs.Migrations.{KeepsMigration}
-use Rattle.lwaftr_engine.specs.Promises.{KeepsRun}
-use Rattle.lwaftr_engine.specs.Prompt.{EndsSo}
-use Rattle.lwaftr_engine.specs.Questions.{IsOwnerLine, IsValidLine, KeepsQuestion}
-use Rattle.lwaftr_engine.specs.Worlds.{world}
-use Rattle.lwaftr_engine.specs.declared.at_once.AtOnce.TheVariants as at_once
-use Rattle.lwaftr_engine.specs.declared.status.Status.{Status}
-use Rattle.lwaftr_engine.specs.declared.status.Status.TheVariants as status
-use Rattle.lwaftr_engine.proofs.PromptLemmas.{demo_not_run, ended, left_demo, left_run, no_run, no_show, not_demo, not_run, not_usage, one_cause}
-use Rattle.lwaftr_engine.proofs.PromptLemmas.{run_not_demo, same_world, short_demo, short_run, show_not_usage}
-use Rattle.lwaftr_engine.proofs.TopLemmas.{demo_asked, run_job_asked}
+use Rattle.lwaftr_engine.proofs.Words.{ap, refl, sym, texts, world, ◌∙◌, ◌≡◌}
+use Rattle.lwaftr_engine.proofs.TopLemmas.{demo_asked, asked_run}
+use Rattle.lwaftr_engine.proofs.PromptLemmas.{demo_not_run, no_run, no_show, not_usage, one_cause, run_not_demo, same_demo, same_run, same_world, short_demo}
+use Rattle.lwaftr_engine.proofs.PromptLemmas.{short_run, show_not_usage}
 use Rattle.lwaftr_engine.proofs.top.lwaftr.Goals as goal
+use Rattle.lwaftr_engine.specs.declared.at_once.AtOnce.TheVariants as at_once
+use Rattle.aftr_text.specs.declared.jobs.Job.TheVariants as asked
 
 pub returns-in-Ended : goal.returns-in-Ended
 returns-in-Ended g c =
     let f = g.F.Files in
     let o = g.O.Sink in
     let e = c.do_at_once.ensures in
-    let r = c.do_at_once.result in
+    let is = c.in-Ended.is in
     let s = c.in-Ended.status in
     let h = c.args.history.now in
     let old = world (f.outside c.args.files.now) (o.out c.args.out.now) (o.faults c.args.out.now) in
     let new = world (f.outside c.do_at_once.new.files) (o.out c.do_at_once.new.out) (o.faults c.do_at_once.new.out) in
-    let so : (K : Status → Option HistoryValue → Type 0) → EndsSo (λ t. K t None) r → K s h = λ K x. ended K r s h c.requires.none c.in-Ended.is x in
     record {
-      usage = λ is. e.usage (c.in-Ended.is ∙ ap at_once.Ended is);
-      no_job = λ nothing. so (λ t k. (t ≡ status.Usage) ⊎ (t ≡ status.OutOfMemory)) (e.no_job nothing).0;
+      usage = λ usage. e.usage (is ∙ ap at_once.Ended usage);
+      no_job = λ nothing. rw is at (e.no_job nothing).0;
       untouched = λ nothing. ((e.no_job nothing).1.0, (e.no_job nothing).1.1, c.requires.none);
       run = λ run asks.
           let left = e.run run asks in
           let same : old ≡ new = same_world (sym (ap f.outside left.1.0)) (sym (ap o.out left.1.1)) (sym (ap o.faults left.1.1)) in
-          rw (← same) (no_run run s old h (short_run r run s c.in-Ended.is left.0) c.requires.none);
-      check = λ name asks. so (λ t k. KeepsQuestion IsValidLine name t old new k) (e.check name asks);
-      who = λ name v4 port asks. so (λ t k. KeepsQuestion (IsOwnerLine v4 port) name t old new k) (e.who name v4 port asks);
+          rw (← same) (no_run run s old h (short_run (rw is at left.0)) c.requires.none);
+      check = λ name asks. rw c.requires.none (rw is at (e.check name asks));
+      who = λ name v4 port asks. rw c.requires.none (rw is at (e.who name v4 port asks));
       demo = λ seed count workers asks.
           let left = e.demo seed count workers asks in
           let same : old ≡ new = same_world (sym (ap f.outside left.1.0)) (sym (ap o.out left.1.1)) (sym (ap o.faults left.1.1)) in
-          rw (← same) (no_show seed count s old h (short_demo r seed count workers s c.in-Ended.is left.0) c.requires.none);
-      migrate = λ input output asks. so (λ t k. KeepsMigration input output t old new k) (e.migrate input output asks);
-      cause = one_cause s old new (e.cause s c.in-Ended.is);
+          rw (← same) (no_show seed count s old h (short_demo (rw is at left.0)) c.requires.none);
+      migrate = λ input output asks. rw c.requires.none (rw is at (e.migrate input output asks));
+      cause = one_cause s old new (e.cause s is);
     }
 
 pub run_job-requires-clause-job : goal.run_job-requires-clause-job
-run_job-requires-clause-job g c κs within = run_job_asked (texts c.args.words.now) (asked.Run c.in-Run.job) c.in-Run.job refl (c.do_at_once.ensures.left_run c.in-Run.job c.in-Run.is)
+run_job-requires-clause-job g c κs within = asked_run (texts c.args.words.now) c.in-Run.job (c.do_at_once.ensures.left_run c.in-Run.job c.in-Run.is)
 
 pub returns-in-Run : goal.returns-in-Run
 returns-in-Run g c =
     let f = g.F.Files in
     let o = g.O.Sink in
     let e = c.do_at_once.ensures in
-    let r = c.do_at_once.result in
     let job = c.in-Run.job in
     let is = c.in-Run.is in
     let asked_for = e.left_run job is in
     let left = e.run job asked_for in
-    let h = c.run_job.new.history in
     let old = world (f.outside c.args.files.now) (o.out c.args.out.now) (o.faults c.args.out.now) in
     let mid = world (f.outside c.do_at_once.new.files) (o.out c.do_at_once.new.out) (o.faults c.do_at_once.new.out) in
     let new = world (f.outside c.run_job.new.files) (o.out c.run_job.new.out) (o.faults c.run_job.new.out) in
     let same : mid ≡ old = same_world (ap f.outside left.1.0) (ap o.out left.1.1) (ap o.faults left.1.1) in
     record {
-      usage = λ usage. absurd (not_usage job c.run_job.result mid new h c.run_job.ensures usage);
+      usage = λ usage. absurd (not_usage job c.run_job.result mid new c.run_job.new.history c.run_job.ensures usage);
       no_job = λ nothing. absurd (nothing (asked.Run job) asked_for);
       untouched = λ nothing. absurd (nothing (asked.Run job) asked_for);
-      run = λ run asks.
-          let L : RunJob → Type 0 = λ j. KeepsRun j c.run_job.result old new h in
-          left_run L r job run is (e.run run asks).0 (rw (← same) c.run_job.ensures);
-      check = λ name asks. absurd (not_run (λ s. KeepsQuestion IsValidLine name s old mid None) r job is (e.check name asks));
-      who = λ name v4 port asks. absurd (not_run (λ s. KeepsQuestion (IsOwnerLine v4 port) name s old mid None) r job is (e.who name v4 port asks));
-      demo = λ seed count workers asks. absurd (run_not_demo r job seed count workers is (e.demo seed count workers asks).0);
-      migrate = λ input output asks. absurd (not_run (λ s. KeepsMigration input output s old mid None) r job is (e.migrate input output asks));
+      run = λ run asks. rw (← (same_run (rw is at (e.run run asks).0))) (rw (← same) c.run_job.ensures);
+      check = λ name asks. absurd (rw is at (e.check name asks));
+      who = λ name v4 port asks. absurd (rw is at (e.who name v4 port asks));
+      demo = λ seed count workers asks. absurd (run_not_demo (rw is at (e.demo seed count workers asks).0));
+      migrate = λ input output asks. absurd (rw is at (e.migrate input output asks));
       cause = rw (← same) c.run_job.ensures.cause;
     }
 
@@ -95,7 +79,6 @@ returns-in-Demo g c =
     let f = g.F.Files in
     let o = g.O.Sink in
     let e = c.do_at_once.ensures in
-    let r = c.do_at_once.result in
     let seed = c.in-Demo.seed in
     let count = c.in-Demo.count in
     let workers = c.in-Demo.workers in
@@ -104,7 +87,6 @@ returns-in-Demo g c =
     let left = e.demo seed count workers asked_for in
     let files = f.outside c.do_at_once.new.files in
     let s = c.show_demo.result in
-    let h = c.show_demo.new.history in
     let old = world (f.outside c.args.files.now) (o.out c.args.out.now) (o.faults c.args.out.now) in
     let mid = world files (o.out c.do_at_once.new.out) (o.faults c.do_at_once.new.out) in
     let new = world files (o.out c.show_demo.new.out) (o.faults c.show_demo.new.out) in
@@ -114,13 +96,13 @@ returns-in-Demo g c =
       usage = λ usage. absurd (show_not_usage s shown.due usage);
       no_job = λ nothing. absurd (nothing (asked.Demo seed count workers) asked_for);
       untouched = λ nothing. absurd (nothing (asked.Demo seed count workers) asked_for);
-      run = λ run asks. absurd (demo_not_run r run seed count workers is (e.run run asks).0);
-      check = λ name asks. absurd (not_demo (λ t. KeepsQuestion IsValidLine name t old mid None) r seed count workers is (e.check name asks));
-      who = λ name v4 port asks. absurd (not_demo (λ t. KeepsQuestion (IsOwnerLine v4 port) name t old mid None) r seed count workers is (e.who name v4 port asks));
+      run = λ run asks. absurd (demo_not_run (rw is at (e.run run asks).0));
+      check = λ name asks. absurd (rw is at (e.check name asks));
+      who = λ name v4 port asks. absurd (rw is at (e.who name v4 port asks));
       demo = λ other_seed other_count other_workers asks.
-          let L : ℕ → ℕ → Type 0 = λ a b. KeepsDemo a b s old new h in
-          left_demo L r seed count workers other_seed other_count other_workers is (e.demo other_seed other_count other_workers asks).0
-          (rw (← same) (record { kept = refl; line = shown.line; cause = shown.cause files; due = shown.due; history_is = shown.history }));
-      migrate = λ input output asks. absurd (not_demo (λ t. KeepsMigration input output t old mid None) r seed count workers is (e.migrate input output asks));
+          let alike = same_demo (rw is at (e.demo other_seed other_count other_workers asks).0) in
+          rw (← alike.0) (rw (← alike.1)
+          (rw (← same) (record { kept = refl; line = shown.line; cause = shown.cause files; due = shown.due; history_is = shown.history })));
+      migrate = λ input output asks. absurd (rw is at (e.migrate input output asks));
       cause = rw (← same) (one_cause s mid new (shown.cause files));
     }
