@@ -1,6 +1,7 @@
 #!/usr/bin/env python3
 """Compares the READMEs of crates with the crates: every exported name, and every file of a crate of cases, is named there; the files of
-cases and the benchmarks that a README names are there; a row on clauses has at most thirty words.
+cases and the benchmarks that a README names are there; a row on clauses has at most thirty words; each caller to copy stands word for word
+in a crate of cases.
 
   docs/readmes.py [CRATE..]    prints what is not so, and ends with 1 where there is something
 """
@@ -56,13 +57,33 @@ def long_rows(readme):
             yield f"a row of {len(cells[2].split())} words: {cells[2][:40]}.."
 
 
+def lines_of(text):
+    """The lines of a text, without the blanks at their ends."""
+    return "\n".join(it.rstrip() for it in text.strip("\n").splitlines())
+
+
+def callers():
+    """The files of callers, which the crates of cases compile, prove and run."""
+    crates = sorted(os.listdir(os.path.join(TOP, "crates")))
+    return [lines_of(text_of("crates", it, "src", "callers.rt")) for it in crates if it.endswith("_cases")]
+
+
+def uncompiled(readme, compiled):
+    """The callers to copy of a README that no file of callers has."""
+    section = re.search(r"^## A caller to copy\n(.*?)(?=^## |\Z)", readme, re.M | re.S)
+    for block in re.findall(r"^```rust\n(.*?)^```$", section[1] if section else "", re.M | re.S):
+        if not any(f"\n{lines_of(block)}\n" in f"{text}\n" for text in compiled):
+            yield f"a caller that no `callers.rt` has: {block.splitlines()[0][:60]}"
+
+
 def main():
     lacking = 0
+    compiled = callers()
     for crate in sys.argv[1:] or sorted(os.listdir(os.path.join(TOP, "crates"))):
         readme = text_of("crates", crate, "README.md")
         names = files(crate) if crate.endswith("_cases") else list(exports(crate))
         missing = [it for it in names if not re.search(rf"\b{it}\b", readme)]
-        missing += [*tried(readme), *long_rows(readme)]
+        missing += [*tried(readme), *long_rows(readme), *uncompiled(readme, compiled)]
         if missing:
             lacking += len(missing)
             print(f"{crate}: {' '.join(missing)}")

@@ -11,6 +11,8 @@ mod block_rounds;
 #[cfg(test)]
 mod blocks;
 #[cfg(test)]
+mod callers;
+#[cfg(test)]
 mod captures;
 #[cfg(test)]
 mod fast_readers;

@@ -217,7 +217,8 @@ fn a_bad_record_is_told_where_no_read_failed(rt: HostRuntime) -> Result<(), Fail
 
 /// The header of a pcapng file, and what stands round a packet of 32 bytes at 1 second.
 const SECTION: &[u8; 60] =
-    b"\x0a\x0d\x0d\x0a\x1c\0\0\0\x4d\x3c\x2b\x1a\x01\0\0\0\xff\xff\xff\xff\xff\xff\xff\xff\x1c\0\0\0\x01\0\0\0\x20\0\0\0\x65\0\0\0\0\0\x04\0\x09\0\x01\0\x09\0\0\0\0\0\0\0\x20\0\0\0";
+    b"\x0a\x0d\x0d\x0a\x1c\0\0\0\x4d\x3c\x2b\x1a\x01\0\0\0\xff\xff\xff\xff\xff\xff\xff\xff\x1c\0\0\0\x01\0\0\0\x20\0\0\0\x65\0\0\0\0\0\x04\0\x09\0\x01\0\x09\0\
+     \0\0\0\0\0\0\x20\0\0\0";
 
 const BLOCK_HEAD: &[u8; 28] =
     b"\x06\0\0\0\x40\0\0\0\0\0\0\0\0\0\0\0\0\xca\x9a\x3b\x20\0\0\0\x20\0\0\0";

@@ -6,12 +6,12 @@ use icmp_codec::{
 use std::test::Fail;
 
 // An echo with the identifier 1232; the same with a wrong checksum.
-const ECHO: &[u8; 12] = b"\x08\0\x0b\x55\x04\xd0\0\x01test";
+pub(crate) const ECHO: &[u8; 12] = b"\x08\0\x0b\x55\x04\xd0\0\x01test";
 
 const WRONG_ECHO: &[u8; 12] = b"\x08\0\x5e\x55\x04\xd0\0\x01test";
 
 // A port unreachable that quotes a header with four bytes of options and 8 bytes of UDP from port 1232.
-const UNREACHABLE: &[u8; 40] =
+pub(crate) const UNREACHABLE: &[u8; 40] =
     b"\x03\x03\xf7\xeb\0\0\0\0\x46\0\0\x24\0\x01\0\0\x40\x11\x11\x8b\xcb\0\x71\x01\xc6\x33\x64\x07\x01\x01\x01\0\x04\xd0\0\x35\0\x0c\0\0";
 
 // What it quotes.

@@ -18,14 +18,14 @@ fn load(alloc: Global, name: &str, earliest: u32) -> Result<LoadWords, Fail> {
     })
 }
 
-const SLOTS: [Slot; 4] = [
+pub(crate) const SLOTS: [Slot; 4] = [
     Slot::Version(1),
     Slot::Version(2),
     Slot::Refused(FileRefused::TooBig),
     Slot::Version(3),
 ];
 
-fn loads(alloc: Global) -> Result<Vec<LoadWords>, Fail> {
+pub(crate) fn loads(alloc: Global) -> Result<Vec<LoadWords>, Fail> {
     let mut list = Vec::new(alloc);
     list.push(load(alloc, "a", 1)?)?;
     list.push(load(alloc, "b", 2)?)?;

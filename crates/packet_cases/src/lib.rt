@@ -4,6 +4,8 @@
 #![tactic(auto)]
 
 #[cfg(test)]
+mod callers;
+#[cfg(test)]
 mod down_verdicts;
 #[cfg(test)]
 mod hairpin_verdicts;

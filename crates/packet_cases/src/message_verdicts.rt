@@ -13,42 +13,51 @@ const ON_THE_WAY: V6 = V6(0x2001_0db8_0009_0000_0000_0000_0000_0001);
 
 // A packet too big, 1,400 bytes, about the tunnel packet of the first downstream packet.
 const RELAYED: &[u8; 80] =
-    b"\x02\0\xef\xbf\0\0\x05x`\0\0\0\0 \x04@ \x01\x0d\xb8\0\0\0\0\0\0\0\0\0\0\0\x01 \x01\x0d\xb8\0\x01\0\0\0\0\0\0\0\0\0\x01E\0\0 \0\x02\0\0?\x11\x15\x8f\xc63d\x07\xcb\0q\x01\05\x04\xd0\0\x0c\0\0test";
+    b"\x02\0\xef\xbf\0\0\x05x`\0\0\0\0 \x04@ \x01\x0d\xb8\0\0\0\0\0\0\0\0\0\0\0\x01 \x01\x0d\xb8\0\x01\0\0\0\0\0\0\0\0\0\x01E\0\0 \
+     \0\x02\0\0?\x11\x15\x8f\xc63d\x07\xcb\0q\x01\05\x04\xd0\0\x0c\0\0test";
 
 // The same with a wrong checksum.
 const RELAYED_BAD: &[u8; 80] =
-    b"\x02\0\xef\xbe\0\0\x05x`\0\0\0\0 \x04@ \x01\x0d\xb8\0\0\0\0\0\0\0\0\0\0\0\x01 \x01\x0d\xb8\0\x01\0\0\0\0\0\0\0\0\0\x01E\0\0 \0\x02\0\0?\x11\x15\x8f\xc63d\x07\xcb\0q\x01\05\x04\xd0\0\x0c\0\0test";
+    b"\x02\0\xef\xbe\0\0\x05x`\0\0\0\0 \x04@ \x01\x0d\xb8\0\0\0\0\0\0\0\0\0\0\0\x01 \x01\x0d\xb8\0\x01\0\0\0\0\0\0\0\0\0\x01E\0\0 \
+     \0\x02\0\0?\x11\x15\x8f\xc63d\x07\xcb\0q\x01\05\x04\xd0\0\x0c\0\0test";
 
 // No route, about the same.
 const RELAYED_1: &[u8; 80] =
-    b"\x01\0\xf67\0\0\0\0`\0\0\0\0 \x04@ \x01\x0d\xb8\0\0\0\0\0\0\0\0\0\0\0\x01 \x01\x0d\xb8\0\x01\0\0\0\0\0\0\0\0\0\x01E\0\0 \0\x02\0\0?\x11\x15\x8f\xc63d\x07\xcb\0q\x01\05\x04\xd0\0\x0c\0\0test";
+    b"\x01\0\xf67\0\0\0\0`\0\0\0\0 \x04@ \x01\x0d\xb8\0\0\0\0\0\0\0\0\0\0\0\x01 \x01\x0d\xb8\0\x01\0\0\0\0\0\0\0\0\0\x01E\0\0 \
+     \0\x02\0\0?\x11\x15\x8f\xc63d\x07\xcb\0q\x01\05\x04\xd0\0\x0c\0\0test";
 
 // An echo reply.
 const RELAYED_129: &[u8; 8] = b"\x81\0#@\0\0\0\0";
 
 // About a packet of another router.
 const RELAYED_FOREIGN: &[u8; 80] =
-    b"\x02\0\xef\xb6\0\0\x05x`\0\0\0\0 \x04@ \x01\x0d\xb8\0\x09\0\0\0\0\0\0\0\0\0\x01 \x01\x0d\xb8\0\x01\0\0\0\0\0\0\0\0\0\x01E\0\0 \0\x02\0\0?\x11\x15\x8f\xc63d\x07\xcb\0q\x01\05\x04\xd0\0\x0c\0\0test";
+    b"\x02\0\xef\xb6\0\0\x05x`\0\0\0\0 \x04@ \x01\x0d\xb8\0\x09\0\0\0\0\0\0\0\0\0\x01 \x01\x0d\xb8\0\x01\0\0\0\0\0\0\0\0\0\x01E\0\0 \
+     \0\x02\0\0?\x11\x15\x8f\xc63d\x07\xcb\0q\x01\05\x04\xd0\0\x0c\0\0test";
 
 // About a packet to another end of a tunnel.
 const RELAYED_ELSEWHERE: &[u8; 80] =
-    b"\x02\0\xef\xbe\0\0\x05x`\0\0\0\0 \x04@ \x01\x0d\xb8\0\0\0\0\0\0\0\0\0\0\0\x01 \x01\x0d\xb8\0\x01\0\0\0\0\0\0\0\0\0\x02E\0\0 \0\x02\0\0?\x11\x15\x8f\xc63d\x07\xcb\0q\x01\05\x04\xd0\0\x0c\0\0test";
+    b"\x02\0\xef\xbe\0\0\x05x`\0\0\0\0 \x04@ \x01\x0d\xb8\0\0\0\0\0\0\0\0\0\0\0\x01 \x01\x0d\xb8\0\x01\0\0\0\0\0\0\0\0\0\x02E\0\0 \
+     \0\x02\0\0?\x11\x15\x8f\xc63d\x07\xcb\0q\x01\05\x04\xd0\0\x0c\0\0test";
 
 // About a packet from a group of hosts.
 const RELAYED_MUTE: &[u8; 80] =
-    b"\x02\0\xef\xbf\0\0\x05x`\0\0\0\0 \x04@ \x01\x0d\xb8\0\0\0\0\0\0\0\0\0\0\0\x01 \x01\x0d\xb8\0\x01\0\0\0\0\0\0\0\0\0\x01E\0\0 \0\x01\0\0?\x11_\xc9\xe0\0\0\x01\xcb\0q\x01\05\x04\xd0\0\x0c\0\0test";
+    b"\x02\0\xef\xbf\0\0\x05x`\0\0\0\0 \x04@ \x01\x0d\xb8\0\0\0\0\0\0\0\0\0\0\0\x01 \x01\x0d\xb8\0\x01\0\0\0\0\0\0\0\0\0\x01E\0\0 \
+     \0\x01\0\0?\x11_\xc9\xe0\0\0\x01\xcb\0q\x01\05\x04\xd0\0\x0c\0\0test";
 
 // Packet too big, 100 bytes, about a packet from port 1232 to port 1236 of the shared address.
 const RELAYED_HAIRPIN: &[u8; 80] =
-    b"\x02\0\xf03\0\0\0d`\0\0\0\0 \x04@ \x01\x0d\xb8\0\0\0\0\0\0\0\0\0\0\0\x01 \x01\x0d\xb8\0\x01\0\0\0\0\0\0\0\0\0\x02E\0\0 \0\x01\0\0?\x11\x03\xc9\xcb\0q\x01\xcb\0q\x01\x04\xd0\x04\xd4\0\x0c\0\0test";
+    b"\x02\0\xf03\0\0\0d`\0\0\0\0 \x04@ \x01\x0d\xb8\0\0\0\0\0\0\0\0\0\0\0\x01 \x01\x0d\xb8\0\x01\0\0\0\0\0\0\0\0\0\x02E\0\0 \
+     \0\x01\0\0?\x11\x03\xc9\xcb\0q\x01\xcb\0q\x01\x04\xd0\x04\xd4\0\x0c\0\0test";
 
 // The same from a port that nobody owns.
 const RELAYED_LOST: &[u8; 80] =
-    b"\x02\0\xdf\x1e\0\x01\x11p`\0\0\0\0 \x04@ \x01\x0d\xb8\0\0\0\0\0\0\0\0\0\0\0\x01 \x01\x0d\xb8\0\x01\0\0\0\0\0\0\0\0\0\x02E\0\0 \0\x01\0\0?\x11\x03\xc9\xcb\0q\x01\xcb\0q\x01\x04\xd8\x04\xd4\0\x0c\0\0test";
+    b"\x02\0\xdf\x1e\0\x01\x11p`\0\0\0\0 \x04@ \x01\x0d\xb8\0\0\0\0\0\0\0\0\0\0\0\x01 \x01\x0d\xb8\0\x01\0\0\0\0\0\0\0\0\0\x02E\0\0 \
+     \0\x01\0\0?\x11\x03\xc9\xcb\0q\x01\xcb\0q\x01\x04\xd8\x04\xd4\0\x0c\0\0test";
 
 // Packet too big, 70,000 bytes.
 const RELAYED_HUGE: &[u8; 80] =
-    b"\x02\0\xe3\xc6\0\x01\x11p`\0\0\0\0 \x04@ \x01\x0d\xb8\0\0\0\0\0\0\0\0\0\0\0\x01 \x01\x0d\xb8\0\x01\0\0\0\0\0\0\0\0\0\x01E\0\0 \0\x02\0\0?\x11\x15\x8f\xc63d\x07\xcb\0q\x01\05\x04\xd0\0\x0c\0\0test";
+    b"\x02\0\xe3\xc6\0\x01\x11p`\0\0\0\0 \x04@ \x01\x0d\xb8\0\0\0\0\0\0\0\0\0\0\0\x01 \x01\x0d\xb8\0\x01\0\0\0\0\0\0\0\0\0\x01E\0\0 \
+     \0\x02\0\0?\x11\x15\x8f\xc63d\x07\xcb\0q\x01\05\x04\xd0\0\x0c\0\0test";
 
 fn sent(message: &[u8]) -> ItemView<'_> {
     ItemView::Six58 {

@@ -8,11 +8,14 @@ use traffic_gen::{Traffic, traffic_of};
 
 // One packet from a port that nobody owns.
 const ONE_RECORD: &[u8; 112] =
-    b"\xd4\xc3\xb2\xa1\x02\0\x04\0\0\0\0\0\0\0\0\0\0\0\x04\0e\0\0\0\0\0\0\0\0\0\0\0H\0\0\0H\0\0\0`\0\0\0\0\x20\x04@\x20\x01\x0d\xb8\0\x01\0\0\0\0\0\0\0\0\0~\x20\x01\x0d\xb8\0\0\0\0\0\0\0\0\0\0\0\x01E\0\0\x20\0\0\0\0@\x11\x14\x8b\xcb\0q\x07\xc63d\x07\0\x01\05\0\x0c\0\0test";
+    b"\xd4\xc3\xb2\xa1\x02\0\x04\0\0\0\0\0\0\0\0\0\0\0\x04\0e\0\0\0\0\0\0\0\0\0\0\0H\0\0\0H\0\0\0`\0\0\0\0\x20\x04@\x20\x01\x0d\xb8\0\x01\0\0\0\0\0\0\0\0\0~\
+     \x20\x01\x0d\xb8\0\0\0\0\0\0\0\0\0\0\0\x01E\0\0\x20\0\0\0\0@\x11\x14\x8b\xcb\0q\x07\xc63d\x07\0\x01\05\0\x0c\0\0test";
 
 // A packet from the server, and a millisecond later one from a subscriber to another.
 const TWO_RECORDS: &[u8; 160] =
-    b"\xd4\xc3\xb2\xa1\x02\0\x04\0\0\0\0\0\0\0\0\0\0\0\x04\0e\0\0\0\0\0\0\0\0\0\0\0\x20\0\0\0\x20\0\0\0E\0\0\x20\0\0\0\0@\x11\x14\x86\xc63d\x07\xcb\0q\x0c\05\x06\xcb\0\x0c\0\0test\0\0\0\0\xe8\x03\0\0H\0\0\0H\0\0\0`\0\0\0\0\x20\x04@\x20\x01\x0d\xb8\0\x01\0\0\0\0\0\0\0\0\0K\x20\x01\x0d\xb8\0\0\0\0\0\0\0\0\0\0\0\x01E\0\0\x20\0\x01\0\0@\x11\x02\xb9\xcb\0q\x04\xcb\0q\x0e\x06\xf8\x06\xf8\0\x0c\0\0test";
+    b"\xd4\xc3\xb2\xa1\x02\0\x04\0\0\0\0\0\0\0\0\0\0\0\x04\0e\0\0\0\0\0\0\0\0\0\0\0\x20\0\0\0\x20\0\0\0E\0\0\x20\0\0\0\0@\x11\x14\x86\xc63d\x07\xcb\0q\x0c\05\
+     \x06\xcb\0\x0c\0\0test\0\0\0\0\xe8\x03\0\0H\0\0\0H\0\0\0`\0\0\0\0\x20\x04@\x20\x01\x0d\xb8\0\x01\0\0\0\0\0\0\0\0\0K\x20\x01\x0d\xb8\0\0\0\0\0\0\0\0\0\0\0\
+     \x01E\0\0\x20\0\x01\0\0@\x11\x02\xb9\xcb\0q\x04\xcb\0q\x0e\x06\xf8\x06\xf8\0\x0c\0\0test";
 
 // The 64-bit hash FNV-1a of the bytes.
 fn hash(bytes: &[u8]) -> u64 {

@@ -56,6 +56,7 @@ fn taken<R: Threads + Sync>(
     if let Some(line) = first_other(alloc, &items, round)? {
         return Err(Fail::from(line));
     }
+    stage.take_back(items);
     Ok(start + count as u32)
 }
 

@@ -5,6 +5,8 @@
 #[cfg(test)]
 mod areas;
 #[cfg(test)]
+mod callers;
+#[cfg(test)]
 mod machine;
 #[cfg(test)]
 mod seats;

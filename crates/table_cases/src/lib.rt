@@ -5,6 +5,8 @@
 #[cfg(test)]
 mod bounds;
 #[cfg(test)]
+mod callers;
+#[cfg(test)]
 mod counted;
 #[cfg(test)]
 mod files;

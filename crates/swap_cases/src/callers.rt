@@ -1,0 +1,67 @@
+// The callers that the READMEs of swap_core and area_swap show, and what they answer.
+ghost use Rattle.area_swap.specs.Values.{IsIdle, IsOf};
+ghost use Rattle.swap_core.specs.Plans.{IsTableSize};
+
+use crate::words::table;
+use aftr_base::{OutOfMemory, WordList};
+use area_swap::{Areas, Claim, DrawRun, WorkerSeat, prepare};
+use std::alloc::Global;
+use std::test::Fail;
+use swap_core::{Core, Plan, Step, Took, Window};
+
+/// What the first draw gives of a machine of four actors and two tables, of which the second comes into force behind 100 records at
+/// the earliest and 200 at the latest: the last actor holds the first table, and draws.
+fn first_draw(alloc: Global, first: WordList, second: WordList) -> Result<Took, OutOfMemory>
+    requires first { IsTableSize first }
+    requires second { IsTableSize second }
+{
+    let mut plan = Plan::of(alloc, first)?;
+    plan.add(
+        Window {
+            earliest: 100,
+            latest: 200,
+        },
+        second,
+    )?;
+    let mut core = Core::opening(alloc, plan, 4)?;
+    core.run(&[
+        Step::Look { who: 3 },
+        Step::Enter { who: 3 },
+        Step::Confirm { who: 3 },
+    ])?;
+    core.step(Step::Draw { who: 3 })
+}
+
+/// Draws up to 64 numbers of records below `end` under the table in force. It answers the first of them, how many they are, and the
+/// first word of the table; nothing where the claim or the draw has to be tried again, or no record is left.
+fn draw_some(areas: &Areas, seat: &mut WorkerSeat, end: u32) -> Option<(u32, u32, u64)>
+    requires areas { IsOf areas.now seat.old }
+    requires idle { IsIdle seat.old.known }
+{
+    let Claim::Held { .. } = areas.claim(seat) else {
+        return None;
+    };
+    let word = areas.word(seat, 0); // of the table that is held, whatever other seats do
+    let drawn = areas.draw_run(seat, end, 64);
+    areas.leave(seat);
+    match drawn {
+        DrawRun::Taken { number, count } => Some((number, count, word)),
+        _ => None,
+    }
+}
+
+#[test]
+fn the_first_number_is_drawn(rt: HostRuntime) -> Result<(), Fail> {
+    let alloc = rt.alloc();
+    let took = first_draw(alloc, table(alloc, 1, 7)?, table(alloc, 1, 8)?)?;
+    assert_eq!(rt; took, Took::Yes { value: 0 });
+    Ok(())
+}
+
+#[test]
+fn numbers_are_drawn_under_a_table(rt: HostRuntime) -> Result<(), Fail> {
+    let plan = Plan::of(rt.alloc(), table(rt.alloc(), 1, 7)?)?;
+    let (areas, mut seat, _) = prepare(rt.alloc(), plan)?;
+    assert_eq!(rt; draw_some(&areas, &mut seat, 100), Some((0, 64, 7)));
+    Ok(())
+}
