@@ -12,7 +12,6 @@ program="${1:-}"
 if [ -z "$program" ]; then
     program="$("$top/build" --program)"
 fi
-cmp "$top/crates/lwaftr_main/src/main.rt" "$top/crates/lwaftr_refused/src/main.rt" || echo "the two mains are not the same"
 status=0
 "$here/messages.py" "$program" || status=1
 python3 "$here/ends.py" "$program" || status=1
