@@ -1,6 +1,7 @@
 -- What the steps of the test give. No public contract cites these. Below, a is an address as a number, a place is that of
 -- a binding in the list, and a key is a port or an identifier.
-use Rattle.std.specs.Prelude.{◌≡◌, ℕ, zero, suc, ◌-◌, ◌*◌, ◌^◌, ◌<◌, ◌≤◌, ◌⊎◌, ◌==◌, nat_lt, ◌&&◌, ◌||◌, Bool, true, false, if◌then◌else◌, List, length, slice_get, slice_index_or, Option, Some, None}
+use Rattle.std.specs.Prelude.{◌≡◌, ℕ, zero, suc, ◌-◌, ◌*◌, ◌^◌, ◌<◌, ◌≤◌, ◌⊎◌, ◌==◌, nat_lt, ◌&&◌, ◌||◌}
+use Rattle.std.specs.Prelude.{Bool, true, false, if◌then◌else◌, List, length, slice_get, slice_index_or, Option, Some, None}
 use Rattle.port_set.specs.PortSets.{in_set}
 use Rattle.port_set.specs.Shapes.{IsShape, IsNoShape}
 use Rattle.binding_rules.specs.Conflicts.{HaveOneShape}

@@ -1,11 +1,12 @@
 // The first conflict, found address by address.
 ghost use Rattle.std.specs.Prelude.{◌≡◌, ℕ, ◌+◌, ◌*◌, ◌<◌, ◌≤◌, true, false, None, Some, length, IfOk};
 ghost use Rattle.binding_rules.specs.Conflicts.{Conflict};
-ghost use Rattle.binding_rules.specs.Scans.{IsLinked, IsLinkedUp, IsLast, IsLeast, IsFirstPair, IsAtAddress, AreShared, IsOwnersOf, AreWell, AreFresh, earlier_of, ends_within, paired, slot, most_compared};
+ghost use Rattle.binding_rules.specs.Scans.{IsLinked, IsLinkedUp, IsLast, IsLeast, IsFirstPair, IsAtAddress, AreShared, IsOwnersOf};
+ghost use Rattle.binding_rules.specs.Scans.{AreWell, AreFresh, earlier_of, ends_within, paired, slot, most_compared};
 ghost use Rattle.binding_rules.specs.Steps.{addresses, count_of};
 
 use crate::binding::Binding;
-use crate::chains::{chains_of, has_at_most, head_of, least_common, least_unlike};
+use crate::chains::{Chains, chains_of, has_at_most, head_of, least_common, least_unlike};
 use crate::counter::Steps;
 use crate::owners::meet;
 use crate::settings::Edition;
@@ -155,16 +156,15 @@ fn risen_pair<L: Ledger>(
 fn address_pair<L: Ledger>(
     edition: Edition,
     bindings: &[Binding],
-    previous: &[Option<u32>],
-    next: &[Option<u32>],
+    chains: &Chains,
     v4: V4,
     last: u32,
     owners: &mut [Option<u32>],
     steps: &mut Steps<L>,
 ) -> Option<Pair>
     requires few { length bindings.now ≤ 65536 }
-    requires linked { IsLinked bindings.now previous.now }
-    requires linked_up { IsLinkedUp bindings.now next.now }
+    requires linked { IsLinked bindings.now chains.now.previous.items }
+    requires linked_up { IsLinkedUp bindings.now chains.now.next.items }
     requires last { IsLast bindings.now v4.0 last }
     requires well { AreWell bindings.now }
     requires size { length owners.old ≡ 65536 }
@@ -173,6 +173,7 @@ fn address_pair<L: Ledger>(
     ensures owners { IsOwnersOf bindings.now v4.0 owners.old owners.new }
     ensures cost { steps.new ≤ steps.old + 400000 + 10 * count_of v4.0 bindings.now }
 {
+    let previous = chains.previous.as_slice();
     match edition {
         Edition::One => {
             let shared = shared_pair(bindings, previous, v4, last, owners, steps);
@@ -188,7 +189,7 @@ fn address_pair<L: Ledger>(
                 compared_pair(bindings, previous, v4, last, steps)
             } else {
                 let head = head_of(bindings, previous, last, steps);
-                risen_pair(bindings, next, v4, head, owners, steps)
+                risen_pair(bindings, chains.next.as_slice(), v4, head, owners, steps)
             }
         }
     }
@@ -257,8 +258,7 @@ fn counted_conflict<L: Ledger>(
             let found = address_pair(
                 edition,
                 bindings,
-                &chains.previous,
-                &chains.next,
+                &chains,
                 v4,
                 place as u32,
                 &mut owners,
