@@ -28,7 +28,8 @@ IsBefore place at (block.Packet p) = place < at + p.total
 IsBefore place at (block.Passed p) = place < at + size_of p
 
 abbrev pub IsInBlock : Option Contents → List ℕ → Seen → ℕ → ℕ → Type 0
-IsInBlock held name seen number place = (seen.known.at ≤ place) × Told held (λ m. (b : Block) → block_in seen (left_at m name seen.known.at) number ≡ Ok b → IsBefore place seen.known.at b)
+IsInBlock held name seen number place = (seen.known.at ≤ place)
+    × Told held (λ m. (b : Block) → block_in seen (left_at m name seen.known.at) number ≡ Ok b → IsBefore place seen.known.at b)
 
 -- a packet lies in its block, and has a number, a size and a time in range
 pub record IsSoundPacket (number : ℕ) (p : Packet) : Type 0 where

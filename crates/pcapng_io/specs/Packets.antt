@@ -85,7 +85,13 @@ simple_refusals seen left number frame =
 
 -- it has no time of its own: it gets that of the packet before it (ours)
 abbrev pub simple_packet : Seen → List ℕ → Frame → Packet
-simple_packet seen left frame = record { seconds = seen.known.seconds; nanos = seen.known.nanos; start = 12; count = simple_captured_in seen frame left; total = frame.total }
+simple_packet seen left frame = record {
+  seconds = seen.known.seconds;
+  nanos = seen.known.nanos;
+  start = 12;
+  count = simple_captured_in seen frame left;
+  total = frame.total;
+}
 
 abbrev pub simple_in : Seen → List ℕ → ℕ → Frame → Result Block CaptureBad
 simple_in seen left number frame =

@@ -64,7 +64,8 @@ pub record IsOpen (seen : Seen) (first : List ℕ) (last : Bool) (number : ℕ) 
   pub more : last ≡ false
   pub near : seen.known.at ≤ 2 ^ 62
   pub short : length first < 2 ^ 32
-  pub before : (left : List ℕ) (r : Rec) (behind : Seen) → IsStart first left → next_in seen left number ≡ Ok (Gives r behind) → seen.known.at + length first < r.next_at
+  pub before : (left : List ℕ) (r : Rec) (behind : Seen) → IsStart first left → next_in seen left number ≡ Ok (Gives r behind)
+      → seen.known.at + length first < r.next_at
 
 -- a round, by the bytes that its records stand in
 abbrev pub round_of : List ℕ → List Place → Taken → Round
@@ -78,7 +79,8 @@ IsFound held name old now ahead bytes places number taken = Told held (λ m. IsS
 -- where a read failed, it was one of the next packet
 abbrev pub FindReads : Result Taken OutOfMemory → List ℕ → Seen → List Interface → List ℕ → Outside → Outside → Type 0
 FindReads (Ok taken) name old interfaces ahead before after = OnlyReads (is_cut taken.ending) name
-    (IsInNext name (λ all. IsStart ahead (drop old.known.at all)) (left_of (seen_by taken.known interfaces)) taken.known.at before.held taken.number) before after
+    (IsInNext name (λ all. IsStart ahead (drop old.known.at all)) (left_of (seen_by taken.known interfaces)) taken.known.at before.held taken.number)
+    before after
 FindReads (Err _) name old interfaces ahead before after = OnlyReads false name (λ _. Unit {0}) before after
 
 -- What is known when the packets behind `ahead` are looked for, which stands where `old` is seen: the window is the front of what is left, and

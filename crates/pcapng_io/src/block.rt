@@ -34,6 +34,13 @@ pub struct Known {
     pub nanos: u32,
 }
 
+/// A packet that is looked for: what is known in front of it, and the number that it would have.
+#[derive(Clone, Copy)]
+pub struct Sought {
+    pub known: Known,
+    pub number: u32,
+}
+
 /// What stands at a place. The `total` of each is the length of the block.
 #[derive(Clone, Copy)]
 pub enum Block {
@@ -115,7 +122,8 @@ pub fn read_block<F: Files>(
             Sight::Bad(refusal) => return Err(CaptureError::Bad(refusal)),
             Sight::More(missing) => {
                 if window.as_slice().len() >= MOST_KEPT {
-                    let block = read_long(alloc, files, name, known, interfaces, number, window)?;
+                    let sought = Sought { known, number };
+                    let block = read_long(alloc, files, name, sought, interfaces, window)?;
                     return Ok(block);
                 }
                 window.read_more(alloc, files, name, known.at, missing)?;

@@ -183,10 +183,14 @@ fn block_of_front(
     if first.is_empty() {
         return Ok(Block::End);
     }
-    match frame_of_front(known.big, first, known.at) {
-        Ok(frame) => body_of_front(known, interfaces, first, frame, number),
-        Err(refusal) => Err(refusal),
+    let frame = match frame_of_front(known.big, first, known.at) {
+        Ok(frame) => frame,
+        Err(refusal) => return Err(refusal),
+    };
+    if frame.kind == INTERFACE {
+        return interface_of_front(known, interfaces, first, frame);
     }
+    body_of_fields(known, interfaces, first, frame, number)
 }
 
 // The frame at the front.
@@ -208,29 +212,6 @@ fn frame_of_front(big: bool, first: &[u8], at: u64) -> Result<Frame, CaptureBad>
         return Err(CaptureBad::Ng(NgBad::Length { at }));
     }
     Ok(frame)
-}
-
-// The block of a frame that is all there.
-fn body_of_front(
-    known: Known,
-    interfaces: &[Interface],
-    first: &[u8],
-    frame: Frame,
-    number: u32,
-) -> Result<Block, CaptureBad>
-    requires number { number ≤ 2 ^ 31 }
-    requires time { known.nanos < 1000000000 }
-    requires counted { All (λ interface. 0 < interface.ticks) interfaces.now }
-    requires least { least_total frame.kind ≤ frame.total }
-    requires some { 12 ≤ frame.total }
-    requires whole { frame.total ≤ length first.now }
-    ensures says { result ≡ body_in (seen_by known interfaces.now) first.now number frame }
-    ensures sound { IfOk result (λ block. IsSound number block) }
-{
-    if frame.kind == INTERFACE {
-        return interface_of_front(known, interfaces, first, frame);
-    }
-    body_of_fields(known, interfaces, first, frame, number)
 }
 
 /// The block of a frame that is no interface, by the fields that it begins with.

@@ -2,7 +2,8 @@
 ghost use Rattle.std.specs.Prelude.{◌≡◌, ℕ, ◌+◌, ◌-◌, ◌*◌, ◌/◌, ◌^◌, ◌<◌, ◌≤◌, List, IfOk, length};
 ghost use Rattle.capture_io.specs.Fronts.{IsStart};
 ghost use Rattle.pcapng_io.specs.Files.{IsSound};
-ghost use Rattle.pcapng_io.specs.Interfaces.{block_by, interface_in, interface_of, is_other_link, option_at, options_in, padded, resolution_of, rest_from, resolution_or_default, start_in, value_in};
+ghost use Rattle.pcapng_io.specs.Interfaces.{block_by, interface_in, interface_of, is_other_link, option_at, options_in, padded};
+ghost use Rattle.pcapng_io.specs.Interfaces.{resolution_of, rest_from, resolution_or_default, start_in, value_in};
 ghost use Rattle.pcapng_io.specs.Long.{IsBadWalk, IsPassed, StopsIn, Walks};
 ghost use Rattle.pcapng_io.specs.Seen.{seen_by};
 

@@ -13,7 +13,7 @@ ghost use Rattle.pcapng_io.specs.Interfaces.{interface_in, option_bytes, options
 ghost use Rattle.pcapng_io.specs.Long.{HasBytes, IsEnd, IsInLong, IsLonger, IsPassed, StandsAt, StandsIn, WithFront, ended, tail_in, tail_of};
 ghost use Rattle.pcapng_io.specs.Seen.{Seen, seen_by};
 
-use crate::block::{Block, Known};
+use crate::block::{Block, Known, Sought};
 use crate::frame::{Frame, INTERFACE, head_of};
 use crate::fronts::body_of_fields;
 use crate::interface::{Interface, Walked, block_of, start_of, walk_options};
@@ -37,34 +37,33 @@ pub fn read_long<F: Files>(
     alloc: Global,
     files: &mut F,
     name: &str,
-    known: Known,
+    sought: Sought,
     interfaces: &[Interface],
-    number: u32,
     window: &mut Window,
 ) -> Result<Block, CaptureError>
-    requires number { number ≤ 2 ^ 31 }
-    requires time { known.nanos < 1000000000 }
+    requires number { sought.number ≤ 2 ^ 31 }
+    requires time { sought.known.nanos < 1000000000 }
     requires counted { All (λ interface. 0 < interface.ticks) interfaces.now }
-    requires is_open { front_in (seen_by known interfaces.now) window.old.bytes window.old.last number ≡ front.More }
+    requires is_open { front_in (seen_by sought.known interfaces.now) window.old.bytes window.old.last sought.number ≡ front.More }
     requires kept { 262176 ≤ length window.old.bytes }
-    ensures told { WithFront (F.outside files.old).held name.now known.at window.old
-        (λ all. Agrees result (block_in (seen_by known interfaces.now) (drop known.at all) number)) }
-    ensures sound { IfOk result (λ block. IsSound number block) }
-    ensures near { IfOk result (λ _. known.at ≤ 2 ^ 62) }
-    ensures stands { IfOk result (λ block. WithFront (F.outside files.old).held name.now known.at window.old
-        (λ all. StandsIn all known.at window.new block)) }
+    ensures told { WithFront (F.outside files.old).held name.now sought.known.at window.old
+        (λ all. Agrees result (block_in (seen_by sought.known interfaces.now) (drop sought.known.at all) sought.number)) }
+    ensures sound { IfOk result (λ block. IsSound sought.number block) }
+    ensures near { IfOk result (λ _. sought.known.at ≤ 2 ^ 62) }
+    ensures stands { IfOk result (λ block. WithFront (F.outside files.old).held name.now sought.known.at window.old
+        (λ all. StandsIn all sought.known.at window.new block)) }
     ensures there { IfOk result (λ block. HasBytes block window.new) }
     ensures longer { IfOk result (IsLonger (length window.old.bytes)) }
-    ensures refused { IfErr result (RefusesBlock (seen_by known interfaces.now)) }
+    ensures refused { IfErr result (RefusesBlock (seen_by sought.known interfaces.now)) }
     ensures reads { OnlyReads (is_read_fault result) name.now
-        (IsInLong (F.outside files.old).held name.now (seen_by known interfaces.now) number window.old)
+        (IsInLong (F.outside files.old).held name.now (seen_by sought.known interfaces.now) sought.number window.old)
         (F.outside files.old) (F.outside files.new) }
 {
-    let frame = match head_of(known.big, window.as_slice(), known.at) {
+    let frame = match head_of(sought.known.big, window.as_slice(), sought.known.at) {
         Ok(frame) => frame,
         Err(refusal) => return Err(CaptureError::Bad(refusal)),
     };
-    let block = read_body(alloc, files, name, known, interfaces, frame, number, window)?;
+    let block = read_body(alloc, files, name, sought, interfaces, frame, window)?;
     Ok(block)
 }
 
@@ -73,48 +72,70 @@ fn read_body<F: Files>(
     alloc: Global,
     files: &mut F,
     name: &str,
-    known: Known,
+    sought: Sought,
     interfaces: &[Interface],
     frame: Frame,
-    number: u32,
     window: &mut Window,
 ) -> Result<Block, CaptureError>
-    requires number { number ≤ 2 ^ 31 }
-    requires time { known.nanos < 1000000000 }
+    requires number { sought.number ≤ 2 ^ 31 }
+    requires time { sought.known.nanos < 1000000000 }
     requires counted { All (λ interface. 0 < interface.ticks) interfaces.now }
-    requires near { known.at ≤ 2 ^ 62 }
+    requires near { sought.known.at ≤ 2 ^ 62 }
     requires least { least_total frame.kind ≤ frame.total }
     requires kept { 262176 ≤ length window.old.bytes }
     requires less { length window.old.bytes < frame.total }
-    ensures told { WithFront (F.outside files.old).held name.now known.at window.old
-        (λ all. Agrees result (ended frame (drop known.at all) known.at (body_in (seen_by known interfaces.now) (drop known.at all) number frame))) }
-    ensures sound { IfOk result (λ block. IsSound number block) }
-    ensures stands { IfOk result (λ block. WithFront (F.outside files.old).held name.now known.at window.old
-        (λ all. StandsIn all known.at window.new block)) }
+    ensures told { WithFront (F.outside files.old).held name.now sought.known.at window.old
+        (λ all. Agrees result (ended frame (drop sought.known.at all) sought.known.at
+        (body_in (seen_by sought.known interfaces.now) (drop sought.known.at all) sought.number frame))) }
+    ensures sound { IfOk result (λ block. IsSound sought.number block) }
+    ensures stands { IfOk result (λ block. WithFront (F.outside files.old).held name.now sought.known.at window.old
+        (λ all. StandsIn all sought.known.at window.new block)) }
     ensures there { IfOk result (λ block. HasBytes block window.new) }
     ensures longer { IfOk result (IsLonger (length window.old.bytes)) }
-    ensures refused { IfErr result (RefusesBlock (seen_by known interfaces.now)) }
-    ensures reads { OnlyReads (is_read_fault result) name.now (λ place. (known.at ≤ place) × (place < known.at + frame.total))
+    ensures refused { IfErr result (RefusesBlock (seen_by sought.known interfaces.now)) }
+    ensures reads { OnlyReads (is_read_fault result) name.now (λ place. (sought.known.at ≤ place) × (place < sought.known.at + frame.total))
         (F.outside files.old) (F.outside files.new) }
 {
     if frame.kind == INTERFACE {
-        let block = read_interface(alloc, files, name, known, interfaces, frame, window)?;
+        let block = read_interface(alloc, files, name, sought.known, interfaces, frame, window)?;
         return Ok(block);
     }
-    let block = match body_of_fields(known, interfaces, window.as_slice(), frame, number) {
+    let block = match body_of_fields(
+        sought.known,
+        interfaces,
+        window.as_slice(),
+        frame,
+        sought.number,
+    ) {
         Ok(block) => block,
         Err(refusal) => {
-            read_end(alloc, files, name, frame, known.at, known.at, window)?;
+            read_end(
+                alloc,
+                files,
+                name,
+                frame,
+                sought.known.at,
+                sought.known.at,
+                window,
+            )?;
             return Err(CaptureError::Bad(refusal));
         }
     };
     match block {
         Block::Packet(_) => {
-            read_options(alloc, files, name, frame, known.at, window)?;
+            read_options(alloc, files, name, frame, sought.known.at, window)?;
             Ok(block)
         }
         Block::Passed(_) => {
-            read_end(alloc, files, name, frame, known.at, known.at, window)?;
+            read_end(
+                alloc,
+                files,
+                name,
+                frame,
+                sought.known.at,
+                sought.known.at,
+                window,
+            )?;
             Ok(block)
         }
         Block::End => Ok(block),

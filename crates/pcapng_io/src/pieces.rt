@@ -7,12 +7,20 @@ ghost use Rattle.pcapng_io.specs.Blocks.{interfaces_after};
 ghost use Rattle.pcapng_io.specs.Pieces.{AreBlocks, Ended, IsOpen, IsTimed, last_place, place_of};
 ghost use Rattle.pcapng_io.specs.Seen.{IsSoundSeen, Seen, seen_by};
 
-use crate::block::{FARTHEST, Known, Packet, Passed};
+use crate::block::{FARTHEST, Known, Packet, Passed, Sought};
 use crate::fronts::{Front, front_of, plain_packet};
 use crate::interface::Interface;
 use crate::walk::{behind_packet, behind_passed, len_of};
 use aftr_base::OutOfMemory;
 use capture_io::{Ending, MOST_RECORDS, MOST_TAKEN, Place};
+
+/// What a round is asked for: packets from one on, until so many bytes of them were captured, by reads of so many bytes.
+#[derive(Clone, Copy)]
+pub struct Search {
+    pub from: Sought,
+    pub most_bytes: usize,
+    pub piece: usize,
+}
 
 /// How far blocks were taken off the front of a piece.
 #[derive(Clone, Copy)]

@@ -10,11 +10,11 @@ ghost use Rattle.pcapng_io.specs.Seen.{IsSoundSeen, seen_by};
 ghost use Rattle.pcapng_io.specs.Standing.{stands_in};
 
 use crate::NgReader;
-use crate::block::Known;
+use crate::block::Sought;
 use crate::interface::Interface;
 use crate::long::MOST_KEPT;
 use crate::long_packets::{Long, take_long};
-use crate::pieces::{Taken, take_blocks};
+use crate::pieces::{Search, Taken, take_blocks};
 use aftr_base::{Fault, Files, OutOfMemory};
 use capture_io::{CaptureReader, Ending, Form, Place, Records, Round, Window, fitting, piece_of};
 use std::alloc::Global;
@@ -47,15 +47,20 @@ impl CaptureReader for NgReader {
         let (mut buffer, mut places) = room.into_room()?;
         let piece = piece_of(most_bytes).min(self.fits).max(1);
         self.window.begin_round(piece, &mut buffer)?;
+        let search = Search {
+            from: Sought {
+                known: self.known,
+                number,
+            },
+            most_bytes,
+            piece,
+        };
         let taken = find_packets(
             alloc,
             files,
             name,
-            self.known,
+            search,
             &mut self.interfaces,
-            number,
-            most_bytes,
-            piece,
             &mut self.window,
             &mut places,
         )?;
@@ -81,44 +86,41 @@ fn find_packets<F: Files>(
     alloc: Global,
     files: &mut F,
     name: &str,
-    known: Known,
+    search: Search,
     interfaces: &mut Vec<Interface>,
-    number: u32,
-    most_bytes: usize,
-    piece: usize,
     window: &mut Window,
     places: &mut Vec<Place>,
 ) -> Result<Taken, OutOfMemory>
     requires none { places.old.items ≡ [] }
     requires room { 16384 ≤ vec_capacity places.old }
-    requires number { number ≤ 2 ^ 31 }
-    requires some { 1 ≤ most_bytes }
-    requires most { most_bytes ≤ 67108864 }
-    requires piece { 1 ≤ piece }
-    requires sound { IsSoundSeen (seen_by known interfaces.old.items) }
+    requires number { search.from.number ≤ 2 ^ 31 }
+    requires some { 1 ≤ search.most_bytes }
+    requires most { search.most_bytes ≤ 67108864 }
+    requires piece { 1 ≤ search.piece }
+    requires sound { IsSoundSeen (seen_by search.from.known interfaces.old.items) }
     requires begins { IsFalse window.old.last }
-    ensures told { IfOk result (λ taken. IsFound (F.outside files.old).held name.now (seen_by known interfaces.old.items)
-        (seen_by taken.known interfaces.new.items) window.old.bytes window.new.bytes places.new.items number taken) }
+    ensures told { IfOk result (λ taken. IsFound (F.outside files.old).held name.now (seen_by search.from.known interfaces.old.items)
+        (seen_by taken.known interfaces.new.items) window.old.bytes window.new.bytes places.new.items search.from.number taken) }
     ensures in_records { IfOk result (λ taken. EndsInRecords taken.ending) }
-    ensures count { IfOk result (λ taken. IsCount number most_bytes (round_of window.new.bytes places.new.items taken)) }
-    ensures placed { IfOk result (λ taken. IsPlaced known.at taken.known.at (round_of window.new.bytes places.new.items taken)) }
+    ensures count { IfOk result (λ taken. IsCount search.from.number search.most_bytes (round_of window.new.bytes places.new.items taken)) }
+    ensures placed { IfOk result (λ taken. IsPlaced search.from.known.at taken.known.at (round_of window.new.bytes places.new.items taken)) }
     ensures within { IfOk result (λ _. All (IsWithin window.new.bytes) places.new.items) }
     ensures used { IfOk result (λ taken. taken.used ≤ length window.new.bytes) }
-    ensures link { IfOk result (λ taken. taken.known.link ≡ known.link) }
+    ensures link { IfOk result (λ taken. taken.known.link ≡ search.from.known.link) }
     ensures sound { IfOk result (λ taken. IsSoundSeen (seen_by taken.known interfaces.new.items)) }
     ensures counted { All (λ interface. 0 < interface.ticks) interfaces.new.items }
-    ensures reads { FindReads result name.now (seen_by known interfaces.old.items) interfaces.new.items window.old.bytes
+    ensures reads { FindReads result name.now (seen_by search.from.known interfaces.old.items) interfaces.new.items window.old.bytes
         (F.outside files.old) (F.outside files.new) }
 {
-    let mut here = known;
+    let mut here = search.from.known;
     'reads: loop {
         let taken = take_blocks(
             here,
             interfaces,
             window.as_slice(),
             window.is_last(),
-            number,
-            most_bytes,
+            search.from.number,
+            search.most_bytes,
             places,
         )?;
         if is_done(taken.ending, places) {
@@ -127,20 +129,23 @@ fn find_packets<F: Files>(
         window.pass(taken.used);
         here = taken.known;
         if window.as_slice().len() >= MOST_KEPT {
-            match take_long(
-                alloc, files, name, here, interfaces, number, most_bytes, window, places,
-            )? {
+            let from = Sought {
+                known: here,
+                ..search.from
+            };
+            let rest = Search { from, ..search };
+            match take_long(alloc, files, name, rest, interfaces, window, places)? {
                 Long::Taken(taken) => return Ok(taken),
                 Long::Passed(known) => here = known,
             }
             continue;
         }
-        match window.read_more(alloc, files, name, here.at, piece) {
+        match window.read_more(alloc, files, name, here.at, search.piece) {
             Ok(()) => {}
             Err(Fault::Failed) => return Ok(Taken {
                 used: 0,
                 known: here,
-                number,
+                number: search.from.number,
                 ending: Some(Ending::ReadFault),
             }),
             Err(Fault::OutOfMemory) => return Err(OutOfMemory),

@@ -17,37 +17,37 @@ use Rattle.pcapng_io.proofs.rounds.find_packets.Goals as goal
 pub reads-init : goal.reads-init
 reads-init g c = record {
   outside = refl;
-  search = search_begins (g.F.Files.outside c.args.files.now).held c.args.name.now (seen_by c.args.known c.args.interfaces.now.items) c.args.window.now c.args.number c.requires.begins c.requires.sound;
+  search = search_begins (g.F.Files.outside c.args.files.now).held c.args.name.now (seen_by c.args.search.from.known c.args.interfaces.now.items) c.args.window.now c.args.search.from.number c.requires.begins c.requires.sound;
   none = c.requires.none;
   room = c.requires.room;
 }
 
 pub returns-then-is_done-clause-told : goal.returns-then-is_done-clause-told
 returns-then-is_done-clause-told g c =
-    let old = seen_by c.args.known c.args.interfaces.now.items in
+    let old = seen_by c.args.search.from.known c.args.interfaces.now.items in
     let now = seen_by c.reads.here c.reads.interfaces.items in
     let taken = c.in_ok-taken.taken in
     let later = seen_by taken.known c.take_blocks.new.interfaces.items in
     let places = c.take_blocks.new.places.items in
-    found_of (g.F.Files.outside c.args.files.now).held c.args.name.now old now later c.args.window.now.bytes c.reads.window c.args.number c.args.most_bytes places taken c.reads.invariant.search
-    (taken_of now later c.reads.window c.args.number c.args.most_bytes places taken c.as_slice.result.now c.is_last.result c.as_slice.ensures c.is_last.ensures
+    found_of (g.F.Files.outside c.args.files.now).held c.args.name.now old now later c.args.window.now.bytes c.reads.window c.args.search.from.number c.args.search.most_bytes places taken c.reads.invariant.search
+    (taken_of now later c.reads.window c.args.search.from.number c.args.search.most_bytes places taken c.as_slice.result.now c.is_last.result c.as_slice.ensures c.is_last.ensures
     c.in_ok-taken.ensures.taken c.in_ok-taken.ensures.ended c.in_ok-taken.ensures.unsaid c.in_ok-taken.ensures.within)
 
 pub reads-preserved : goal.reads-preserved
 reads-preserved g c =
-    let old = seen_by c.args.known c.args.interfaces.now.items in
+    let old = seen_by c.args.search.from.known c.args.interfaces.now.items in
     let now = seen_by c.reads.here c.reads.interfaces.items in
     let taken = c.in_ok-taken.taken in
     let later = seen_by taken.known c.take_blocks.new.interfaces.items in
     let places = c.take_blocks.new.places.items in
     let held = (g.F.Files.outside c.args.files.now).held in
     let none : places ≡ [] = sym c.deref.ensures.value ∙ (c.is_done.ensures.unsaid c.if-is_done.false).1 in
-    let t : IsTaken now later c.reads.window c.args.number c.args.most_bytes places taken =
-    taken_of now later c.reads.window c.args.number c.args.most_bytes places taken c.as_slice.result.now c.is_last.result c.as_slice.ensures c.is_last.ensures
+    let t : IsTaken now later c.reads.window c.args.search.from.number c.args.search.most_bytes places taken =
+    taken_of now later c.reads.window c.args.search.from.number c.args.search.most_bytes places taken c.as_slice.result.now c.is_last.result c.as_slice.ensures c.is_last.ensures
     c.in_ok-taken.ensures.taken c.in_ok-taken.ensures.ended c.in_ok-taken.ensures.unsaid c.in_ok-taken.ensures.within in
     record {
       outside = read_well c.args.name.now _ _ _ c.in-Ok.ensures.reads ∙ c.reads.invariant.outside;
-      search = goes_on held (g.F.Files.outside c.reads.files).held c.args.name.now old now later c.args.window.now.bytes c.reads.window c.pass.new.self c.read_more.new.self c.args.number c.args.most_bytes places taken
+      search = goes_on held (g.F.Files.outside c.reads.files).held c.args.name.now old now later c.args.window.now.bytes c.reads.window c.pass.new.self c.read_more.new.self c.args.search.from.number c.args.search.most_bytes places taken
           (ap (λ (o : Outside). o.held) c.reads.invariant.outside) c.reads.invariant.search t none c.pass.ensures.bytes c.pass.ensures.last c.in-Ok.ensures.told;
       none = none;
       room = c.in_ok-taken.ensures.room;
@@ -55,40 +55,40 @@ reads-preserved g c =
 
 pub returns-in-Err-Failed-clause-told : goal.returns-in-Err-Failed-clause-told
 returns-in-Err-Failed-clause-told g c =
-    let old = seen_by c.args.known c.args.interfaces.now.items in
+    let old = seen_by c.args.search.from.known c.args.interfaces.now.items in
     let now = seen_by c.reads.here c.reads.interfaces.items in
     let taken = c.in_ok-taken.taken in
     let later = seen_by taken.known c.take_blocks.new.interfaces.items in
     let places = c.take_blocks.new.places.items in
     let held = (g.F.Files.outside c.args.files.now).held in
     let none : places ≡ [] = sym c.deref.ensures.value ∙ (c.is_done.ensures.unsaid c.if-is_done.false).1 in
-    let t : IsTaken now later c.reads.window c.args.number c.args.most_bytes places taken =
-    taken_of now later c.reads.window c.args.number c.args.most_bytes places taken c.as_slice.result.now c.is_last.result c.as_slice.ensures c.is_last.ensures
+    let t : IsTaken now later c.reads.window c.args.search.from.number c.args.search.most_bytes places taken =
+    taken_of now later c.reads.window c.args.search.from.number c.args.search.most_bytes places taken c.as_slice.result.now c.is_last.result c.as_slice.ensures c.is_last.ensures
     c.in_ok-taken.ensures.taken c.in_ok-taken.ensures.ended c.in_ok-taken.ensures.unsaid c.in_ok-taken.ensures.within in
-    let cut : Taken = record { used = 0; known = taken.known; number = c.args.number; ending = Some end.ReadFault } in
-    failed_found held c.args.name.now old now later c.args.window.now.bytes c.reads.window c.pass.new.self c.args.number c.args.most_bytes places taken cut
+    let cut : Taken = record { used = 0; known = taken.known; number = c.args.search.from.number; ending = Some end.ReadFault } in
+    failed_found held c.args.name.now old now later c.args.window.now.bytes c.reads.window c.pass.new.self c.args.search.from.number c.args.search.most_bytes places taken cut
     c.reads.invariant.search t none c.pass.ensures.bytes c.pass.ensures.last c.read_more.new.self (c.in-Err-Failed.ensures.kept refl) refl refl refl
 
 pub returns-in-Err-Failed-clause-reads : goal.returns-in-Err-Failed-clause-reads
 returns-in-Err-Failed-clause-reads g c =
-    let old = seen_by c.args.known c.args.interfaces.now.items in
+    let old = seen_by c.args.search.from.known c.args.interfaces.now.items in
     let now = seen_by c.reads.here c.reads.interfaces.items in
     let taken = c.in_ok-taken.taken in
     let later = seen_by taken.known c.take_blocks.new.interfaces.items in
     let places = c.take_blocks.new.places.items in
     let held = (g.F.Files.outside c.args.files.now).held in
     let none : places ≡ [] = sym c.deref.ensures.value ∙ (c.is_done.ensures.unsaid c.if-is_done.false).1 in
-    let t : IsTaken now later c.reads.window c.args.number c.args.most_bytes places taken =
-    taken_of now later c.reads.window c.args.number c.args.most_bytes places taken c.as_slice.result.now c.is_last.result c.as_slice.ensures c.is_last.ensures
+    let t : IsTaken now later c.reads.window c.args.search.from.number c.args.search.most_bytes places taken =
+    taken_of now later c.reads.window c.args.search.from.number c.args.search.most_bytes places taken c.as_slice.result.now c.is_last.result c.as_slice.ensures c.is_last.ensures
     c.in_ok-taken.ensures.taken c.in_ok-taken.ensures.ended c.in_ok-taken.ensures.unsaid c.in_ok-taken.ensures.within in
     reads_then true c.args.name.now _ _ (g.F.Files.outside c.args.files.now) (g.F.Files.outside c.reads.files) (g.F.Files.outside c.read_more.new.files) c.reads.invariant.outside
-    (λ place is. failed_inside held c.args.name.now old now later c.args.window.now.bytes c.reads.window c.pass.new.self c.args.number c.args.most_bytes places taken taken
+    (λ place is. failed_inside held c.args.name.now old now later c.args.window.now.bytes c.reads.window c.pass.new.self c.args.search.from.number c.args.search.most_bytes places taken taken
     c.reads.invariant.search t none c.pass.ensures.bytes c.pass.ensures.last place (c.is_done.ensures.unsaid c.if-is_done.false).0 is)
     (failed_reads (Unit {0}) c.args.name.now (λ place. place ≡ taken.known.at + length c.pass.new.self.bytes) c.in-Err-Failed.field-0 (g.F.Files.outside c.reads.files) (g.F.Files.outside c.read_more.new.files) c.in-Err-Failed.field-0-is c.in-Err-Failed.ensures.reads)
 
 pub take_long-requires-clause-is_open : goal.take_long-requires-clause-is_open
 take_long-requires-clause-is_open g c =
-    let old = seen_by c.args.known c.args.interfaces.now.items in
+    let old = seen_by c.args.search.from.known c.args.interfaces.now.items in
     let now = seen_by c.reads.here c.reads.interfaces.items in
     let taken = c.in_ok-taken.taken in
     let later = seen_by taken.known c.take_blocks.new.interfaces.items in
@@ -98,16 +98,16 @@ take_long-requires-clause-is_open g c =
     let ahead = c.args.window.now.bytes in
     let rest = c.pass.new.self in
     let none : places ≡ [] = sym c.deref.ensures.value ∙ (c.is_done.ensures.unsaid c.if-is_done.false).1 in
-    let t : IsTaken now later c.reads.window c.args.number c.args.most_bytes places taken =
-    taken_of now later c.reads.window c.args.number c.args.most_bytes places taken c.as_slice.result.now c.is_last.result c.as_slice.ensures c.is_last.ensures
+    let t : IsTaken now later c.reads.window c.args.search.from.number c.args.search.most_bytes places taken =
+    taken_of now later c.reads.window c.args.search.from.number c.args.search.most_bytes places taken c.as_slice.result.now c.is_last.result c.as_slice.ensures c.is_last.ensures
     c.in_ok-taken.ensures.taken c.in_ok-taken.ensures.ended c.in_ok-taken.ensures.unsaid c.in_ok-taken.ensures.within in
-    let is_open = unsaid_rest held name old now later ahead c.reads.window rest c.args.number c.args.most_bytes places taken taken c.reads.invariant.search t none c.pass.ensures.bytes c.pass.ensures.last
+    let is_open = unsaid_rest held name old now later ahead c.reads.window rest c.args.search.from.number c.args.search.most_bytes places taken taken c.reads.invariant.search t none c.pass.ensures.bytes c.pass.ensures.last
     (c.is_done.ensures.unsaid c.if-is_done.false).0 in
     is_open.said
 
 pub returns-in-Taken-clause-told : goal.returns-in-Taken-clause-told
 returns-in-Taken-clause-told g c =
-    let old = seen_by c.args.known c.args.interfaces.now.items in
+    let old = seen_by c.args.search.from.known c.args.interfaces.now.items in
     let now = seen_by c.reads.here c.reads.interfaces.items in
     let taken = c.in_ok-taken.taken in
     let later = seen_by taken.known c.take_blocks.new.interfaces.items in
@@ -117,19 +117,19 @@ returns-in-Taken-clause-told g c =
     let ahead = c.args.window.now.bytes in
     let rest = c.pass.new.self in
     let none : places ≡ [] = sym c.deref.ensures.value ∙ (c.is_done.ensures.unsaid c.if-is_done.false).1 in
-    let t : IsTaken now later c.reads.window c.args.number c.args.most_bytes places taken =
-    taken_of now later c.reads.window c.args.number c.args.most_bytes places taken c.as_slice.result.now c.is_last.result c.as_slice.ensures c.is_last.ensures
+    let t : IsTaken now later c.reads.window c.args.search.from.number c.args.search.most_bytes places taken =
+    taken_of now later c.reads.window c.args.search.from.number c.args.search.most_bytes places taken c.as_slice.result.now c.is_last.result c.as_slice.ensures c.is_last.ensures
     c.in_ok-taken.ensures.taken c.in_ok-taken.ensures.ended c.in_ok-taken.ensures.unsaid c.in_ok-taken.ensures.within in
-    let search = (passed held name old now later ahead c.reads.window rest c.args.number c.args.most_bytes places taken taken c.reads.invariant.search t none c.pass.ensures.bytes c.pass.ensures.last).1 in
+    let search = (passed held name old now later ahead c.reads.window rest c.args.search.from.number c.args.search.most_bytes places taken taken c.reads.invariant.search t none c.pass.ensures.bytes c.pass.ensures.last).1 in
     let same = ap (λ (o : Outside). o.held) c.reads.invariant.outside in
     let after = (g.F.Files.outside c.reads.files).held in
     let interfaces = c.take_long.new.interfaces.items in
-    let found = long_is after name later interfaces rest.bytes c.take_long.new.window c.take_long.new.places.items c.args.number c.args.most_bytes c.in_ok-taken-2.field-0 (long.Taken c.in-Taken.taken) c.in-Taken.is c.in_ok-taken-2.ensures.taken in
-    found_then held after name old later (seen_by c.in-Taken.taken.known interfaces) ahead rest c.args.number same search c.take_long.new.window.bytes c.take_long.new.places.items c.in-Taken.taken found.0
+    let found = long_is after name later interfaces rest.bytes c.take_long.new.window c.take_long.new.places.items c.args.search.from.number c.args.search.most_bytes c.in_ok-taken-2.field-0 (long.Taken c.in-Taken.taken) c.in-Taken.is c.in_ok-taken-2.ensures.taken in
+    found_then held after name old later (seen_by c.in-Taken.taken.known interfaces) ahead rest c.args.search.from.number same search c.take_long.new.window.bytes c.take_long.new.places.items c.in-Taken.taken found.0
 
 pub returns-in-Taken-clause-reads : goal.returns-in-Taken-clause-reads
 returns-in-Taken-clause-reads g c =
-    let old = seen_by c.args.known c.args.interfaces.now.items in
+    let old = seen_by c.args.search.from.known c.args.interfaces.now.items in
     let now = seen_by c.reads.here c.reads.interfaces.items in
     let taken = c.in_ok-taken.taken in
     let later = seen_by taken.known c.take_blocks.new.interfaces.items in
@@ -139,21 +139,21 @@ returns-in-Taken-clause-reads g c =
     let ahead = c.args.window.now.bytes in
     let rest = c.pass.new.self in
     let none : places ≡ [] = sym c.deref.ensures.value ∙ (c.is_done.ensures.unsaid c.if-is_done.false).1 in
-    let t : IsTaken now later c.reads.window c.args.number c.args.most_bytes places taken =
-    taken_of now later c.reads.window c.args.number c.args.most_bytes places taken c.as_slice.result.now c.is_last.result c.as_slice.ensures c.is_last.ensures
+    let t : IsTaken now later c.reads.window c.args.search.from.number c.args.search.most_bytes places taken =
+    taken_of now later c.reads.window c.args.search.from.number c.args.search.most_bytes places taken c.as_slice.result.now c.is_last.result c.as_slice.ensures c.is_last.ensures
     c.in_ok-taken.ensures.taken c.in_ok-taken.ensures.ended c.in_ok-taken.ensures.unsaid c.in_ok-taken.ensures.within in
-    let search = (passed held name old now later ahead c.reads.window rest c.args.number c.args.most_bytes places taken taken c.reads.invariant.search t none c.pass.ensures.bytes c.pass.ensures.last).1 in
+    let search = (passed held name old now later ahead c.reads.window rest c.args.search.from.number c.args.search.most_bytes places taken taken c.reads.invariant.search t none c.pass.ensures.bytes c.pass.ensures.last).1 in
     let same = ap (λ (o : Outside). o.held) c.reads.invariant.outside in
     let after = (g.F.Files.outside c.reads.files).held in
     let interfaces = c.take_long.new.interfaces.items in
     let reads = long_read name later interfaces rest.bytes (g.F.Files.outside c.reads.files) (g.F.Files.outside c.take_long.new.files) c.in_ok-taken-2.field-0 (long.Taken c.in-Taken.taken) c.in-Taken.is c.in_ok-taken-2.ensures.reads in
     let final = seen_by c.in-Taken.taken.known interfaces in
     reads_then (is_cut c.in-Taken.taken.ending) name _ _ (g.F.Files.outside c.args.files.now) (g.F.Files.outside c.reads.files) (g.F.Files.outside c.take_long.new.files) c.reads.invariant.outside
-    (λ place. next_then held after name old later final ahead rest c.args.number same search final c.in-Taken.taken.number place) reads
+    (λ place. next_then held after name old later final ahead rest c.args.search.from.number same search final c.in-Taken.taken.number place) reads
 
 pub reads-preserved-then-as_slice-ge-MOST_KEPT : goal.reads-preserved-then-as_slice-ge-MOST_KEPT
 reads-preserved-then-as_slice-ge-MOST_KEPT g c =
-    let old = seen_by c.args.known c.args.interfaces.now.items in
+    let old = seen_by c.args.search.from.known c.args.interfaces.now.items in
     let now = seen_by c.reads.here c.reads.interfaces.items in
     let taken = c.in_ok-taken.taken in
     let later = seen_by taken.known c.take_blocks.new.interfaces.items in
@@ -163,25 +163,25 @@ reads-preserved-then-as_slice-ge-MOST_KEPT g c =
     let ahead = c.args.window.now.bytes in
     let rest = c.pass.new.self in
     let none : places ≡ [] = sym c.deref.ensures.value ∙ (c.is_done.ensures.unsaid c.if-is_done.false).1 in
-    let t : IsTaken now later c.reads.window c.args.number c.args.most_bytes places taken =
-    taken_of now later c.reads.window c.args.number c.args.most_bytes places taken c.as_slice.result.now c.is_last.result c.as_slice.ensures c.is_last.ensures
+    let t : IsTaken now later c.reads.window c.args.search.from.number c.args.search.most_bytes places taken =
+    taken_of now later c.reads.window c.args.search.from.number c.args.search.most_bytes places taken c.as_slice.result.now c.is_last.result c.as_slice.ensures c.is_last.ensures
     c.in_ok-taken.ensures.taken c.in_ok-taken.ensures.ended c.in_ok-taken.ensures.unsaid c.in_ok-taken.ensures.within in
-    let search = (passed held name old now later ahead c.reads.window rest c.args.number c.args.most_bytes places taken taken c.reads.invariant.search t none c.pass.ensures.bytes c.pass.ensures.last).1 in
+    let search = (passed held name old now later ahead c.reads.window rest c.args.search.from.number c.args.search.most_bytes places taken taken c.reads.invariant.search t none c.pass.ensures.bytes c.pass.ensures.last).1 in
     let same = ap (λ (o : Outside). o.held) c.reads.invariant.outside in
     let after = (g.F.Files.outside c.reads.files).held in
     let interfaces = c.take_long.new.interfaces.items in
-    let found = long_is after name later interfaces rest.bytes c.take_long.new.window c.take_long.new.places.items c.args.number c.args.most_bytes c.in_ok-taken-2.field-0 (long.Passed c.in-Passed.known) c.in-Passed.is c.in_ok-taken-2.ensures.taken in
+    let found = long_is after name later interfaces rest.bytes c.take_long.new.window c.take_long.new.places.items c.args.search.from.number c.args.search.most_bytes c.in_ok-taken-2.field-0 (long.Passed c.in-Passed.known) c.in-Passed.is c.in_ok-taken-2.ensures.taken in
     let reads = long_read name later interfaces rest.bytes (g.F.Files.outside c.reads.files) (g.F.Files.outside c.take_long.new.files) c.in_ok-taken-2.field-0 (long.Passed c.in-Passed.known) c.in-Passed.is c.in_ok-taken-2.ensures.reads in
     record {
       outside = read_well name _ _ _ reads ∙ c.reads.invariant.outside;
-      search = search_then held after name old later (seen_by c.in-Passed.known interfaces) ahead rest c.args.number same search c.take_long.new.window found.0;
+      search = search_then held after name old later (seen_by c.in-Passed.known interfaces) ahead rest c.args.search.from.number same search c.take_long.new.window found.0;
       none = found.1;
       room = c.in_ok-taken-2.ensures.room;
     }
 
 pub reads-smaller : goal.reads-smaller
 reads-smaller g c =
-    let old = seen_by c.args.known c.args.interfaces.now.items in
+    let old = seen_by c.args.search.from.known c.args.interfaces.now.items in
     let now = seen_by c.reads.here c.reads.interfaces.items in
     let taken = c.in_ok-taken.taken in
     let later = seen_by taken.known c.take_blocks.new.interfaces.items in
@@ -191,10 +191,10 @@ reads-smaller g c =
     let ahead = c.args.window.now.bytes in
     let rest = c.pass.new.self in
     let none : places ≡ [] = sym c.deref.ensures.value ∙ (c.is_done.ensures.unsaid c.if-is_done.false).1 in
-    let t : IsTaken now later c.reads.window c.args.number c.args.most_bytes places taken =
-    taken_of now later c.reads.window c.args.number c.args.most_bytes places taken c.as_slice.result.now c.is_last.result c.as_slice.ensures c.is_last.ensures
+    let t : IsTaken now later c.reads.window c.args.search.from.number c.args.search.most_bytes places taken =
+    taken_of now later c.reads.window c.args.search.from.number c.args.search.most_bytes places taken c.as_slice.result.now c.is_last.result c.as_slice.ensures c.is_last.ensures
     c.in_ok-taken.ensures.taken c.in_ok-taken.ensures.ended c.in_ok-taken.ensures.unsaid c.in_ok-taken.ensures.within in
-    let is_open = unsaid_rest held name old now later ahead c.reads.window rest c.args.number c.args.most_bytes places taken taken c.reads.invariant.search t none c.pass.ensures.bytes c.pass.ensures.last
+    let is_open = unsaid_rest held name old now later ahead c.reads.window rest c.args.search.from.number c.args.search.most_bytes places taken taken c.reads.invariant.search t none c.pass.ensures.bytes c.pass.ensures.last
     (c.is_done.ensures.unsaid c.if-is_done.false).0 in
     closer taken.known.at c.reads.here.at taken.used (length c.reads.window.bytes) (length c.read_more.new.self.bytes) c.reads.window.last c.read_more.new.self.last t.are.at (omega (arith, t.are.inside)) t.are.inside
     (omega (arith, t.are.at, t.are.inside, is_open.near, is_open.short, ap length c.pass.ensures.bytes, length-drop taken.used c.reads.window.bytes)) (sym c.pass.ensures.last ∙ is_open.more)
