@@ -15,7 +15,7 @@ use std::test::Fail;
 use std::thread::Threads;
 use swap_core::Plan;
 use verdict_core::Verdict;
-use worker_gate::{Crew, OpenGate, Outcome, round};
+use worker_gate::{Crew, OpenGate, Outcome, Work, round};
 
 /// Judges the records of two rounds by one crew of four workers. It answers how many of the second round are dropped, and when
 /// each table of the plan came into force.
@@ -34,12 +34,20 @@ fn judge_two_rounds<R: Threads + Wait + Sync, S: RoundItems + Sync>(
     let mut crew = Crew::with(alloc, 4, 16_384)?;
     let middle = first.len() as u32;
     let end = middle + second.len() as u32;
-    round(
-        rt, &areas, &mut seat, &mut desk, &mut crew, first, 0, middle, &OpenGate,
-    );
-    round(
-        rt, &areas, &mut seat, &mut desk, &mut crew, second, middle, end, &OpenGate,
-    );
+    let work = Work {
+        items: first,
+        start: 0,
+        end: middle,
+        gate: &OpenGate,
+    };
+    round(rt, &areas, &mut seat, &mut desk, &mut crew, &work);
+    let work = Work {
+        items: second,
+        start: middle,
+        end,
+        gate: &OpenGate,
+    };
+    round(rt, &areas, &mut seat, &mut desk, &mut crew, &work);
     let outcomes = crew.outcomes();
     let mut dropped = 0;
     'outcomes: for index in 0..outcomes.len() {

@@ -15,7 +15,7 @@ use std::sync::atomic::Ordering::SeqCst;
 use std::test::Fail;
 use std::thread::Threads;
 use swap_core::Window;
-use worker_gate::{Crew, OpenGate, Outcomes, round};
+use worker_gate::{Crew, OpenGate, Outcomes, Work, round};
 
 // Whether these are the outcomes of the numbers from `start` on, in order.
 fn are_judged(outcomes: &Outcomes<'_>, start: u32, second: u32) -> bool {
@@ -59,19 +59,31 @@ fn rounds_put_each_outcome_at_its_number(rt: HostRuntime) -> Result<(), Fail> {
     let five = Alike { item, count: 5 };
     let four = Alike { item, count: 4 };
     let none = Alike { item, count: 0 };
-    round(
-        &rt, &areas, &mut seat, &mut desk, &mut crew, &five, 0, 5, &OpenGate,
-    );
+    let work = Work {
+        items: &five,
+        start: 0,
+        end: 5,
+        gate: &OpenGate,
+    };
+    round(&rt, &areas, &mut seat, &mut desk, &mut crew, &work);
     assert_eq!(rt; crew.outcomes().len(), 5);
     assert!(rt; are_judged(&crew.outcomes(), 0, 7));
-    round(
-        &rt, &areas, &mut seat, &mut desk, &mut crew, &four, 5, 9, &OpenGate,
-    );
+    let work = Work {
+        items: &four,
+        start: 5,
+        end: 9,
+        gate: &OpenGate,
+    };
+    round(&rt, &areas, &mut seat, &mut desk, &mut crew, &work);
     assert_eq!(rt; crew.outcomes().len(), 4);
     assert!(rt; are_judged(&crew.outcomes(), 5, 7));
-    round(
-        &rt, &areas, &mut seat, &mut desk, &mut crew, &none, 9, 9, &OpenGate,
-    );
+    let work = Work {
+        items: &none,
+        start: 9,
+        end: 9,
+        gate: &OpenGate,
+    };
+    round(&rt, &areas, &mut seat, &mut desk, &mut crew, &work);
     assert_eq!(rt; crew.outcomes().len(), 0);
     let history = areas.close(seat, desk);
     assert_eq!(rt; (history.points(), history.records()), ([7].as_slice(), 9));
@@ -88,9 +100,13 @@ fn four_records_run_beside_one_another(rt: HostRuntime) -> Result<(), Fail> {
         count: 4,
     };
     let gate = Behind::of(1, 2);
-    round(
-        &rt, &areas, &mut seat, &mut desk, &mut crew, &items, 0, 4, &gate,
-    );
+    let work = Work {
+        items: &items,
+        start: 0,
+        end: 4,
+        gate: &gate,
+    };
+    round(&rt, &areas, &mut seat, &mut desk, &mut crew, &work);
     assert!(rt; !gate.was_late());
     assert!(rt; are_in_order(&crew.outcomes()));
     Ok(())
@@ -109,9 +125,13 @@ fn sixteen_workers_serve_under_two_tables(rt: HostRuntime) -> Result<(), Fail> {
         item: ItemView::Bad(Rule::FrameShort),
         count: 1_000,
     };
-    round(
-        &rt, &areas, &mut seat, &mut desk, &mut crew, &items, 0, 1_000, &OpenGate,
-    );
+    let work = Work {
+        items: &items,
+        start: 0,
+        end: 1_000,
+        gate: &OpenGate,
+    };
+    round(&rt, &areas, &mut seat, &mut desk, &mut crew, &work);
     assert_eq!(rt; crew.outcomes().len(), 1_000);
     assert!(rt; are_in_order(&crew.outcomes()));
     assert_eq!(rt; areas.tally(&mut seat), 1_000);
@@ -139,9 +159,13 @@ fn point_beside_workers<R: Threads + Wait + Sync>(
         count: 64,
     };
     let gate = UntilTheNext::new();
-    round(
-        rt, &areas, &mut seat, &mut desk, &mut crew, &items, 0, 64, &gate,
-    );
+    let work = Work {
+        items: &items,
+        start: 0,
+        end: 64,
+        gate: &gate,
+    };
+    round(rt, &areas, &mut seat, &mut desk, &mut crew, &work);
     let points = desk.points();
     Ok(if points.len() == 1 { points[0] } else { 64 })
 }
@@ -166,9 +190,13 @@ fn a_held_area_is_not_written(rt: HostRuntime) -> Result<(), Fail> {
         count: 10,
     };
     let gate = Behind::of(0, 5);
-    round(
-        &rt, &areas, &mut seat, &mut desk, &mut crew, &items, 0, 10, &gate,
-    );
+    let work = Work {
+        items: &items,
+        start: 0,
+        end: 10,
+        gate: &gate,
+    };
+    round(&rt, &areas, &mut seat, &mut desk, &mut crew, &work);
     assert!(rt; !gate.was_late());
     assert!(rt; are_in_order(&crew.outcomes()));
     let [first, second, third] = *desk.points() else {
@@ -195,9 +223,13 @@ fn points_of_a_round<R: Threads + Wait + Sync>(
         count: 16_384,
     };
     let gate = Slow::new();
-    round(
-        rt, &areas, &mut seat, &mut desk, &mut crew, &items, 0, 16_384, &gate,
-    );
+    let work = Work {
+        items: &items,
+        start: 0,
+        end: 16_384,
+        gate: &gate,
+    };
+    round(rt, &areas, &mut seat, &mut desk, &mut crew, &work);
     let points = desk.points();
     Ok(if points.len() == 2 {
         (points[0], points[1])
@@ -245,9 +277,13 @@ fn sums_of_a_round<R: Threads + Wait + Sync>(
         count: 4_096,
     };
     let gate = Adding::new();
-    round(
-        rt, &areas, &mut seat, &mut desk, &mut crew, &items, 0, 4_096, &gate,
-    );
+    let work = Work {
+        items: &items,
+        start: 0,
+        end: 4_096,
+        gate: &gate,
+    };
+    round(rt, &areas, &mut seat, &mut desk, &mut crew, &work);
     let outcomes = crew.outcomes();
     Ok(if outcomes.len() == 4_096 && are_judged(&outcomes, 0, 1_000) {
         gate.sums()

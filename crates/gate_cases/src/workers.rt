@@ -16,7 +16,7 @@ use std::sync::atomic::AtomicUsize;
 use std::sync::atomic::Ordering::SeqCst;
 use std::test::Fail;
 use std::thread::{Threads, join_mut};
-use worker_gate::{Gate, OpenGate, Outcome, Stop, Worker, serve, settle};
+use worker_gate::{Gate, OpenGate, Outcome, Stop, Work, Worker, serve, settle};
 
 // Whether these are the outcomes of the numbers from 0 on, in order.
 fn are_judged(outcomes: &[Outcome], second: u32) -> bool {
@@ -48,10 +48,16 @@ fn a_worker_judges_under_the_table_of_each_draw(rt: HostRuntime) -> Result<(), F
         },
         count: 8,
     };
-    let first = serve(&rt, &mut worker, &areas, &items, 0, 8, 2, &OpenGate);
+    let work = Work {
+        items: &items,
+        start: 0,
+        end: 8,
+        gate: &OpenGate,
+    };
+    let first = serve(&rt, &mut worker, &areas, &work, 2);
     assert_eq!(rt; first, Stop::Hold { limit: 3 });
     assert_eq!(rt; settle(&rt, &areas, &mut seat, &mut desk), 1);
-    let second = serve(&rt, &mut worker, &areas, &items, 0, 8, 64, &OpenGate);
+    let second = serve(&rt, &mut worker, &areas, &work, 64);
     assert_eq!(rt; second, Stop::End);
     let (part, outcomes) = worker.part();
     areas.join(&mut seat, part);
@@ -86,13 +92,25 @@ fn serve_by_two<R: Threads + Wait + Sync, S: RoundItems + Sync, G: Gate + Sync>(
             requires { CanServe areas.now 0 end one.now × (IsIdle one.now.seat.known × (All AreCompiled areas.now.plan.tables × (end ≤ length (S.items items.now)))) }
             ensures { CanServe areas.entry.now 0 end one.exit.now × (IsIdle one.exit.now.seat.known × (one.exit.now.seat.known.share ≡ one.entry.now.seat.known.share)) }
         {
-            serve(rt, one, areas, items, 0, end, 1, gate);
+            let work = Work {
+                items,
+                start: 0,
+                end,
+                gate,
+            };
+            serve(rt, one, areas, &work, 1);
         },
         &mut ||
             requires { CanServe areas.now 0 end two.now × (IsIdle two.now.seat.known × (All AreCompiled areas.now.plan.tables × (end ≤ length (S.items items.now)))) }
             ensures { CanServe areas.entry.now 0 end two.exit.now × (IsIdle two.exit.now.seat.known × (two.exit.now.seat.known.share ≡ two.entry.now.seat.known.share)) }
         {
-            serve(rt, two, areas, items, 0, end, 1, gate);
+            let work = Work {
+                items,
+                start: 0,
+                end,
+                gate,
+            };
+            serve(rt, two, areas, &work, 1);
         },
     );
 }

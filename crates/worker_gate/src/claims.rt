@@ -48,7 +48,8 @@ pub(crate) fn take_run(areas: &Areas, seat: &mut WorkerSeat, end: u32, most: u32
     ensures holding { HoldsStill seat.old.known seat.new.known }
     ensures turned { HasTurned result end seat.old.known seat.new.known }
     ensures rule { Moment seat.new.known }
-    ensures goes_on_holding { (version : ℕ) (settings : Softwire) → IsHolding areas.now version settings seat.old → IsHolding areas.now version settings seat.new }
+    ensures goes_on_holding { (version : ℕ) (settings : Softwire) → IsHolding areas.now version settings seat.old →
+        IsHolding areas.now version settings seat.new }
 {
     match areas.draw_run(seat, end, most) {
         DrawRun::Taken { number, count } => Turn::Run {

@@ -45,7 +45,9 @@ impl Model for Crew {
 
     ghost view = { λ c. record { workers = length c.sheets.items; room = c.room; outcomes = outcomes_at c.sheets.items c.places.items } };
 
-    ghost invariant = { λ c. AreSheets c.room c.sheets.items × (length c.sheets.items ≤ vec_capacity c.sheets) × (c.workers.items ≡ []) × (length c.sheets.items ≤ vec_capacity c.workers) × (c.room ≤ vec_capacity c.places) × (length c.places.items < 4294967296) × All (IsPlaced c.sheets.items) c.places.items };
+    ghost invariant = { λ c. AreSheets c.room c.sheets.items × (length c.sheets.items ≤ vec_capacity c.sheets) × (c.workers.items ≡ [])
+        × (length c.sheets.items ≤ vec_capacity c.workers) × (c.room ≤ vec_capacity c.places)
+        × (length c.places.items < 4294967296) × All (IsPlaced c.sheets.items) c.places.items };
 }
 
 // The sheets of so many workers, each with room for so many outcomes.

@@ -107,7 +107,8 @@ pub(crate) fn gather(
     ensures sheets { (length sheets.new.items ≡ length workers.old.items) × (vec_capacity sheets.new ≡ vec_capacity sheets.old) }
     ensures rooms { (room : ℕ) → All (HasRoom room) workers.old.items → All (λ s. room ≤ s.outcomes.room) sheets.new.items }
     ensures places { (start + length places.new.items ≡ end) × (vec_capacity places.old ≤ vec_capacity places.new) }
-    ensures gathered { (items : List Item) → All (HasJudged areas.now.plan items start) workers.old.items → Gathered areas.now.plan items start end seat.old.known seat.new.known sheets.new.items places.new.items }
+    ensures gathered { (items : List Item) → All (HasJudged areas.now.plan items start) workers.old.items →
+        Gathered areas.now.plan items start end seat.old.known seat.new.known sheets.new.items places.new.items }
 {
     fit(places, (end - start) as usize);
     'workers: while let Some(worker) = workers.pop() {

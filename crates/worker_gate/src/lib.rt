@@ -26,4 +26,5 @@ pub use reloading::reload;
 pub use rounds::round;
 pub use serving::serve;
 pub use settling::settle;
+pub use task::Work;
 pub use worker::{Worker, WorkerError};

@@ -11,6 +11,13 @@ use std::sync::ledger::Ledger;
 use table_words::Steps;
 use verdict_core::Verdict;
 
+/// A record that was drawn, and the version that is held.
+#[derive(Clone, Copy)]
+pub(crate) struct Drawn {
+    pub(crate) number: u32,
+    pub(crate) version: u32,
+}
+
 /// Outcomes in the order in which they were put down. Their numbers stand side by side as well: whoever looks through these alone
 /// reads a small part of the memory. It is seen as the list of outcomes, and for how many there is room.
 #[derive(Drop)]
@@ -60,12 +67,11 @@ impl OutcomeList {
         self.numbers.clear();
     }
 
-    /// One more for the end, with the verdict on this item under the held table, whose settings are handed in. A verdict has
+    /// One more for the end, of the record that was drawn, with the verdict on its item under the held table, whose settings are handed in. A verdict has
     /// many words: it is made where it stays.
     pub(crate) fn put_judged<L: Ledger>(
         &mut self,
-        number: u32,
-        version: u32,
+        drawn: Drawn,
         areas: &Areas,
         seat: &mut WorkerSeat,
         settings: &Softwire,
@@ -77,15 +83,15 @@ impl OutcomeList {
         requires holding { HoldsOne seat.old.known }
         requires compiled { AreCompiled (held_table seat.old.known) }
         requires settings { (t : BindingTable) → IsCompiled t (held_table seat.old.known) → settings.now ≡ t.softwire }
-        ensures judged { HasPutJudged number version (seen item.now) (held_table seat.old.known) self.old self.new }
+        ensures judged { HasPutJudged drawn.number drawn.version (seen item.now) (held_table seat.old.known) self.old self.new }
         ensures reads { OnlyReads seat.old seat.new }
         ensures rises { AsksTable (seen item.now) → seat.old.known.reads + 1 ≤ seat.new.known.reads }
     {
         let last = self.outcomes.len();
-        self.numbers.push_reserved(number);
+        self.numbers.push_reserved(drawn.number);
         self.outcomes.push_reserved(Outcome {
-            number,
-            version,
+            number: drawn.number,
+            version: drawn.version,
             verdict: Verdict::Held,
         });
         let outcome = &mut self.outcomes[last];

@@ -66,7 +66,8 @@ fn put_next(areas: &Areas, desk: &mut Desk, end: u32) -> bool
     ensures phase { IsResting desk.new.known ⊎ IsReady desk.new.known }
     ensures desk { IsDesk desk.new.known }
     ensures looks { (desk.old.known.looks ≤ desk.new.known.looks) × (desk.old.known.counts ≤ desk.new.known.counts) }
-    ensures next { MatchBool result (HasMorePoints 1 desk.old.known desk.new.known) (HasMorePoints 0 desk.old.known desk.new.known × IsReloaded end desk.old.known desk.new.known) }
+    ensures next { MatchBool result (HasMorePoints 1 desk.old.known desk.new.known)
+        (HasMorePoints 0 desk.old.known desk.new.known × IsReloaded end desk.old.known desk.new.known) }
 {
     'turns: for _ in 0..TURNS {
         match areas.due(desk) {
@@ -124,7 +125,8 @@ fn put_beside(areas: &Areas, desk: &mut Desk, end: u32, looks: u32) -> bool
     ensures desk { CanReload areas.now desk.new }
     ensures is_desk { IsDesk desk.new.known }
     ensures looks { (desk.old.known.looks ≤ desk.new.known.looks) × (desk.old.known.counts ≤ desk.new.known.counts) }
-    ensures next { MatchBool result (HasMorePoints 1 desk.old.known desk.new.known) (HasMorePoints 0 desk.old.known desk.new.known × IsOver end desk.old.known desk.new.known) }
+    ensures next { MatchBool result (HasMorePoints 1 desk.old.known desk.new.known)
+        (HasMorePoints 0 desk.old.known desk.new.known × IsOver end desk.old.known desk.new.known) }
 {
     'turns: for turn in 0..LOOKS {
         match areas.due(desk) {

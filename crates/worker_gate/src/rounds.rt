@@ -15,7 +15,7 @@ use crate::gathering::{gather, hire};
 use crate::reloading::reload_beside;
 use crate::serving::serve_in;
 use crate::settling::settle;
-use crate::task::Task;
+use crate::task::{Task, Work};
 use crate::worker::Worker;
 use area_swap::{Areas, Desk, Due, WorkerSeat};
 use item_stage::RoundItems;
@@ -30,7 +30,8 @@ const MOST: u32 = 64;
 // How many numbers a worker draws at once: few enough that all have work to the end, as many as make an exchange worth its cost.
 fn draw_size(count: u32, workers: usize) -> u32
     requires { 0 < workers }
-    ensures { 1 ≤ result }
+    ensures some { 1 ≤ result }
+    ensures fits { count < 4294967296 }
 {
     let share = count as usize / workers / 16;
     (share.min(MOST as usize) as u32).max(1)
@@ -61,12 +62,16 @@ fn serve_beside<R: Threads + Wait + Sync, S: RoundItems + Sync, G: Gate + Sync>(
     ensures other_hands { map hand_of others.new ≡ map hand_of others.old }
 {
     let mut one = ||
-        requires { IsSync R.row × (IsSync S.row × (IsSync G.row × (IsOfRound task.now.areas.now (S.items task.now.items.now) task.now.start task.now.end first.now))) }
-        ensures { IsOfRound task.entry.now.areas.now (S.items task.entry.now.items.now) task.entry.now.start task.entry.now.end first.exit.now × (hand_of first.exit.now ≡ hand_of first.entry.now) }
+        requires { IsSync R.row × (IsSync S.row × (IsSync G.row
+            × (IsOfRound task.now.areas.now (S.items task.now.items.now) task.now.start task.now.end first.now))) }
+        ensures { IsOfRound task.entry.now.areas.now (S.items task.entry.now.items.now) task.entry.now.start task.entry.now.end first.exit.now
+            × (hand_of first.exit.now ≡ hand_of first.entry.now) }
     { serve_one(rt, task, first) };
     let mut rest = ||
-        requires { IsSync R.row × (IsSync S.row × (IsSync G.row × (All (IsOfRound task.now.areas.now (S.items task.now.items.now) task.now.start task.now.end) others.now))) }
-        ensures { All (IsOfRound task.entry.now.areas.now (S.items task.entry.now.items.now) task.entry.now.start task.entry.now.end) others.exit.now × (map hand_of others.exit.now ≡ map hand_of others.entry.now) }
+        requires { IsSync R.row × (IsSync S.row × (IsSync G.row
+            × (All (IsOfRound task.now.areas.now (S.items task.now.items.now) task.now.start task.now.end) others.now))) }
+        ensures { All (IsOfRound task.entry.now.areas.now (S.items task.entry.now.items.now) task.entry.now.start task.entry.now.end) others.exit.now
+            × (map hand_of others.exit.now ≡ map hand_of others.entry.now) }
     { serve_all(rt, task, others) };
     join_mut(rt, &mut one, &mut rest);
 }
@@ -128,8 +133,10 @@ fn pass<R: Threads + Wait + Sync, S: RoundItems + Sync, G: Gate + Sync>(
     join_mut(
         rt,
         &mut ||
-            requires { IsSync R.row × (IsSync S.row × (IsSync G.row × (All (IsOfRound task.now.areas.now (S.items task.now.items.now) task.now.start task.now.end) workers.now))) }
-            ensures { All (IsOfRound task.entry.now.areas.now (S.items task.entry.now.items.now) task.entry.now.start task.entry.now.end) workers.exit.now × (map hand_of workers.exit.now ≡ map hand_of workers.entry.now) }
+            requires { IsSync R.row × (IsSync S.row × (IsSync G.row
+                × (All (IsOfRound task.now.areas.now (S.items task.now.items.now) task.now.start task.now.end) workers.now))) }
+            ensures { All (IsOfRound task.entry.now.areas.now (S.items task.entry.now.items.now) task.entry.now.start task.entry.now.end) workers.exit.now
+                × (map hand_of workers.exit.now ≡ map hand_of workers.entry.now) }
         { serve_all(rt, task, workers) },
         &mut ||
             requires { CanReload task.now.areas.now desk.now }
@@ -190,7 +197,8 @@ fn run<R: Threads + Wait + Sync, S: RoundItems + Sync, G: Gate + Sync>(
     requires workers { (workers.old.items ≡ []) × (length sheets.old.items ≤ vec_capacity workers.old) }
     requires places { task.now.end - task.now.start ≤ vec_capacity places.old }
     ensures areas { IsOf task.now.areas.now seat.new × IsOf task.now.areas.now desk.new }
-    ensures round { IsRound (S.items task.now.items.now) task.now.start task.now.end seat.old.known seat.new.known (outcomes_at sheets.new.items places.new.items) }
+    ensures round { IsRound (S.items task.now.items.now) task.now.start task.now.end seat.old.known seat.new.known
+        (outcomes_at sheets.new.items places.new.items) }
     ensures points { KeepsPoints desk.old.known desk.new.known }
     ensures desk { IsDesk desk.new.known }
     ensures settled { IsSettled seat.new.known desk.new.known }
@@ -210,9 +218,8 @@ fn run<R: Threads + Wait + Sync, S: RoundItems + Sync, G: Gate + Sync>(
     settle(rt, task.areas, seat, desk);
 }
 
-/// All records with the numbers from `start` to below `end` are drawn and judged by the crew's workers, beside the desk that puts
-/// the next tables into force; the first of the items is that of the record with the number `start`. Afterwards the crew has
-/// an outcome for each, all that is due is in force, and the seat has drawn them. It may wait, and takes no memory: so the
+/// All records are drawn and judged by the crew's workers, beside the desk that puts the next tables into force. Afterwards the
+/// crew has an outcome for each, all that is due is in force, and the seat has drawn them. It may wait, and takes no memory: so the
 /// records of a round are at most as many as the crew has room for.
 pub fn round<R: Threads + Wait + Sync, S: RoundItems + Sync, G: Gate + Sync>(
     rt: &R,
@@ -220,24 +227,21 @@ pub fn round<R: Threads + Wait + Sync, S: RoundItems + Sync, G: Gate + Sync>(
     seat: &mut WorkerSeat,
     desk: &mut Desk,
     crew: &mut Crew,
-    items: &S,
-    start: u32,
-    end: u32,
-    gate: &G,
+    work: &Work<'_, S, G>,
 )
     requires areas { IsOf areas.now seat.old × IsOf areas.now desk.old }
     requires idle { IsIdle seat.old.known }
     requires whole { HasWholeShare seat.old.known }
-    requires drawn { length seat.old.known.actor.draws ≡ start }
+    requires drawn { length seat.old.known.actor.draws ≡ work.now.start }
     requires phase { IsResting desk.old.known ⊎ IsReady desk.old.known }
     requires compiled { All AreCompiled areas.now.plan.tables }
-    requires range { start ≤ end }
-    requires inside { end ≡ start + length (S.items items.now) }
-    requires room { length (S.items items.now) ≤ crew.old.room }
+    requires range { work.now.start ≤ work.now.end }
+    requires inside { work.now.end ≡ work.now.start + length (S.items work.now.items.now) }
+    requires room { length (S.items work.now.items.now) ≤ crew.old.room }
 
     // An outcome for each number, and what the seat drew and read.
     ensures areas { IsOf areas.now seat.new × IsOf areas.now desk.new }
-    ensures round { IsRound (S.items items.now) start end seat.old.known seat.new.known crew.new.outcomes }
+    ensures round { IsRound (S.items work.now.items.now) work.now.start work.now.end seat.old.known seat.new.known crew.new.outcomes }
     ensures crew { (crew.new.workers ≡ crew.old.workers) × (crew.new.room ≡ crew.old.room) }
 
     // What came into force.
@@ -248,11 +252,11 @@ pub fn round<R: Threads + Wait + Sync, S: RoundItems + Sync, G: Gate + Sync>(
 {
     let task = Task {
         areas,
-        items,
-        start,
-        end,
-        most: draw_size(end - start, crew.sheets.len()),
-        gate,
+        items: work.items,
+        start: work.start,
+        end: work.end,
+        most: draw_size(work.end - work.start, crew.sheets.len()),
+        gate: work.gate,
     };
     run(
         rt,

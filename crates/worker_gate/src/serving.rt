@@ -9,8 +9,9 @@ ghost use Rattle.worker_gate.specs.Turns.{DrawsNothing};
 use crate::claims::{Turn, give_up, take_run, try_claim};
 use crate::gate::Gate;
 use crate::judging::held_settings;
+use crate::outcome_list::Drawn;
 use crate::outcomes::Stop;
-use crate::task::Task;
+use crate::task::{Task, Work};
 use crate::worker::Worker;
 use area_swap::{Areas, WorkerSeat};
 use binding_rules::Softwire;
@@ -48,8 +49,7 @@ fn put_down<'a, S: RoundItems, G: Gate, L: Ledger>(
 {
     task.items.item_into((number - task.start) as usize, item);
     worker.outcomes.put_judged(
-        number,
-        version,
+        Drawn { number, version },
         task.areas,
         &mut worker.seat,
         settings,
@@ -197,37 +197,33 @@ pub(crate) fn serve_in<R: Wait, S: RoundItems, G: Gate, L: Ledger>(
     unreachable!()
 }
 
-/// Draws records with numbers below `end`, up to `most` at once, and judges the item of each under the table that was in force
-/// at its draw, until all are drawn or the version in force allows no record more. The first of the items is that of the record
-/// with the number `start`. `Gate::pass` is called for each record before it is judged. It may wait, and takes no memory.
+/// Draws records, up to `most` at once, and judges the item of each under the table that was in force at its draw, until all are
+/// drawn or the version in force allows no record more. It may wait, and takes no memory.
 pub fn serve<R: Wait, S: RoundItems, G: Gate>(
     rt: &R,
     worker: &mut Worker,
     areas: &Areas,
-    items: &S,
-    start: u32,
-    end: u32,
+    work: &Work<'_, S, G>,
     most: u32,
-    gate: &G,
 ) -> Stop
-    requires work { CanServe areas.now start end worker.old }
+    requires work { CanServe areas.now work.now.start work.now.end worker.old }
     requires idle { IsIdle worker.old.seat.known }
     requires compiled { All AreCompiled areas.now.plan.tables }
-    requires inside { end ≤ start + length (S.items items.now) }
+    requires inside { work.now.end ≤ work.now.start + length (S.items work.now.items.now) }
     requires some_one { 1 ≤ most }
-    ensures work { CanServe areas.now start end worker.new }
+    ensures work { CanServe areas.now work.now.start work.now.end worker.new }
     ensures idle { IsIdle worker.new.seat.known }
-    ensures served { HasServed areas.now.plan (S.items items.now) start worker.old worker.new }
-    ensures ended { HasEnded result end worker.new.seat.known }
+    ensures served { HasServed areas.now.plan (S.items work.now.items.now) work.now.start worker.old worker.new }
+    ensures ended { HasEnded result work.now.end worker.new.seat.known }
     ensures last { HeldLast worker.new.seat.known }
 {
     let task = Task {
         areas,
-        items,
-        start,
-        end,
+        items: work.items,
+        start: work.start,
+        end: work.end,
         most,
-        gate,
+        gate: work.gate,
     };
     serve_in::<R, S, G, Brand>(rt, &task, worker, Blank::new(1))
 }

@@ -15,7 +15,7 @@ invariant_of-crew g c =
       c.run.ensures.workers.0,
       omega (arith, i.3, c.run.ensures.sheets.0, c.run.ensures.workers.1),
       omega (arith, i.4, c.run.ensures.room),
-      omega (arith, c.run.ensures.places.1, c.ranges.end.fits),
+      omega (arith, c.run.ensures.places.1, c.draw_size.ensures.fits),
       c.run.ensures.places.0,
     )
 
@@ -28,5 +28,5 @@ returns-clause-crew g c =
 
 pub returns-clause-versions : goal.returns-clause-versions
 returns-clause-versions g c =
-    versions_known (g.S.RoundItems.items c.args.items.now) c.args.start c.args.end _ c.args.seat.now.known c.run.new.seat.known _ c.run.ensures.round
+    versions_known (g.S.RoundItems.items c.args.work.now.items.now) c.args.work.now.start c.args.work.now.end _ c.args.seat.now.known c.run.new.seat.known _ c.run.ensures.round
     c.run.ensures.settled.drawn c.run.ensures.settled.version

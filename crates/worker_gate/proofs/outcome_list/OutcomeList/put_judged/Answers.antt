@@ -8,14 +8,14 @@ use Rattle.worker_gate.proofs.outcome_list.OutcomeList.put_judged.Goals as goal
 
 pub invariant_of-self : goal.invariant_of-self
 invariant_of-self g c =
-    let put : Outcome = record { number = c.args.number; version = c.args.version; verdict = verdict.Held } in
+    let put : Outcome = record { number = c.args.drawn.number; version = c.args.drawn.version; verdict = verdict.Held } in
     still_beside c.self.inside.outcomes.items put c.judge_held.new.verdict c.push_reserved-2.new.self.items c.push_reserved-2.ensures.items
     c.len-last.result (c.len-last.ensures ∙ c.self.inside.outcomes.ok.0) c.index_mut-outcome.result.now c.index_mut-outcome.ensures.value
     c.self.inside.numbers.items c.push_reserved.new.self.items c.self.invariant c.push_reserved.ensures.items
 
 pub returns-clause-judged : goal.returns-clause-judged
 returns-clause-judged g c =
-    let put : Outcome = record { number = c.args.number; version = c.args.version; verdict = verdict.Held } in
+    let put : Outcome = record { number = c.args.drawn.number; version = c.args.drawn.version; verdict = verdict.Held } in
     record {
       verdict = c.judge_held.new.verdict;
       items =
