@@ -18,7 +18,7 @@ use std::sync::Wait;
 use std::thread::Threads;
 use swap_core::Plan;
 use verdict_core::access;
-use worker_gate::{Crew, Gate, outcomes_are_in_force, round};
+use worker_gate::{Crew, Gate, Work, outcomes_are_in_force, round};
 
 /// The most records of a round.
 const MOST_RECORDS: usize = 16_384;
@@ -78,16 +78,19 @@ pub fn judge_round<R: Threads + Wait + Sync, G: Gate + Sync>(
 {
     // Laws, and no steps: what holds of every verdict.
     access();
+    let work = Work {
+        items,
+        start,
+        end,
+        gate,
+    };
     round(
         rt,
         &shift.areas,
         &mut shift.seat,
         &mut shift.desk,
         &mut shift.crew,
-        items,
-        start,
-        end,
-        gate,
+        &work,
     );
 }
 
