@@ -1,6 +1,7 @@
 -- The records of a round, each with all that its rendering needs, and what they write by themselves. No public contract cites
 -- this.
-use Rattle.std.specs.Prelude.{◌≡◌, ℕ, ◌+◌, ◌*◌, ◌^◌, ◌<◌, ◌≤◌, Bool, true, false, not, if◌then◌else◌, List, [], ◌∷◌, ◌++◌, length, take, drop, flat_map, get_or, slice_get, slice_index_or, Option, Some}
+use Rattle.std.specs.Prelude.{◌≡◌, ℕ, ◌+◌, ◌*◌, ◌^◌, ◌<◌, ◌≤◌, Bool, true, false, not, if◌then◌else◌, List, [], ◌∷◌, ◌++◌}
+use Rattle.std.specs.Prelude.{length, take, drop, flat_map, get_or, slice_get, slice_index_or, Option, Some}
 use Rattle.aftr_text.specs.declared.summaries.Totals.{Totals}
 use Rattle.aftr_text.specs.Lines.{ended_text}
 use Rattle.capture_io.specs.Packets.{packet_bytes}
@@ -180,7 +181,8 @@ limited_by (o ∷ os) sent =
 
 -- What is known of a limiter that was asked about the first i records of a round, behind errors of these times that it marked
 -- so: with what the rest gives, that is the whole.
-pub record AreMarked (form : Form) (rs : List Rec) (os : List Outcome) (i : ℕ) (now : Option Bucket) (limited : List Bool) (times : List ℕ) (sent : List Bool) : Type 0 where
+pub record AreMarked (form : Form) (rs : List Rec) (os : List Outcome) (i : ℕ) (now : Option Bucket) (limited : List Bool) (times : List ℕ)
+    (sent : List Bool) : Type 0 where
   pub told : List ℕ
   pub news : List Bool
   pub asked : WasAsked now (times ++ told) (sent ++ news)

@@ -36,14 +36,16 @@ abbrev pub lines_in : List Part → List ℕ
 lines_in parts = flat_map (λ p. p.lines.items) parts
 
 -- the records write just this
-pub record IsRendered (c : Course) (w : Written) (start : ℕ) (records : List Rec) (entries : List Entry) (before now : Totals) (parts : List Part) : Type 0 where
+pub record IsRendered (c : Course) (w : Written) (start : ℕ) (records : List Rec) (entries : List Entry) (before now : Totals) (parts : List Part)
+    : Type 0 where
   pub packets : packets_in parts ≡ packets_from c w start records entries
   pub lines : lines_in parts ≡ lines_from c start entries
   pub totals : now ≡ totals_from c before start entries
 
 -- A course for the first records of a run: `taken` and their entries, and behind them those of a round, with these outcomes. The
 -- limiter was asked about the errors of those that were taken.
-pub record IsCourseOf (c : Course) (form : Form) (taken records : List Rec) (before entries : List Entry) (outcomes : List Outcome) (limit : Option Bucket) : Type 0 where
+pub record IsCourseOf (c : Course) (form : Form) (taken records : List Rec) (before entries : List Entry) (outcomes : List Outcome)
+    (limit : Option Bucket) : Type 0 where
   pub counted : length before ≡ length taken
   pub outcomes_of : HasOutcomes c (length taken) entries outcomes
   pub asked : HasAsked form taken before c limit

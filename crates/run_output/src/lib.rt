@@ -16,4 +16,5 @@ pub use limits::new_limit;
 pub use lines::push_ended_lines;
 pub use parts::{Part, Rendered};
 pub use rendering::render_round;
+pub use rounds::RoundRecords;
 pub use versions::{push_last_versions, push_new_versions};

@@ -1,5 +1,6 @@
 // What a round of records writes.
-ghost use Rattle.std.specs.Prelude.{◌≡◌, ◌≤◌, ◌<◌, ◌+◌, ◌-◌, ◌*◌, ◌++◌, ◌^◌, ℕ, List, [], IfOk, IfErr, true, false, flat_map, drop, length, slice_get, slice_index_or, string_bytes, take, Some};
+ghost use Rattle.std.specs.Prelude.{◌≡◌, ◌≤◌, ◌<◌, ◌+◌, ◌-◌, ◌*◌, ◌++◌, ◌^◌, ℕ, List, [], IfOk, IfErr, true, false};
+ghost use Rattle.std.specs.Prelude.{flat_map, drop, length, slice_get, slice_index_or, string_bytes, take, Some};
 ghost use Rattle.std.specs.Thread.{IsSync};
 ghost use Rattle.capture_io.specs.declared.forms.Rec.{Rec as Record};
 ghost use Rattle.capture_io.specs.Packets.{packet_bytes};
@@ -7,7 +8,8 @@ ghost use Rattle.ip_codec.specs.declared.items.Item.{Item};
 ghost use Rattle.item_stage.specs.Items.{items_in};
 ghost use Rattle.item_stage.specs.declared.entries.Entry.{Entry};
 ghost use Rattle.aftr_text.specs.Lines.{ended_text};
-ghost use Rattle.run_output.specs.Cells.{ArePartsFrom, ArePartsUnless, CanBeSent, CanGoOn, FitsAt, IsMore, IsPart, IsPartUnless, IsFitting, IsSent, cells_in, chunk, shown};
+ghost use Rattle.run_output.specs.Cells.{ArePartsFrom, ArePartsUnless, CanBeSent, CanGoOn, FitsAt, IsMore};
+ghost use Rattle.run_output.specs.Cells.{IsPart, IsPartUnless, IsFitting, IsSent, cells_in, chunk, shown};
 ghost use Rattle.run_output.specs.Counting.{IsWithin, with_record};
 ghost use Rattle.run_output.specs.Limiting.{HasAsked, IsLimited, rate_of};
 ghost use Rattle.run_output.specs.Outputs.{Course, record_text, sent_unless};
@@ -18,7 +20,7 @@ use crate::counting::{count_parts, count_record};
 use crate::limits::mark_limited;
 use crate::lines::{push_ended_lines, push_record_line};
 use crate::parts::{Part, Rendered};
-use crate::rounds::Round;
+use crate::rounds::{Round, RoundRecords};
 use aftr_base::OutOfMemory;
 use aftr_text::{RecordNumber, Totals};
 use capture_io::{Form, RecordView, Records, Written};
@@ -35,49 +37,46 @@ const FEW_RECORDS: usize = 8_192;
 /// So many records are one part then, or the first one.
 const ONE_PART: usize = 16_384;
 
-/// Renders the records of a round, of which the first has the number `start`, by their outcomes: asks the limit about their
-/// errors, in the order of the records, and then writes packets and lines in the parts of `rendered`, each by a thread of its own
-/// where there are records for several. What is written takes the place of what stood in `rendered`, and the records are counted. After
-/// an error `rendered` and the limit say nothing, and the totals are as they were.
+/// Renders the records of a round by their outcomes: asks the limit about their errors, in the order of the records, and then writes
+/// packets and lines in the parts of `rendered`, each by a thread of its own where there are records for several. What is written takes
+/// the place of what stood in `rendered`, and the records are counted. After an error `rendered` and the limit say nothing, and the totals
+/// are as they were.
 pub fn render_round<R: Threads + Sync>(
     rt: &R,
     form: Form,
     written: Written,
-    start: u32,
-    records: &Records,
-    items: &Items<'_>,
-    outcomes: &Outcomes<'_>,
+    judged: &RoundRecords<'_>,
     limit: &mut Option<Limiter>,
     totals: &mut Totals,
     rendered: &mut Rendered,
 ) -> Result<(), OutOfMemory>
-    requires same { length items.now ≡ length records.now }
-    requires few { start + length records.now ≤ 2 ^ 31 }
-    requires fitting { AreFitting items.now outcomes.now }
-    requires within { IsWithin totals.old start }
-    ensures rendered { IfOk result (λ _. (c : Course) (taken : List Record) (before : List Entry) → length taken ≡ start →
-        IsCourseOf c form taken records.now before items.now outcomes.now limit.old →
-        IsLimited (rate_of limit.old) form (taken ++ records.now) (before ++ items.now) c →
-        IsRendered c written start records.now items.now totals.old totals.new rendered.new) }
-    ensures asked { IfOk result (λ _. (c : Course) (taken : List Record) (before : List Entry) → length taken ≡ start →
-        IsCourseOf c form taken records.now before items.now outcomes.now limit.old →
-        HasAsked form (taken ++ records.now) (before ++ items.now) c limit.new) }
+    requires same { length judged.now.items.now ≡ length judged.now.records.now }
+    requires few { judged.now.start + length judged.now.records.now ≤ 2 ^ 31 }
+    requires fitting { AreFitting judged.now.items.now judged.now.outcomes.now }
+    requires within { IsWithin totals.old judged.now.start }
+    ensures rendered { IfOk result (λ _. (c : Course) (taken : List Record) (before : List Entry) → length taken ≡ judged.now.start →
+        IsCourseOf c form taken judged.now.records.now before judged.now.items.now judged.now.outcomes.now limit.old →
+        IsLimited (rate_of limit.old) form (taken ++ judged.now.records.now) (before ++ judged.now.items.now) c →
+        IsRendered c written judged.now.start judged.now.records.now judged.now.items.now totals.old totals.new rendered.new) }
+    ensures asked { IfOk result (λ _. (c : Course) (taken : List Record) (before : List Entry) → length taken ≡ judged.now.start →
+        IsCourseOf c form taken judged.now.records.now before judged.now.items.now judged.now.outcomes.now limit.old →
+        HasAsked form (taken ++ judged.now.records.now) (before ++ judged.now.items.now) c limit.new) }
     ensures rate { IfOk result (λ _. rate_of limit.new ≡ rate_of limit.old) }
-    ensures within { IfOk result (λ _. IsWithin totals.new (start + length records.now)) }
+    ensures within { IfOk result (λ _. IsWithin totals.new (judged.now.start + length judged.now.records.now)) }
     ensures parts { length rendered.new ≡ length rendered.old }
     ensures failed { IfErr result (λ _. totals.new ≡ totals.old) }
 {
     one_marking();
     let Rendered { parts, limited } = rendered;
-    mark_limited(form, records, outcomes, limit, limited)?;
+    mark_limited(form, judged.records, judged.outcomes, limit, limited)?;
     let round = Round {
         written,
-        start,
-        records,
-        items,
-        outcomes,
+        start: judged.start,
+        records: judged.records,
+        items: judged.items,
+        outcomes: judged.outcomes,
         limited: limited.as_slice(),
-        size: part_size(records.len(), parts.len()),
+        size: part_size(judged.records.len(), parts.len()),
     };
     render_parts(rt, &round, parts);
     count_parts(parts, totals)?;
@@ -166,7 +165,8 @@ fn render_beside<R: Threads + Sync>(
     { render_part(round, place, first) };
     let mut rest = ||
         requires { IsSync R.row × ((place + 1 + length others.now ≤ 16) × IsFitting round.now) }
-        ensures { ArePartsFrom round.entry.now.written round.entry.now.size (place + 1) (cells_in round.entry.now) others.exit.now × (length others.exit.now ≡ length others.entry.now) }
+        ensures { ArePartsFrom round.entry.now.written round.entry.now.size (place + 1) (cells_in round.entry.now) others.exit.now
+            × (length others.exit.now ≡ length others.entry.now) }
     { render_from(rt, round, place + 1, others) };
     join_mut(rt, &mut one, &mut rest);
 }

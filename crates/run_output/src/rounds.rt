@@ -5,11 +5,19 @@ use capture_io::{Records, Written};
 use item_stage::Items;
 use worker_gate::Outcomes;
 
-/// The records of a round, and all that their rendering needs of them.
+/// The records of a round, of which the first has the number `start`, with their items and outcomes.
+#[derive(Clone, Copy)]
+pub struct RoundRecords<'a> {
+    pub start: u32,
+    pub records: &'a Records,
+    pub items: &'a Items<'a>,
+    pub outcomes: &'a Outcomes<'a>,
+}
+
+/// The same, and all else that their rendering needs.
 #[derive(Clone, Copy)]
 pub(crate) struct Round<'a> {
     pub(crate) written: Written,
-    /// The number of the first record.
     pub(crate) start: u32,
     pub(crate) records: &'a Records,
     pub(crate) items: &'a Items<'a>,
