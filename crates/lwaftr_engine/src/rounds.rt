@@ -24,7 +24,7 @@ use aftr_text::Totals;
 use capture_io::{CaptureReader, Ending, Records, Round};
 use error_limit::Limiter;
 use item_stage::{RoundItems, Stage};
-use run_output::{Rendered, push_new_versions, render_round};
+use run_output::{Rendered, RoundRecords, push_new_versions, render_round};
 use std::alloc::Global;
 use std::mem;
 use std::sync::Wait;
@@ -86,14 +86,17 @@ fn judge<R: Threads + Wait + Sync, G: Gate + Sync>(
     let start = progress.number;
     let items = progress.stage.items(rt, alloc, &round.records, start)?;
     judge_round(rt, shift, &items, start, round.number, gate);
+    let judged = RoundRecords {
+        start,
+        records: &round.records,
+        items: &items,
+        outcomes: &shift.crew.outcomes(),
+    };
     render_round(
         rt,
         task.form,
         task.written,
-        start,
-        &round.records,
-        &items,
-        &shift.crew.outcomes(),
+        &judged,
         &mut progress.limit,
         &mut progress.totals,
         &mut made.rendered,
