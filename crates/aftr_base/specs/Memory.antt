@@ -25,9 +25,12 @@ pub record FilesInMemory : Type 0 where
 
 abbrev pub files_code : Coded FilesInMemory
 files_code =
-    code_by (Contents × (ℕ × (List ℕ × (ℕ × (ℕ × (ℕ × Option (List ℕ × ℕ))))))) (coded× contents_code (coded× coded_ℕ (coded× (coded_list coded_ℕ) (coded× coded_ℕ (coded× coded_ℕ (coded× coded_ℕ (coded_option (coded× (coded_list coded_ℕ) coded_ℕ))))))))
+    code_by (Contents × (ℕ × (List ℕ × (ℕ × (ℕ × (ℕ × Option (List ℕ × ℕ)))))))
+    (coded× contents_code (coded× coded_ℕ (coded× (coded_list coded_ℕ) (coded× coded_ℕ
+    (coded× coded_ℕ (coded× coded_ℕ (coded_option (coded× (coded_list coded_ℕ) coded_ℕ))))))))
     (λ m. (m.held, (m.calls, (m.failing, (m.faults, (m.lost, (m.spoiled, m.last)))))))
-    (λ t. record { held = t.0; calls = t.1.0; failing = t.1.1.0; faults = t.1.1.1.0; lost = t.1.1.1.1.0; spoiled = t.1.1.1.1.1.0; last = t.1.1.1.1.1.1 }) (λ _. refl)
+    (λ t. record { held = t.0; calls = t.1.0; failing = t.1.1.0; faults = t.1.1.1.0; lost = t.1.1.1.1.0; spoiled = t.1.1.1.1.1.0; last = t.1.1.1.1.1.1 })
+    (λ _. refl)
 
 abbrev pub no_files : FilesInMemory
 no_files = record { held = empty; calls = 0; failing = []; faults = 0; lost = 0; spoiled = 0; last = None }
@@ -41,7 +44,8 @@ is_missing m name = is_none (get m.held name)
 
 -- what a read of this name at this place leaves
 abbrev pub after_read : Result ℕ Fault → List ℕ → ℕ → FilesInMemory → FilesInMemory
-after_read (Err fault.Failed) name place m = record m { calls = one_more m.calls; faults = one_more m.faults; lost = one_more m.lost; last = Some (name, place) }
+after_read (Err fault.Failed) name place m =
+    record m { calls = one_more m.calls; faults = one_more m.faults; lost = one_more m.lost; last = Some (name, place) }
 after_read _ name place m = record m { calls = one_more m.calls }
 
 -- what a create or an append leaves that makes the files hold this

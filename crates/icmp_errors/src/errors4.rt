@@ -3,7 +3,8 @@ ghost use Rattle.std.specs.Prelude.{◌≡◌, ◌+◌, ◌^◌, ◌<◌, ◌≤
 ghost use Rattle.icmp_codec.specs.Message4.{icmp4_bytes, is_echo};
 ghost use Rattle.icmp_codec.specs.Quoted.{EmbeddedPacket, embedded_of};
 ghost use Rattle.ip_codec.specs.Packet4.{header4, ip4_of, made4, packet4, packet_len};
-ghost use Rattle.icmp_errors.specs.Errors4.{TellsOf, TellsSource, error4, error_about, error_head, error_len, exceeded_bytes, most_quoted, too_big_bytes, unreachable_bytes};
+ghost use Rattle.icmp_errors.specs.Errors4.{TellsOf, TellsSource, error4, error_about, error_head, error_len};
+ghost use Rattle.icmp_errors.specs.Errors4.{exceeded_bytes, most_quoted, too_big_bytes, unreachable_bytes};
 
 use crate::fronts::front;
 use aftr_base::{Bytes, OutOfMemory, V4};
@@ -157,7 +158,8 @@ pub fn push_error4(
 
     // Where it quotes a packet, that is the packet that it is about.
     ensures told { IfOk result (λ _. is_echo head.kind ≡ false → (quoted : EmbeddedPacket) → embedded_of (header.now ++ payload.now) ≡ Some quoted →
-        TellsOf own to head.kind head.code head.word (header.now ++ payload.now) quoted (error4 own to head.kind head.code head.word (header.now ++ payload.now))) }
+        TellsOf own to head.kind head.code head.word (header.now ++ payload.now) quoted
+        (error4 own to head.kind head.code head.word (header.now ++ payload.now))) }
 {
     let quote = front(header, MOST_QUOTED);
     let more = front(payload, MOST_QUOTED - quote.len());

@@ -1,6 +1,7 @@
 -- Where a chain of IPv6 extension headers ends (RFC 8200, section 4). That a Hop-by-Hop Options header elsewhere than in front,
 -- a second Fragment header and a Routing header with segments left end the walk with a refusal is this router's own choice.
-use Rattle.std.specs.Prelude.{ℕ, zero, suc, ◌+◌, ◌*◌, ◌/◌, ◌%◌, ◌==◌, nat_lt, Bool, true, false, not, ◌||◌, ◌&&◌, if◌then◌else◌, List, length, drop, slice_index, Some, None, Result, Ok, Err}
+use Rattle.std.specs.Prelude.{ℕ, zero, suc, ◌+◌, ◌*◌, ◌/◌, ◌%◌, ◌==◌, nat_lt, Bool, true, false, not, ◌||◌, ◌&&◌}
+use Rattle.std.specs.Prelude.{if◌then◌else◌, List, length, drop, slice_index, Some, None, Result, Ok, Err}
 use Rattle.aftr_base.specs.Numbers.{big_endian, span}
 use Rattle.ipv6_chain.specs.declared.headers.Start.{Start}
 use Rattle.ipv6_chain.specs.declared.headers.Start.TheVariants.{Packet, AfterFragment}

@@ -1,6 +1,7 @@
 -- What the steps of a lookup know of the words. No public contract cites these. Below, d and e are places of entries, and
 -- a is an address as a number.
-use Rattle.std.specs.Prelude.{◌≡◌, ◌≢◌, ℕ, ◌+◌, ◌-◌, ◌*◌, ◌/◌, ◌%◌, ◌^◌, ◌<◌, ◌≤◌, ◌↔◌, Bool, true, false, List, length, slice_index, Contains, Option, Some, None}
+use Rattle.std.specs.Prelude.{◌≡◌, ◌≢◌, ℕ, ◌+◌, ◌-◌, ◌*◌, ◌/◌, ◌%◌, ◌^◌, ◌<◌, ◌≤◌, ◌↔◌, Bool, true}
+use Rattle.std.specs.Prelude.{false, List, length, slice_index, Contains, Option, Some, None}
 use Rattle.port_set.specs.Shapes.{IsShape}
 use Rattle.binding_rules.specs.Bindings.{owns}
 use Rattle.binding_rules.specs.Tables.{BindingTable}
