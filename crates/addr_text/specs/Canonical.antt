@@ -1,5 +1,6 @@
 -- The canonical text of an IPv6 address (RFC 5952, section 4).
-use Rattle.std.specs.Prelude.{◌≡◌, ℕ, ◌+◌, ◌≤◌, ◌/◌, ◌%◌, ◌^◌, false, List, [], ◌∷◌, ◌++◌, length, take, drop, replicate, flat_map, codes, nat_lt, if◌then◌else◌}
+use Rattle.std.specs.Prelude.{◌≡◌, ℕ, ◌+◌, ◌≤◌, ◌/◌, ◌%◌, ◌^◌, false, List, [], ◌∷◌, ◌++◌, length}
+use Rattle.std.specs.Prelude.{take, drop, replicate, flat_map, codes, nat_lt, if◌then◌else◌}
 use Rattle.std.specs.Fmt.{digits}
 
 -- the groups of an address, the highest first

@@ -1,6 +1,7 @@
 -- Why words ask for no job: what a cause says is true of the words. Ours. Arguments, loads and the words behind the command are
 -- counted from 0.
-use Rattle.std.specs.Prelude.{◌≡◌, ◌≢◌, ◌⊎◌, ℕ, ◌-◌, ◌<◌, ◌≤◌, List, [], ◌∷◌, ◌++◌, All, bytes_eq, codes, decimal, drop, if◌then◌else◌, length, slice_get, slice_index_or, Some, None}
+use Rattle.std.specs.Prelude.{◌≡◌, ◌≢◌, ◌⊎◌, ℕ, ◌-◌, ◌<◌, ◌≤◌, List, [], ◌∷◌, ◌++◌, All, bytes_eq, codes}
+use Rattle.std.specs.Prelude.{decimal, drop, if◌then◌else◌, length, slice_get, slice_index_or, Some, None}
 use Rattle.addr_text.specs.Ipv4.{IsV4Text}
 use Rattle.swap_core.specs.Plans.{IsNotBefore, always}
 use Rattle.aftr_text.specs.Jobs.{HasNoOptions, IsLoad, StandsOnce, load_text, load_texts, names_of, windows_of}

@@ -1,6 +1,7 @@
 -- What the command words ask for. Ours, but for the texts of addresses. Numbers are written in decimal, without a leading zero,
 -- a sign or a blank.
-use Rattle.std.specs.Prelude.{◌≡◌, ◌≢◌, ◌⊎◌, ℕ, ◌+◌, ◌^◌, ◌<◌, ◌≤◌, List, [], ◌∷◌, ◌++◌, All, bytes_eq, codes, count_by, decimal, length, map, slice_index_or, Option, Some, None}
+use Rattle.std.specs.Prelude.{◌≡◌, ◌≢◌, ◌⊎◌, ℕ, ◌+◌, ◌^◌, ◌<◌, ◌≤◌, List, [], ◌∷◌, ◌++◌, All, bytes_eq, codes}
+use Rattle.std.specs.Prelude.{count_by, decimal, length, map, slice_index_or, Option, Some, None}
 use Rattle.addr_text.specs.Ipv4.{IsV4Text}
 use Rattle.aftr_base.specs.declared.numbers.V4.{V4}
 use Rattle.swap_core.specs.Plans.{IsNotBefore, IsWindow, always}

@@ -1,5 +1,6 @@
 -- The words behind a command's own, taken apart: its arguments, and the values of its options. Ours.
-use Rattle.std.specs.Prelude.{◌==◌, ℕ, Bool, ◌&&◌, nat_lt, if◌then◌else◌, List, [], ◌∷◌, ◌++◌, bytes_eq, codes, length, map, slice_index, Option, Some, None, option_map}
+use Rattle.std.specs.Prelude.{◌==◌, ℕ, Bool, ◌&&◌, nat_lt, if◌then◌else◌, List, [], ◌∷◌, ◌++◌, bytes_eq}
+use Rattle.std.specs.Prelude.{codes, length, map, slice_index, Option, Some, None, option_map}
 use Rattle.std.specs.List.{before_first, after_first, position_or_len}
 use Rattle.std.specs.Borrow.{Bor}
 use Rattle.aftr_text.specs.declared.parts.Slot.{Slot}

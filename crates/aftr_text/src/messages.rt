@@ -1,6 +1,7 @@
 // What is wrong with command words, for people.
 ghost use Rattle.std.specs.Prelude.{◌≡◌, ◌+◌, ◌++◌, [], IfOk, codes, decimal, option_map, string_bytes};
-ghost use Rattle.aftr_text.specs.Messages.{argument_text, fault_text, load_in, option_text, same_text, told, told_behind, usage_of, value_text, wanted_text, word_in};
+ghost use Rattle.aftr_text.specs.Messages.{argument_text, fault_text, load_in, option_text, same_text, told};
+ghost use Rattle.aftr_text.specs.Messages.{told_behind, usage_of, value_text, wanted_text, word_in};
 ghost use Rattle.aftr_text.specs.Parts.{no_parts, texts};
 ghost use Rattle.aftr_text.specs.declared.faults.Fault.TheVariants as fault_is;
 

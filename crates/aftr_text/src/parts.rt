@@ -1,6 +1,7 @@
 // The words behind a command's own: its arguments, and the values of its options.
 ghost use Rattle.std.specs.Prelude.{◌≡◌, ◌≢◌, ◌++◌, ◌∷◌, [], ℕ, List, IfOk, IfErr, IsTrue, ◌↔◌, false, Some, None, option_and_then, option_map};
-ghost use Rattle.aftr_text.specs.Parts.{Kind as SpecKind, Parts as SpecParts, in_front, kind_of, no_parts, parts_of, plain_kind, slot_of, texts, with_value, ends, unknown, wants};
+ghost use Rattle.aftr_text.specs.Parts.{Kind as SpecKind, Parts as SpecParts, in_front, kind_of, no_parts, parts_of};
+ghost use Rattle.aftr_text.specs.Parts.{plain_kind, slot_of, texts, with_value, ends, unknown, wants};
 ghost use Rattle.aftr_text.specs.Commands.{line as line_of};
 ghost use Rattle.aftr_text.specs.declared.parts.Slot.{Slot as SpecSlot};
 ghost use Rattle.aftr_text.specs.Seen.{joined, kind_seen};

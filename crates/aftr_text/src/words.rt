@@ -1,6 +1,8 @@
 // The command words.
-ghost use Rattle.std.specs.Prelude.{◌≡◌, ◌≢◌, ◌↔◌, ◌≤◌, decimal, ◌+◌, ◌∷◌, [], cond, Option, ℕ, List, All, IfOk, IfErr, IsTrue, Some, codes, bytes_eq, ◌<◌, ◌⊎◌, IfSome, IfNone, length, slice_get};
-ghost use Rattle.aftr_text.specs.Jobs.{AreApart, AreNames, AreWorkers, Asks, AskNothing, AsksFor, IsLimit, IsLoad, IsName, StandsOnce, how_many, load_texts, names_of};
+ghost use Rattle.std.specs.Prelude.{◌≡◌, ◌≢◌, ◌↔◌, ◌≤◌, decimal, ◌+◌, ◌∷◌, [], cond, Option, ℕ, List, All, IfOk, IfErr};
+ghost use Rattle.std.specs.Prelude.{IsTrue, Some, codes, bytes_eq, ◌<◌, ◌⊎◌, IfSome, IfNone, length, slice_get};
+ghost use Rattle.aftr_text.specs.Jobs.{AreApart, AreNames, AreWorkers, Asks, AskNothing, AsksFor, IsLimit};
+ghost use Rattle.aftr_text.specs.Jobs.{IsLoad, IsName, StandsOnce, how_many, load_texts, names_of};
 ghost use Rattle.addr_text.specs.Ipv4.{IsV4Text};
 ghost use Rattle.aftr_text.specs.Commands.{found_in, word_of, words_of};
 ghost use Rattle.aftr_text.specs.declared.jobs.LoadWords.{LoadWords as SpecLoad};

@@ -36,7 +36,8 @@ impl Model for Areas {
 
     ghost view = { λ a. record { table_id = a.table.shared.table_id; plan = a.plan } };
 
-    ghost invariant = { λ a. (a.table.shared.key ≡ a.plan) × (a.long ≡ width a.plan) × (a.table.shared.table_id.words ≡ all_places (width a.plan)) × (width a.plan ≤ 16777216) × IsPlan a.plan × AreListed a.plan a.changes.items };
+    ghost invariant = { λ a. (a.table.shared.key ≡ a.plan) × (a.long ≡ width a.plan)
+        × (a.table.shared.table_id.words ≡ all_places (width a.plan)) × (width a.plan ≤ 16777216) × IsPlan a.plan × AreListed a.plan a.changes.items };
 }
 
 impl Areas {

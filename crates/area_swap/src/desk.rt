@@ -33,7 +33,8 @@ impl Model for Desk {
 
     ghost view = { λ d. record { table_id = d.place.table_id; known = d.place.me.0 } };
 
-    ghost invariant = { λ d. IsDesk d.place.me.0 × (d.place.me.1 ≡ []) × (d.points.items ≡ d.place.me.0.points) × (length d.place.me.0.plan.tables ≤ vec_capacity d.points + 1) };
+    ghost invariant = { λ d. IsDesk d.place.me.0 × (d.place.me.1 ≡ []) × (d.points.items ≡ d.place.me.0.points)
+        × (length d.place.me.0.plan.tables ≤ vec_capacity d.points + 1) };
 }
 
 impl Desk {

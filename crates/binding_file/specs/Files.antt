@@ -1,6 +1,7 @@
 -- What a table file spells: an edition, settings and bindings, or the first refusal. Only whether the bytes are a document
 -- is a matter of TOML; the rest speaks of the document's tree, one key after the other.
-use Rattle.std.specs.Prelude.{◌≡◌, ℕ, ◌+◌, ℤ, pos, negsuc, ◌==◌, nat_lt, Bool, true, false, ◌&&◌, if◌then◌else◌, is_some, List, [], ◌∷◌, length, Option, Some, None, Result, Ok, Err, IsUtf8}
+use Rattle.std.specs.Prelude.{◌≡◌, ℕ, ◌+◌, ℤ, pos, negsuc, ◌==◌, nat_lt, Bool, true, false, ◌&&◌, if◌then◌else◌}
+use Rattle.std.specs.Prelude.{is_some, List, [], ◌∷◌, length, Option, Some, None, Result, Ok, Err, IsUtf8}
 use Rattle.aftr_base.specs.declared.numbers.V4.{V4}
 use Rattle.aftr_base.specs.declared.numbers.V6.{V6}
 use Rattle.binding_rules.specs.Refusals.{IsFirstRefusal}
@@ -57,7 +58,17 @@ settings_of ms aftr own = do
   icmp_in ← flag_at ms (place.Softwire name.IcmpIn) true
   errors_up ← flag_at ms (place.Softwire name.ErrorsUp) false
   errors_down ← flag_at ms (place.Softwire name.ErrorsDown) false
-  known softwire_names ms (record { aftr = aftr; own = own; mtu6 = mtu6; mtu4 = mtu4; hop_limit = hop_limit; hairpin = hairpin; icmp_in = icmp_in; errors_up = errors_up; errors_down = errors_down })
+  known softwire_names ms (record {
+    aftr = aftr;
+    own = own;
+    mtu6 = mtu6;
+    mtu4 = mtu4;
+    hop_limit = hop_limit;
+    hairpin = hairpin;
+    icmp_in = icmp_in;
+    errors_up = errors_up;
+    errors_down = errors_down;
+  })
 
 abbrev pub IsSoftwire : Members → Result Softwire FileRefused → Type 0
 IsSoftwire ms r =

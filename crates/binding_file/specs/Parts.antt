@@ -1,5 +1,6 @@
 -- What the steps of the reader and of the writer give. No public contract cites these but the words of the refusals.
-use Rattle.std.specs.Prelude.{◌≡◌, ℕ, ◌+◌, ◌==◌, ◌≤◌, not, ◌||◌, if◌then◌else◌, List, [], ◌∷◌, true, is_some, Option, Some, None, option_map, Result, Ok, Err, bytes_eq}
+use Rattle.std.specs.Prelude.{◌≡◌, ℕ, ◌+◌, ◌==◌, ◌≤◌, not, ◌||◌, if◌then◌else◌, List, [], ◌∷◌, true}
+use Rattle.std.specs.Prelude.{is_some, Option, Some, None, option_map, Result, Ok, Err, bytes_eq}
 use Rattle.std.specs.Borrow.{Bor}
 use Rattle.std.specs.Option.{option_or}
 use Rattle.std.specs.Ordering.{nat_cmp, match_ordering}

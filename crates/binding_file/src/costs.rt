@@ -1,6 +1,7 @@
 // Whether a text would cost too much time or memory to be read as TOML: one look over its bytes, in no memory.
 ghost use Rattle.std.specs.Prelude.{◌≡◌, ◌≤◌, false, length};
-ghost use Rattle.binding_file.specs.Costs.{begun, part_after, line_after, lines_after, seen, seen_as, is_mark, marks, ends_header, weight, is_costly, is_held_back, most_free};
+ghost use Rattle.binding_file.specs.Costs.{begun, part_after, line_after, lines_after, seen, seen_as, is_mark};
+ghost use Rattle.binding_file.specs.Costs.{marks, ends_header, weight, is_costly, is_held_back, most_free};
 ghost use Rattle.binding_file.specs.Parts.{header_after};
 ghost use Rattle.binding_file.specs.declared.costs.Part.TheVariants as part;
 

@@ -24,5 +24,6 @@ pub fn one_table()
 /// not held back and is not small.
 pub fn light_texts()
     ensures cheap { (bytes : List ℕ) (es : List Expression) → is_costly bytes ≡ false → AreRead es (skip_bom bytes) → IsBounded es }
-    ensures not_held_back { (bytes : List ℕ) (es : List Expression) → most_free < length bytes → is_held_back bytes ≡ false → AreRead es (skip_bom bytes) → IsBounded es }
+    ensures not_held_back { (bytes : List ℕ) (es : List Expression) → most_free < length bytes → is_held_back bytes ≡ false →
+        AreRead es (skip_bom bytes) → IsBounded es }
 {}

@@ -2,7 +2,8 @@
 ghost use Rattle.std.specs.Prelude.{◌≡◌, ◌<◌, ◌≤◌, true, false, length, Err, IfOk, IfErr, IsUtf8, vec_len, ◌⊎◌};
 ghost use Rattle.toml.specs.View.{view, table_view, items_view};
 ghost use Rattle.binding_rules.specs.Tables.{binding_table};
-ghost use Rattle.binding_file.specs.Files.{top_edition, settings_of, port_set_of, elements_of, are_tables, IsSoftwire, IsElement, AreBindings, IsDocument, IsTree, TableOf, IsFileCause, most_bytes};
+ghost use Rattle.binding_file.specs.Files.{top_edition, settings_of, port_set_of, elements_of, are_tables, IsSoftwire};
+ghost use Rattle.binding_file.specs.Files.{IsElement, AreBindings, IsDocument, IsTree, TableOf, IsFileCause, most_bytes};
 ghost use Rattle.binding_file.specs.Costs.{is_held_back, most_free};
 ghost use Rattle.binding_file.specs.FirstLines.{begins_toml, IsNotToml};
 ghost use Rattle.binding_file.specs.Lines.{binding_count};
@@ -54,7 +55,8 @@ pub fn read_table(alloc: Global, text: &[u8]) -> Result<Table, FileError>
     ensures too_big { most_bytes < length text.now → result ≡ Err (file_error.Refused refused.TooBig) }
     ensures no_text { length text.now ≤ most_bytes → (IsUtf8 text.now → ⊥) → result ≡ Err (file_error.Refused refused.NotToml) }
     ensures no_line { length text.now ≤ most_bytes → begins_toml text.now ≡ false → IsNotToml result }
-    ensures held_back { length text.now ≤ most_bytes → IsUtf8 text.now → begins_toml text.now ≡ true → is_held_back text.now ≡ true → result ≡ Err file_error.OutOfMemory }
+    ensures held_back { length text.now ≤ most_bytes → IsUtf8 text.now → begins_toml text.now ≡ true → is_held_back text.now ≡ true →
+        result ≡ Err file_error.OutOfMemory }
     ensures small { length text.now ≤ most_free → is_held_back text.now ≡ false }
 {
     if text.len() > MOST_BYTES {

@@ -12,7 +12,8 @@ use Rattle.capture_io.specs.Record.{next_in}
 abbrev pub Splits : Bool → List ℕ → ℕ → ℕ → List Rec → Option CaptureBad → Type 0
 Splits big left at number [] None = next_in big left at number ≡ Ok next.End
 Splits big left at number [] (Some refusal) = next_in big left at number ≡ Err refusal
-Splits big left at number (r ∷ rs) ending = (next_in big left at number ≡ Ok (next.Rec r)) × Splits big (drop (16 + length r.bytes) left) r.next_at (number + 1) rs ending
+Splits big left at number (r ∷ rs) ending = (next_in big left at number ≡ Ok (next.Rec r))
+    × Splits big (drop (16 + length r.bytes) left) r.next_at (number + 1) rs ending
 
 -- The bytes of a capture are a header and these records; a header that is refused leaves none.
 abbrev pub IsCapture : List ℕ → Result Form CaptureBad → List Rec → Option CaptureBad → Type 0

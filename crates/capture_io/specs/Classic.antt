@@ -43,7 +43,8 @@ FetchReads (Err _) name at window before now = OnlyReads false name (λ _. Unit 
 
 -- The records that were taken off the bytes that are there; where a read failed behind them, none.
 pub record IsTaken (big : Bool) (window : Ahead) (failed : Bool) (at number most : ℕ) (places : List Place) (taken : Taken) : Type 0 where
-  pub are : AreTaken big window.bytes window.last at number most (map (placed window.bytes) places) taken.used taken.number (bytes_captured (map (placed window.bytes) places))
+  pub are : AreTaken big window.bytes window.last at number most (map (placed window.bytes) places) taken.used taken.number
+      (bytes_captured (map (placed window.bytes) places))
   pub ended : Ended big window.bytes window.last at taken.used taken.number taken.ending
   pub some : taken.ending ≡ None → 0 < length places
   pub within : All (IsWithin window.bytes) places

@@ -38,7 +38,13 @@ front_in big first last at number =
 
 -- a record whose header stands at a place of a buffer and of the file
 abbrev pub place_behind : Head → ℕ → ℕ → Place
-place_behind head from at = record { seconds = head.seconds; fraction = head.fraction; from = from + 16; count = head.captured; next_at = at + 16 + head.captured }
+place_behind head from at = record {
+  seconds = head.seconds;
+  fraction = head.fraction;
+  from = from + 16;
+  count = head.captured;
+  next_at = at + 16 + head.captured;
+}
 
 -- the record of a header that stands at the front
 abbrev pub rec_at : ℕ → List ℕ → Head → Rec

@@ -7,11 +7,14 @@ use Rattle.capture_io.specs.Header.{magic}
 
 -- a file header: no correction of the clock and no accuracy, a snapshot length of 262144, and plain IP
 abbrev pub header_bytes : Bool → List ℕ
-header_bytes nano = word_bytes false (magic nano) ++ half_bytes false 2 ++ half_bytes false 4 ++ word_bytes false 0 ++ word_bytes false 0 ++ word_bytes false 262144 ++ word_bytes false 101
+header_bytes nano =
+    word_bytes false (magic nano) ++ half_bytes false 2 ++ half_bytes false 4 ++ word_bytes false 0 ++ word_bytes false 0
+    ++ word_bytes false 262144 ++ word_bytes false 101
 
 -- a record as a capture of this byte order spells it, with some original length
 abbrev pub spelled : Bool → ℕ → ℕ → ℕ → List ℕ → List ℕ
-spelled big seconds fraction original bytes = word_bytes big seconds ++ word_bytes big fraction ++ word_bytes big (length bytes) ++ word_bytes big original ++ bytes
+spelled big seconds fraction original bytes =
+    word_bytes big seconds ++ word_bytes big fraction ++ word_bytes big (length bytes) ++ word_bytes big original ++ bytes
 
 -- a record as it is written: the original length is the captured one
 abbrev pub record_bytes : ℕ → ℕ → List ℕ → List ℕ

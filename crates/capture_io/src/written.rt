@@ -1,7 +1,8 @@
 // Captures that are written: their headers, and what stands round each packet.
 ghost use Rattle.std.specs.Prelude.{◌≡◌, ◌/◌, ◌%◌, ◌^◌, ◌≤◌, ◌++◌, IfOk, IsErr};
 ghost use Rattle.aftr_base.specs.Appended.{Extends};
-ghost use Rattle.capture_io.specs.Packets.{block_head, block_len, block_tail, block_words, file_head, packet_head, packet_tail, padding, record_head, section_bytes, ticks};
+ghost use Rattle.capture_io.specs.Packets.{block_head, block_len, block_tail, block_words, file_head, packet_head};
+ghost use Rattle.capture_io.specs.Packets.{packet_tail, padding, record_head, section_bytes, ticks};
 
 use crate::put_header;
 use aftr_base::OutOfMemory;

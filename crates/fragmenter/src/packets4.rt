@@ -1,5 +1,6 @@
 // IPv4 packets cut into pieces.
-ghost use Rattle.std.specs.Prelude.{◌≡◌, ◌≢◌, ℕ, ◌+◌, ◌-◌, ◌*◌, ◌/◌, ◌%◌, ◌<◌, ◌≤◌, ◌++◌, ◌∷◌, ◌==◌, if◌then◌else◌, [], false, length, drop, IfOk, IsOk, IsErr, IfSome, MatchOption, Ok};
+ghost use Rattle.std.specs.Prelude.{◌≡◌, ◌≢◌, ℕ, ◌+◌, ◌-◌, ◌*◌, ◌/◌, ◌%◌, ◌<◌, ◌≤◌, ◌++◌, ◌∷◌, ◌==◌, if◌then◌else◌};
+ghost use Rattle.std.specs.Prelude.{[], false, length, drop, IfOk, IsOk, IsErr, IfSome, MatchOption, Ok};
 ghost use Rattle.ip_codec.specs.Packet4.{packet4, ip4_of, packet_len, is_fragment, Packet4, IsBounded4};
 ghost use Rattle.fragmenter.specs.Kept.{copied_of};
 ghost use Rattle.fragmenter.specs.Pieces4.{Pieces4, pieces4, fragments4, options_at, piece_head, room4};

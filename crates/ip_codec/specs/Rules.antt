@@ -1,7 +1,10 @@
 -- The printed names of the rules.
 use Rattle.std.specs.Prelude.{ℕ, List, codes}
 use Rattle.ip_codec.specs.declared.rules.Rule.{Rule}
-use Rattle.ip_codec.specs.declared.rules.Rule.TheVariants.{FrameShort, FrameType, Ip4Malformed, Ip4Checksum, Ip6Malformed, Ip6Chain, FragOdd, FragLong, FragOverlap, FragMany, FragFull, NotOurs, NotSoftwire, InnerMalformed, InnerChecksum, ToSelf, IcmpOff, IcmpBad, NoPort, NoBinding, Ttl, TooBig, HairpinOff, HairpinNoBinding, Relayed, RelayBad, RelayNoBinding, RelayMute}
+use Rattle.ip_codec.specs.declared.rules.Rule.TheVariants.{FrameShort, FrameType, Ip4Malformed, Ip4Checksum, Ip6Malformed, Ip6Chain, FragOdd}
+use Rattle.ip_codec.specs.declared.rules.Rule.TheVariants.{FragLong, FragOverlap, FragMany, FragFull, NotOurs, NotSoftwire, InnerMalformed}
+use Rattle.ip_codec.specs.declared.rules.Rule.TheVariants.{InnerChecksum, ToSelf, IcmpOff, IcmpBad, NoPort, NoBinding, Ttl, TooBig, HairpinOff}
+use Rattle.ip_codec.specs.declared.rules.Rule.TheVariants.{HairpinNoBinding, Relayed, RelayBad, RelayNoBinding, RelayMute}
 
 abbrev pub name_of : Rule → List ℕ
 name_of FrameShort = codes "frame-short"

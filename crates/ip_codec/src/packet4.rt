@@ -3,7 +3,8 @@ ghost use Rattle.std.specs.Prelude.{◌≡◌, ◌≢◌, ◌==◌, ◌+◌, ◌
 ghost use Rattle.aftr_base.specs.Appended.{Extends};
 ghost use Rattle.aftr_base.specs.Numbers.{big_endian, span};
 ghost use Rattle.aftr_base.specs.Sums.{checksum, folded, word_sum};
-ghost use Rattle.ip_codec.specs.Packet4.{ip4_of, packet4, Reads4, IsBounded4, fields4, header4, fixed4, flags_of, flag_worth, made4, is_fragment, is_plain, packet_len};
+ghost use Rattle.ip_codec.specs.Packet4.{ip4_of, packet4, Reads4, IsBounded4, fields4, header4, fixed4};
+ghost use Rattle.ip_codec.specs.Packet4.{flags_of, flag_worth, made4, is_fragment, is_plain, packet_len};
 
 use aftr_base::{Bytes, OutOfMemory, V4, be16, be32, patch16, put_be16, put_checksum, sum16};
 use std::alloc::Global;

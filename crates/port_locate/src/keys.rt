@@ -4,7 +4,8 @@ ghost use Rattle.std.specs.Option.{option_map};
 ghost use Rattle.icmp_codec.specs.Message4.{icmp4_of};
 ghost use Rattle.icmp_codec.specs.Quoted.{embedded_packet};
 ghost use Rattle.ip_codec.specs.Packet4.{packet4};
-ghost use Rattle.port_locate.specs.Keys.{destination_at, destination_key, downstream_key, has_ports, icmp_key, identifier_want, key_of, plain_want, port_want, quoted_want, source_at, source_key, upstream_key};
+ghost use Rattle.port_locate.specs.Keys.{destination_at, destination_key, downstream_key, has_ports, icmp_key, identifier_want};
+ghost use Rattle.port_locate.specs.Keys.{key_of, plain_want, port_want, quoted_want, source_at, source_key, upstream_key};
 
 use aftr_base::be16;
 use binding_rules::Want;

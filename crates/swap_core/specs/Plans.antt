@@ -1,6 +1,7 @@
 -- The tables that come into force one after another, and when each may. Tables are counted from 0, and window k, from 1,
 -- belongs to table k: table k comes into force once as many records were drawn as its window allows.
-use Rattle.std.specs.Prelude.{◌≡◌, ℕ, zero, suc, ◌+◌, ◌-◌, ◌^◌, ◌<◌, ◌≤◌, max, nat_lt, if◌then◌else◌, List, [], ◌∷◌, ◌++◌, length, slice_index, slice_index_or, replicate, All, fold}
+use Rattle.std.specs.Prelude.{◌≡◌, ℕ, zero, suc, ◌+◌, ◌-◌, ◌^◌, ◌<◌, ◌≤◌, max, nat_lt, if◌then◌else◌, List, []}
+use Rattle.std.specs.Prelude.{◌∷◌, ◌++◌, length, slice_index, slice_index_or, replicate, All, fold}
 use Rattle.swap_core.specs.declared.plan.Window.{Window}
 
 pub record Tables : Type 0 where

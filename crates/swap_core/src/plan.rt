@@ -1,6 +1,7 @@
 // The tables that come into force one after another, and when each may.
 ghost use Rattle.std.specs.Prelude.{◌≡◌, ◌≤◌, ◌<◌, [], ◌∷◌, IfOk, is_ok, if◌then◌else◌, length};
-ghost use Rattle.swap_core.specs.Plans.{IsPlan, IsTableSize, MayFollow, limit as limit_of, longer, table, threshold as threshold_of, window as window_of, width};
+ghost use Rattle.swap_core.specs.Plans.{IsPlan, IsTableSize, MayFollow, limit as limit_of, longer, table};
+ghost use Rattle.swap_core.specs.Plans.{threshold as threshold_of, window as window_of, width};
 
 use aftr_base::{OutOfMemory, WordList};
 use std::alloc::Global;

@@ -1,5 +1,6 @@
 // What the machine is for, as laws over its definitions: each function's contract is one, and it does nothing.
-ghost use Rattle.swap_core.specs.Laws.{DrawnInForce, MergeKeepsSound, NewcomerKeepsSound, NoneTwice, ReadsItsTable, RunsAreSound, SettledPointsAreAll, SeveralDrawsAreSteps, StandingWordsAreWrites, StepsKeepSound, WritesWhereNobodyHolds};
+ghost use Rattle.swap_core.specs.Laws.{DrawnInForce, MergeKeepsSound, NewcomerKeepsSound, NoneTwice, ReadsItsTable, RunsAreSound};
+ghost use Rattle.swap_core.specs.Laws.{SettledPointsAreAll, SeveralDrawsAreSteps, StandingWordsAreWrites, StepsKeepSound, WritesWhereNobodyHolds};
 ghost use Rattle.swap_core.specs.Sound.{Sound};
 ghost use Rattle.swap_core.specs.States.{CoreState};
 

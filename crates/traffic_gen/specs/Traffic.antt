@@ -69,7 +69,8 @@ outward subscriber port = record { from = address_of subscriber; from_port = por
 abbrev pub way_by : Kind → ℕ → ℕ → ℕ → Way
 way_by kind.Outward sender receiver place = outward sender (port_of sender place)
 way_by kind.Inward sender receiver place = record { from = server; from_port = 53; to = address_of sender; to_port = port_of sender place }
-way_by kind.Between sender receiver place = record { from = address_of sender; from_port = port_of sender place; to = address_of receiver; to_port = port_of receiver place }
+way_by kind.Between sender receiver place =
+    record { from = address_of sender; from_port = port_of sender place; to = address_of receiver; to_port = port_of receiver place }
 way_by kind.Foreign sender receiver place = outward sender place
 
 abbrev pub way_of : Draw → Way

@@ -1,6 +1,7 @@
 -- The verdict on an item under a table: the first line whose condition is true (RFC 7596, section 6.2). Where no RFC is named,
 -- the line is ours; so are the order of the lines and the exact condition of each.
-use Rattle.std.specs.Prelude.{◌≡◌, ℕ, ◌==◌, nat_le, Bool, true, false, not, ◌&&◌, List, [], ◌∷◌, ◌++◌, length, slice_index, Option, None, Result, Ok, Err, unwrap_or}
+use Rattle.std.specs.Prelude.{◌≡◌, ℕ, ◌==◌, nat_le, Bool, true, false, not, ◌&&◌, List, [], ◌∷◌, ◌++◌}
+use Rattle.std.specs.Prelude.{length, slice_index, Option, None, Result, Ok, Err, unwrap_or}
 use Rattle.std.specs.List.{All}
 use Rattle.aftr_base.specs.declared.numbers.V6.{V6}
 use Rattle.binding_rules.specs.Bindings.{bound}
@@ -22,7 +23,8 @@ use Rattle.port_locate.specs.Keys.{destination_at, downstream_key, key_of, quote
 use Rattle.port_locate.specs.declared.keys.Key.{Key}
 use Rattle.port_locate.specs.declared.keys.Key.TheVariants as key
 use Rattle.table_words.specs.Answers.{first_b4, has_v4}
-use Rattle.verdict_core.specs.Answers.{ends_at, inward, inward_room, is_missing, is_too_large, is_expired, no_owner, not_sender, relayed, silent, too_large, time_exceeded, way_back, ways_to}
+use Rattle.verdict_core.specs.Answers.{ends_at, inward, inward_room, is_missing, is_too_large, is_expired, no_owner}
+use Rattle.verdict_core.specs.Answers.{not_sender, relayed, silent, too_large, time_exceeded, way_back, ways_to}
 use Rattle.verdict_core.specs.Lines.{Line, passes, stops, verdict_in}
 use Rattle.verdict_core.specs.declared.verdicts.Path.TheVariants as path
 use Rattle.verdict_core.specs.declared.verdicts.Verdict.{Verdict}

@@ -2,7 +2,8 @@
 ghost use Rattle.std.specs.Prelude.{◌≡◌, ◌-◌, ◌≤◌, ◌&&◌, min, max};
 ghost use Rattle.icmp_errors.specs.Answers.{gets_answer6};
 ghost use Rattle.ip_codec.specs.Packet4.{packet4};
-ghost use Rattle.verdict_core.specs.Answers.{dropped, ends_at, inward, inward_room, is_too_large, is_expired, may_complain, no_owner, not_sender, relayed, relayed_code, relayed_mtu, silent, too_large, time_exceeded, way_back};
+ghost use Rattle.verdict_core.specs.Answers.{dropped, ends_at, inward, inward_room, is_too_large, is_expired, may_complain, no_owner};
+ghost use Rattle.verdict_core.specs.Answers.{not_sender, relayed, relayed_code, relayed_mtu, silent, too_large, time_exceeded, way_back};
 
 use crate::verdicts::{Path, Reply, Verdict};
 use aftr_base::V6;

@@ -42,7 +42,8 @@ pub fn judge<W: Words, L: Ledger>(
     ensures reads { Reads W.Words words.old words.new steps.old steps.new }
     ensures rises { AsksTable (seen item.now) → steps.old + 1 ≤ steps.new }
     ensures bound { (t : BindingTable) → IsCompiled t (W.list words.old) → steps.new ≤ steps.old + judge_bound (look_bound t.bindings) }
-    ensures one_shape { (t : BindingTable) → IsCompiled t (W.list words.old) → has_two_shapes t.bindings ≡ false → steps.new ≤ steps.old + judge_bound (found_bound t.bindings) }
+    ensures one_shape { (t : BindingTable) → IsCompiled t (W.list words.old) → has_two_shapes t.bindings ≡ false →
+        steps.new ≤ steps.old + judge_bound (found_bound t.bindings) }
 {
     let settings = softwire(words, steps);
     let mut verdict = Verdict::Held;
@@ -70,7 +71,8 @@ pub fn judge_into<W: Words, L: Ledger>(
     ensures reads { Reads W.Words words.old words.new steps.old steps.new }
     ensures rises { AsksTable (seen item.now) → steps.old + 1 ≤ steps.new }
     ensures bound { (t : BindingTable) → IsCompiled t (W.list words.old) → steps.new ≤ steps.old + judge_into_bound (look_bound t.bindings) }
-    ensures one_shape { (t : BindingTable) → IsCompiled t (W.list words.old) → has_two_shapes t.bindings ≡ false → steps.new ≤ steps.old + judge_into_bound (found_bound t.bindings) }
+    ensures one_shape { (t : BindingTable) → IsCompiled t (W.list words.old) → has_two_shapes t.bindings ≡ false →
+        steps.new ≤ steps.old + judge_into_bound (found_bound t.bindings) }
 {
     judge_under(words, settings, item, verdict, steps);
 }

@@ -14,7 +14,8 @@ ghost use Rattle.table_words.specs.Layout.{IsCompiled, AreCompiled};
 ghost use Rattle.verdict_core.specs.Answers.{relayed, silent};
 ghost use Rattle.verdict_core.specs.Bounds.{IsWithin, Reads};
 ghost use Rattle.verdict_core.specs.Lines.{verdict_in};
-ghost use Rattle.verdict_core.specs.Verdicts.{error_lines, is_tunnel_error, lines, message_refusals, quote_lines, quote_refusals, quoted_destination, quoted_source, receiver_lines, relay_lines, six_lines};
+ghost use Rattle.verdict_core.specs.Verdicts.{error_lines, is_tunnel_error, lines, message_refusals, quote_lines, quote_refusals};
+ghost use Rattle.verdict_core.specs.Verdicts.{quoted_destination, quoted_source, receiver_lines, relay_lines, six_lines};
 
 use crate::answers::{drop_silently, ends_at, relayed, silent};
 use crate::verdicts::{Path, Verdict};
