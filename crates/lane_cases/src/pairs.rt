@@ -144,40 +144,45 @@ const KEPT: &str = "nothing
     1 255 more 8 1 0 0 held
     1 255 more 16 1 0 0 overlap
     256 pieces
-    1 256 last 8 1 0 0 many";
+    1 256 last 8 1 0 0 many
+    256 pieces
+    1 256 more 8 1 0 0 many
+    unfinished 0";
+
+const OVERLAP: &str = "nothing
+    7 2 last 16 1 0 1000000000 held
+    7 0 more 8 1 0 1000000000 held
+    7 1 more 16 1 0 1000000000 overlap
+    7 1 more 8 1 0 1000000000 overlap
+    unfinished 1";
+
+const WAITS: &str = "nothing
+    7 0 more 16 1 0 1000000000 held
+    7 2 last 16 1 0 61000000000 whole
+    unfinished
+    7 0 more 16 1 0 1000000000 held
+    7 2 last 16 1 0 61000001000 held 4
+    unfinished 5";
+
+/// The cases, each with what it shows.
+const CASES: [(&str, &str); 8] = [
+    ("late datagrams end whatever the answer", LATE),
+    ("odd comes next", ODD),
+    ("then long", LONG),
+    ("then full, also for a piece that is whole", FULL),
+    ("then an earlier refusal", REFUSED),
+    ("then a repeat, an overlap and one too many", KEPT),
+    ("an overlap refuses the whole datagram", OVERLAP),
+    (
+        "a datagram waits sixty seconds and no microsecond longer",
+        WAITS,
+    ),
+];
 
 #[test]
-fn late_datagrams_end_whatever_the_answer(rt: HostRuntime) -> Result<(), Fail> {
-    assert_eq!(rt; first_other(rt.alloc(), LATE)?, None);
-    Ok(())
-}
-
-#[test]
-fn odd_comes_next(rt: HostRuntime) -> Result<(), Fail> {
-    assert_eq!(rt; first_other(rt.alloc(), ODD)?, None);
-    Ok(())
-}
-
-#[test]
-fn then_long(rt: HostRuntime) -> Result<(), Fail> {
-    assert_eq!(rt; first_other(rt.alloc(), LONG)?, None);
-    Ok(())
-}
-
-#[test]
-fn then_full_also_for_a_piece_that_is_whole(rt: HostRuntime) -> Result<(), Fail> {
-    assert_eq!(rt; first_other(rt.alloc(), FULL)?, None);
-    Ok(())
-}
-
-#[test]
-fn then_an_earlier_refusal(rt: HostRuntime) -> Result<(), Fail> {
-    assert_eq!(rt; first_other(rt.alloc(), REFUSED)?, None);
-    Ok(())
-}
-
-#[test]
-fn then_a_repeat_an_overlap_and_one_too_many(rt: HostRuntime) -> Result<(), Fail> {
-    assert_eq!(rt; first_other(rt.alloc(), KEPT)?, None);
+fn lanes_say_what_the_lines_say(rt: HostRuntime) -> Result<(), Fail> {
+    for (what, lines) in CASES {
+        assert_eq!(rt; first_other(rt.alloc(), lines)?, None, "{what}");
+    }
     Ok(())
 }

@@ -33,42 +33,50 @@ fn are(alloc: Global, numbers: &Numbers, words: SplitWhitespace<'_>) -> Result<b
     Ok(numbers.as_slice() == want.as_slice())
 }
 
-fn bytes(alloc: Global, count: usize, byte: u8) -> Result<Vec<u8>, Fail> {
-    let mut list = Vec::new(alloc);
-    for _ in 0..count {
-        list.push(byte)?;
+/// The numbers of a piece as a line has them: key, offset, whether more follows, how many bytes, which byte, extra, and the time
+/// in nanoseconds.
+fn numbers_of(words: &mut SplitWhitespace<'_>) -> Option<[u64; 7]> {
+    let mut numbers = [0; 7];
+    for number in &mut numbers {
+        *number = match words.next()? {
+            "more" => 1,
+            "last" => 0,
+            word => word.parse().ok()?,
+        };
     }
+    Some(numbers)
+}
+
+/// The piece of these numbers, with this body.
+fn piece_of(numbers: [u64; 7], body: &[u8], number: u32) -> Option<Piece<'_, u32>> {
+    let [key, offset, more, _, _, extra, time] = numbers;
+    Some(Piece {
+        key: key.try_into().ok()?,
+        offset: offset.try_into().ok()?,
+        more: more == 1,
+        extra: extra.try_into().ok()?,
+        head: &[],
+        body,
+        time,
+        number,
+    })
+}
+
+/// The bytes of a piece of these numbers.
+fn body_of(alloc: Global, numbers: [u64; 7]) -> Result<Vec<u8>, Fail> {
+    let mut list = Vec::new(alloc);
+    list.resize(numbers[3].try_into()?, numbers[4].try_into()?)?;
     Ok(list)
 }
 
-/// Feeds the piece of a line: key, offset, `more` or `last`, how many bytes, which byte, extra, and the time in nanoseconds.
-/// Says whether the answer is the word that follows, and the datagrams given up have the numbers behind it.
+/// Feeds the piece of a line, and says whether the answer is the word behind its numbers, and the datagrams given up have the
+/// numbers behind that.
 fn feeds(alloc: Global, lane: &mut Lane<u32>, number: u32, line: &str) -> Result<bool, Fail> {
     let mut words = line.split_whitespace();
-    let key: u32 = words.next().ok_or("key")?.parse()?;
-    let offset: u16 = words.next().ok_or("offset")?.parse()?;
-    let more = words.next().ok_or("more or last")? == "more";
-    let count: usize = words.next().ok_or("bytes")?.parse()?;
-    let byte: u8 = words.next().ok_or("byte")?.parse()?;
-    let extra: u16 = words.next().ok_or("extra")?.parse()?;
-    let time: u64 = words.next().ok_or("time")?.parse()?;
-    let want = words.next().ok_or("answer")?;
-    let body = bytes(alloc, count, byte)?;
-    let fed = lane.feed(
-        alloc,
-        Piece {
-            key,
-            offset,
-            more,
-            extra,
-            head: &[],
-            body: &body,
-            time,
-            number,
-        },
-    )?;
-    let ended = are(alloc, &fed.ended, words)?;
-    Ok(ended && word_of(&fed.answer) == want)
+    let numbers = numbers_of(&mut words).ok_or("numbers")?;
+    let body = body_of(alloc, numbers)?;
+    let fed = lane.feed(alloc, piece_of(numbers, &body, number).ok_or("a piece")?)?;
+    Ok(words.next() == Some(word_of(&fed.answer)) && are(alloc, &fed.ended, words)?)
 }
 
 /// Whether the numbers of what waits are those behind the word `unfinished`.
@@ -82,21 +90,17 @@ fn waits(alloc: Global, lane: &Lane<u32>, line: &str) -> Result<bool, Fail> {
 /// of key 1 at offsets from 0 on.
 fn filled(alloc: Global, one_key: bool) -> Result<Lane<u32>, Fail> {
     let mut lane = Lane::new(alloc);
-    for number in 0..256u16 {
-        let count = u32::from(number);
-        let _fed = lane.feed(
-            alloc,
-            Piece {
-                key: if one_key { 1 } else { count.wrapping_add(1000) },
-                offset: if one_key { number } else { 0 },
-                more: true,
-                extra: 0,
-                head: &[],
-                body: &[1; 8],
-                time: 0,
-                number: count,
-            },
-        )?;
+    for number in 0..256 {
+        let (key, offset) = if one_key {
+            (1, number)
+        } else {
+            (1000 + number, 0)
+        };
+        let piece = piece_of([key, offset, 1, 8, 1, 0, 0], &[1; 8], number as u32);
+        let fed = lane.feed(alloc, piece.ok_or("a piece")?)?;
+        if !matches!(fed.answer, Answer::Held) {
+            return Err("a piece that waits".into());
+        }
     }
     Ok(lane)
 }

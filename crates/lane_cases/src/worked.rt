@@ -1,7 +1,6 @@
 // The pieces of one tunnelled packet, of waits, and of floods.
-use crate::pieces::first_other;
 use aftr_base::OutOfMemory;
-use reassembly_lane::{Answer, FragBad, Lane, Piece};
+use reassembly_lane::{Answer, Fed, FragBad, Lane, Piece};
 use std::alloc::Global;
 use std::test::Fail;
 
@@ -52,18 +51,27 @@ fn sendable<T: Send>(value: T) -> T {
     value
 }
 
+/// Whether a piece waits.
+fn is_held(
+    alloc: Global,
+    lane: &mut Lane<u32>,
+    offset: u16,
+    body: &[u8],
+    next: u8,
+) -> Result<bool, OutOfMemory> {
+    let answer = feed(alloc, lane, offset, offset != 2, body, next)?;
+    Ok(matches!(answer, Answer::Held))
+}
+
 /// The third piece, the third again, the first and the second: whether the last made the datagram whole.
 fn three_pieces(alloc: Global) -> Result<bool, OutOfMemory> {
     let mut lane = sendable(Lane::new(alloc));
-    let third = feed(alloc, &mut lane, 2, false, &DATAGRAM[16..], 5)?;
-    let again = feed(alloc, &mut lane, 2, false, &DATAGRAM[16..], 6)?;
-    let first = feed(alloc, &mut lane, 0, true, &DATAGRAM[..8], 4)?;
-    let second = feed(alloc, &mut lane, 1, true, &DATAGRAM[8..16], 7)?;
-    let waited = matches!(
-        (third, again, first),
-        (Answer::Held, Answer::Held, Answer::Held)
-    );
-    Ok(waited && is_whole(&second, &DATAGRAM))
+    let (first, rest) = DATAGRAM.split_at(8);
+    let (second, third) = rest.split_at(8);
+    let waits = is_held(alloc, &mut lane, 2, third, 5)?
+        && is_held(alloc, &mut lane, 2, third, 6)?
+        && is_held(alloc, &mut lane, 0, first, 4)?;
+    Ok(waits && is_whole(&feed(alloc, &mut lane, 1, true, second, 7)?, &DATAGRAM))
 }
 
 #[test]
@@ -72,88 +80,29 @@ fn three_fragments_out_of_order_with_a_repeat(rt: HostRuntime) -> Result<(), Fai
     Ok(())
 }
 
-const OVERLAP: &str = "nothing
-    7 2 last 16 1 0 1000000000 held
-    7 0 more 8 1 0 1000000000 held
-    7 1 more 16 1 0 1000000000 overlap
-    7 1 more 8 1 0 1000000000 overlap
-    unfinished 1";
-
-#[test]
-fn an_overlap_refuses_the_whole_datagram(rt: HostRuntime) -> Result<(), Fail> {
-    assert_eq!(rt; first_other(rt.alloc(), OVERLAP)?, None);
-    Ok(())
-}
-
-const WAITS: &str = "nothing
-    7 0 more 16 1 0 1000000000 held
-    7 2 last 16 1 0 61000000000 whole
-    unfinished
-    7 0 more 16 1 0 1000000000 held
-    7 2 last 16 1 0 61000001000 held 4
-    unfinished 5";
-
-#[test]
-fn a_datagram_waits_sixty_seconds_and_no_microsecond_longer(rt: HostRuntime) -> Result<(), Fail> {
-    assert_eq!(rt; first_other(rt.alloc(), WAITS)?, None);
-    Ok(())
-}
-
-/// Feeds eight bytes with more to follow.
-fn eight(
-    alloc: Global,
-    lane: &mut Lane<u32>,
-    key: u32,
-    offset: u16,
-    number: u32,
-) -> Result<Answer, OutOfMemory> {
-    let fed = lane.feed(
+/// Feeds the first eight bytes of a datagram of a key of its own.
+fn eight(alloc: Global, lane: &mut Lane<u32>, number: u32, time: u64) -> Result<Fed, OutOfMemory> {
+    lane.feed(
         alloc,
         Piece {
-            key,
-            offset,
+            key: number.wrapping_mul(16),
+            offset: 0,
             more: true,
             extra: 0,
             head: &[4],
             body: b"eight by",
-            time: SECOND,
+            time,
             number,
         },
-    )?;
-    Ok(fed.answer)
-}
-
-/// How many of 257 pieces of one datagram were held, where the last is one too many, and only the datagram waits.
-fn pieces_held(alloc: Global) -> Result<Option<u32>, OutOfMemory> {
-    let mut lane = Lane::new(alloc);
-    let mut held = 0u32;
-    for offset in 0..256u16 {
-        if let Answer::Held = eight(alloc, &mut lane, 7, offset, u32::from(offset))? {
-            held = held.wrapping_add(1);
-        }
-    }
-    let last = eight(alloc, &mut lane, 7, 256, 256)?;
-    let waiting = lane.unfinished(alloc)?;
-    let many = matches!(last, Answer::Refused(FragBad::Many));
-    Ok(if many && waiting.as_slice() == [0].as_slice() {
-        Some(held)
-    } else {
-        None
-    })
-}
-
-#[test]
-fn of_257_pieces_the_last_is_one_too_many(rt: HostRuntime) -> Result<(), Fail> {
-    assert_eq!(rt; pieces_held(rt.alloc())?, Some(256));
-    Ok(())
+    )
 }
 
 /// How many of the first pieces of 300 datagrams were held, and how many refused because 256 wait.
 fn first_pieces(alloc: Global, lane: &mut Lane<u32>) -> Result<(u32, u32), OutOfMemory> {
     let mut held = 0u32;
     let mut full = 0u32;
-    for number in 0..300u32 {
-        match eight(alloc, lane, number.wrapping_mul(16), 0, number)? {
+    for number in 0..300 {
+        match eight(alloc, lane, number, SECOND)?.answer {
             Answer::Held => held = held.wrapping_add(1),
             Answer::Refused(FragBad::Full) => full = full.wrapping_add(1),
             _ => {}
@@ -164,34 +113,21 @@ fn first_pieces(alloc: Global, lane: &mut Lane<u32>) -> Result<(u32, u32), OutOf
 
 /// A piece at second 62, of another key: whether it is held, and the numbers from 0 to 255 are given up with it.
 fn all_end(alloc: Global, lane: &mut Lane<u32>) -> Result<bool, OutOfMemory> {
-    let fed = lane.feed(
-        alloc,
-        Piece {
-            key: 4800,
-            offset: 0,
-            more: true,
-            extra: 0,
-            head: &[4],
-            body: b"eight by",
-            time: 62 * SECOND,
-            number: 300,
-        },
-    )?;
-    let mut all = Vec::new(alloc);
-    for number in 0..256u32 {
-        all.push(number)?;
-    }
-    let held = matches!(fed.answer, Answer::Held);
-    Ok(held && fed.ended.as_slice() == all.as_slice())
+    let fed = eight(alloc, lane, 300, 62 * SECOND)?;
+    let all = fed.ended.as_slice().iter().copied().eq(0..256);
+    Ok(all && matches!(fed.answer, Answer::Held))
+}
+
+/// What of 300 datagrams waits until its time is up, and whether all of that is given up then.
+fn flood(alloc: Global, lane: &mut Lane<u32>) -> Result<(u32, u32, bool), OutOfMemory> {
+    let (held, full) = first_pieces(alloc, lane)?;
+    Ok((held, full, all_end(alloc, lane)?))
 }
 
 #[test]
 fn of_300_datagrams_256_wait_until_their_time_is_up(rt: HostRuntime) -> Result<(), Fail> {
-    let alloc = rt.alloc();
-    let mut lane = Lane::new(alloc);
-    assert_eq!(rt; first_pieces(alloc, &mut lane)?, (256, 44));
-    assert!(rt; all_end(alloc, &mut lane)?);
-    let waiting = lane.unfinished(alloc)?;
-    assert_eq!(rt; waiting.as_slice(), [300].as_slice());
+    let mut lane = Lane::new(rt.alloc());
+    assert_eq!(rt; flood(rt.alloc(), &mut lane)?, (256, 44, true));
+    assert_eq!(rt; lane.unfinished(rt.alloc())?.as_slice(), [300].as_slice());
     Ok(())
 }
