@@ -128,31 +128,42 @@ const V4_TEXTS: &str = "0.0.0.0=0 0.0.0.0
 1. 2.3.4=
 ";
 
-#[test]
-fn reads_and_writes_ipv6(rt: HostRuntime) {
-    for line in V6_TEXTS.lines() {
-        let (text, answer) = line.split_once('=').expect(&rt, "a line has an answer");
-        let Some((bits, canonical)) = answer.split_once(' ') else {
-            assert!(rt; read_v6(text).is_err(), "{text}");
-            continue;
-        };
-        let bits = u128::from_str_radix(bits, 16).expect(&rt, "an address is a number");
-        assert!(rt; read_v6(text) == Ok(V6(bits)), "{text}");
-        assert!(rt; write_v6(V6(bits)).as_str() == canonical, "{text}");
-        assert!(rt; read_v6(canonical) == Ok(V6(bits)), "{text}");
-    }
+// Whether a line is right.
+fn is_right_v6(line: &str) -> bool {
+    let Some((text, answer)) = line.split_once('=') else {
+        return false;
+    };
+    let Some((bits, canonical)) = answer.split_once(' ') else {
+        return read_v6(text).is_err();
+    };
+    let Ok(bits) = u128::from_str_radix(bits, 16) else {
+        return false;
+    };
+    let address = V6(bits);
+    read_v6(text) == Ok(address)
+        && write_v6(address).as_str() == canonical
+        && read_v6(canonical) == Ok(address)
+}
+
+fn is_right_v4(line: &str) -> bool {
+    let Some((text, answer)) = line.split_once('=') else {
+        return false;
+    };
+    let Some((bits, canonical)) = answer.split_once(' ') else {
+        return read_v4(text).is_err();
+    };
+    let Ok(bits) = u32::from_str_radix(bits, 16) else {
+        return false;
+    };
+    read_v4(text) == Ok(V4(bits)) && write_v4(V4(bits)).as_str() == canonical
 }
 
 #[test]
-fn reads_and_writes_ipv4(rt: HostRuntime) {
+fn texts_are_read_and_written(rt: HostRuntime) {
+    for line in V6_TEXTS.lines() {
+        assert!(rt; is_right_v6(line), "{line}");
+    }
     for line in V4_TEXTS.lines() {
-        let (text, answer) = line.split_once('=').expect(&rt, "a line has an answer");
-        let Some((bits, canonical)) = answer.split_once(' ') else {
-            assert!(rt; read_v4(text).is_err(), "{text}");
-            continue;
-        };
-        let bits = u32::from_str_radix(bits, 16).expect(&rt, "an address is a number");
-        assert!(rt; read_v4(text) == Ok(V4(bits)), "{text}");
-        assert!(rt; write_v4(V4(bits)).as_str() == canonical, "{text}");
+        assert!(rt; is_right_v4(line), "{line}");
     }
 }

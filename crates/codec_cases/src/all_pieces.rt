@@ -3,12 +3,12 @@
 use crate::block_rounds::ODD;
 use crate::blocks::{
     BIG_INTERFACE, BIG_SECTION, ETHERNET, HEAD, IN_NANOS, INTERFACE, OTHER, SECTION, SIMPLE_HEAD,
-    SIMPLE_TAIL, TAIL, joined, reads_as,
+    SIMPLE_TAIL, TAIL, packets, push_next, reads_as,
 };
 use crate::captures::{BY_SCAPY, BY_TEXT2PCAP, CAPTURED, is_first};
 use crate::pipes::{Pipe, gives, joined_rounds, pipe_of, told_of};
 use crate::rounds::{MOST, SECOND, THIRD, TOO_LONG};
-use capture_io::{CaptureError, CaptureReader, Next, Records, next_record, read_header};
+use capture_io::{CaptureReader, Next, Records, next_record, read_header};
 use case_data::{CAPTURE, UP, UP_TUNNEL};
 use pcapng_io::{NgReader, Reader};
 use std::alloc::Global;
@@ -20,8 +20,8 @@ const FAR: u64 = 1_000_000;
 /// As many bytes as the longest of them and more.
 const WHOLE: usize = 400;
 
-// What a capture has, by a letter: a capture of the classic format, parts of blocks, and the parts of a packet.
-fn part(letter: u8) -> &'static [u8] {
+/// What a capture has, by a letter: a capture of the classic format, parts of blocks, and the parts of a packet.
+pub(crate) fn part(letter: u8) -> &'static [u8] {
     match letter {
         b'c' => CAPTURE,
         b'x' => &BY_TEXT2PCAP,
@@ -51,6 +51,15 @@ fn part(letter: u8) -> &'static [u8] {
     }
 }
 
+/// The bytes of these parts, one behind the other.
+pub(crate) fn parts_of(alloc: Global, parts: &str) -> Result<Vec<u8>, Fail> {
+    let mut bytes = Vec::new(alloc);
+    'parts: for letter in parts.bytes() {
+        bytes.extend_from_slice(part(letter))?;
+    }
+    Ok(bytes)
+}
+
 // The first bytes of these parts, so many, with one byte changed.
 fn changed(
     alloc: Global,
@@ -59,43 +68,12 @@ fn changed(
     place: usize,
     byte: u8,
 ) -> Result<Vec<u8>, Fail> {
-    let mut bytes = Vec::new(alloc);
-    'parts: for letter in parts.bytes() {
-        bytes.extend_from_slice(part(letter))?;
-    }
+    let mut bytes = parts_of(alloc, parts)?;
     bytes.truncate(size);
     if let Some(there) = bytes.get_mut(place) {
         *there = byte;
     }
     Ok(bytes)
-}
-
-// Tells what was found, and where the next record stands if it was one.
-fn push_next(
-    alloc: Global,
-    told: &mut String,
-    found: Result<Next, CaptureError>,
-) -> Result<Option<u64>, Fail> {
-    match found {
-        Ok(Next::Rec(record)) => {
-            let count = record.bytes.as_slice().len();
-            let next_at = record.next_at;
-            let text = format!(in alloc;
-                "{}.{} {count} {next_at}; ",
-                record.seconds, record.fraction
-            )?;
-            told.push_str(&text)?;
-            Ok(Some(next_at))
-        }
-        Ok(Next::End) => {
-            told.push_str("end")?;
-            Ok(None)
-        }
-        Err(error) => {
-            told.push_str(&format!(in alloc; "{error}")?)?;
-            Ok(None)
-        }
-    }
 }
 
 fn classic_records(alloc: Global, pipe: &mut Pipe) -> Result<String, Fail> {
@@ -110,21 +88,6 @@ fn classic_records(alloc: Global, pipe: &mut Pipe) -> Result<String, Fail> {
         match push_next(alloc, &mut told, found)? {
             Some(next_at) => at = next_at,
             None => return Ok(told),
-        }
-    }
-    Ok(told)
-}
-
-fn packets(alloc: Global, pipe: &mut Pipe) -> Result<String, Fail> {
-    let mut reader = match NgReader::open(alloc, pipe, "in") {
-        Ok(reader) => reader,
-        Err(error) => return Ok(format!(in alloc; "{error}")?),
-    };
-    let mut told = String::new(alloc);
-    'packets: for number in 0..9 {
-        let found = reader.next(alloc, pipe, "in", number);
-        if push_next(alloc, &mut told, found)?.is_none() {
-            return Ok(told);
         }
     }
     Ok(told)
@@ -145,7 +108,7 @@ fn told(alloc: Global, way: Way, pipe: &mut Pipe) -> Result<String, Fail> {
             joined_rounds(alloc, &told)
         }
         Way::Records => classic_records(alloc, pipe),
-        Way::Packets => packets(alloc, pipe),
+        Way::Packets => packets(alloc, pipe, 0),
     }
 }
 
@@ -229,8 +192,8 @@ fn tells_in_all_pieces(alloc: Global, bytes: &[u8], text: &str) -> Result<bool, 
     Ok(true)
 }
 
-// A number, and what stands behind it.
-fn number_of(line: &str) -> Result<(usize, &str), Fail> {
+/// A number, and what stands behind it.
+pub(crate) fn number_of(line: &str) -> Result<(usize, &str), Fail> {
     let (number, rest) = line.split_once(' ').ok_or("a number")?;
     Ok((number.parse()?, rest))
 }
@@ -256,9 +219,8 @@ fn first_wrong(alloc: Global, lines: &'static str) -> Result<&'static str, Fail>
     Ok("")
 }
 
-#[test]
-fn classic_captures_say_in_pieces_what_they_say_whole(rt: HostRuntime) -> Result<(), Fail> {
-    let lines = "c 112 0 212 1.0 72 112; end
+// Classic captures; blocks; simple packets and resolutions.
+const LINES: &str = "c 112 0 212 1.0 72 112; end
 c 23 0 212 cut header at 0
 c 112 0 31 magic
 c 112 4 3 version
@@ -270,14 +232,8 @@ c 112 34 4 too long at 24
 x 112 0 77 1795739461.1000 72 112; end
 y 90 0 161 1700000000.123456789 50 90; end
 c23 147 0 212 1.0 72 112; 2.5 3 131; 3.6 0 147; end
-cl 128 0 212 1.0 72 112; too long at 112";
-    assert_eq!(rt; first_wrong(rt.alloc(), lines)?, "");
-    Ok(())
-}
-
-#[test]
-fn blocks_say_in_pieces_what_they_say_whole(rt: HostRuntime) -> Result<(), Fail> {
-    let lines = "sihtur 152 0 10 1.0 72 152; end
+cl 128 0 212 1.0 72 112; too long at 112
+sihtur 152 0 10 1.0 72 152; end
 siohtur 164 0 10 1.0 72 164; end
 sihtur 151 0 10 ng cut 48
 siehtur 172 0 10 ng mixed-links 48
@@ -299,14 +255,8 @@ sihtur 152 53 1 ng cut 48
 sihtur 152 56 1 ng interface 48
 sihtur 152 63 255 ng time 48
 sihtur 152 68 73 ng captured 48
-sihtur 152 70 4 ng too-long 48";
-    assert_eq!(rt; first_wrong(rt.alloc(), lines)?, "");
-    Ok(())
-}
-
-#[test]
-fn simple_packets_and_resolutions_are_so_in_pieces(rt: HostRuntime) -> Result<(), Fail> {
-    let lines = "SIHtu8R 144 43 80 0.0 80 144; end
+sihtur 152 70 4 ng too-long 48
+SIHtu8R 144 43 80 0.0 80 144; end
 SIHtu8R 144 43 0 ng captured 48
 SIHtu8R 144 43 81 ng captured 48
 SIHtu8R 144 31 5 ng interface 48
@@ -324,12 +274,15 @@ snhtur 164 46 2 ng options 28
 snhtur 164 46 200 ng options 28
 snhtur 164 44 8 1.0 72 164; end
 snhtur 164 44 0 1.0 72 164; end";
-    assert_eq!(rt; first_wrong(rt.alloc(), lines)?, "");
+
+#[test]
+fn captures_say_in_pieces_what_they_say_whole(rt: HostRuntime) -> Result<(), Fail> {
+    assert_eq!(rt; first_wrong(rt.alloc(), LINES)?, "");
     Ok(())
 }
 
-// Whether the first record of a capture is the first datagram in its tunnel, one by one and in a round.
-fn begins_with_datagram(alloc: Global, bytes: &[u8], most: usize) -> Result<bool, Fail> {
+// Whether the first record of a capture is the first datagram in its tunnel, read alone.
+fn begins_alone(alloc: Global, bytes: &[u8], most: usize) -> Result<bool, Fail> {
     let mut pipe = pipe_of(alloc, bytes, most, FAR)?;
     let found = if bytes.starts_with(SECTION) {
         let mut reader = NgReader::open(alloc, &mut pipe, "in")?;
@@ -337,19 +290,27 @@ fn begins_with_datagram(alloc: Global, bytes: &[u8], most: usize) -> Result<bool
     } else {
         next_record(alloc, &mut pipe, "in", CAPTURED, 24, 0)?
     };
-    let alone = match found {
+    Ok(match found {
         Next::Rec(record) => is_first(record.bytes.as_slice()),
         Next::End => false,
-    };
+    })
+}
+
+// The same in a round.
+fn begins_in_round(alloc: Global, bytes: &[u8], most: usize) -> Result<bool, Fail> {
     let mut pipe = pipe_of(alloc, bytes, most, FAR)?;
     let mut reader = Reader::open(alloc, &mut pipe, "in")?;
     let round = reader.read_round(alloc, &mut pipe, "in", 0, MOST, Records::new(alloc))?;
-    Ok(alone && !round.records.is_empty() && is_first(round.records.get(0).bytes))
+    Ok(!round.records.is_empty() && is_first(round.records.get(0).bytes))
+}
+
+fn begins_with_datagram(alloc: Global, bytes: &[u8], most: usize) -> Result<bool, Fail> {
+    Ok(begins_alone(alloc, bytes, most)? && begins_in_round(alloc, bytes, most)?)
 }
 
 #[test]
 fn records_have_their_bytes_in_pieces(rt: HostRuntime) -> Result<(), Fail> {
-    let blocks = joined(rt.alloc(), &[SECTION, INTERFACE, HEAD, UP_TUNNEL, UP, TAIL])?;
+    let blocks = parts_of(rt.alloc(), "sihtur")?;
     for most in 1..=64 {
         assert!(rt; begins_with_datagram(rt.alloc(), CAPTURE, most)?, "{most}");
         assert!(rt; begins_with_datagram(rt.alloc(), &blocks, most)?, "{most}");
@@ -357,19 +318,22 @@ fn records_have_their_bytes_in_pieces(rt: HostRuntime) -> Result<(), Fail> {
     Ok(())
 }
 
-#[test]
-fn a_section_has_65536_interfaces_at_most(rt: HostRuntime) -> Result<(), Fail> {
-    let alloc = rt.alloc();
-    let packet = joined(alloc, &[HEAD, UP_TUNNEL, UP, TAIL])?;
+// Whether a section with so many interfaces and a packet is told as this, in a round and packet by packet.
+fn is_told(alloc: Global, interfaces: u32, text: &str) -> Result<bool, Fail> {
     let mut bytes = SECTION.to_vec(alloc)?;
-    'interfaces: for _ in 0..65_536 {
+    'interfaces: for _ in 0..interfaces {
         bytes.extend_from_slice(INTERFACE)?;
     }
-    let full = joined(alloc, &[&bytes, &packet])?;
-    let more = joined(alloc, &[&bytes, INTERFACE, &packet])?;
-    assert!(rt; gives(alloc, &full, 5_000_000, "1.0 72 1310852; end")?);
-    assert!(rt; reads_as(alloc, &[&full], "1.0 72 1310852; end")?);
-    assert!(rt; gives(alloc, &more, 5_000_000, "ng interfaces 1310748")?);
-    assert!(rt; reads_as(alloc, &[&more], "ng interfaces 1310748")?);
+    bytes.extend_from_slice(&parts_of(alloc, "htur")?)?;
+    Ok(gives(alloc, &bytes, 5_000_000, text)? && reads_as(alloc, &bytes, text)?)
+}
+
+#[test]
+fn a_section_has_65536_interfaces_at_most(rt: HostRuntime) -> Result<(), Fail> {
+    let told = [
+        is_told(rt.alloc(), 65_536, "1.0 72 1310852; end")?,
+        is_told(rt.alloc(), 65_537, "ng interfaces 1310748")?,
+    ];
+    assert_eq!(rt; told, [true; 2]);
     Ok(())
 }

@@ -1,14 +1,11 @@
 // Captures of blocks, read in rounds: whole files, files that answer little, each read failing, and a block longer than a buffer.
 ghost use Rattle.std.specs.Prelude.{◌≤◌};
 
-use crate::blocks::{
-    BIG_INTERFACE, BIG_SECTION, HEAD, INTERFACE, OTHER, SECTION, SIMPLE_HEAD, SIMPLE_TAIL, TAIL,
-    joined,
-};
+use crate::all_pieces::{number_of, parts_of};
+use crate::blocks::{INTERFACE, SECTION, joined};
 use crate::rounds::{MOST, Sparing, Told, tell_rounds};
 use aftr_base::MemFiles;
 use capture_io::Records;
-use case_data::{UP, UP_TUNNEL};
 use pcapng_io::NgReader;
 use std::alloc::Global;
 use std::test::Fail;
@@ -44,56 +41,54 @@ fn told(
     }
 }
 
-fn packet(alloc: Global) -> Result<Vec<u8>, Fail> {
-    joined(alloc, &[HEAD, UP_TUNNEL, UP, TAIL])
-}
+/// A packet, a block that says nothing, and a packet of a second section of the other order, by the letters of their parts.
+pub(crate) const TWO_SECTIONS: &str = "sihturoSIHtu8R";
 
-fn simple(alloc: Global) -> Result<Vec<u8>, Fail> {
-    joined(
-        alloc,
-        &[SIMPLE_HEAD, UP_TUNNEL, UP, b"abcdefgh", SIMPLE_TAIL],
-    )
-}
+// A line is of: the parts of a capture, how many bytes of it, how many a read gives at most, how many a round has, which read fails, and
+// what is told: where rounds end, where a bad block is, and where one is cut.
+const LINES: &str = "sihturoSIHtu8R 308 1000 500000 1000000 1.0 72 152; 1.0 80 308; | end
+sihturoSIHtu8R 308 1000 72 1000000 1.0 72 152; | 1.0 80 308; | end
+sihturoSIHtu8R 308 1000 73 1000000 1.0 72 152; 1.0 80 308; | end
+sihturoSIHtu8R 308 150 500000 1000000 1.0 72 152; | 1.0 80 308; | end
+sihturoSIHtu8R 308 7 500000 1000000 1.0 72 152; | 1.0 80 308; | end
+sihturoSIHtu8R 308 1 500000 1000000 1.0 72 152; | 1.0 80 308; | end
+sihturd 164 1000 500000 1000000 1.0 72 152; ng length 152
+sihturd 164 1000 500000 4 fault
+sihturd 164 1000 500000 5 1.0 72 152; ng length 152
+sihturd 164 104 500000 1000000 1.0 72 152; | ng length 152
+sihturd 164 104 500000 5 1.0 72 152; | fault
+sihturd 164 1 500000 163 1.0 72 152; | fault
+sihturd 164 1 500000 164 1.0 72 152; | ng length 152
+sihtur 151 1000 500000 1000000 ng cut 48
+sihtur 151 1000 500000 5 fault";
 
-// A packet, a block that says nothing, and a packet of a second section of the other order.
-pub(crate) fn two_sections(alloc: Global) -> Result<Vec<u8>, Fail> {
-    let first = packet(alloc)?;
-    let second = simple(alloc)?;
-    joined(
-        alloc,
-        &[
-            SECTION,
-            INTERFACE,
-            &first,
-            OTHER,
-            BIG_SECTION,
-            BIG_INTERFACE,
-            &second,
-        ],
-    )
+// What is told of the capture of a line, the room of the rounds, and what is right.
+fn told_of_line(
+    alloc: Global,
+    line: &'static str,
+    room: Records,
+) -> Result<(Told, &'static str), Fail> {
+    let (parts, rest) = line.split_once(' ').ok_or("parts")?;
+    let (size, rest) = number_of(rest)?;
+    let (most, rest) = number_of(rest)?;
+    let (most_bytes, rest) = number_of(rest)?;
+    let (call, text) = number_of(rest)?;
+    let mut bytes = parts_of(alloc, parts)?;
+    bytes.truncate(size);
+    let most_bytes = most_bytes.clamp(1, MOST);
+    Ok((
+        told(alloc, &bytes, most, most_bytes, call as u64, room)?,
+        text,
+    ))
 }
 
 #[test]
-fn rounds_of_blocks_end_at_their_bytes_or_where_a_read_ends(rt: HostRuntime) -> Result<(), Fail> {
-    let alloc = rt.alloc();
-    let bytes = two_sections(alloc)?;
-    let cases = [
-        (1_000, MOST, "1.0 72 152; 1.0 80 308; | end"),
-        (1_000, 72, "1.0 72 152; | 1.0 80 308; | end"),
-        (1_000, 73, "1.0 72 152; 1.0 80 308; | end"),
-        (150, MOST, "1.0 72 152; | 1.0 80 308; | end"),
-        (7, MOST, "1.0 72 152; | 1.0 80 308; | end"),
-        (1, MOST, "1.0 72 152; | 1.0 80 308; | end"),
-    ];
-    let mut room = Records::new(alloc);
-    for (most, most_bytes, text) in cases {
-        let (answer, back) = told(alloc, &bytes, most, most_bytes, NO_CALL, room)?;
+fn rounds_of_blocks_are_told(rt: HostRuntime) -> Result<(), Fail> {
+    let mut room = Records::new(rt.alloc());
+    for line in LINES.lines() {
+        let ((answer, back), text) = told_of_line(rt.alloc(), line, room)?;
         room = back;
-        assert_eq!(rt;
-            answer.as_str(),
-            text,
-            "{most} bytes a read, {most_bytes} a round"
-        );
+        assert_eq!(rt; answer.as_str(), text, "{line}");
     }
     Ok(())
 }
@@ -118,7 +113,7 @@ fn text_of(call: u64) -> &'static str {
 #[test]
 fn the_packets_before_a_fault_are_handed_up(rt: HostRuntime) -> Result<(), Fail> {
     let alloc = rt.alloc();
-    let bytes = two_sections(alloc)?;
+    let bytes = parts_of(alloc, TWO_SECTIONS)?;
     let mut room = Records::new(alloc);
     for call in 0..27 {
         let (answer, back) = told(alloc, &bytes, 13, MOST, call, room)?;
@@ -129,44 +124,15 @@ fn the_packets_before_a_fault_are_handed_up(rt: HostRuntime) -> Result<(), Fail>
 }
 
 #[test]
-fn a_bad_block_is_told_where_no_read_failed(rt: HostRuntime) -> Result<(), Fail> {
-    let alloc = rt.alloc();
-    let first = packet(alloc)?;
-    let bytes = joined(alloc, &[SECTION, INTERFACE, &first, ODD])?;
-    let cases = [
-        (1_000, NO_CALL, "1.0 72 152; ng length 152"),
-        (1_000, 4, "fault"),
-        (1_000, 5, "1.0 72 152; ng length 152"),
-        (104, NO_CALL, "1.0 72 152; | ng length 152"),
-        (104, 5, "1.0 72 152; | fault"),
-        (1, 48 + 115, "1.0 72 152; | fault"),
-        (1, 48 + 116, "1.0 72 152; | ng length 152"),
-    ];
-    let mut room = Records::new(alloc);
-    for (most, call, text) in cases {
-        let (answer, back) = told(alloc, &bytes, most, MOST, call, room)?;
-        room = back;
-        assert_eq!(rt; answer.as_str(), text, "{most} bytes a read, call {call}");
-    }
-    let cut = first.get(..103).unwrap_or(&first);
-    let bytes = joined(alloc, &[SECTION, INTERFACE, cut])?;
-    let (answer, back) = told(alloc, &bytes, 1_000, MOST, NO_CALL, room)?;
-    assert_eq!(rt; answer.as_str(), "ng cut 48");
-    let (answer, _) = told(alloc, &bytes, 1_000, MOST, 5, back)?;
-    assert_eq!(rt; answer.as_str(), "fault");
-    Ok(())
-}
-
-#[test]
 fn a_block_longer_than_a_buffer_is_passed(rt: HostRuntime) -> Result<(), Fail> {
     let alloc = rt.alloc();
-    let first = packet(alloc)?;
+    let packet = parts_of(alloc, "htur")?;
     let zeros = vec![in alloc; 0; 1_499_988]?;
     let head = b"\x05\0\0\0\x60\xe3\x16\0";
     let tail = b"\x60\xe3\x16\0";
     let bytes = joined(
         alloc,
-        &[SECTION, INTERFACE, &first, head, &zeros, tail, &first],
+        &[SECTION, INTERFACE, &packet, head, &zeros, tail, &packet],
     )?;
     let mut room = Records::new(alloc);
     for most in [400_000, 5_000_000] {

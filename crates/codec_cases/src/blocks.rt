@@ -1,9 +1,8 @@
 // Captures of blocks, packet by packet: parts of them, and what is written.
-ghost use Rattle.std.specs.Prelude.{◌≤◌, ◌^◌};
-
-use aftr_base::{OutOfMemory, QuietFiles};
-use capture_io::{Form, Next};
-use case_data::{UP, UP_LOWERED, UP_TUNNEL};
+use crate::all_pieces::parts_of;
+use aftr_base::{Files, OutOfMemory, QuietFiles};
+use capture_io::{CaptureError, Form, Next};
+use case_data::UP_LOWERED;
 use pcapng_io::{NgReader, is_ng, put_enhanced, put_section};
 use std::alloc::Global;
 use std::test::Fail;
@@ -56,106 +55,122 @@ fn files_with(alloc: Global, bytes: &[u8]) -> Result<QuietFiles, OutOfMemory> {
     Ok(files)
 }
 
-// What a file reads as: each record's time, its length and where it ends, and then how they end.
-fn reading(alloc: Global, bytes: &[u8], first: u32) -> Result<String, Fail>
-    requires { first ≤ 2 ^ 31 }
-{
-    let mut files = files_with(alloc, bytes)?;
-    let mut text = String::new(alloc);
-    let mut reader = match NgReader::open(alloc, &mut files, "in") {
+/// Tells what was found, and where the next record stands if it was one.
+pub(crate) fn push_next(
+    alloc: Global,
+    told: &mut String,
+    found: Result<Next, CaptureError>,
+) -> Result<Option<u64>, Fail> {
+    match found {
+        Ok(Next::Rec(record)) => {
+            let count = record.bytes.as_slice().len();
+            let next_at = record.next_at;
+            let text = format!(in alloc;
+                "{}.{} {count} {next_at}; ",
+                record.seconds, record.fraction
+            )?;
+            told.push_str(&text)?;
+            Ok(Some(next_at))
+        }
+        Ok(Next::End) => {
+            told.push_str("end")?;
+            Ok(None)
+        }
+        Err(error) => {
+            told.push_str(&format!(in alloc; "{error}")?)?;
+            Ok(None)
+        }
+    }
+}
+
+/// What a file reads as, from the packet of this number on: each record's time, its length and where it ends, and then how they
+/// end.
+pub(crate) fn packets<F: Files>(alloc: Global, files: &mut F, first: u32) -> Result<String, Fail> {
+    let mut reader = match NgReader::open(alloc, files, "in") {
         Ok(reader) => reader,
         Err(error) => return Ok(format!(in alloc; "{error}")?),
     };
-    let mut number = first;
-    'packets: for _ in 0..9 {
-        if number > 0x8000_0000 {
-            break;
-        }
-        match reader.next(alloc, &mut files, "in", number) {
-            Ok(Next::Rec(r)) => {
-                let count = r.bytes.as_slice().len();
-                text.push_str(&format!(in alloc;
-                    "{}.{} {count} {}; ",
-                    r.seconds, r.fraction, r.next_at
-                )?)?;
-                number = number.saturating_add(1);
-            }
-            Ok(Next::End) => {
-                text.push_str("end")?;
-                break;
-            }
-            Err(error) => {
-                text.push_str(&format!(in alloc; "{error}")?)?;
-                break;
-            }
+    let mut told = String::new(alloc);
+    'packets: for turn in 0..9u32 {
+        let number = first.saturating_add(turn).min(0x8000_0000);
+        let found = reader.next(alloc, files, "in", number);
+        if push_next(alloc, &mut told, found)?.is_none() {
+            return Ok(told);
         }
     }
-    Ok(text)
+    Ok(told)
 }
 
-/// Whether a file of these parts reads as this, packet by packet.
-pub(crate) fn reads_as(alloc: Global, parts: &[&[u8]], wanted: &str) -> Result<bool, Fail> {
-    let bytes = joined(alloc, parts)?;
-    Ok(reading(alloc, &bytes, 0)?.as_str() == wanted)
+/// Whether bytes read as this, from the packet of this number on.
+fn reads_from(alloc: Global, bytes: &[u8], first: u32, wanted: &str) -> Result<bool, Fail> {
+    let mut files = files_with(alloc, bytes)?;
+    Ok(packets(alloc, &mut files, first)?.as_str() == wanted)
+}
+
+/// Whether a file of these bytes reads as this, packet by packet.
+pub(crate) fn reads_as(alloc: Global, bytes: &[u8], wanted: &str) -> Result<bool, Fail> {
+    reads_from(alloc, bytes, 0, wanted)
 }
 
 // Others stand in `all_pieces`.
 #[test]
 fn what_has_no_packet_or_too_many_is_told_so(rt: HostRuntime) -> Result<(), Fail> {
     let alloc = rt.alloc();
-    assert!(rt; reads_as(alloc, &[], "end")?);
-    let bytes = joined(alloc, &[SECTION, INTERFACE, HEAD, UP_TUNNEL, UP, TAIL])?;
-    assert_eq!(rt;
-        reading(alloc, &bytes, 0x8000_0000)?.as_str(),
-        "ng too-many 48"
-    );
-    let bytes = joined(
-        alloc,
-        &[
-            BIG_SECTION,
-            BIG_INTERFACE,
-            SIMPLE_HEAD,
-            UP_TUNNEL,
-            UP,
-            b"abcdefgh",
-            SIMPLE_TAIL,
-        ],
-    )?;
-    assert_eq!(rt;
-        reading(alloc, &bytes, 0x8000_0000)?.as_str(),
-        "ng too-many 48"
-    );
+    let enhanced = parts_of(alloc, "sihtur")?;
+    let simple = parts_of(alloc, "SIHtu8R")?;
+    let told = [
+        reads_as(alloc, b"", "end")?,
+        reads_from(alloc, &enhanced, 0x8000_0000, "ng too-many 48")?,
+        reads_from(alloc, &simple, 0x8000_0000, "ng too-many 48")?,
+    ];
+    assert_eq!(rt; told, [true; 3]);
     Ok(())
+}
+
+/// What stands before and behind a packet of 32 bytes at 1 second, in nanoseconds, and before one of three bytes at the last one.
+const FIRST_HEAD: &[u8; 28] =
+    b"\x06\0\0\0\x40\0\0\0\0\0\0\0\0\0\0\0\0\xca\x9a\x3b\x20\0\0\0\x20\0\0\0";
+
+const FIRST_TAIL: &[u8; 4] = b"\x40\0\0\0";
+
+const LAST_HEAD: &[u8; 28] =
+    b"\x06\0\0\0\x24\0\0\0\0\0\0\0\xff\xc9\x9a\x3b\xff\xff\xff\xff\x03\0\0\0\x03\0\0\0";
+
+// A section, and two packets.
+fn written(alloc: Global) -> Result<Vec<u8>, Fail> {
+    let mut bytes = put_section().to_vec(alloc)?;
+    bytes.extend_from_slice(put_enhanced(alloc, 1, 0, UP_LOWERED)?.as_slice())?;
+    bytes.extend_from_slice(put_enhanced(alloc, u32::MAX, 999_999_999, b"abc")?.as_slice())?;
+    Ok(bytes)
+}
+
+// Whether the file is one of blocks, and whether another is, and what packets it has.
+fn form_of(alloc: Global, bytes: &[u8]) -> Result<(bool, bool, Form), Fail> {
+    let mut files = files_with(alloc, bytes)?;
+    let is_one = is_ng(alloc, &mut files, "in")?;
+    let is_other = is_ng(alloc, &mut files, "out")?;
+    Ok((
+        is_one,
+        is_other,
+        NgReader::open(alloc, &mut files, "in")?.form(),
+    ))
 }
 
 #[test]
 fn what_is_written_is_read_back(rt: HostRuntime) -> Result<(), Fail> {
     let alloc = rt.alloc();
-    let section = put_section();
-    let first = put_enhanced(alloc, 1, 0, UP_LOWERED)?;
-    let second = put_enhanced(alloc, u32::MAX, 999_999_999, b"abc")?;
-    let head = b"\x06\0\0\0\x40\0\0\0\0\0\0\0\0\0\0\0\0\xca\x9a\x3b\x20\0\0\0\x20\0\0\0";
-    assert!(rt; section.starts_with(SECTION) && section.ends_with(IN_NANOS));
-    assert!(rt;
-        first.as_slice().starts_with(head) && first.as_slice().ends_with(b"test\x40\0\0\0")
-    );
-    assert!(rt; second.as_slice().ends_with(b"abc\0\x24\0\0\0"));
-    let bytes = joined(alloc, &[&section, first.as_slice(), second.as_slice()])?;
-    assert_eq!(rt;
-        reading(alloc, &bytes, 0)?.as_str(),
-        "1.0 32 124; 4294967295.999999999 3 160; end"
-    );
-    let mut files = files_with(alloc, &bytes)?;
-    assert_eq!(rt; is_ng(alloc, &mut files, "in"), Ok(true));
-    assert_eq!(rt; is_ng(alloc, &mut files, "out"), Ok(false));
-    let reader = NgReader::open(alloc, &mut files, "in")?;
-    assert_eq!(rt;
-        reader.form(),
-        Form {
-            big: false,
-            nano: true,
-            link: 101
-        }
-    );
+    let bytes = written(alloc)?;
+    let last = b"abc\0\x24\0\0\0";
+    let wanted: [&[u8]; 7] = [
+        SECTION, IN_NANOS, FIRST_HEAD, UP_LOWERED, FIRST_TAIL, LAST_HEAD, last,
+    ];
+    assert!(rt; bytes == joined(alloc, &wanted)?);
+    assert!(rt; reads_as(alloc, &bytes, "1.0 32 124; 4294967295.999999999 3 160; end")?);
+    let form = Form {
+        big: false,
+        nano: true,
+        link: 101,
+    };
+    assert_eq!(rt; form_of(alloc, &bytes)?, (true, false, form));
     Ok(())
 }

@@ -41,66 +41,72 @@ fn files_with(alloc: Global, bytes: &[u8]) -> Result<QuietFiles, OutOfMemory> {
     Ok(files)
 }
 
+/// The bytes are these parts, one behind the other.
+pub(crate) fn is_both(bytes: &[u8], first: &[u8], second: &[u8]) -> bool {
+    match bytes.strip_prefix(first) {
+        Some(rest) => rest == second,
+        None => false,
+    }
+}
+
 /// The bytes are the first datagram in its tunnel.
 pub(crate) fn is_first(bytes: &[u8]) -> bool {
-    bytes.len() == 72 && bytes.starts_with(UP_TUNNEL) && bytes.ends_with(UP)
+    is_both(bytes, UP_TUNNEL, UP)
+}
+
+// Whether a capture of this form has one record, of this time and this frame.
+fn has_just(
+    alloc: Global,
+    capture: &[u8],
+    form: Form,
+    time: u64,
+    frame: Frame<'_>,
+) -> Result<bool, Fail> {
+    let mut files = files_with(alloc, capture)?;
+    let told = read_header(alloc, &mut files, "in")?;
+    let Next::Rec(record) = next_record(alloc, &mut files, "in", told, 24, 0)? else {
+        return Ok(false);
+    };
+    let behind = next_record(alloc, &mut files, "in", told, record.next_at, 1)?;
+    Ok(
+        told == form
+            && time_of(told, record.seconds, record.fraction) == time
+            && frame_of(told.link, record.bytes.as_slice()) == frame
+            && matches!(behind, Next::End),
+    )
 }
 
 #[test]
-fn what_text2pcap_wrote_is_read(rt: HostRuntime) -> Result<(), Fail> {
-    let alloc = rt.alloc();
-    let mut files = files_with(alloc, &BY_TEXT2PCAP)?;
-    let form = read_header(alloc, &mut files, "in")?;
-    assert_eq!(rt;
-        form,
-        Form {
-            big: false,
-            nano: true,
-            link: 101
-        }
-    );
-    let Next::Rec(record) = next_record(alloc, &mut files, "in", form, 24, 0)? else {
-        return Err(Fail::from("no record"));
+fn what_other_tools_wrote_is_read(rt: HostRuntime) -> Result<(), Fail> {
+    let little = Form {
+        big: false,
+        nano: true,
+        link: 101,
     };
-    assert!(rt; is_first(record.bytes.as_slice()));
-    assert_eq!(rt;
-        time_of(form, record.seconds, record.fraction),
-        1_795_739_461_000_001_000
-    );
-    assert_eq!(rt; record.next_at, 112);
-    assert!(rt;
-        matches!(
-            next_record(alloc, &mut files, "in", form, 112, 1)?,
-            Next::End
-        )
-    );
-    Ok(())
-}
-
-#[test]
-fn what_scapy_wrote_is_read(rt: HostRuntime) -> Result<(), Fail> {
-    let alloc = rt.alloc();
-    let mut files = files_with(alloc, &BY_SCAPY)?;
-    let form = read_header(alloc, &mut files, "in")?;
-    assert_eq!(rt;
-        form,
-        Form {
-            big: true,
-            nano: true,
-            link: 1
-        }
-    );
-    let Next::Rec(record) = next_record(alloc, &mut files, "in", form, 24, 0)? else {
-        return Err(Fail::from("no record"));
+    let big = Form {
+        big: true,
+        nano: true,
+        link: 1,
     };
-    assert_eq!(rt;
-        time_of(form, record.seconds, record.fraction),
-        1_700_000_000_123_456_789
-    );
-    assert_eq!(rt;
-        frame_of(form.link, record.bytes.as_slice()),
-        Frame::V4(&BY_SCAPY[58..])
-    );
+    let (_, datagram) = CAPTURE.split_at(40);
+    let (_, behind_tag) = BY_SCAPY.split_at(58);
+    let read = [
+        has_just(
+            rt.alloc(),
+            &BY_TEXT2PCAP,
+            little,
+            1_795_739_461_000_001_000,
+            Frame::V6(datagram),
+        )?,
+        has_just(
+            rt.alloc(),
+            &BY_SCAPY,
+            big,
+            1_700_000_000_123_456_789,
+            Frame::V4(behind_tag),
+        )?,
+    ];
+    assert_eq!(rt; read, [true; 2]);
     Ok(())
 }
 
@@ -119,36 +125,53 @@ fn a_capture_has_so_many_records_at_most(rt: HostRuntime) -> Result<(), Fail> {
     Ok(())
 }
 
+// An Ethernet header of ARP, and one cut short.
+const ARP: &[u8] = b"\x02\0\0\0\0\x02\x02\0\0\0\0\x01\x08\x06";
+
+const SHORT_ARP: &[u8] = b"\x02\0\0\0\0\x02\x02\0\0\0\0\x01\x08";
+
+// An Ethernet header with a VLAN tag and a byte of IPv6 behind it, one cut short, and one with two tags.
+const TAGGED: &[u8] = b"\x02\0\0\0\0\x02\x02\0\0\0\0\x01\x81\0\0\x07\x86\xdd\x60";
+
+const SHORT_TAG: &[u8] = b"\x02\0\0\0\0\x02\x02\0\0\0\0\x01\x81\0\0\x07\x86";
+
+const TWICE: &[u8] = b"\x02\0\0\0\0\x02\x02\0\0\0\0\x01\x81\0\0\x07\x81\0\0\x08\x08\0";
+
 #[test]
 fn frames_are_told_by_their_link(rt: HostRuntime) {
-    let arp = [2, 0, 0, 0, 0, 2, 2, 0, 0, 0, 0, 1, 8, 6];
-    let tagged = [
-        2, 0, 0, 0, 0, 2, 2, 0, 0, 0, 0, 1, 0x81, 0, 0, 7, 0x86, 0xdd, 0x60,
+    let cases: [(u32, &[u8], Frame<'_>); 10] = [
+        (101, b"", Frame::Short),
+        (101, UP_LOWERED, Frame::V4(UP_LOWERED)),
+        (101, b"\x60", Frame::V6(b"\x60")),
+        (101, ARP, Frame::Kind),
+        (1, SHORT_ARP, Frame::Short),
+        (1, ARP, Frame::Kind),
+        (1, SHORT_TAG, Frame::Short),
+        (1, TAGGED, Frame::V6(b"\x60")),
+        (1, TWICE, Frame::Kind),
+        (113, UP_LOWERED, Frame::Kind),
     ];
-    let twice = [
-        2, 0, 0, 0, 0, 2, 2, 0, 0, 0, 0, 1, 0x81, 0, 0, 7, 0x81, 0, 0, 8, 8, 0,
-    ];
-    assert_eq!(rt; frame_of(101, &[]), Frame::Short);
-    assert_eq!(rt; frame_of(101, UP_LOWERED), Frame::V4(UP_LOWERED));
-    assert_eq!(rt; frame_of(101, &tagged[18..]), Frame::V6(&tagged[18..]));
-    assert_eq!(rt; frame_of(101, &arp), Frame::Kind);
-    assert_eq!(rt; frame_of(1, &arp[..13]), Frame::Short);
-    assert_eq!(rt; frame_of(1, &arp), Frame::Kind);
-    assert_eq!(rt; frame_of(1, &tagged[..17]), Frame::Short);
-    assert_eq!(rt; frame_of(1, &tagged), Frame::V6(&tagged[18..]));
-    assert_eq!(rt; frame_of(1, &twice), Frame::Kind);
-    assert_eq!(rt; frame_of(113, UP_LOWERED), Frame::Kind);
+    for (link, bytes, frame) in cases {
+        assert_eq!(rt;
+            frame_of(link, bytes),
+            frame,
+            "of {} on {link}",
+            bytes.len()
+        );
+    }
 }
+
+// What stands before a record of 32 bytes at second 1.
+const RECORD: &[u8] = b"\x01\0\0\0\0\0\0\0\x20\0\0\0\x20\0\0\0";
 
 #[test]
 fn a_written_capture_has_these_bytes(rt: HostRuntime) -> Result<(), Fail> {
-    let alloc = rt.alloc();
-    assert_eq!(rt; put_header(false).as_slice(), &CAPTURE[..24]);
-    assert_eq!(rt; &put_header(true)[..4], [0x4d, 0x3c, 0xb2, 0xa1].as_slice());
-    let record = put_record(alloc, 1, 0, UP_LOWERED)?;
-    let header = [1, 0, 0, 0, 0, 0, 0, 0, 0x20, 0, 0, 0, 0x20, 0, 0, 0];
-    assert_eq!(rt; record.as_slice().len(), 48);
-    assert_eq!(rt; &record.as_slice()[..16], header.as_slice());
-    assert_eq!(rt; &record.as_slice()[16..], UP_LOWERED.as_slice());
+    let record = put_record(rt.alloc(), 1, 0, UP_LOWERED)?;
+    let written = [
+        CAPTURE.starts_with(&put_header(false)),
+        put_header(true).starts_with(b"\x4d\x3c\xb2\xa1"),
+        is_both(record.as_slice(), RECORD, UP_LOWERED),
+    ];
+    assert_eq!(rt; written, [true; 3]);
     Ok(())
 }

@@ -1,8 +1,8 @@
 // Blocks that are longer than what is kept of one: they say what short ones say, and each of their bytes is read once and in order.
 
-use crate::blocks::{HEAD, INTERFACE, SECTION, TAIL, joined, reads_as};
+use crate::all_pieces::part;
+use crate::blocks::{joined, reads_as};
 use crate::pipes::{gives, piped};
-use case_data::{UP, UP_TUNNEL};
 use std::alloc::Global;
 use std::test::Fail;
 
@@ -26,10 +26,15 @@ const SECTION_FIELDS: [u8; 16] = [
     0x4d, 0x3c, 0x2b, 0x1a, 1, 0, 0, 0, 255, 255, 255, 255, 255, 255, 255, 255,
 ];
 
-/// 72 captured bytes at tick 1,000,000 of interface 0.
-const ENHANCED_FIELDS: [u8; 20] = [
-    0, 0, 0, 0, 0, 0, 0, 0, 0x40, 0x42, 0x0f, 0, 0x48, 0, 0, 0, 0x48, 0, 0, 0,
-];
+/// 72 captured bytes at tick 1,000,000 of interface 0, the first datagram in its tunnel.
+const ENHANCED: &[u8; 92] =
+    b"\0\0\0\0\0\0\0\0\x40\x42\x0f\0\x48\0\0\0\x48\0\0\0\x60\0\0\0\0\x20\x04\x40\x20\x01\x0d\xb8\0\x01\0\0\0\0\0\0\0\0\0\x01\x20\x01\x0d\xb8\0\0\0\0\0\0\0\
+     \0\0\0\0\x01\x45\0\0\x20\0\x01\0\0\x40\x11\x14\x90\xcb\0\x71\x01\xc6\x33\x64\x07\x04\xd0\0\x35\0\x0c\0\0test";
+
+/// The same as a simple packet.
+const SIMPLE: &[u8; 76] =
+    b"\x48\0\0\0\x60\0\0\0\0\x20\x04\x40\x20\x01\x0d\xb8\0\x01\0\0\0\0\0\0\0\0\0\x01\x20\x01\x0d\xb8\0\0\0\0\0\0\0\0\0\0\0\x01\x45\0\0\x20\0\x01\0\0\x40\
+     \x11\x14\x90\xcb\0\x71\x01\xc6\x33\x64\x07\x04\xd0\0\x35\0\x0c\0\0test";
 
 const NANOSECONDS: [u8; 8] = [9, 0, 1, 0, 9, 0, 0, 0];
 
@@ -59,100 +64,98 @@ fn block(alloc: Global, kind: [u8; 4], front: &[u8], rest: &[u8]) -> Result<Vec<
     joined(alloc, &[&kind, &total, &body, &total])
 }
 
-fn packet(alloc: Global) -> Result<Vec<u8>, Fail> {
-    joined(alloc, &[HEAD, UP_TUNNEL, UP, TAIL])
+// A long block by a letter: interfaces whose resolution is of nanoseconds, of two bytes or past the end, others, of which one is old, a
+// section, and packets. None where the letter is of a short part.
+fn long(alloc: Global, letter: u8) -> Result<Option<Vec<u8>>, Fail> {
+    let (kind, front, rest): ([u8; 4], &[u8], &[u8]) = match letter {
+        b'N' => (INTERFACE_TYPE, &INTERFACE_FIELDS, &NANOSECONDS),
+        b'T' => (INTERFACE_TYPE, &INTERFACE_FIELDS, &RESOLUTION_OF_TWO_BYTES),
+        b'P' => (INTERFACE_TYPE, &INTERFACE_FIELDS, &PAST_THE_END),
+        b'O' => (OTHER_TYPE, b"", b""),
+        b'D' => (OLD_TYPE, b"", b""),
+        b'Q' => (SECTION_TYPE, &SECTION_FIELDS, b""),
+        b'E' => (ENHANCED_TYPE, ENHANCED, b""),
+        b'M' => (SIMPLE_TYPE, SIMPLE, b""),
+        _ => return Ok(None),
+    };
+    Ok(Some(block(alloc, kind, front, rest)?))
+}
+
+// The bytes of these parts, long ones and short ones.
+fn long_parts(alloc: Global, parts: &str) -> Result<Vec<u8>, Fail> {
+    let mut bytes = Vec::new(alloc);
+    'parts: for letter in parts.bytes() {
+        match long(alloc, letter)? {
+            Some(block) => bytes.extend_from_slice(&block)?,
+            None => bytes.extend_from_slice(part(letter))?,
+        }
+    }
+    Ok(bytes)
 }
 
 // Whether a file is this, in pieces of each size, in rounds and packet by packet.
-fn is_told(alloc: Global, parts: &[&[u8]], text: &str) -> Result<bool, Fail> {
-    let bytes = joined(alloc, parts)?;
+fn is_told(alloc: Global, bytes: &[u8], text: &str) -> Result<bool, Fail> {
     Ok(
-        gives(alloc, &bytes, 4_097, text)?
-            && gives(alloc, &bytes, 300_001, text)?
-            && gives(alloc, &bytes, 5_000_000, text)?
-            && reads_as(alloc, parts, text)?,
+        gives(alloc, bytes, 4_097, text)?
+            && gives(alloc, bytes, 300_001, text)?
+            && gives(alloc, bytes, 5_000_000, text)?
+            && reads_as(alloc, bytes, text)?,
     )
 }
 
-// The same with another last byte, and with five bytes less.
-fn ends_as(alloc: Global, front: &[u8], long: &[u8], at: &str) -> Result<bool, Fail> {
-    let count = long.len();
-    let other = joined(
-        alloc,
-        &[long.get(..count.saturating_sub(1)).unwrap_or(long), &[7]],
-    )?;
-    let cut = long.get(..count.saturating_sub(5)).unwrap_or(long);
-    let length = format!(in alloc; "ng length {at}")?;
-    let end = format!(in alloc; "ng cut {at}")?;
-    Ok(is_told(alloc, &[front, &other], &length)? && is_told(alloc, &[front, cut], &end)?)
+// Whether the file of a line is what the line says.
+fn is_right(alloc: Global, line: &str) -> Result<bool, Fail> {
+    let (parts, text) = line.split_once(' ').ok_or("parts")?;
+    is_told(alloc, &long_parts(alloc, parts)?, text)
 }
 
+// What long blocks are told as.
+const TOLD: &str = "sNhtur 0.1000000 72 327840; end
+sT ng options 28
+sP ng options 28
+Qihtur 1.0 72 327832; end
+siOhtur 1.0 72 327844; end
+siDhtur ng old 48
+siEhtur 1.0 72 327832; 1.0 72 327936; end
+siMhtur 0.0 72 327816; 1.0 72 327920; end
+sE ng interface 28";
+
 #[test]
-fn a_long_interface_has_its_resolution(rt: HostRuntime) -> Result<(), Fail> {
-    let alloc = rt.alloc();
-    let packet = packet(alloc)?;
-    let nanos = block(alloc, INTERFACE_TYPE, &INTERFACE_FIELDS, &NANOSECONDS)?;
-    let two = block(
-        alloc,
-        INTERFACE_TYPE,
-        &INTERFACE_FIELDS,
-        &RESOLUTION_OF_TWO_BYTES,
-    )?;
-    let past = block(alloc, INTERFACE_TYPE, &INTERFACE_FIELDS, &PAST_THE_END)?;
-    assert!(rt;
-        is_told(
-            alloc,
-            &[SECTION, &nanos, &packet],
-            "0.1000000 72 327840; end"
-        )?
-    );
-    assert!(rt; is_told(alloc, &[SECTION, &two], "ng options 28")?);
-    assert!(rt; is_told(alloc, &[SECTION, &past], "ng options 28")?);
-    assert!(rt; ends_as(alloc, SECTION, &nanos, "28")?);
-    assert!(rt; ends_as(alloc, SECTION, &two, "28")?);
-    assert!(rt; ends_as(alloc, SECTION, &past, "28")?);
+fn long_blocks_are_told_as_short_ones(rt: HostRuntime) -> Result<(), Fail> {
+    for line in TOLD.lines() {
+        assert!(rt; is_right(rt.alloc(), line)?, "{line}");
+    }
     Ok(())
 }
 
-#[test]
-fn a_long_section_and_a_block_of_any_type_are_passed(rt: HostRuntime) -> Result<(), Fail> {
-    let alloc = rt.alloc();
-    let packet = packet(alloc)?;
-    let start = joined(alloc, &[SECTION, INTERFACE])?;
-    let section = block(alloc, SECTION_TYPE, &SECTION_FIELDS, b"")?;
-    let other = block(alloc, OTHER_TYPE, b"", b"")?;
-    let old = block(alloc, OLD_TYPE, b"", b"")?;
-    assert!(rt; is_told(alloc, &[&section, INTERFACE, &packet], "1.0 72 327832; end")?);
-    assert!(rt; is_told(alloc, &[&start, &other, &packet], "1.0 72 327844; end")?);
-    assert!(rt; is_told(alloc, &[&start, &old, &packet], "ng old 48")?);
-    assert!(rt; ends_as(alloc, b"", &section, "0")?);
-    assert!(rt; ends_as(alloc, &start, &other, "48")?);
-    assert!(rt; ends_as(alloc, &start, &old, "48")?);
-    Ok(())
+// Whether the last block of a file that has another last byte, and of one that has five bytes less, is told of its place.
+fn ends_as(alloc: Global, line: &str) -> Result<bool, Fail> {
+    let (parts, place) = line.split_once(' ').ok_or("parts")?;
+    let mut bytes = long_parts(alloc, parts)?;
+    if let Some(last) = bytes.last_mut() {
+        *last = 7;
+    }
+    let other = is_told(alloc, &bytes, &format!(in alloc; "ng length {place}")?)?;
+    let cut = bytes.get(..bytes.len().saturating_sub(5)).unwrap_or(&bytes);
+    Ok(other && is_told(alloc, cut, &format!(in alloc; "ng cut {place}")?)?)
 }
 
+// Files of which a long block is the last, and its place.
+const ENDS: &str = "sN 28
+sT 28
+sP 28
+Q 0
+siO 48
+siD 48
+siE 48
+sE 28
+siM 48";
+
 #[test]
-fn a_packet_with_long_options_has_its_bytes(rt: HostRuntime) -> Result<(), Fail> {
-    let alloc = rt.alloc();
-    let short = packet(alloc)?;
-    let start = joined(alloc, &[SECTION, INTERFACE])?;
-    let enhanced = joined(alloc, &[&ENHANCED_FIELDS, UP_TUNNEL, UP])?;
-    let enhanced = block(alloc, ENHANCED_TYPE, &enhanced, b"")?;
-    let simple = joined(alloc, &[&[72, 0, 0, 0], UP_TUNNEL, UP])?;
-    let simple = block(alloc, SIMPLE_TYPE, &simple, b"")?;
-    let text = "1.0 72 327832; 1.0 72 327936; end";
-    assert!(rt; is_told(alloc, &[&start, &enhanced, &short], text)?);
-    assert!(rt;
-        is_told(
-            alloc,
-            &[&start, &simple, &short],
-            "0.0 72 327816; 1.0 72 327920; end"
-        )?
-    );
-    assert!(rt; is_told(alloc, &[SECTION, &enhanced], "ng interface 28")?);
-    assert!(rt; ends_as(alloc, &start, &enhanced, "48")?);
-    assert!(rt; ends_as(alloc, SECTION, &enhanced, "28")?);
-    assert!(rt; ends_as(alloc, &start, &simple, "48")?);
+fn long_blocks_have_an_end(rt: HostRuntime) -> Result<(), Fail> {
+    for line in ENDS.lines() {
+        assert!(rt; ends_as(rt.alloc(), line)?, "{line}");
+    }
     Ok(())
 }
 
@@ -165,14 +168,13 @@ fn fails_well(alloc: Global, bytes: &[u8], call: u64) -> Result<bool, Fail> {
 
 #[test]
 fn each_read_of_a_long_block_may_fail(rt: HostRuntime) -> Result<(), Fail> {
-    let alloc = rt.alloc();
-    let packet = packet(alloc)?;
-    let nanos = block(alloc, INTERFACE_TYPE, &INTERFACE_FIELDS, &NANOSECONDS)?;
-    let other = block(alloc, OTHER_TYPE, b"", b"")?;
-    let bytes = joined(alloc, &[SECTION, &nanos, &packet, &other])?;
-    for call in 0..14 {
-        assert!(rt; fails_well(alloc, &bytes, call)?, "call {call}");
+    let bytes = long_parts(rt.alloc(), "sNhturO")?;
+    for call in 0..15 {
+        assert_eq!(rt;
+            fails_well(rt.alloc(), &bytes, call)?,
+            call < 14,
+            "call {call}"
+        );
     }
-    assert!(rt; !fails_well(alloc, &bytes, 14)?);
     Ok(())
 }

@@ -4,12 +4,14 @@ use std::test::Fail;
 
 #[test]
 fn reads_in_network_order(rt: HostRuntime) {
-    let bytes = [
-        9, 0x20, 0x01, 0x0d, 0xb8, 0, 1, 0, 0, 0, 0, 0, 0, 0, 0, 0, 1,
-    ];
-    assert_eq!(rt; be16(&bytes, 1), 0x2001);
-    assert_eq!(rt; be32(&bytes, 1), 0x2001_0db8);
-    assert_eq!(rt; be128(&bytes, 1), 0x2001_0db8_0001_0000_0000_0000_0000_0001);
+    let bytes = b"\x09\x20\x01\x0d\xb8\0\x01\0\0\0\0\0\0\0\0\0\x01";
+    let numbers = (be16(bytes, 1), be32(bytes, 1), be128(bytes, 1));
+    let wanted = (
+        0x2001,
+        0x2001_0db8,
+        0x2001_0db8_0001_0000_0000_0000_0000_0001,
+    );
+    assert_eq!(rt; numbers, wanted);
 }
 
 // RFC 1071, section 3; an IPv4 header with its checksum b861 in it; that header without it; an odd byte.

@@ -2,7 +2,8 @@
 // read failing in turn.
 ghost use Rattle.std.specs.Prelude.{◌≤◌};
 
-use crate::block_rounds::two_sections;
+use crate::all_pieces::parts_of;
+use crate::block_rounds::TWO_SECTIONS;
 use crate::rounds::{MOST, tell_rounds};
 use aftr_base::{Fault, Files, MemFiles};
 use capture_io::Records;
@@ -115,9 +116,12 @@ fn fails_with(alloc: Global, bytes: &[u8], call: u64, text: &str) -> Result<bool
 
 #[test]
 fn a_piece_of_a_header_is_cut(rt: HostRuntime) -> Result<(), Fail> {
-    let cut = "cut header at 0";
-    assert!(rt; gives(rt.alloc(), &CAPTURE[..3], 1, cut)?);
-    assert!(rt; gives(rt.alloc(), b"\x0a\x0d\x0d", 1, cut)?);
+    for piece in [b"\xd4\xc3\xb2", b"\x0a\x0d\x0d"] {
+        assert!(rt;
+            gives(rt.alloc(), piece, 1, "cut header at 0")?,
+            "{piece:?}"
+        );
+    }
     Ok(())
 }
 
@@ -158,7 +162,7 @@ fn each_byte_of_a_classic_pipe_may_fail(rt: HostRuntime) -> Result<(), Fail> {
 
 #[test]
 fn each_byte_of_a_pipe_of_blocks_may_fail(rt: HostRuntime) -> Result<(), Fail> {
-    let blocks = two_sections(rt.alloc())?;
+    let blocks = parts_of(rt.alloc(), TWO_SECTIONS)?;
     for call in 0..=308 {
         assert!(rt;
             fails_with(rt.alloc(), &blocks, call, blocks_text(call))?,
