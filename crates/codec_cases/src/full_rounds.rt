@@ -11,13 +11,17 @@ use std::alloc::Global;
 use std::test::Fail;
 
 #[test]
-fn pieces_stay_in_a_cache_or_have_what_a_round_has(rt: HostRuntime) -> Result<(), Fail> {
-    assert_eq!(rt; piece_of(1), 262_144);
-    assert_eq!(rt; piece_of(524_288), 262_144);
-    assert_eq!(rt; piece_of(524_289), 524_289);
-    assert_eq!(rt; piece_of(1_048_576), 1_048_576);
-    assert_eq!(rt; piece_of(67_108_864), 1_048_576);
-    Ok(())
+fn pieces_stay_in_a_cache_or_have_what_a_round_has(rt: HostRuntime) {
+    let cases = [
+        (1, 262_144),
+        (524_288, 262_144),
+        (524_289, 524_289),
+        (1_048_576, 1_048_576),
+        (67_108_864, 1_048_576),
+    ];
+    for (round, piece) in cases {
+        assert_eq!(rt; piece_of(round), piece, "of {round}");
+    }
 }
 
 // How many records each of nine rounds has, and the ending.
@@ -62,33 +66,39 @@ fn counted(alloc: Global, bytes: &[u8], most_bytes: usize) -> Result<String, Fai
     }
 }
 
-#[test]
-fn a_round_has_16384_records_at_most(rt: HostRuntime) -> Result<(), Fail> {
-    let alloc = rt.alloc();
-    // 20,000 records of no bytes, and as many blocks.
-    let zeros = vec![in alloc; 0; 320_000]?;
-    let classic = joined(alloc, &[CAPTURE.get(..24).unwrap_or(CAPTURE), &zeros])?;
+// 20,000 records of no bytes.
+fn empty_records(alloc: Global) -> Result<Vec<u8>, Fail> {
+    let mut bytes = CAPTURE.to_vec(alloc)?;
+    bytes.truncate(24);
+    bytes.resize(320_024, 0)?;
+    Ok(bytes)
+}
+
+// As many blocks.
+fn empty_blocks(alloc: Global) -> Result<Vec<u8>, Fail> {
     let mut blocks = joined(alloc, &[SECTION, INTERFACE])?;
     'blocks: for _ in 0..20_000 {
         blocks.extend_from_slice(
             b"\x06\0\0\0\x20\0\0\0\0\0\0\0\0\0\0\0\0\0\0\0\0\0\0\0\0\0\0\0\x20\0\0\0",
         )?;
     }
-    assert_eq!(rt;
-        counted(alloc, &classic, 1_048_576)?.as_str(),
-        "16384 3616 0 end"
-    );
-    assert_eq!(rt;
-        counted(alloc, &classic, 262_144)?.as_str(),
-        "16384 3616 0 end"
-    );
-    assert_eq!(rt;
-        counted(alloc, &blocks, 1_048_576)?.as_str(),
-        "16384 3616 0 end"
-    );
-    assert_eq!(rt;
-        counted(alloc, &blocks, 262_144)?.as_str(),
-        "8192 8192 3616 0 end"
-    );
+    Ok(blocks)
+}
+
+// Whether rounds of a MiB, and of a quarter of one, have so many records.
+fn are_counted(alloc: Global, bytes: &[u8], large: &str, small: &str) -> Result<bool, Fail> {
+    Ok(
+        counted(alloc, bytes, 1_048_576)?.as_str() == large
+            && counted(alloc, bytes, 262_144)?.as_str() == small,
+    )
+}
+
+#[test]
+fn a_round_has_16384_records_at_most(rt: HostRuntime) -> Result<(), Fail> {
+    let alloc = rt.alloc();
+    let most = "16384 3616 0 end";
+    assert!(rt; are_counted(alloc, &empty_records(alloc)?, most, most)?);
+    let fewer = "8192 8192 3616 0 end";
+    assert!(rt; are_counted(alloc, &empty_blocks(alloc)?, most, fewer)?);
     Ok(())
 }

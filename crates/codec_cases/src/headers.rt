@@ -1,10 +1,15 @@
 // Packets from outside: hand-made ones of a softwire, and others whose fields an independent packet builder gave.
+ghost use Rattle.std.specs.Prelude.{◌≡◌};
+
+use crate::blocks::joined;
+use crate::captures::is_both;
 use aftr_base::V4;
 use case_data::{AFTR, DOWN, LAST_HOP, OPTIONS, SERVER, SHARED, SUBSCRIBER, UP, UP_TUNNEL};
 use ip_codec::{
     Head4, Head6, Ip4Bad, Ip6Bad, ReadPacket, Rule, head4_bytes, head6_bytes, ip4, ip6, push_head4,
     push_head6, put4, put6, read_packet, sum_of_both,
 };
+use std::alloc::Global;
 use std::test::Fail;
 
 // All bits of flags and offset, forty bytes of options, no payload.
@@ -12,7 +17,9 @@ pub(crate) const GREATEST: &[u8; 60] =
     b"\x4f\xff\0\x3c\xff\xff\xff\xff\xff\xff\x9b\xaf\xff\xff\xff\xff\0\0\0\x01\x01\x01\x01\x01\x01\x01\x01\x01\x01\x01\x01\x01\x01\x01\x01\x01\x01\x01\x01\x01\
      \x01\x01\x01\x01\x01\x01\x01\x01\x01\x01\x01\x01\x01\x01\x01\x01\x01\x01\x01\x01";
 
-fn udp(id: u16, ttl: u8, src: V4, dst: V4) -> Head4 {
+fn udp(id: u16, ttl: u8, src: V4, dst: V4) -> Head4
+    ensures { result.offset ≡ 0 }
+{
     Head4 {
         tos: 0,
         id,
@@ -82,31 +89,38 @@ fn ip4_packets_are_read_and_written(rt: HostRuntime) -> Result<(), Fail> {
     Ok(())
 }
 
+// Why a packet is refused of which one byte is changed.
+fn refusal_with(packet: &[u8], place: usize, value: u8) -> Option<Ip4Bad> {
+    let mut bytes = [0; 32];
+    let count = packet.len().min(32);
+    bytes[..count].copy_from_slice(&packet[..count]);
+    if place < count {
+        bytes[place] = value;
+    }
+    ip4(&bytes[..count]).err()
+}
+
 #[test]
 fn faulty_ip4_packets_are_refused(rt: HostRuntime) {
     for have in 0..20 {
         assert_eq!(rt; ip4(&UP[..have]).err(), Some(Ip4Bad::Short { have }));
     }
-    assert_eq!(rt; ip4(&UP[..20]).err(), Some(Ip4Bad::TotalLength));
-    let cases = [
-        (0, 0x55, Ip4Bad::Version),
-        (0, 0x44, Ip4Bad::HeaderLength),
-        (0, 0x49, Ip4Bad::HeaderLength),
-        (3, 19, Ip4Bad::TotalLength),
-        (3, 33, Ip4Bad::TotalLength),
-        (3, 31, Ip4Bad::Checksum),
-        (11, 0x91, Ip4Bad::Checksum),
-        (19, 8, Ip4Bad::Checksum),
+    let cases: [(&[u8], usize, u8, Ip4Bad); 10] = [
+        (&UP[..20], 0, 0x45, Ip4Bad::TotalLength),
+        (UP, 0, 0x55, Ip4Bad::Version),
+        (UP, 0, 0x44, Ip4Bad::HeaderLength),
+        (UP, 0, 0x49, Ip4Bad::HeaderLength),
+        (UP, 3, 19, Ip4Bad::TotalLength),
+        (UP, 3, 33, Ip4Bad::TotalLength),
+        (UP, 3, 31, Ip4Bad::Checksum),
+        (UP, 11, 0x91, Ip4Bad::Checksum),
+        (UP, 19, 8, Ip4Bad::Checksum),
+        (OPTIONS, 27, 1, Ip4Bad::Checksum),
     ];
-    for (place, value, refusal) in cases {
-        let mut bytes = *UP;
-        assert!(rt; place < bytes.len());
-        bytes[place] = value;
-        assert_eq!(rt; ip4(&bytes).err(), Some(refusal), "{value} at {place}");
+    for (packet, place, value, refusal) in cases {
+        let found = refusal_with(packet, place, value);
+        assert_eq!(rt; found, Some(refusal), "{value} at {place}");
     }
-    let mut bytes = *OPTIONS;
-    bytes[27] = 1;
-    assert_eq!(rt; ip4(&bytes).err(), Some(Ip4Bad::Checksum));
 }
 
 // How many bytes are kept of those that are no packet, and why they are none.
@@ -117,79 +131,88 @@ fn unread(bytes: &[u8]) -> Option<(usize, Ip4Bad)> {
     }
 }
 
-// Whether the packet has a header of 20 bytes, and is just these bytes.
-fn is_plain(packet: &ReadPacket<'_>, bytes: &[u8]) -> bool {
-    packet.view.header.len() == 20
-        && packet.view.total_len() == bytes.len()
-        && bytes.starts_with(packet.view.header)
-        && bytes.ends_with(packet.view.payload)
+// Whether the bytes are the first datagram, read with what stands behind it left out.
+fn is_datagram(bytes: &[u8]) -> bool {
+    let Ok(ReadPacket { view, .. }) = read_packet(bytes) else {
+        return false;
+    };
+    (view.src, view.dst) == (SHARED, SERVER)
+        && view.total_len() == UP.len()
+        && is_both(UP, view.header, view.payload)
 }
 
 #[test]
-fn a_packet_is_read_once(rt: HostRuntime) -> Result<(), Fail> {
-    let mut padded = [0; 36];
-    padded[..32].copy_from_slice(UP);
-    let Ok(packet) = read_packet(&padded) else {
-        return Err("a packet".into());
+fn a_packet_is_read_once(rt: HostRuntime) {
+    let padded =
+        b"\x45\0\0\x20\0\x01\0\0\x40\x11\x14\x90\xcb\0\x71\x01\xc6\x33\x64\x07\x04\xd0\0\x35\0\x0c\0\0test\0\0\0\0";
+    let faulty =
+        b"\x45\0\0\x20\0\x01\0\0\x40\x11\x14\x91\xcb\0\x71\x01\xc6\x33\x64\x07\x04\xd0\0\x35\0\x0c\0\0test\0\0\0\0";
+    assert_eq!(rt; [is_datagram(UP), is_datagram(padded)], [true; 2]);
+    let cut = Some((31, Ip4Bad::TotalLength));
+    let wrong = Some((36, Ip4Bad::Checksum));
+    assert_eq!(rt;
+        [unread(UP), unread(&UP[..31]), unread(faulty)],
+        [None, cut, wrong]
+    );
+}
+
+// The header of the first datagram's tunnel packet.
+const TUNNEL: Head6 = Head6 {
+    word: 0x6000_0000,
+    next: 4,
+    hop: 64,
+    src: SUBSCRIBER,
+    dst: AFTR,
+};
+
+// Whether the bytes read as that packet.
+fn is_tunnel_packet(bytes: &[u8]) -> bool {
+    let Ok(view) = ip6(bytes) else {
+        return false;
     };
-    assert!(rt; is_plain(&packet, UP));
-    assert_eq!(rt; (packet.view.src, packet.view.dst), (SHARED, SERVER));
-    assert_eq!(rt; unread(UP), None);
-    assert_eq!(rt; unread(&UP[..31]), Some((31, Ip4Bad::TotalLength)));
-    padded[11] = padded[11].wrapping_add(1);
-    assert_eq!(rt; unread(&padded), Some((36, Ip4Bad::Checksum)));
-    Ok(())
+    (view.word, view.next, view.hop) == (TUNNEL.word, TUNNEL.next, TUNNEL.hop)
+        && (view.src, view.dst) == (TUNNEL.src, TUNNEL.dst)
+        && view.body == UP.as_slice()
 }
 
 #[test]
 fn ip6_packets_are_read_and_written(rt: HostRuntime) -> Result<(), Fail> {
-    let head = Head6 {
-        word: 0x6000_0000,
-        next: 4,
-        hop: 64,
-        src: SUBSCRIBER,
-        dst: AFTR,
-    };
-    let packet = put6(rt.alloc(), &head, UP)?;
+    let packet = put6(rt.alloc(), &TUNNEL, UP)?;
     let bytes = packet.as_slice();
-    assert_eq!(rt; bytes.len(), 72);
-    assert_eq!(rt; &bytes[..40], UP_TUNNEL.as_slice());
-    assert_eq!(rt; &bytes[40..], UP.as_slice());
-    assert_eq!(rt; ip6(&bytes[..39]).err(), Some(Ip6Bad::Short { have: 39 }));
-    assert_eq!(rt; ip6(&bytes[..71]).err(), Some(Ip6Bad::Payload));
-    assert_eq!(rt; ip6(UP).err(), Some(Ip6Bad::Short { have: 32 }));
-    let view = ip6(bytes).ok().ok_or("a packet")?;
-    assert_eq!(rt; (view.word, view.next, view.hop), (head.word, 4, 64));
-    assert_eq!(rt; (view.src, view.dst), (head.src, head.dst));
-    assert_eq!(rt; view.body, UP.as_slice());
-    let mut other = *UP_TUNNEL;
-    other[0] = 0x46;
-    assert_eq!(rt; ip6(&other).err(), Some(Ip6Bad::Version));
+    assert!(rt; is_both(bytes, UP_TUNNEL, UP) && is_tunnel_packet(bytes));
+    let cases: [(&[u8], Ip6Bad); 4] = [
+        (&bytes[..39], Ip6Bad::Short { have: 39 }),
+        (&bytes[..71], Ip6Bad::Payload),
+        (UP, Ip6Bad::Short { have: 32 }),
+        (
+            b"\x46\0\0\0\0\0\x04\x40\x20\x01\x0d\xb8\0\x01\0\0\0\0\0\0\0\0\0\x01\x20\x01\x0d\xb8\0\0\0\0\0\0\0\0\0\0\0\x01",
+            Ip6Bad::Version,
+        ),
+    ];
+    for (faulty, refusal) in cases {
+        assert_eq!(rt; ip6(faulty).err(), Some(refusal));
+    }
     Ok(())
+}
+
+// A byte, and the headers of the tunnel packet and of the datagram behind it.
+fn pushed(alloc: Global) -> Result<Vec<u8>, Fail> {
+    let mut out = Vec::new(alloc);
+    out.push(7)?;
+    push_head6(&mut out, &TUNNEL, 32)?;
+    push_head4(&mut out, &udp(1, 64, SHARED, SERVER), &[], 12)?;
+    Ok(out)
 }
 
 #[test]
 fn headers_are_put_behind_what_is_there(rt: HostRuntime) -> Result<(), Fail> {
-    let mut out = Vec::new(rt.alloc());
-    out.push(7)?;
-    let tunnel = Head6 {
-        word: 0x6000_0000,
-        next: 4,
-        hop: 64,
-        src: SUBSCRIBER,
-        dst: AFTR,
-    };
-    push_head6(&mut out, &tunnel, 32)?;
-    let inner = udp(1, 64, SHARED, SERVER);
-    assert!(rt; inner.offset <= 8191);
-    push_head4(&mut out, &inner, &[], 12)?;
-    assert_eq!(rt; out.len(), 61);
-    assert!(rt; out.starts_with(b"\x07") && out.ends_with(&UP[..20]));
-    assert_eq!(rt; &out[1..41], UP_TUNNEL.as_slice());
-    assert!(rt; head6_bytes(tunnel, 32) == *UP_TUNNEL);
-    assert_eq!(rt; head4_bytes(inner, 12).as_slice(), &UP[..20]);
-    let packet = UP;
-    assert_eq!(rt; sum_of_both(&packet[..8], &packet[8..20]), 0);
+    let (header, _) = UP.split_at(20);
+    let (front, addresses) = header.split_at(8);
+    let written = pushed(rt.alloc())? == joined(rt.alloc(), &[b"\x07", UP_TUNNEL, header])?;
+    let built = head6_bytes(TUNNEL, 32) == *UP_TUNNEL;
+    let built4 = head4_bytes(udp(1, 64, SHARED, SERVER), 12).as_slice() == header;
+    assert_eq!(rt; [written, built, built4], [true; 3]);
+    assert_eq!(rt; sum_of_both(front, addresses), 0);
     Ok(())
 }
 

@@ -1,5 +1,5 @@
 // Short stories of calls: which fail, what the files hold then, and how far the loops come.
-ghost use Rattle.std.specs.Prelude.{◌<◌, ◌^◌, length};
+ghost use Rattle.std.specs.Prelude.{◌<◌, ◌≤◌, ◌^◌, length};
 
 use aftr_base::{
     Fault, Files, MemFiles, MemSink, QuietFiles, RealFiles, append_all, fill, put_all,
@@ -9,90 +9,146 @@ use std::rt::Files as FileSystem;
 use std::test::Fail;
 use std::{fs, process};
 
-fn holds(held: Option<&[u8]>, bytes: &[u8]) -> bool {
+/// Whether there is a file, of just these bytes.
+pub(crate) fn holds(held: Option<&[u8]>, bytes: &[u8]) -> bool {
     match held {
         Some(held) => held == bytes,
         None => false,
     }
 }
 
-const FAILED: Result<usize, Fault> = Err(Fault::Failed);
+// A number that a word spells; 0 where it is none.
+fn number(word: Option<&str>) -> u64 {
+    match word {
+        Some(word) => word.parse().unwrap_or(0),
+        None => 0,
+    }
+}
+
+// Does what the words of a call ask for. What is read stands in the buffer.
+fn answer<F: Files>(
+    alloc: Global,
+    files: &mut F,
+    call: &str,
+    name: &str,
+    rest: Option<&str>,
+    into: &mut [u8],
+) -> Result<usize, Fault>
+    requires { length into.old ≤ 8 }
+{
+    let bytes = rest.unwrap_or("").as_bytes();
+    match call {
+        "read" => files.read(alloc, name, number(rest), into),
+        "fill" => fill(alloc, files, name, number(rest).min(1_000), into),
+        "append" => files.append(alloc, name, bytes),
+        "put" => {
+            append_all(alloc, files, name, bytes)?;
+            Ok(bytes.len())
+        }
+        _ => {
+            files.create(alloc, name)?;
+            Ok(0)
+        }
+    }
+}
+
+// Whether a call is answered so: by what was read, by how many bytes were appended, or by `failed`.
+fn is_answered(answer: Result<usize, Fault>, reads: bool, into: &[u8], wanted: &str) -> bool {
+    match answer {
+        Ok(count) if reads => into.get(..count) == Some(wanted.as_bytes()),
+        Ok(count) => wanted.parse() == Ok(count),
+        Err(why) => why == Fault::Failed && wanted == "failed",
+    }
+}
+
+// Whether files do what a line says: a call, the name of a file, of which `~` is this path, and what is appended, or the place and
+// the number of bytes that are read; and behind `=` the answer.
+fn does<F: Files>(alloc: Global, files: &mut F, path: &str, line: &str) -> Result<bool, Fail> {
+    let (asked, wanted) = line.split_once('=').ok_or("an answer")?;
+    let mut words = asked.split(' ');
+    let call = words.next().unwrap_or("");
+    let name = words.next().unwrap_or("");
+    let name = if name == "~" { path } else { name };
+    let rest = words.next();
+    let mut buffer = [0; 8];
+    let size = number(words.next()).min(8) as usize;
+    let into = &mut buffer[..size];
+    let answer = answer(alloc, files, call, name, rest, into);
+    Ok(is_answered(answer, size > 0, into, wanted))
+}
+
+/// The first line of a story that files do otherwise.
+pub(crate) fn first_other<F: Files>(
+    alloc: Global,
+    files: &mut F,
+    path: &str,
+    lines: &'static str,
+) -> Result<&'static str, Fail> {
+    'lines: for line in lines.lines() {
+        if !does(alloc, files, path, line)? {
+            return Ok(line);
+        }
+    }
+    Ok("")
+}
+
+// Calls 1, 3 and 9 fail where they were told to; another file is not there.
+const IN_MEMORY: &str = "read in 3 3=de
+read in 0 3=failed
+create out=0
+append out x=failed
+append out xyz=3
+append in f=1
+append other f=failed
+read other 0 3=failed
+read in 6 3=
+create in=failed
+read in 0 8=abcdef
+create in=0
+read in 0 8=";
 
 #[test]
 fn files_in_memory_fail_where_they_were_told(rt: HostRuntime) -> Result<(), Fail> {
     let alloc = rt.alloc();
     let mut files = MemFiles::new(alloc);
     files.set(alloc, "in", b"abcde")?;
-    files.fail_at(alloc, 1)?;
-    files.fail_at(alloc, 3)?;
-    files.fail_at(alloc, 9)?;
-    let mut into = [0; 3];
-    let answers = [
-        files.read(alloc, "in", 3, &mut into),
-        files.read(alloc, "in", 0, &mut into), // told to fail, as are calls 3 and 9
-        files.create(alloc, "out").map(|()| 0),
-        files.append(alloc, "out", b"x"),
-        files.append(alloc, "out", b"xyz"),
-        files.append(alloc, "in", b"f"),
-        files.append(alloc, "other", b"f"), // it is not there
-        files.read(alloc, "other", 0, &mut into),
-        files.read(alloc, "in", 6, &mut into),
-        files.create(alloc, "in").map(|()| 0),
-    ];
-    let wanted = [
-        Ok(2),
-        FAILED,
-        Ok(0),
-        FAILED,
-        Ok(3),
-        Ok(1),
-        FAILED,
-        FAILED,
-        Ok(0),
-        FAILED,
-    ];
-    assert_eq!(rt; answers, wanted);
-    assert_eq!(rt; into, *b"de\0");
-    assert!(rt; holds(files.get("in"), b"abcdef") && holds(files.get("out"), b"xyz"));
-    assert_eq!(rt; files.create(alloc, "in"), Ok(()));
-    assert!(rt; holds(files.get("in"), b"") && files.get("other").is_none());
+    for call in [1, 3, 9] {
+        files.fail_at(alloc, call)?;
+    }
+    assert_eq!(rt; first_other(alloc, &mut files, "", IN_MEMORY)?, "");
+    assert!(rt; holds(files.get("out"), b"xyz") && files.get("other").is_none());
     Ok(())
 }
+
+const QUIET: &str = "read in 1 2=bc
+read out 0 2=
+append out xy=2
+create in=0
+read in 0 2=";
 
 #[test]
 fn quiet_files_make_what_is_missing(rt: HostRuntime) -> Result<(), Fail> {
     let alloc = rt.alloc();
     let mut files = QuietFiles::new(alloc);
     files.set(alloc, "in", b"abc")?;
-    let mut into = [0; 2];
-    let answers = [
-        files.read(alloc, "in", 1, &mut into),
-        files.read(alloc, "out", 0, &mut into),
-        files.append(alloc, "out", b"xy"),
-        files.create(alloc, "in").map(|()| 0),
-    ];
-    assert_eq!(rt; answers, [Ok(2), Ok(0), Ok(2), Ok(0)]);
-    assert_eq!(rt; into, *b"bc");
+    assert_eq!(rt; first_other(alloc, &mut files, "", QUIET)?, "");
     assert!(rt; holds(files.get("in"), b"") && holds(files.get("out"), b"xy"));
     Ok(())
 }
+
+const LOOPS: &str = "fill in 0 4=abcd
+fill in 2 4=cde
+fill out 0 4=failed
+put in fg=2
+put out fg=failed
+fill in 0 8=abcdefg";
 
 #[test]
 fn the_loops_go_on_to_the_end_or_the_first_fault(rt: HostRuntime) -> Result<(), Fail> {
     let alloc = rt.alloc();
     let mut files = MemFiles::new(alloc);
     files.set(alloc, "in", b"abcde")?;
-    let mut into = [0; 4];
-    let answers = [
-        fill(alloc, &mut files, "in", 0, &mut into),
-        fill(alloc, &mut files, "in", 2, &mut into),
-        fill(alloc, &mut files, "out", 0, &mut into),
-        append_all(alloc, &mut files, "in", b"fg").map(|()| 0),
-        append_all(alloc, &mut files, "out", b"fg").map(|()| 0),
-    ];
-    assert_eq!(rt; answers, [Ok(4), Ok(3), FAILED, Ok(0), FAILED]);
-    assert_eq!(rt; into, *b"cded");
-    assert!(rt; holds(files.get("in"), b"abcdefg"));
+    assert_eq!(rt; first_other(alloc, &mut files, "", LOOPS)?, "");
     Ok(())
 }
 
@@ -158,7 +214,8 @@ fn count_back<F: Files>(
     Ok(at)
 }
 
-fn temporary(rt: &HostRuntime, name: &str) -> Result<String, Fail> {
+/// The path of a file of this test run.
+pub(crate) fn temporary(rt: &HostRuntime, name: &str) -> Result<String, Fail> {
     Ok(format!(in rt.alloc(); "/tmp/aftr_base_{name}_{}", process::id(rt.process()))?)
 }
 
@@ -187,53 +244,34 @@ fn real_files_give_back_what_was_appended(rt: HostRuntime) -> Result<(), Fail> {
     Ok(())
 }
 
-#[test]
-fn real_files_give_up_what_was_read_ahead(rt: HostRuntime) -> Result<(), Fail> {
-    let alloc = rt.alloc();
-    let path = temporary(&rt, "ahead")?;
-    let name = path.as_str();
-    let mut files = RealFiles::new(&rt, alloc);
-    let mut into = [0; 4];
-    let answers = [
-        files.create(alloc, name).map(|()| 0),
-        files.append(alloc, name, b"abcde"),
-        files.read(alloc, name, 2, &mut into),
-        files.read(alloc, name, 5, &mut into),
-        files.append(alloc, name, b"fg"),
-        files.read(alloc, name, 1, &mut into),
-        files.read(alloc, name, 5, &mut into),
-        files.create(alloc, name).map(|()| 0),
-        files.read(alloc, name, 0, &mut into),
-    ];
-    fs::remove_file(&rt, name)?;
-    let wanted = [
-        Ok(0),
-        Ok(5),
-        Ok(3),
-        Ok(0),
-        Ok(2),
-        Ok(4),
-        Ok(2),
-        Ok(0),
-        Ok(0),
-    ];
-    assert_eq!(rt; answers, wanted);
-    assert_eq!(rt; into, *b"fgde");
-    Ok(())
-}
+// What was read ahead is given up; a seek to no place of a file, and a read of a folder, which is opened and not read, spoil no later
+// read; and the system refuses the last four.
+const REAL: &str = "create ~=0
+append ~ abcde=5
+read ~ 2 4=cde
+read ~ 5 4=
+append ~ fg=2
+read ~ 1 4=bcde
+read ~ 5 4=fg
+create ~=0
+read ~ 0 4=
+put ~ abcdefgh=8
+read ~ 2 4=cdef
+read ~ 18446744073709551615 4=failed
+read ~ 5 4=fgh
+read /tmp 0 4=failed
+read ~ 1 4=bcde
+read /tmp/aftr_base_none 0 4=failed
+append /tmp/aftr_base_none x=failed
+create /tmp/aftr_base_none/file=failed
+append /dev/full x=failed";
 
 #[test]
-fn real_files_fail_where_the_system_does(rt: HostRuntime) -> Result<(), Fail> {
-    let alloc = rt.alloc();
-    let mut files = RealFiles::new(&rt, alloc);
-    let mut into = [0; 4];
-    let answers = [
-        files.read(alloc, "/tmp/aftr_base_none", 0, &mut into),
-        files.append(alloc, "/tmp/aftr_base_none", b"x"),
-        files.create(alloc, "/tmp/aftr_base_none/file").map(|()| 0),
-        files.read(alloc, "/tmp", 0, &mut into),
-        files.append(alloc, "/dev/full", b"x"),
-    ];
-    assert_eq!(rt; answers, [FAILED; 5]);
+fn real_files_answer_as_the_system_does(rt: HostRuntime) -> Result<(), Fail> {
+    let path = temporary(&rt, "story")?;
+    let mut files = RealFiles::new(&rt, rt.alloc());
+    let other = first_other(rt.alloc(), &mut files, path.as_str(), REAL)?;
+    fs::remove_file(&rt, path.as_str())?;
+    assert_eq!(rt; other, "");
     Ok(())
 }

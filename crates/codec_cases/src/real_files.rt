@@ -1,4 +1,6 @@
 // Calls of the system that fail, each in turn and at its worst place, and what is answered then and afterwards.
+use crate::outside::temporary;
+use crate::systems::story;
 use aftr_base::{Fault, Files, RealFiles, RealSink, append_all, fill, put_all};
 use std::alloc::{Allocator, Global};
 use std::cell::Cell;
@@ -8,10 +10,6 @@ use std::io::{ErrorKind, PipeWriter, Read, Seek, SeekFrom, Write};
 use std::rt::Files as FileSystem;
 use std::test::Fail;
 use std::{fs, io, process};
-
-fn temporary(rt: &HostRuntime, name: &str) -> Result<String, Fail> {
-    Ok(format!(in rt.alloc(); "/tmp/aftr_base_{name}_{}", process::id(rt.process()))?)
-}
 
 // The system's files, of which the call of one number fails. Opening, reading, writing and seeking are counted from 0. A read
 // gives at most four bytes, and a write takes at most three.
@@ -134,29 +132,6 @@ impl<'a> FileSystem for Worn<'a> {
     }
 }
 
-// An answer as one letter: a digit, or `f` where the call failed.
-fn letter(answer: Result<usize, Fault>) -> &'static str {
-    match answer {
-        Ok(count) => ["0", "1", "2", "3", "4", "5", "6", "7", "8"]
-            .get(count)
-            .unwrap_or(&"?"),
-        Err(Fault::Failed) => "f",
-        Err(Fault::OutOfMemory) => "m",
-    }
-}
-
-// Makes a file, appends eight bytes, and reads eight from places 0, 20 and 1: the answers, a letter each.
-fn story<F: Files>(alloc: Global, files: &mut F, name: &str) -> Result<String, Fail> {
-    let mut into = [0; 8];
-    let mut told = String::new(alloc);
-    told.push_str(letter(files.create(alloc, name).map(|()| 0)))?;
-    told.push_str(letter(append_all(alloc, files, name, b"abcdefgh").map(|()| 8)))?;
-    told.push_str(letter(fill(alloc, files, name, 0, &mut into)))?;
-    told.push_str(letter(fill(alloc, files, name, 20, &mut into)))?;
-    told.push_str(letter(fill(alloc, files, name, 1, &mut into)))?;
-    Ok(told)
-}
-
 fn story_of<R: FileSystem + Drop>(alloc: Global, system: R, name: &str) -> Result<String, Fail> {
     let mut files = RealFiles::new(system, alloc);
     story(alloc, &mut files, name)
@@ -184,29 +159,6 @@ fn each_failing_call_of_the_system_is_told(rt: HostRuntime) -> Result<(), Fail> 
         assert_eq!(rt; told.as_str(), wanted, "call {failing}");
         failing = failing.saturating_add(1);
     }
-    Ok(())
-}
-
-#[test]
-fn a_seek_or_a_read_that_fails_spoils_no_later_read(rt: HostRuntime) -> Result<(), Fail> {
-    let alloc = rt.alloc();
-    let path = temporary(&rt, "seek")?;
-    let name = path.as_str();
-    let mut files = RealFiles::new(&rt, alloc);
-    let mut into = [0; 4];
-    files.create(alloc, name)?;
-    append_all(alloc, &mut files, name, b"abcdefgh")?;
-    let answers = [
-        files.read(alloc, name, 2, &mut into),
-        files.read(alloc, name, u64::MAX, &mut into), // no place of a file
-        files.read(alloc, name, 5, &mut into),
-        files.read(alloc, "/tmp", 0, &mut into), // a folder: it is opened, and not read
-        files.read(alloc, name, 1, &mut into),
-    ];
-    fs::remove_file(&rt, name)?;
-    let failed = Err(Fault::Failed);
-    assert_eq!(rt; answers, [Ok(4), failed, Ok(3), failed, Ok(4)]);
-    assert_eq!(rt; into, *b"bcde");
     Ok(())
 }
 
@@ -268,22 +220,36 @@ fn put_in_each<F: Files>(
     Ok(())
 }
 
+// Whether each of these files holds what was put into it, by files that wrote them in turn.
+fn hold_all<F: Files>(alloc: Global, files: &mut F, path: &str) -> Result<bool, Fail> {
+    for number in 10..30u32 {
+        let name = format!(in alloc; "{path}_{number}")?;
+        let mut into = [0; 4];
+        let count = fill(alloc, files, name.as_str(), 0, &mut into);
+        if count != Ok(3) || into != *b"abc\0" {
+            return Ok(false);
+        }
+    }
+    Ok(true)
+}
+
+fn in_turn<R: FileSystem + Drop>(alloc: Global, system: R, path: &str) -> Result<bool, Fail> {
+    let mut files = RealFiles::new(system, alloc);
+    put_in_each(alloc, &mut files, path, b"a", true)?;
+    put_in_each(alloc, &mut files, path, b"b", false)?;
+    put_in_each(alloc, &mut files, path, b"c", false)?;
+    hold_all(alloc, &mut files, path)
+}
+
 #[test]
 fn twenty_files_are_written_in_turn(rt: HostRuntime) -> Result<(), Fail> {
-    let alloc = rt.alloc();
     let path = temporary(&rt, "turn")?;
-    let mut files = RealFiles::new(&rt, alloc);
-    put_in_each(alloc, &mut files, path.as_str(), b"a", true)?;
-    put_in_each(alloc, &mut files, path.as_str(), b"b", false)?;
-    put_in_each(alloc, &mut files, path.as_str(), b"c", false)?;
+    let all = in_turn(rt.alloc(), &rt, path.as_str())?;
     for number in 10..30u32 {
-        let name = format!(in alloc; "{}_{number}", path.as_str())?;
-        let mut into = [0; 4];
-        let count = fill(alloc, &mut files, name.as_str(), 0, &mut into);
+        let name = format!(in rt.alloc(); "{}_{number}", path.as_str())?;
         fs::remove_file(&rt, name.as_str())?;
-        assert_eq!(rt; count, Ok(3), "file {number}");
-        assert_eq!(rt; into, *b"abc\0", "file {number}");
     }
+    assert!(rt; all);
     Ok(())
 }
 
@@ -320,29 +286,44 @@ impl Print for Narrow<'_> {
     }
 }
 
-#[test]
-fn a_sink_takes_a_part_and_then_fails(rt: HostRuntime) -> Result<(), Fail> {
-    let alloc = rt.alloc();
-    let (mut end, pipe) = io::pipe(&rt)?;
-    let room = Cell::new(13);
-    let mut sink = RealSink::new(Narrow {
-        pipe: &pipe,
-        room: &room,
-    });
-    let first = sink.last_error().is_none();
+fn kind_of(last: Option<io::Error>) -> Option<ErrorKind> {
+    match last {
+        Some(error) => Some(error.kind()),
+        None => None,
+    }
+}
+
+// What a sink of this pipe answers to four puts, and what is said of its last failure before them and behind them.
+fn puts(
+    alloc: Global,
+    pipe: &PipeWriter,
+    room: &Cell<usize>,
+) -> ([Result<(), Fault>; 4], [Option<ErrorKind>; 2]) {
+    let mut sink = RealSink::new(Narrow { pipe, room });
+    let before = kind_of(sink.last_error());
     let answers = [
         put_all(alloc, &mut sink, b"abcdefgh"),
         put_all(alloc, &mut sink, b"ABCDEFGH"),
         put_all(alloc, &mut sink, b""),
         put_all(alloc, &mut sink, b"x"),
     ];
+    (answers, [before, kind_of(sink.last_error())])
+}
+
+#[test]
+fn a_sink_takes_a_part_and_then_fails(rt: HostRuntime) -> Result<(), Fail> {
+    let (mut end, pipe) = io::pipe(&rt)?;
+    let room = Cell::new(13);
+    let failed = Err(Fault::Failed);
+    assert_eq!(rt;
+        puts(rt.alloc(), &pipe, &room),
+        (
+            [Ok(()), failed, Ok(()), failed],
+            [None, Some(ErrorKind::Other)]
+        )
+    );
     let mut into = [0; 32];
     let count = end.read(&mut into)?;
-    let failed = Err(Fault::Failed);
-    assert_eq!(rt; answers, [Ok(()), failed, Ok(()), failed]);
-    assert_eq!(rt; count, 13);
-    assert_eq!(rt; &into[..13], b"abcdefghABCDE".as_slice());
-    let last = sink.last_error().map(|error| error.kind());
-    assert_eq!(rt; (first, last), (true, Some(ErrorKind::Other)));
+    assert_eq!(rt; into.get(..count), Some(b"abcdefghABCDE".as_slice()));
     Ok(())
 }

@@ -1,6 +1,7 @@
 // Captures read in rounds: whole files, files that answer little, and each read failing.
 ghost use Rattle.std.specs.Prelude.{◌≤◌};
 
+use crate::blocks::joined;
 use aftr_base::{Fault, Files, MemFiles};
 use capture_io::{CaptureReader, ClassicReader, Ending, Records, Written};
 use case_data::CAPTURE;
@@ -223,25 +224,25 @@ const SECTION: &[u8; 60] =
 const BLOCK_HEAD: &[u8; 28] =
     b"\x06\0\0\0\x40\0\0\0\0\0\0\0\0\0\0\0\0\xca\x9a\x3b\x20\0\0\0\x20\0\0\0";
 
+// What is written of a packet of so many bytes at 1 second: the header, and what stands before it, and behind one of 33.
+fn pushed(alloc: Global, form: Written, size: u32) -> Result<Vec<u8>, Fail>
+    requires { size ≤ 262144 }
+{
+    let mut out = Vec::new(alloc);
+    form.push_header(&mut out)?;
+    form.push_head(&mut out, 1, 0, size)?;
+    form.push_tail(&mut out, 33)?;
+    Ok(out)
+}
+
 #[test]
 fn what_is_pushed_are_these_bytes(rt: HostRuntime) -> Result<(), Fail> {
-    let alloc = rt.alloc();
-    let mut out = Vec::new(alloc);
-    Written::Blocks.push_header(&mut out)?;
-    assert_eq!(rt; out.as_slice(), SECTION.as_slice());
-    out.clear();
-    Written::Blocks.push_head(&mut out, 1, 0, 32)?;
-    assert_eq!(rt; out.as_slice(), BLOCK_HEAD.as_slice());
-    out.clear();
-    Written::Blocks.push_tail(&mut out, 33)?;
-    assert_eq!(rt; out.as_slice(), [0, 0, 0, 0x44, 0, 0, 0].as_slice());
-    out.clear();
-    let classic = Written::Classic { nano: false };
-    classic.push_header(&mut out)?;
-    classic.push_head(&mut out, 1, 0, 72)?;
-    assert_eq!(rt; out.as_slice(), &CAPTURE[..40]);
-    out.clear();
-    classic.push_tail(&mut out, 33)?;
-    assert!(rt; out.is_empty());
+    let blocks = joined(rt.alloc(), &[SECTION, BLOCK_HEAD, b"\0\0\0\x44\0\0\0"])?;
+    assert!(rt; pushed(rt.alloc(), Written::Blocks, 32)? == blocks);
+    let classic = pushed(rt.alloc(), Written::Classic { nano: false }, 72)?;
+    assert_eq!(rt;
+        CAPTURE.strip_prefix(classic.as_slice()).map(<[u8]>::len),
+        Some(72)
+    );
     Ok(())
 }

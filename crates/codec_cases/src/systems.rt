@@ -1,4 +1,7 @@
 // The files over a system in memory, each of whose calls fails in turn, and what is said of the last call that failed.
+ghost use Rattle.std.specs.Prelude.{◌≤◌};
+
+use crate::outside::{first_other, holds};
 use aftr_base::{
     Call, Fault, Files, LastError, MemSystem, RealFiles, SystemFiles, append_all, fill,
 };
@@ -19,15 +22,28 @@ fn letter(answer: Result<usize, Fault>) -> &'static str {
     }
 }
 
-// Makes a file, appends eight bytes, and reads eight from places 0, 20 and 1: the answers, a letter each.
-fn story(alloc: Global, files: &mut SystemFiles<MemSystem>) -> Result<String, Fail> {
+fn push_fill<F: Files>(
+    alloc: Global,
+    files: &mut F,
+    name: &str,
+    at: u64,
+    told: &mut String,
+) -> Result<(), Fail>
+    requires { at ≤ 20 }
+{
     let mut into = [0; 8];
+    told.push_str(letter(fill(alloc, files, name, at, &mut into)))?;
+    Ok(())
+}
+
+/// Makes a file, appends eight bytes, and reads eight from places 0, 20 and 1: the answers, a letter each.
+pub(crate) fn story<F: Files>(alloc: Global, files: &mut F, name: &str) -> Result<String, Fail> {
     let mut told = String::new(alloc);
-    told.push_str(letter(files.create(alloc, "out").map(|()| 0)))?;
-    told.push_str(letter(append_all(alloc, files, "out", b"abcdefgh").map(|()| 8)))?;
-    told.push_str(letter(fill(alloc, files, "out", 0, &mut into)))?;
-    told.push_str(letter(fill(alloc, files, "out", 20, &mut into)))?;
-    told.push_str(letter(fill(alloc, files, "out", 1, &mut into)))?;
+    told.push_str(letter(files.create(alloc, name).map(|()| 0)))?;
+    told.push_str(letter(append_all(alloc, files, name, b"abcdefgh").map(|()| 8)))?;
+    push_fill(alloc, files, name, 0, &mut told)?;
+    push_fill(alloc, files, name, 20, &mut told)?;
+    push_fill(alloc, files, name, 1, &mut told)?;
     Ok(told)
 }
 
@@ -70,7 +86,7 @@ fn told_of(alloc: Global, failing: u64) -> Result<String, Fail> {
     let mut system = MemSystem::new(alloc, 3);
     system.fail_at(alloc, failing)?;
     let mut files = SystemFiles::over(system, alloc);
-    let answers = story(alloc, &mut files)?;
+    let answers = story(alloc, &mut files, "out")?;
     let last = last_call(alloc, files.last_error())?;
     Ok(format!(in alloc; "{answers}|{last}")?)
 }
@@ -87,6 +103,20 @@ fn each_failing_call_of_a_system_is_told_and_kept(rt: HostRuntime) -> Result<(),
     Ok(())
 }
 
+// Appends and creates of a file, and reads of it and of another one.
+const AHEAD: &str = "fill in 0 8=abc
+append in de=2
+fill in 2 8=cde
+fill other 2 8=wxyz
+append in f=1
+fill other 3 8=xyz
+create other=0
+fill other 4 8=
+append other 1=1
+create other=0
+append other 23=2
+fill other 0 8=23";
+
 #[test]
 fn a_write_is_read_by_who_read_ahead_of_it(rt: HostRuntime) -> Result<(), Fail> {
     let alloc = rt.alloc();
@@ -94,34 +124,10 @@ fn a_write_is_read_by_who_read_ahead_of_it(rt: HostRuntime) -> Result<(), Fail> 
     system.set(alloc, "in", b"abc")?;
     system.set(alloc, "other", b"uvwxyz")?;
     let mut files = SystemFiles::over(system, alloc);
-    let mut into = [0; 8];
-    let answers = [
-        fill(alloc, &mut files, "in", 0, &mut into),
-        files.append(alloc, "in", b"de"),
-        fill(alloc, &mut files, "in", 2, &mut into),
-        fill(alloc, &mut files, "other", 2, &mut into),
-        files.append(alloc, "in", b"f"),
-        fill(alloc, &mut files, "other", 3, &mut into),
-        files.create(alloc, "other").map(|()| 0),
-        fill(alloc, &mut files, "other", 4, &mut into),
-        files.append(alloc, "other", b"1"),
-        files.create(alloc, "other").map(|()| 0),
-        files.append(alloc, "other", b"23"),
-        fill(alloc, &mut files, "other", 0, &mut into),
-    ];
-    let wanted = [3, 2, 3, 4, 1, 3, 0, 0, 1, 0, 2, 2].map(Ok);
-    assert_eq!(rt; answers, wanted);
-    assert_eq!(rt; into, *b"23zz\0\0\0\0");
+    assert_eq!(rt; first_other(alloc, &mut files, "", AHEAD)?, "");
     let system = files.system();
-    assert!(rt; holds(system, "in", b"abcdef") && holds(system, "other", b"23"));
+    assert!(rt; holds(system.get("in"), b"abcdef") && holds(system.get("other"), b"23"));
     Ok(())
-}
-
-fn holds(system: &MemSystem, name: &str, bytes: &[u8]) -> bool {
-    match system.get(name) {
-        Some(held) => held == bytes,
-        None => false,
-    }
 }
 
 // What the system said last.
