@@ -34,7 +34,8 @@ same_one : (x y : List ℕ) → x ≡ y → is_same y x ≡ 1
 same_one x y e = same_by x y (bytes_eq x y) refl e
 
 -- how often a name stands among the five and the loads
-five : (name a b c d e : List ℕ) (rest : List (List ℕ)) → times name (a ∷ b ∷ c ∷ d ∷ e ∷ rest) ≡ is_same name a + (is_same name b + (is_same name c + (is_same name d + (is_same name e + times name rest))))
+five : (name a b c d e : List ℕ) (rest : List (List ℕ)) →
+    times name (a ∷ b ∷ c ∷ d ∷ e ∷ rest) ≡ is_same name a + (is_same name b + (is_same name c + (is_same name d + (is_same name e + times name rest))))
 five name a b c d e rest =
     sum_by-cons (is_same name) a (b ∷ c ∷ d ∷ e ∷ rest)
     ∙ ap (λ (n : ℕ). is_same name a + n) (sum_by-cons (is_same name) b (c ∷ d ∷ e ∷ rest)
@@ -50,7 +51,8 @@ module _ (run : RunJob) where
 
   one : (name : List ℕ) → StandsOnce (names_of run) name → total name ≡ 1
   one name stands =
-      sym (five name run.input run.output run.verdicts run.versions run.table (map (λ (load : LoadWords). load.name) run.loads)) ∙ once name (names_of run) stands
+      sym (five name run.input run.output run.verdicts run.versions run.table (map (λ (load : LoadWords). load.name) run.loads)) ∙ once name (names_of run)
+      stands
 
   pub apart : AreApart run → AreFilesApart run
   apart h =

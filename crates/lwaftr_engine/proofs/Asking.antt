@@ -7,7 +7,8 @@ use Rattle.lwaftr_engine.proofs.Elements.{number_at}
 use Rattle.ip_codec.specs.declared.items.Item.TheVariants as item
 
 -- where one element has so much more, the sum has
-gains : {A : Type 0} (f g : A → ℕ) (v : ℕ) (xs : List A) (k : ℕ) (x : A) → ((y : A) → f y ≤ g y) → f x + v ≤ g x → k < length xs → get_or xs k x ≡ x → sum_by f xs + v ≤ sum_by g xs
+gains : {A : Type 0} (f g : A → ℕ) (v : ℕ) (xs : List A) (k : ℕ) (x : A) → ((y : A) → f y ≤ g y) → f x + v ≤ g x → k < length xs → get_or xs k x ≡ x →
+    sum_by f xs + v ≤ sum_by g xs
 gains f g v [] k x each more inside is = absurd (omega (arith, inside))
 gains {A} f g v (y ∷ ys) zero x each more inside is =
     let here : f y + v ≤ g y = rw is more in
@@ -40,7 +41,8 @@ module _ (items : List Item) (start : ℕ) where
   none_yet zero d behind = refl
   none_yet (suc n) d behind = none_step n d (none_yet n d (omega (arith, behind))) behind (eqb_tells d.0 (start + n))
 
-  part_step : (n : ℕ) (d : ℕ × ℕ) → part n d ≤ worth (d.0 - start) → Tells d.0 (start + n) → part n d + cond (d.0 == start + n) (worth n) 0 ≤ worth (d.0 - start)
+  part_step : (n : ℕ) (d : ℕ × ℕ) → part n d ≤ worth (d.0 - start) → Tells d.0 (start + n) →
+      part n d + cond (d.0 == start + n) (worth n) 0 ≤ worth (d.0 - start)
   part_step n d before (inl same) =
       let none : part n d ≡ 0 = none_yet n d (omega (arith, same.1)) in
       let place : d.0 - start ≡ n = omega (arith, same.1) in
@@ -66,14 +68,16 @@ module _ (items : List Item) (start : ℕ) where
   firsts_drawn news zero drawn = omega arith
   firsts_drawn news (suc n) drawn =
       let one = drawn n (omega arith) in
-      let more : sum_by (part n) news + worth n ≤ sum_by (part (suc n)) news = gains (part n) (part (suc n)) (worth n) news one.2.0 one.0 (λ d. omega arith) (one_gain n one.0 one.1) one.2.1 one.2.2 in
+      let more : sum_by (part n) news + worth n ≤ sum_by (part (suc n)) news =
+      gains (part n) (part (suc n)) (worth n) news one.2.0 one.0 (λ d. omega arith) (one_gain n one.0 one.1) one.2.1 one.2.2 in
       omega (arith, more, firsts_drawn news n (λ k inside. drawn k (omega (arith, inside))))
 
   firsts_all : (n : ℕ) → n ≤ length items → firsts n ≡ all_asking (take n items)
   firsts_all zero few = refl
   firsts_all (suc n) few =
       let i : Item = get_or items n item.Held in
-      let here : worth n ≡ cond (asks (Some (get_or items n item.Held))) 1 0 = ap (λ (o : Option Item). let k : ℕ = cond (asks o) 1 0 in k) (slice_get-get_or items n item.Held (omega (arith, few))) in
+      let here : worth n ≡ cond (asks (Some (get_or items n item.Held))) 1 0 =
+      ap (λ (o : Option Item). let k : ℕ = cond (asks o) 1 0 in k) (slice_get-get_or items n item.Held (omega (arith, few))) in
       let next : take (suc n) items ≡ take n items ++ get_or items n item.Held ∷ [] = take-suc items n item.Held (omega (arith, few)) in
       omega (
         arith,
@@ -94,16 +98,29 @@ module _ (items : List Item) (start : ℕ) where
         sum_by-le-sum_by (part (length items)) (λ (d : ℕ × ℕ). worth (d.0 - start)) news (λ d. part_of (length items) d),
       )
 
-asked_by : (items : List Item) (start end : ℕ) (before after : View) (all : List Outcome) → IsRound items start end before after all → end ≡ start + length items → before.reads + all_asking items ≤ after.reads
+asked_by : (items : List Item) (start end : ℕ) (before after : View) (all : List Outcome) → IsRound items start end before after all →
+    end ≡ start + length items → before.reads + all_asking items ≤ after.reads
 asked_by items start end before after all round count =
     omega (arith, round.reads, asked_drawn items start round.news drawn) where
       long : length all ≡ length items
-      long = omega (arith, sym (length-map all (λ (o : Outcome). o.number)) ∙ (ap (λ (l : List ℕ). length l) round.numbers ∙ length-range_with_len start (end - start)), count)
+      long =
+          omega (
+            arith,
+            sym (length-map all (λ (o : Outcome). o.number))
+                ∙ (ap (λ (l : List ℕ). length l) round.numbers ∙ length-range_with_len start (end - start)),
+            count,
+          )
 
       drawn : (k : ℕ) → k < length items → (d : ℕ × ℕ) × (d.0 ≡ start + k) × Contains round.news d
       drawn k inside =
-          let within : k < length all = omega (arith, inside, long) in
-          (draw_of (get_or all k no_outcome), number_at (λ (x : Outcome). x.number) all start (end - start) k (get_or all k no_outcome) round.numbers (slice_get-get_or all k no_outcome within), round.drawn k no_outcome within)
+          let within : k < length all = omega (arith, inside, long) in (
+            draw_of (get_or all k no_outcome),
+            number_at (λ (x : Outcome). x.number) all start (end - start) k (get_or all k no_outcome) round.numbers
+                (slice_get-get_or all k no_outcome within),
+            round.drawn k no_outcome within,
+          )
 
-pub round_asked : (entries : List Entry) (start end : ℕ) (before after : View) (all : List Outcome) → IsRound (items_in entries) start end before after all → end ≡ start + length entries → before.reads + all_asking (items_in entries) ≤ after.reads
-round_asked entries start end before after all round count = asked_by (items_in entries) start end before after all round (omega (arith, count, length-map entries (λ (e : Entry). e.item)))
+pub round_asked : (entries : List Entry) (start end : ℕ) (before after : View) (all : List Outcome) → IsRound (items_in entries) start end before after all →
+    end ≡ start + length entries → before.reads + all_asking (items_in entries) ≤ after.reads
+round_asked entries start end before after all round count =
+    asked_by (items_in entries) start end before after all round (omega (arith, count, length-map entries (λ (e : Entry). e.item)))

@@ -1,95 +1,110 @@
 -- What the outputs hold where a round could not be written to its end.
-use Rattle.lwaftr_engine.proofs.Words.{Contents, Course, HasBegun, HasJudged, HasWritten, IsFrontOf, Pending, Rec, RunLaws, Setup, State, Suits, Wrote, [], ap}
-use Rattle.lwaftr_engine.proofs.Words.{append-nil, append_assoc, drop, entries_of, flat_map-append, lines_from, lines_in, load_lines, loads_of, packets_from}
+use Rattle.lwaftr_engine.proofs.Words.{Contents, Course, HasBegun, HasWritten, IsFrontOf, Rec, Setup, State, Wrote, [], ap}
+use Rattle.lwaftr_engine.proofs.Words.{append-nil, drop, entries_of, flat_map-append, lines_from, lines_in, load_lines, loads_of, packets_from}
 use Rattle.lwaftr_engine.proofs.Words.{packets_in, refl, slot_text, string_bytes, sym, take, take-append-drop, ◌++◌, ◌∙◌, ◌≡◌, List, NamedSlot, ℕ}
-use Rattle.lwaftr_engine.proofs.Parts.{all_of, front_at_end, front_in}
+use Rattle.lwaftr_engine.proofs.Parts.{all_alone, front_at_end, front_in}
 use Rattle.lwaftr_engine.proofs.Writing.{did_none, wrote}
-use Rattle.lwaftr_engine.proofs.Going.{limited_before, lines_are, packets_are, spoken_more, versions_are, wrote_more, wrote_same}
+use Rattle.lwaftr_engine.proofs.Going.{RoundUnder, every, every_entry, limited_before, lines_are, old_lines, old_packets, packets_are, points_are, spoken_more}
+use Rattle.lwaftr_engine.proofs.Going.{versions_are, wrote_more, wrote_same}
 
-pub lines_split : (points : List ℕ) (k : ℕ) (loads : List NamedSlot) → load_lines points (take k loads) ++ load_lines points (drop k loads) ≡ load_lines points loads
+pub lines_split : (points : List ℕ) (k : ℕ) (loads : List NamedSlot) →
+    load_lines points (take k loads) ++ load_lines points (drop k loads) ≡ load_lines points loads
 lines_split points k loads =
     sym (flat_map-append (λ (load : NamedSlot). slot_text points load.name load.slot) (take k loads) (drop k loads))
     ∙ ap (λ (l : List NamedSlot). load_lines points l) (take-append-drop k loads)
 
--- lines of tables are put behind those of what was taken, and lines behind its lines: both are fronts of what is due
-pub begun_by : {x : Setup} {c : Course} {opened a d : Contents} {s : State} {taken : List Rec} → HasWritten x c opened a s taken → (later due v l : List ℕ) →
-    IsFrontOf (load_lines (s.points ++ later) (loads_of x)) (load_lines (s.points ++ later) (take s.progress.printed (loads_of x)) ++ v) →
-    IsFrontOf due (lines_from c 0 (entries_of x.form taken) ++ l) → Wrote x.run v [] l a d → HasBegun x c (s.points ++ later) due opened d taken
-begun_by {x} {c} {s = s} {taken = taken} h later due v l tables lines wrote =
-    let packets = packets_from c x.written 0 taken (entries_of x.form taken) in
-    record {
-      printed = s.points;
-      later = later;
-      all = refl;
-      loads = s.progress.printed;
-      none_due = h.none_due;
-      spoken = h.spoken;
-      wrote = λ limited. record {
-        more = v;
-        in_tables = tables;
-        packets_part = packets ++ [];
-        in_packets = rw (append-nil packets) (all_of packets);
-        lines_part = lines_from c 0 (entries_of x.form taken) ++ l;
-        in_lines = lines;
-        wrote = wrote_more (h.files later limited) wrote;
-      };
-    }
+-- a front of the lines that are left, behind those of the first loads, is one of all
+pub lines_in_front : (points : List ℕ) (k : ℕ) (loads : List NamedSlot) {part : List ℕ} → IsFrontOf (load_lines points (drop k loads)) part →
+    IsFrontOf (load_lines points loads) (load_lines points (take k loads) ++ part)
+lines_in_front points k loads {part} front =
+    front_at_end (load_lines points loads) (load_lines points (take k loads)) (load_lines points (drop k loads)) part (lines_split points k loads) front
 
--- what is written whole is written to a front
-pub still_begun : {x : Setup} {c : Course} {opened a : Contents} {s : State} {taken : List Rec} → HasWritten x c opened a s taken → (later : List ℕ) →
-    HasBegun x c (s.points ++ later) (lines_from c 0 (entries_of x.form taken)) opened a taken
-still_begun {x} {c} {a = a} {s = s} {taken = taken} h later =
-    let points = s.points ++ later in
-    let lines = lines_from c 0 (entries_of x.form taken) in
-    begun_by h later lines [] [] (front_at_end (load_lines points (loads_of x)) (load_lines points (take s.progress.printed (loads_of x)))
-    (load_lines points (drop s.progress.printed (loads_of x))) [] (lines_split points s.progress.printed (loads_of x)) (0, refl))
-    (rw (append-nil lines) (all_of lines)) (wrote x.run [] [] [] a a (did_none x.run a))
+-- records that were taken and written, under a course
+pub record TakenUnder : Type 0 where
+  pub x : Setup
+  pub c : Course
+  pub opened : Contents
+  pub before : Contents
+  pub s : State
+  pub taken : List Rec
+  pub h : HasWritten x c opened before s taken
 
-module _ (laws : RunLaws) {x : Setup} {p q : State} {records : List Rec} {made : Pending} {opened a : Contents} {c : Course} {taken : List Rec}
-    (judged : HasJudged x p q records made) (suits : Suits p.plan q.draws c) (h : HasWritten x c opened a p taken) (later : List ℕ) {d : Contents} where
+module _ (t : TakenUnder) (later : List ℕ) where
+  abbrev taken_packets : List ℕ
+  taken_packets = packets_from t.c t.x.written 0 t.taken (entries_of t.x.form t.taken)
+
+  abbrev pub taken_lines : List ℕ
+  taken_lines = lines_from t.c 0 (entries_of t.x.form t.taken)
+
+  -- lines of tables are put behind those of what was taken, and lines behind its lines: both are fronts of what is due
+  pub begun_by : {d : Contents} (due v l : List ℕ) →
+      IsFrontOf (load_lines (t.s.points ++ later) (loads_of t.x)) (load_lines (t.s.points ++ later) (take t.s.progress.printed (loads_of t.x)) ++ v) →
+      IsFrontOf due (taken_lines ++ l) → Wrote t.x.run v [] l t.before d → HasBegun t.x t.c (t.s.points ++ later) due t.opened d t.taken
+  begun_by due v l tables lines wrote = record {
+    printed = t.s.points;
+    later = later;
+    all = refl;
+    loads = t.s.progress.printed;
+    none_due = t.h.none_due;
+    spoken = t.h.spoken;
+    wrote = λ limited. record {
+      more = v;
+      in_tables = tables;
+      packets_part = taken_packets ++ [];
+      in_packets = all_alone taken_packets;
+      lines_part = taken_lines ++ l;
+      in_lines = lines;
+      wrote = wrote_more (t.h.files later limited) wrote;
+    };
+  }
+
+  -- what is written whole is written to a front
+  pub still_begun : HasBegun t.x t.c (t.s.points ++ later) taken_lines t.opened t.before t.taken
+  still_begun =
+      begun_by taken_lines [] [] (lines_in_front (t.s.points ++ later) t.s.progress.printed (loads_of t.x) (0, refl))
+      (all_alone taken_lines) (wrote t.x.run [] [] [] t.before t.before (did_none t.x.run t.before))
+
+module _ (r : RoundUnder) (later : List ℕ) {d : Contents} where
   -- a front of the new lines of tables is put behind what was there
-  pub begun_tables : (count : ℕ) → Wrote x.run (take count (string_bytes made.versions)) [] [] a d →
-      HasBegun x c (q.points ++ later) (lines_from c 0 (entries_of x.form taken)) opened d taken
+  pub begun_tables : (count : ℕ) → Wrote r.x.run (take count (string_bytes r.made.versions)) [] [] r.before d →
+      HasBegun r.x r.c (r.q.points ++ later) (old_lines r) r.opened d r.taken
   begun_tables count wrote =
-      let lines = lines_from c 0 (entries_of x.form taken) in
-      let points = p.points ++ (judged.news ++ later) in
-      let first = load_lines points (take p.progress.printed (loads_of x)) in
-      let rest = load_lines points (drop q.progress.printed (loads_of x)) in
-      let same : p.points ++ (judged.news ++ later) ≡ q.points ++ later =
-      sym (append_assoc p.points judged.news later) ∙ ap (λ (l : List ℕ). l ++ later) (sym judged.new_lines.points_are) in
-      let both = ap (λ (l : List ℕ). load_lines l (take q.progress.printed (loads_of x))) same ∙ sym (versions_are laws judged suits h later) in
-      let whole : load_lines (p.points ++ (judged.news ++ later)) (loads_of x) ≡ (first ++ string_bytes made.versions) ++ rest =
-      sym (lines_split points q.progress.printed (loads_of x)) ∙ ap (λ (l : List ℕ). l ++ rest) both in
-      rw (← same) (begun_by h (judged.news ++ later) lines (take count (string_bytes made.versions)) []
-      (front_in (load_lines points (loads_of x)) first (string_bytes made.versions) rest (take count (string_bytes made.versions)) whole (count, refl))
-      (rw (append-nil lines) (all_of lines)) wrote)
+      let loads = loads_of r.x in
+      let points = r.p.points ++ (r.judged.news ++ later) in
+      let first = load_lines points (take r.p.progress.printed loads) in
+      let rest = load_lines points (drop r.q.progress.printed loads) in
+      let news = string_bytes r.made.versions in
+      let both = ap (λ (l : List ℕ). load_lines l (take r.q.progress.printed loads)) (points_are r later) ∙ sym (versions_are r later) in
+      let whole : load_lines (r.p.points ++ (r.judged.news ++ later)) (loads_of r.x) ≡ (first ++ string_bytes r.made.versions) ++ rest =
+      sym (lines_split points r.q.progress.printed loads) ∙ ap (λ (l : List ℕ). l ++ rest) both in
+      let t : TakenUnder = record { x = r.x; c = r.c; opened = r.opened; before = r.before; s = r.p; taken = r.taken; h = r.h } in
+      rw (← (points_are r later)) (begun_by t (r.judged.news ++ later) (old_lines r) (take count news) []
+      (front_in (load_lines points loads) first news rest (take count news) whole (count, refl)) (all_alone (old_lines r)) wrote)
 
   -- all of them, and fronts of the packets and of the lines of records
-  pub begun_more : (n k : ℕ) → Wrote x.run (string_bytes made.versions) (take n (packets_in made.rendered)) (take k (lines_in made.rendered)) a d →
-      HasBegun x c (q.points ++ later) (lines_from c 0 (entries_of x.form (taken ++ records))) opened d (taken ++ records)
+  pub begun_more : (n k : ℕ) →
+      Wrote r.x.run (string_bytes r.made.versions) (take n (packets_in r.made.rendered)) (take k (lines_in r.made.rendered)) r.before d →
+      HasBegun r.x r.c (r.q.points ++ later) (lines_from r.c 0 (every_entry r)) r.opened d (every r)
   begun_more n k wrote =
-      let points = q.points ++ later in
-      let first = load_lines points (take q.progress.printed (loads_of x)) in
-      let packets = packets_from c x.written 0 taken (entries_of x.form taken) in
-      let lines = lines_from c 0 (entries_of x.form taken) in
-      let every_packet = packets_from c x.written 0 (taken ++ records) (entries_of x.form (taken ++ records)) in
-      let every_line = lines_from c 0 (entries_of x.form (taken ++ records)) in
+      let points = r.q.points ++ later in
+      let packets = packets_in r.made.rendered in
+      let lines = lines_in r.made.rendered in
       record {
-        printed = q.points;
+        printed = r.q.points;
         later = later;
         all = refl;
-        loads = q.progress.printed;
-        none_due = judged.new_lines.none_due;
-        spoken = spoken_more laws judged suits h;
+        loads = r.q.progress.printed;
+        none_due = r.judged.new_lines.none_due;
+        spoken = spoken_more r;
         wrote = λ limited. record {
           more = [];
-          in_tables = front_at_end (load_lines points (loads_of x)) first (load_lines points (drop q.progress.printed (loads_of x))) []
-              (lines_split points q.progress.printed (loads_of x)) (0, refl);
-          packets_part = packets ++ take n (packets_in made.rendered);
-          in_packets = front_at_end every_packet packets (packets_in made.rendered) (take n (packets_in made.rendered)) (packets_are laws judged suits h limited) (n, refl);
-          lines_part = lines ++ take k (lines_in made.rendered);
-          in_lines = front_at_end every_line lines (lines_in made.rendered) (take k (lines_in made.rendered)) (lines_are laws judged suits h limited) (k, refl);
-          wrote = wrote_same (versions_are laws judged suits h later ∙ sym (append-nil first)) refl refl
-              (wrote_more (h.files (judged.news ++ later) (limited_before laws judged suits h limited)) wrote);
+          in_tables = lines_in_front points r.q.progress.printed (loads_of r.x) (0, refl);
+          packets_part = old_packets r ++ take n packets;
+          in_packets = front_at_end (packets_from r.c r.x.written 0 (every r) (every_entry r)) (old_packets r) packets (take n packets)
+              (packets_are r limited) (n, refl);
+          lines_part = old_lines r ++ take k lines;
+          in_lines = front_at_end (lines_from r.c 0 (every_entry r)) (old_lines r) lines (take k lines) (lines_are r limited) (k, refl);
+          wrote = wrote_same (versions_are r later ∙ sym (append-nil (load_lines points (take r.q.progress.printed (loads_of r.x)))), refl, refl)
+              (wrote_more (r.h.files (r.judged.news ++ later) (limited_before r limited)) wrote);
         };
       }

@@ -1,14 +1,17 @@
 -- What a run leaves from the opening of its outputs on.
 use Rattle.lwaftr_engine.proofs.Words.{AreAllPoints, AreBefore, AreSlotsOf, AreTaken, AreWritten, BindingTable, Bool, Breaks, CaptureBad, Contents, Did}
 use Rattle.lwaftr_engine.proofs.Words.{DidFront, Ending, Err, Fault, Finishes, FinishesPart, Goes, HistoryValue, IfSome, IsAtFirst, IsBroken, IsClosed, IsFront}
-use Rattle.lwaftr_engine.proofs.Words.{IsInput, IsPlan, IsPlanOf, IsRate, IsRun, IsWhole, LeavesBy, LeavesOpened, List, Moves, None, Ok, Option, Rec, Result}
+use Rattle.lwaftr_engine.proofs.Words.{IsInput, IsPlan, IsPlanOf, IsRate, IsRun, IsWhole, LeavesBy, LeavesOpened, List, Moves, None, Ok, Option, Outside, Rec}
+use Rattle.lwaftr_engine.proofs.Words.{Result}
 use Rattle.lwaftr_engine.proofs.Words.{Rises, RunLaws, Setup, Some, Spot, State, Stop, Tables, Takes, Window, World, ap, arith, content, ended_status, is_cut}
 use Rattle.lwaftr_engine.proofs.Words.{is_failure, length, opening_steps, refl, some_slot_refused, stop_by, ℕ, ◌++◌, ◌∙◌, ◌≡◌, false, inl, inr, true}
+use Rattle.lwaftr_engine.proofs.Words.{has_failed, subst, sym}
+use Rattle.lwaftr_engine.specs.Progress.{OneRises}
 use Rattle.lwaftr_engine.proofs.Apart.{AreFilesApart, input_kept}
 use Rattle.lwaftr_engine.proofs.Closing.{ClosedRun, suits_bare, is_run}
 use Rattle.lwaftr_engine.proofs.EndLemmas.{EndsAt, SomeLeft, ends_at, takes_by}
 use Rattle.lwaftr_engine.proofs.Writing.{IsOpening, opening_front, opened}
-use Rattle.lwaftr_engine.proofs.Fronting.{at_finish, at_opening, at_rounds}
+use Rattle.lwaftr_engine.proofs.Fronting.{at_finish, at_opening, at_rounds, first_points}
 use Rattle.lwaftr_engine.proofs.Courses.{bare}
 use Rattle.lwaftr_engine.proofs.Moving.{moves_by, moves_join, moves_none, moves_three}
 use Rattle.aftr_base.specs.declared.outside.Fault.TheVariants as fault
@@ -34,13 +37,14 @@ module _ (x : Setup) (old : Contents) {first : Spot} (at_first : IsAtFirst first
     next = part.next;
   }
 
-  pub takes_all : {rs : List Rec} (stop : Stop) →
-      Takes x.run.input first (content old x.run.input) rs stop.before.files.lost stop.after.files.lost stop.after.files.last → AreTaken x.run old at_first.header rs 3 stop
+  pub takes_all : {rs : List Rec} (stop : Stop) → Takes x.run.input first (content old x.run.input) rs stop.before.files stop.after.files →
+      AreTaken x.run old at_first.header rs 3 stop
   takes_all {rs} stop (inl (same, all)) = inl (same, (all.0, at_first.all rs all.0 all.1))
   takes_all stop (inr (rose, part)) = inr (omega arith, (rose, behind part))
 
-  pub broken : {tables : ℕ → BindingTable} {windows : List Window} {rs : List Rec} {new : Contents} (made : ℕ) (stop : Stop) → AreTaken x.run old at_first.header rs made stop →
-      IsFront x.run tables windows x.slots x.form x.written rs made old new stop → IsBroken x.run tables windows x.slots old new stop
+  pub broken : {tables : ℕ → BindingTable} {windows : List Window} {rs : List Rec} {new : Contents} (made : ℕ) (stop : Stop) →
+      AreTaken x.run old at_first.header rs made stop → IsFront x.run tables windows x.slots x.form x.written rs made old new stop →
+      IsBroken x.run tables windows x.slots old new stop
   broken {rs = rs} made stop taken front = record {
     header = at_first.header;
     sound = at_first.sound;
@@ -50,45 +54,68 @@ module _ (x : Setup) (old : Contents) {first : Spot} (at_first : IsAtFirst first
     front = rw (at_first.form_is, at_first.written_is) at front;
   }
 
-  whole : {tables : ℕ → BindingTable} {windows : List Window} {rs : List Rec} {new : Contents} {said now : Option (List ℕ)} {history : Option HistoryValue} (ended : Option CaptureBad) →
-      first.left (content old x.run.input) 0 rs ended → IsRun x.run tables windows x.slots x.form x.written rs old new said now history →
-      IsWhole x.run tables windows x.slots old new said now history ended
-  whole {rs = rs} ended left run = record {
+-- the run of these records
+module _ (r : ClosedRun) {first : Spot} (at_first : IsAtFirst first r.x.form r.x.written (content r.old r.x.run.input)) (rs : List Rec) (new : Contents) where
+  abbrev Run : Option (List ℕ) → Option (List ℕ) → Type 0
+  Run said now = IsRun r.x.run r.tables r.windows r.x.slots r.x.form r.x.written rs r.old new said now (Some r.h)
+
+  whole : {said now : Option (List ℕ)} (ended : Option CaptureBad) → first.left (content r.old r.x.run.input) 0 rs ended → Run said now →
+      IsWhole r.x.run r.tables r.windows r.x.slots r.old new said now (Some r.h) ended
+  whole ended left run = record {
     header = at_first.header;
     records = rs;
     capture = at_first.all rs ended left;
     is_run = rw (at_first.form_is, at_first.written_is) at run;
   }
 
-  pub leaves_ended : {tables : ℕ → BindingTable} {windows : List Window} {rs : List Rec} {new : Contents} (before now : World) {history : Option HistoryValue} (stop : Ending) →
-      EndsAt x.run.input first (content old x.run.input) rs stop now.files.last → IsRun x.run tables windows x.slots x.form x.written rs old new before.said now.said history →
-      (refused : Bool) → some_slot_refused x.slots ≡ refused → LeavesBy x.run tables windows x.slots (ended_status (Ok stop) refused) before now history old new
+  leaves_ended : (before now : World) (stop : Ending) → EndsAt r.x.run.input first (content r.old r.x.run.input) rs stop now.files.last →
+      Run before.said now.said → (refused : Bool) → some_slot_refused r.x.slots ≡ refused →
+      LeavesBy r.x.run r.tables r.windows r.x.slots (ended_status (Ok stop) refused) before now (Some r.h) r.old new
   leaves_ended before now ending.End it run true is = (whole None it run, is)
   leaves_ended before now ending.End it run false is = (whole None it run, is)
   leaves_ended before now (ending.Bad refusal) it run refused is = inl (whole (Some refusal) it run)
-  leaves_ended {rs = rs} before now ending.ReadFault it run refused is =
-      inl (record { header = at_first.header; taken = rs; before = behind it; is_run = rw (at_first.form_is, at_first.written_is) at run })
+  leaves_ended before now ending.ReadFault it run refused is =
+      inl (record {
+        header = at_first.header;
+        taken = rs;
+        before = behind r.x r.old at_first it;
+        is_run = rw (at_first.form_is, at_first.written_is) at run;
+      })
 
-pub ended_err : (x : Setup) (plan : Tables) (reader : Spot) (r : Result Ending Fault) (why : Fault) (before now : World) (history : Option HistoryValue) → r ≡ Err why → history ≡ None →
-    Moves before.files.held now.files.held (Broken x plan reader (stop_by why before now)) → Moves before.files.held now.files.held (LeavesOpened x plan reader r before now history)
+pub ended_err : (x : Setup) (plan : Tables) (reader : Spot) (r : Result Ending Fault) (why : Fault) (before now : World) (history : Option HistoryValue) →
+    r ≡ Err why → history ≡ None → Moves before.files.held now.files.held (Broken x plan reader (stop_by why before now)) →
+    Moves before.files.held now.files.held (LeavesOpened x plan reader r before now history)
 ended_err x plan reader r why before now history is none step =
     rw is (by_fault why step) where
       by_fault : (why : Fault) → Moves before.files.held now.files.held (Broken x plan reader (stop_by why before now)) →
           Moves before.files.held now.files.held (LeavesOpened x plan reader (Err why) before now history)
       by_fault fault.Failed step =
-          moves_by before.files.held now.files.held _ _ (λ m n broken at_first tables windows of. ((λ slots_of. broken at_first tables windows of slots_of), none)) step
+          moves_by before.files.held now.files.held _ _
+          (λ m n broken at_first tables windows of. ((λ slots_of. broken at_first tables windows of slots_of), none)) step
       by_fault fault.OutOfMemory step =
-          moves_by before.files.held now.files.held _ _ (λ m n broken at_first tables windows of. inr ((λ slots_of. broken at_first tables windows of slots_of), none)) step
+          moves_by before.files.held now.files.held _ _
+          (λ m n broken at_first tables windows of. inr ((λ slots_of. broken at_first tables windows of slots_of), none)) step
 
 -- memory was wanted before anything was done
 pub none_done : (x : Setup) (plan : Tables) (reader : Spot) (r : Result Ending Fault) (why : Fault) (w : World) (history : Option HistoryValue) →
     r ≡ Err why → why ≡ fault.OutOfMemory → history ≡ None → Moves w.files.held w.files.held (LeavesOpened x plan reader r w w history)
 none_done x plan reader r why w history is wanted none =
     rw (is ∙ ap Err wanted) (moves_none w.files.held w.files.held (LeavesOpened x plan reader (Err fault.OutOfMemory) w w history)
-    (λ m at_first tables windows of. inl (record { files = refl; sink = refl; none = none }, record { lost = refl; spoiled = refl; faults = refl; last = refl })) refl)
+    (λ m at_first tables windows of.
+    inl (record { files = refl; sink = refl; none = none }, record { lost = refl; spoiled = refl; faults = refl; last = refl })) refl)
 
-pub opening_broken : (laws : RunLaws) (x : Setup) (plan : Tables) → IsPlan plan → IfSome x.run.errors IsRate → (reader : Spot) → SomeLeft reader.left → (stop : Stop) →
-    Rises stop.failed stop.before.files.spoiled stop.after.files.spoiled × (stop.after.said ≡ stop.before.said) → stop.after.files.lost ≡ stop.before.files.lost →
+-- a call failed or did not, and no put did
+pub one_rises : (why : Fault) (spoiled now puts : ℕ) → Rises (has_failed {T = Ending} (Err why)) spoiled now →
+    OneRises (has_failed {T = Ending} (Err why)) spoiled now puts puts
+one_rises fault.Failed spoiled now puts rises = inl rises
+one_rises fault.OutOfMemory spoiled now puts same = (same, refl)
+
+-- no call of a put failed, and what was put is what was
+abbrev NothingPut : Stop → Type 0
+NothingPut stop = Rises stop.failed stop.before.files.spoiled stop.after.files.spoiled × (stop.after.said ≡ stop.before.said)
+
+pub opening_broken : (laws : RunLaws) (x : Setup) (plan : Tables) → IsPlan plan → IfSome x.run.errors IsRate → (reader : Spot) → SomeLeft reader.left →
+    (stop : Stop) → NothingPut stop → stop.after.files.lost ≡ stop.before.files.lost →
     Moves stop.before.files.held stop.after.files.held (DidFront x.run (opening_steps x.run x.written)) →
     Moves stop.before.files.held stop.after.files.held (Broken x plan reader stop)
 opening_broken laws x plan planned rate reader some stop nothing same step =
@@ -96,32 +123,61 @@ opening_broken laws x plan planned rate reader some stop nothing same step =
     (λ m n front at_first tables windows of slots_of.
     let rest = some (content m x.run.input) 0 in
     let half : IsOpening x.run x.written m n = opening_front x.run x.written m n front in
-    broken x m at_first half.made stop (inl (same, (rest.1, at_first.all rest.0 rest.1 rest.2))) (at_opening laws x planned of rate rest.0 stop nothing half)) step
+    broken x m at_first half.made stop (inl (same, (rest.1, at_first.all rest.0 rest.1 rest.2)))
+    (at_opening laws x rate rest.0 (first_points planned of rest.0) stop nothing half)) step
 
--- what is known of a run whose outputs were opened, and whose areas are closed
-pub record Captured : Type 1 where
+-- a run whose outputs were opened
+pub record Opened : Type 1 where
   pub laws : RunLaws
   pub x : Setup
   pub far : AreFilesApart x.run
   pub rate : IfSome x.run.errors IsRate
   pub plan : Tables
   pub first : Spot
+  pub before : World
+  pub middle : Outside
+  pub opening : Moves before.files.held middle.held (Did x.run (opening_steps x.run x.written))
+
+-- whose areas are closed
+pub record Captured : Type 1 where
+  pub opened : Opened
   pub s : State
-  pub its_plan : s.plan ≡ plan
+  pub its_plan : s.plan ≡ opened.plan
   pub h : HistoryValue
   pub closed : IsClosed s h
-  pub before : World
   pub now : World
-  pub middle : Option Contents
-  pub opening : Moves before.files.held middle (Did x.run (opening_steps x.run x.written))
+
+-- and whose records have ended
+pub record AtEnd : Type 1 where
+  pub run : Captured
+  pub reader : Spot
+  pub some : SomeLeft reader.left
+  pub stop : Ending
+  pub end : Outside
+  pub last_is : run.now.files.last ≡ end.last
+  pub lost : Rises (is_cut (Some stop)) run.opened.before.files.lost run.now.files.lost
+  pub count : length run.s.draws ≡ run.s.progress.number
+  pub placed : AreAllPoints run.s.plan.windows run.s.points run.s.progress.number
+  pub going : Moves run.opened.middle.held end.held (Goes run.opened.x run.s run.opened.first reader (Some stop) end.last)
+
+abbrev pub opened_run : (laws : RunLaws) (x : Setup) → AreFilesApart x.run → IfSome x.run.errors IsRate → (plan : Tables) (first : Spot) (before : World)
+    (middle : Outside) → Moves before.files.held middle.held (Did x.run (opening_steps x.run x.written)) → Opened
+opened_run laws x far rate plan first before middle opening =
+    record { laws = laws; x = x; far = far; rate = rate; plan = plan; first = first; before = before; middle = middle; opening = opening }
+
+abbrev pub captured : (opened : Opened) (s : State) → s.plan ≡ opened.plan → (h : HistoryValue) → IsClosed s h → (now : World) → Captured
+captured opened s its_plan h closed now = record { opened = opened; s = s; its_plan = its_plan; h = h; closed = closed; now = now }
 
 module _ (r : Captured) where
-  abbrev pub closed_run : (a b : Contents) → Did r.x.run (opening_steps r.x.run r.x.written) a b → (tables : ℕ → BindingTable) (windows : List Window) →
-      IsPlanOf tables windows r.plan → ClosedRun
+  abbrev o : Opened
+  o = r.opened
+
+  abbrev pub closed_run : (a b : Contents) → Did r.opened.x.run (opening_steps r.opened.x.run r.opened.x.written) a b → (tables : ℕ → BindingTable)
+      (windows : List Window) → IsPlanOf tables windows r.opened.plan → ClosedRun
   closed_run a b did tables windows of = record {
-    laws = r.laws;
-    x = r.x;
-    rate = r.rate;
+    laws = r.opened.laws;
+    x = r.opened.x;
+    rate = r.opened.rate;
     tables = tables;
     windows = windows;
     s = r.s;
@@ -130,81 +186,81 @@ module _ (r : Captured) where
     closed = r.closed;
     old = a;
     opened = b;
-    opening = opened r.x.run r.x.written a b did;
+    opening = opened r.opened.x.run r.opened.x.written a b did;
   }
 
-  pub rounds_broken : (why : Fault) → Rises (is_failure why) r.before.files.spoiled r.now.files.spoiled × (r.now.said ≡ r.before.said) → (lost : ℕ) → lost ≡ r.before.files.lost →
-      Moves r.middle r.now.files.held (Breaks r.x r.s r.first lost r.now.files.lost r.now.files.last) →
-      Moves r.before.files.held r.now.files.held (Broken r.x r.plan r.first (stop_by why r.before r.now))
-  rounds_broken why nothing lost lost_is breaking =
-      moves_join r.before.files.held r.middle r.now.files.held _ _ _
+  pub rounds_broken : (why : Fault) → NothingPut (stop_by why o.before r.now) → o.middle.lost ≡ o.before.files.lost →
+      Moves o.middle.held r.now.files.held (Breaks o.x r.s o.first o.middle r.now.files) →
+      Moves o.before.files.held r.now.files.held (Broken o.x o.plan o.first (stop_by why o.before r.now))
+  rounds_broken why nothing lost_is breaking =
+      moves_join o.before.files.held o.middle.held r.now.files.held _ _ _
       (λ a b d did breaks at_first tables windows of slots_of.
       let run = closed_run a b did tables windows of in
-      let stop = stop_by why r.before r.now in
-      let same = input_kept r.far a b run.opening.others in
+      let stop = stop_by why o.before r.now in
+      let same = input_kept o.far a b run.opening.others in
       let it = breaks (rw same at_first.stands) in
-      broken r.x a at_first 3 stop (takes_all r.x a at_first stop (rw (same, lost_is) at it.taken)) (at_rounds run slots_of stop nothing it)) r.opening breaking
-
--- and whose records have ended
-pub record AtEnd : Type 1 where
-  pub run : Captured
-  pub reader : Spot
-  pub some : SomeLeft reader.left
-  pub stop : Ending
-  pub last : Option (List ℕ × ℕ)
-  pub last_is : run.now.files.last ≡ last
-  pub lost : Rises (is_cut (Some stop)) run.before.files.lost run.now.files.lost
-  pub count : length run.s.draws ≡ run.s.progress.number
-  pub placed : AreAllPoints run.s.plan.windows run.s.points run.s.progress.number
-  pub end : Option Contents
-  pub going : Moves run.middle end (Goes run.x run.s run.first reader (Some stop) last)
+      broken o.x a at_first 3 stop (takes_all o.x a at_first stop (rw (same, lost_is) at it.taken)) (at_rounds run slots_of stop nothing it))
+      o.opening breaking
 
 -- these are its records
 record HasRecords (e : AtEnd) (run : ClosedRun) (now : Contents) : Type 0 where
   pub rs : List Rec
-  pub ends : EndsAt run.x.run.input e.run.first (content run.old run.x.run.input) rs e.stop e.run.now.files.last
+  pub ends : EndsAt run.x.run.input e.run.opened.first (content run.old run.x.run.input) rs e.stop e.run.now.files.last
   pub are : AreWritten run.x run.opened now run.s rs
   pub placed : AreAllPoints run.windows run.s.points (length rs)
   pub count : length run.s.draws ≡ length rs
 
 module _ (e : AtEnd) where
-  records_of : (a b d : Contents) (did : Did e.run.x.run (opening_steps e.run.x.run e.run.x.written) a b) → Goes e.run.x e.run.s e.run.first e.reader (Some e.stop) e.last b d →
-      IsAtFirst e.run.first e.run.x.form e.run.x.written (content a e.run.x.run.input) → (tables : ℕ → BindingTable) (windows : List Window) (of : IsPlanOf tables windows e.run.plan) →
-      HasRecords e (closed_run e.run a b did tables windows of) d
+  abbrev r : Captured
+  r = e.run
+
+  abbrev x : Setup
+  x = e.run.opened.x
+
+  abbrev first : Spot
+  first = e.run.opened.first
+
+  abbrev before : World
+  before = e.run.opened.before
+
+  records_of : (a b d : Contents) (did : Did x.run (opening_steps x.run x.written) a b) → Goes x r.s first e.reader (Some e.stop) e.end.last b d →
+      IsAtFirst first x.form x.written (content a x.run.input) →
+      (tables : ℕ → BindingTable) (windows : List Window) (of : IsPlanOf tables windows r.opened.plan) →
+      HasRecords e (closed_run r a b did tables windows of) d
   records_of a b d did goes at_first tables windows of =
       let run = closed_run e.run a b did tables windows of in
-      let same = input_kept e.run.far a b run.opening.others in
+      let same = input_kept e.run.opened.far a b run.opening.others in
       let took = goes (rw same at_first.stands) in
+      let L : Option (List ℕ × ℕ) → Type 0 = λ last. EndsAt x.run.input first (content a x.run.input) took.records e.stop last in
       record {
         rs = took.records;
-        ends = rw e.last_is (ends_at e.stop e.some (rw same at took.taken));
+        ends = subst L (sym e.last_is) (ends_at e.stop e.some (rw same at took.taken));
         are = took.written;
         placed = rw (← took.taken.count) (rw (← run.of.same_windows) e.placed);
         count = e.count ∙ took.taken.count;
       }
 
   pub finish_broken : (why : Fault) →
-      Moves e.end e.run.now.files.held (FinishesPart e.run.x e.run.s.progress e.run.s.points (is_failure why) e.run.before.files.spoiled e.run.now.files.spoiled
-      e.run.before.said e.run.now.said) →
-      Moves e.run.before.files.held e.run.now.files.held (Broken e.run.x e.run.plan e.run.first (stop_by why e.run.before e.run.now))
+      Moves e.end.held r.now.files.held
+      (FinishesPart x r.s.progress r.s.points (is_failure why) before.files.spoiled r.now.files.spoiled before.said r.now.said) →
+      Moves before.files.held r.now.files.held (Broken x r.opened.plan first (stop_by why before r.now))
   finish_broken why finishing =
-      moves_three e.run.before.files.held e.run.middle e.end e.run.now.files.held _ _ _ _
+      moves_three before.files.held r.opened.middle.held e.end.held r.now.files.held _ _ _ _
       (λ a b d n did goes half at_first tables windows of slots_of.
-      let r = e.run in
-      let run = closed_run r a b did tables windows of in
+      let run = closed_run e.run a b did tables windows of in
       let it = records_of a b d did goes at_first tables windows of in
-      let stop = stop_by why r.before r.now in
-      let stands = (it.are (bare tables r.s.points) (suits_bare run.of run.closed)).stands in
-      broken r.x a at_first 3 stop (takes_all r.x a at_first stop (takes_by r.x.run.input r.first (content a r.x.run.input) e.stop e.lost it.ends))
-      (at_finish run slots_of why r.before r.now it.placed it.are (half it.rs stands))) e.run.opening e.going finishing
+      let stop = stop_by why before e.run.now in
+      let stands = (it.are (bare tables e.run.s.points) (suits_bare run.of run.closed)).stands in
+      let bytes = content a x.run.input in
+      broken x a at_first 3 stop (takes_all x a at_first stop (takes_by x.run.input first bytes before.files e.run.now.files e.stop e.lost it.ends))
+      (at_finish run slots_of why before e.run.now it.placed it.are (half it.rs stands))) r.opened.opening e.going finishing
 
-  pub ends : Moves e.end e.run.now.files.held (Finishes e.run.x e.run.s.progress e.run.s.points e.run.before.said e.run.now.said) →
-      Moves e.run.before.files.held e.run.now.files.held (LeavesOpened e.run.x e.run.plan e.run.first (Ok e.stop) e.run.before e.run.now (Some e.run.h))
+  pub ends : Moves e.end.held r.now.files.held (Finishes x r.s.progress r.s.points before.said r.now.said) →
+      Moves before.files.held r.now.files.held (LeavesOpened x r.opened.plan first (Ok e.stop) before r.now (Some r.h))
   ends finishing =
-      moves_three e.run.before.files.held e.run.middle e.end e.run.now.files.held _ _ _ _
+      moves_three before.files.held r.opened.middle.held e.end.held r.now.files.held _ _ _ _
       (λ a b d n did goes done at_first tables windows of.
-      let r = e.run in
-      let run = closed_run r a b did tables windows of in
+      let run = closed_run e.run a b did tables windows of in
       let it = records_of a b d did goes at_first tables windows of in
-      leaves_ended r.x a at_first r.before r.now e.stop it.ends (is_run run it.placed it.are it.count done) (some_slot_refused r.x.slots) refl)
-      e.run.opening e.going finishing
+      leaves_ended run at_first it.rs n before e.run.now e.stop it.ends (is_run run it.placed it.are it.count done) (some_slot_refused x.slots) refl)
+      r.opened.opening e.going finishing

@@ -24,7 +24,8 @@ none_due_yet (slot.Version version ∷ rest) = refl
 none_due_yet (slot.Refused cause ∷ rest) = none_due_yet rest
 
 -- before the first record
-pub none_written : {x : Setup} (c : Course) {opened now : Contents} {s : State} → IsFirst x.form x.run.errors s.progress → s.points ≡ [] → Wrote x.run [] [] [] opened now →
+pub none_written : {x : Setup} (c : Course) {opened now : Contents} {s : State} → IsFirst x.form x.run.errors s.progress → s.points ≡ [] →
+    Wrote x.run [] [] [] opened now →
     HasWritten x c opened now s []
 none_written {x} c first none wrote = record {
   stands = first.stands;
@@ -138,7 +139,8 @@ module _ (r : ClosedRun) {rs : List Rec} where
   }
 
   -- and the run of them
-  pub is_run : {now e : Contents} {said took : Option (List ℕ)} → AreAllPoints r.windows r.s.points (length rs) → AreWritten r.x r.opened now r.s rs → length r.s.draws ≡ length rs →
+  pub is_run : {now e : Contents} {said took : Option (List ℕ)} → AreAllPoints r.windows r.s.points (length rs) → AreWritten r.x r.opened now r.s rs →
+      length r.s.draws ≡ length rs →
       Finishes r.x r.s.progress r.s.points said took now e →
       IsRun r.x.run r.tables r.windows r.x.slots r.x.form r.x.written rs r.old e said took (Some r.h)
   is_run {now} placed are count done =

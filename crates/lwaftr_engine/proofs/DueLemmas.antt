@@ -19,13 +19,11 @@ pub record AreSingle : Type 0 where
   pub capture : OneReading
   pub blocks_left : OneLeft
 
-same_form : (x y : Result Form CaptureBad) (f g : Form) → x ≡ Ok f → x ≡ Ok g → f ≡ g
-same_form x y f g a b = cc (a, b)
-
 same_seen : (x : Result Seen CaptureBad) (f g : Seen) → x ≡ Ok f → x ≡ Ok g → f ≡ g
 same_seen x f g a b = cc (a, b)
 
-end_by : AreSingle → (kind : Bool) (bytes : List ℕ) (h g : Header) (rs ss : List Rec) (e f : Option CaptureBad) → IsInputBy kind bytes h rs e → IsInputBy kind bytes g ss f → e ≡ f
+end_by : AreSingle → (kind : Bool) (bytes : List ℕ) (h g : Header) (rs ss : List Rec) (e f : Option CaptureBad) → IsInputBy kind bytes h rs e →
+    IsInputBy kind bytes g ss f → e ≡ f
 end_by one true bytes h g rs ss e f p q =
     let same : q.0 ≡ p.0 = same_seen (blocks.header_in bytes) q.0 p.0 q.2.0 p.2.0 in
     (one.blocks_left p.0 bytes 0 rs ss e f p.2.1 (rw (← same) q.2.1)).1
@@ -65,28 +63,35 @@ module _ (one : AreSingle) (run : RunJob) (m : Contents) where
   no_table : (t : BindingTable) (refusal : FileRefused) → TableOf (content m run.table) (Ok t) → TableOf (content m run.table) (Err refusal) → ⊥
   no_table t refusal good bad = let e : Ok t ≡ Err refusal = one.table (content m run.table) (Ok t) (Err refusal) good bad in absurd (cc e)
 
-  no_header : (h : Header) (rs : List Rec) (e : Option CaptureBad) (refusal : CaptureBad) → IsInput (content m run.input) h rs e → header_of (content m run.input) ≡ Err refusal → ⊥
+  no_header : (h : Header) (rs : List Rec) (e : Option CaptureBad) (refusal : CaptureBad) → IsInput (content m run.input) h rs e →
+      header_of (content m run.input) ≡ Err refusal → ⊥
   no_header h rs e refusal input bad = not_both (header_of (content m run.input)) h refusal (header_is (content m run.input) h rs e input) bad
 
   -- a whole run, where one that is done is asked for, and where any status is
-  due_done : {new : Contents} {said now : Option (List ℕ)} {history : Option HistoryValue} {e : Option CaptureBad} {refused : Bool} (w : IsWholeRun run m new said now history e refused) (some : Bool) →
+  due_done : {new : Contents} {said now : Option (List ℕ)} {history : Option HistoryValue} {e : Option CaptureBad} {refused : Bool}
+      (w : IsWholeRun run m new said now history e refused) (some : Bool) →
       AsksDone run m some → by_end e refused ≡ by_end None some
   due_done {e} {refused} w some asked =
-      ap (λ (x : Option CaptureBad). by_end x refused) (one_end one (content m run.input) w.whole.header asked.header w.whole.records asked.records e None w.whole.capture asked.capture)
+      ap (λ (x : Option CaptureBad). by_end x refused)
+      (one_end one (content m run.input) w.whole.header asked.header w.whole.records asked.records e None w.whole.capture asked.capture)
       ∙ ap (λ (b : Bool). by_end None b)
-      (sym w.some_load_refused ∙ (ap (λ (l : List Answer). some_refused l) (same_answers one.table m run.loads w.answers asked.answers w.tables.loads asked.tables.loads) ∙ asked.some_is))
+      (sym w.some_load_refused ∙ (ap (λ (l : List Answer). some_refused l)
+      (same_answers one.table m run.loads w.answers asked.answers w.tables.loads asked.tables.loads) ∙ asked.some_is))
 
-  due_whole : {new : Contents} {said now : Option (List ℕ)} {history : Option HistoryValue} {e : Option CaptureBad} {refused : Bool} (w : IsWholeRun run m new said now history e refused) (s : Status) →
+  due_whole : {new : Contents} {said now : Option (List ℕ)} {history : Option HistoryValue} {e : Option CaptureBad} {refused : Bool}
+      (w : IsWholeRun run m new said now history e refused) (s : Status) →
       IsAskedFor run m s → by_end e refused ≡ s
   due_whole w (status.BadTable refusal) due = absurd (no_table w.first refusal w.tables.table due)
   due_whole {e} w (status.BadCapture refusal) (_, inl header) = absurd (no_header w.whole.header w.whole.records e refusal w.whole.capture header)
   due_whole {e} {refused} w (status.BadCapture refusal) (_, inr bad) =
-      ap (λ (x : Option CaptureBad). by_end x refused) (one_end one (content m run.input) w.whole.header bad.0 w.whole.records bad.1 e (Some refusal) w.whole.capture bad.2)
+      ap (λ (x : Option CaptureBad). by_end x refused)
+      (one_end one (content m run.input) w.whole.header bad.0 w.whole.records bad.1 e (Some refusal) w.whole.capture bad.2)
   due_whole w status.Done due = due_done w false due
   due_whole w status.DoneRefused due = due_done w true due
   due_whole w _ due = absurd due
 
-  due_header : (t : BindingTable) (refusal : CaptureBad) → TableOf (content m run.table) (Ok t) → header_of (content m run.input) ≡ Err refusal → (s : Status) → IsAskedFor run m s → status.BadCapture refusal ≡ s
+  due_header : (t : BindingTable) (refusal : CaptureBad) → TableOf (content m run.table) (Ok t) → header_of (content m run.input) ≡ Err refusal → (s : Status) →
+      IsAskedFor run m s → status.BadCapture refusal ≡ s
   due_header t refusal table header (status.BadTable other) due = absurd (no_table t other table due)
   due_header t refusal table header (status.BadCapture other) (_, inl same) = let e : Err refusal ≡ Err other = sym header ∙ same in cc e
   due_header t refusal table header (status.BadCapture other) (_, inr bad) = absurd (no_header bad.0 bad.1 (Some other) refusal bad.2 header)
@@ -95,7 +100,8 @@ module _ (one : AreSingle) (run : RunJob) (m : Contents) where
   due_header t refusal table header _ due = absurd due
 
   due_refused : (refusal : FileRefused) → TableOf (content m run.table) (Err refusal) → (s : Status) → IsAskedFor run m s → status.BadTable refusal ≡ s
-  due_refused refusal bad (status.BadTable other) due = let e : Err refusal ≡ Err other = one.table (content m run.table) (Err refusal) (Err other) bad due in cc e
+  due_refused refusal bad (status.BadTable other) due =
+      let e : Err refusal ≡ Err other = one.table (content m run.table) (Err refusal) (Err other) bad due in cc e
   due_refused refusal bad (status.BadCapture other) due = absurd (no_table due.0.0 refusal due.0.1 bad)
   due_refused refusal bad status.Done due = absurd (no_table due.first refusal due.tables.table bad)
   due_refused refusal bad status.DoneRefused due = absurd (no_table due.first refusal due.tables.table bad)
@@ -112,9 +118,11 @@ module _ (one : AreSingle) (run : RunJob) (m : Contents) where
   is_due _ before now history new f s due = inr tt
 
 pub due_told : AreSingle → (run : RunJob) (result : Status) (before now : World) (history : Option HistoryValue) →
-    Moves before.files.held now.files.held (Leaves run result before now history) → Told before.files.held (λ m. (s : Status) → IsAskedFor run m s → (result ≡ s) ⊎ IsFault result)
+    Moves before.files.held now.files.held (Leaves run result before now history) →
+    Told before.files.held (λ m. (s : Status) → IsAskedFor run m s → (result ≡ s) ⊎ IsFault result)
 due_told one run result before now history moves = by_held before.files.held now.files.held moves where
-  by_held : (a b : Option Contents) → Moves a b (Leaves run result before now history) → Told a (λ m. (s : Status) → IsAskedFor run m s → (result ≡ s) ⊎ IsFault result)
+  by_held : (a b : Option Contents) → Moves a b (Leaves run result before now history) →
+      Told a (λ m. (s : Status) → IsAskedFor run m s → (result ≡ s) ⊎ IsFault result)
   by_held None b moves = tt
   by_held (Some m) None moves = absurd moves
   by_held (Some m) (Some o) moves = is_due one run m result before now history o moves

@@ -1,7 +1,8 @@
 -- How the records of a run ended.
 use Rattle.lwaftr_engine.proofs.Words.{AreAllPoints, AreBefore, AreInWindows, CaptureBad, Ending, HasTaken, HistoryValue, IsBehind, IsClosed, IsOnDuty}
-use Rattle.lwaftr_engine.proofs.Words.{IsSettledAt, Left, List, None, Option, Progress, Rec, Rises, SettledPointsAreAll, Setup, Shift, Some, Spot, Takes}
-use Rattle.lwaftr_engine.proofs.Words.{append-nil, arith, inl, inr, is_cut, length, state_of, sym, window, ℕ, ◌+◌, ◌<◌, ◌∙◌, ◌∷◌, ◌≡◌, ◌≤◌, ◌⊎◌, []}
+use Rattle.lwaftr_engine.proofs.Words.{IsSettledAt, Left, List, None, Option, Outside, Rec, Rises, Router, SettledPointsAreAll, Setup, Some, Spot, Takes}
+use Rattle.lwaftr_engine.proofs.Words.{append-nil, arith, inl, inr, is_cut, state_of, sym, ℕ, ◌<◌, ◌∙◌, ◌∷◌, ◌≡◌, []}
+use Rattle.lwaftr_engine.proofs.Words.{length, window, ◌+◌, ◌≤◌, ◌⊎◌}
 use Rattle.lwaftr_engine.proofs.Closing.{few_points, its_planned}
 use Rattle.lwaftr_engine.proofs.Steps.{none_waits}
 use Rattle.capture_io.specs.declared.rounds.Ending.TheVariants as ending
@@ -11,17 +12,19 @@ abbrev pub SomeLeft : Left → Type 0
 SomeLeft left = (bytes : List ℕ) (number : ℕ) → (rs : List Rec) × (ended : Option CaptureBad) × left bytes number rs ended
 
 -- each window that opened by the last record has its point
-pub points_at_end : SettledPointsAreAll → {x : Setup} {u : Shift} {q : Progress} {h : HistoryValue} → IsClosed (state_of q u) h → IsSettledAt x u q → IsOnDuty u.areas.plan u →
-    AreAllPoints u.areas.plan.windows u.desk.known.points q.number
-points_at_end law {u = u} {q = q} {h = h} closed at_end duty =
+pub points_at_end : SettledPointsAreAll → {x : Setup} {r : Router} {h : HistoryValue} → IsClosed (state_of r) h → IsSettledAt x r →
+    IsOnDuty r.shift.areas.plan r.shift → AreAllPoints r.shift.areas.plan.windows r.shift.desk.known.points r.progress.number
+points_at_end law {r = r} {h = h} closed at_end duty =
+    let u = r.shift in
+    let q = r.progress in
     let plan = u.areas.plan in
     let points = u.desk.known.points in
     let seat = u.seat.known in
-    let records : h.records ≡ q.number = sym closed.drawn.all ∙ at_end.drawn in
-    let inside : AreInWindows u.areas.plan.windows u.desk.known.points q.number =
+    let records : h.records ≡ r.progress.number = sym closed.drawn.all ∙ at_end.drawn in
+    let inside : AreInWindows r.shift.areas.plan.windows r.shift.desk.known.points r.progress.number =
     rw (← closed.same_plan) (rw (← closed.points) (rw (← records) closed.history.placed)) in
-    let seen : seat.seen.records ≡ q.number = sym (at_end.settled.all_drawn duty.whole) ∙ at_end.drawn in
-    let due : (length plan.tables ≤ length points + 1) ⊎ (q.number < (window plan (length points + 1)).earliest) =
+    let seen : r.shift.seat.known.seen.records ≡ r.progress.number = sym (at_end.settled.all_drawn duty.whole) ∙ at_end.drawn in
+    let due : (length plan.tables ≤ length points + 1) ⊎ (r.progress.number < (window plan (length points + 1)).earliest) =
     rw (← seen) (none_waits plan u.desk.known seat.seen.records duty.desk_areas.same_plan at_end.settled.none_due) in
     law plan points q.number (its_planned closed) (few_points closed) inside due
 
@@ -36,7 +39,8 @@ EndsAt name first bytes rs ending.End last = first.left bytes 0 rs None
 EndsAt name first bytes rs (ending.Bad refusal) last = first.left bytes 0 rs (Some refusal)
 EndsAt name first bytes rs ending.ReadFault last = AreBefore (first.left bytes 0) name first.at rs last
 
-pub ends_at : {name : List ℕ} {first reader : Spot} {bytes : List ℕ} {rs : List Rec} {number : ℕ} (stop : Ending) {last : Option (List ℕ × ℕ)} → SomeLeft reader.left →
+pub ends_at : {name : List ℕ} {first reader : Spot} {bytes : List ℕ} {rs : List Rec} {number : ℕ} (stop : Ending) {last : Option (List ℕ × ℕ)} →
+    SomeLeft reader.left →
     HasTaken name first reader bytes rs number (Some stop) last → EndsAt name first bytes rs stop last
 ends_at {rs = rs} ending.End some taken = rw (← (append-nil rs)) (taken.follows [] None taken.stopped)
 ends_at {rs = rs} (ending.Bad refusal) some taken = rw (← (append-nil rs)) (taken.follows [] (Some refusal) taken.stopped)
@@ -54,8 +58,8 @@ ends_at {reader = reader} {bytes = bytes} {number = number} ending.ReadFault som
     }
 
 -- which records count
-pub takes_by : (name : List ℕ) (first : Spot) (bytes : List ℕ) {rs : List Rec} {lost lost_now : ℕ} {last : Option (List ℕ × ℕ)} (stop : Ending) →
-    Rises (is_cut (Some stop)) lost lost_now → EndsAt name first bytes rs stop last → Takes name first bytes rs lost lost_now last
-takes_by name first bytes ending.End rises it = inl (rises, (None, it))
-takes_by name first bytes (ending.Bad refusal) rises it = inl (rises, (Some refusal, it))
-takes_by name first bytes ending.ReadFault rises it = inr (rises, it)
+pub takes_by : (name : List ℕ) (first : Spot) (bytes : List ℕ) {rs : List Rec} (a b : Outside) (stop : Ending) →
+    Rises (is_cut (Some stop)) a.lost b.lost → EndsAt name first bytes rs stop b.last → Takes name first bytes rs a b
+takes_by name first bytes a b ending.End rises it = inl (rises, (None, it))
+takes_by name first bytes a b (ending.Bad refusal) rises it = inl (rises, (Some refusal, it))
+takes_by name first bytes a b ending.ReadFault rises it = inr (rises, it)

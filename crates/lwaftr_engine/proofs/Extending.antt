@@ -10,7 +10,8 @@ last_got (p ∷ points) x = last_got points x
 
 -- one point more
 pushed : (windows : List Window) (points : List ℕ) (records total x : ℕ) → AreInWindows windows points records → records ≤ total → x ≤ total →
-    ((k : ℕ) → k + 1 ≡ length points → slice_index points k ≤ x) → (get_or windows (length points) always).earliest ≤ x → x ≤ (get_or windows (length points) always).latest →
+    ((k : ℕ) → k + 1 ≡ length points → slice_index points k ≤ x) → (get_or windows (length points) always).earliest ≤ x →
+    x ≤ (get_or windows (length points) always).latest →
     AreInWindows windows (points ++ x ∷ []) total
 pushed windows points records total x h more in_all above opens closes = record { rising = rising; reached = reached; inside = inside } where
   count : length (points ++ x ∷ []) ≡ length points + 1
@@ -36,7 +37,8 @@ pushed windows points records total x h more in_all above opens closes = record 
     | inr more ↦ omega (arith, at_end k (omega (arith, more, l, count)))
   ]
 
-  inside : (k : ℕ) → k < length (points ++ x ∷ []) → ((get_or windows k always).earliest ≤ slice_index (points ++ x ∷ []) k) × (slice_index (points ++ x ∷ []) k ≤ (get_or windows k always).latest)
+  inside : (k : ℕ) → k < length (points ++ x ∷ []) →
+      ((get_or windows k always).earliest ≤ slice_index (points ++ x ∷ []) k) × (slice_index (points ++ x ∷ []) k ≤ (get_or windows k always).latest)
   inside k l = elim (cases_lt k (length points)) [
     | inl less ↦ (omega (arith, (h.inside k less).0, before k less), omega (arith, (h.inside k less).1, before k less))
     | inr more ↦
@@ -47,7 +49,8 @@ pushed windows points records total x h more in_all above opens closes = record 
   ]
 
 -- the records that were drawn are some of those that there are
-reached_more : (windows : List Window) (points : List ℕ) (records total : ℕ) → AreInWindows windows points records → records ≤ total → AreInWindows windows points total
+reached_more : (windows : List Window) (points : List ℕ) (records total : ℕ) → AreInWindows windows points records → records ≤ total →
+    AreInWindows windows points total
 reached_more windows points records total h more = record { rising = h.rising; reached = λ k l. omega (arith, h.reached k l); inside = h.inside }
 
 -- none of these points is below the number of records drawn
@@ -56,14 +59,20 @@ AreBehind drawn [] = Unit {0}
 AreBehind drawn (x ∷ xs) = (drawn ≤ x) × AreBehind drawn xs
 
 -- points that come behind a number change nothing for it
-pub in_force_before : (points later : List ℕ) (drawn number : ℕ) → AreBehind drawn later → number < drawn → in_force (points ++ later) number ≡ in_force points number
+pub in_force_before : (points later : List ℕ) (drawn number : ℕ) → AreBehind drawn later → number < drawn →
+    in_force (points ++ later) number ≡ in_force points number
 in_force_before [] [] drawn number behind less = refl
 in_force_before [] (x ∷ later) drawn number behind less =
     let late : nat_le x number ≡ false = lt-leb x number (omega (arith, behind.0, less)) in
     let none : (let k : ℕ = cond (nat_le x number) 1 0 in k) ≡ 0 = ap (λ (t : Bool). let k : ℕ = cond t 1 0 in k) late in
     omega (arith, sum_by-cons (λ (q : ℕ). cond (nat_le q number) 1 0) x later, none, in_force_before [] later drawn number behind.1 less)
 in_force_before (p ∷ points) later drawn number behind less =
-    omega (arith, sum_by-cons (λ (q : ℕ). cond (nat_le q number) 1 0) p (points ++ later), sum_by-cons (λ (q : ℕ). cond (nat_le q number) 1 0) p points, in_force_before points later drawn number behind less)
+    omega (
+      arith,
+      sum_by-cons (λ (q : ℕ). cond (nat_le q number) 1 0) p (points ++ later),
+      sum_by-cons (λ (q : ℕ). cond (nat_le q number) 1 0) p points,
+      in_force_before points later drawn number behind less,
+    )
 
 -- the points that come yet
 pub record AreExtended (windows : List Window) (points : List ℕ) (drawn total : ℕ) : Type 0 where
@@ -79,7 +88,8 @@ module _ (p : Tables) (planned : IsPlan p) (drawn total : ℕ) (more : drawn ≤
   abbrev next_point : List ℕ → ℕ
   next_point points = min total (due points).latest
 
-  extended : (left : ℕ) (points : List ℕ) → left + length points + 1 ≡ length p.tables → AreInWindows p.windows points total → (length points < length p.windows → drawn ≤ (due points).latest) → AreExtended p.windows points drawn total
+  extended : (left : ℕ) (points : List ℕ) → left + length points + 1 ≡ length p.tables → AreInWindows p.windows points total →
+      (length points < length p.windows → drawn ≤ (due points).latest) → AreExtended p.windows points drawn total
   extended zero points room placed ready = record {
     later = [];
     behind = tt;
@@ -102,9 +112,12 @@ module _ (p : Tables) (planned : IsPlan p) (drawn total : ℕ) (more : drawn ≤
         pushed p.windows points total total (next_point points) placed (omega arith) (omega arith) above (omega (arith, opens, same, is.0)) (omega arith) in
         let count : length (points ++ next_point points ∷ []) ≡ length points + 1 = length-append points (next_point points ∷ []) in
         let here : drawn ≤ (due points).latest = ready (omega (arith, room, planned.paired)) in
-        let still : length (points ++ next_point points ∷ []) < length p.windows → drawn ≤ (get_or p.windows (length (points ++ next_point points ∷ [])) always).latest = λ inside.
+        let still : length (points ++ next_point points ∷ []) < length p.windows → drawn ≤
+        (get_or p.windows (length (points ++ next_point points ∷ [])) always).latest =
+        λ inside.
         let next : IsNotBefore (get_or p.windows (length points + 1) always) (due points) = planned.rising (length points) (omega (arith, inside, count)) in
-        let there : (get_or p.windows (length (points ++ next_point points ∷ [])) always).latest ≡ (get_or p.windows (length points + 1) always).latest = ap (λ (n : ℕ). (get_or p.windows n always).latest) count in
+        let there : (get_or p.windows (length (points ++ next_point points ∷ [])) always).latest ≡ (get_or p.windows (length points + 1) always).latest =
+        ap (λ (n : ℕ). (get_or p.windows n always).latest) count in
         omega (arith, here, next.1, there) in
         let rest : AreExtended p.windows (points ++ next_point points ∷ []) drawn total =
         extended left (points ++ next_point points ∷ []) (omega (arith, room, count)) one_more still in
@@ -116,7 +129,8 @@ module _ (p : Tables) (planned : IsPlan p) (drawn total : ℕ) (more : drawn ≤
   ]
 
   -- nothing was drawn yet, or the next window, if there is one, is not ready
-  ready_by : (points : List ℕ) → (drawn ≡ 0) ⊎ ((length p.tables ≤ length points + 1) ⊎ (drawn < (window p (length points + 1)).earliest)) → length points < length p.windows → drawn ≤ (due points).latest
+  ready_by : (points : List ℕ) → (drawn ≡ 0) ⊎ ((length p.tables ≤ length points + 1) ⊎ (drawn < (window p (length points + 1)).earliest)) →
+      length points < length p.windows → drawn ≤ (due points).latest
   ready_by points (inl none) inside = omega (arith, none)
   ready_by points (inr (inl all)) inside = absurd (omega (arith, all, inside, planned.paired))
   ready_by points (inr (inr waits)) inside =
@@ -124,6 +138,8 @@ module _ (p : Tables) (planned : IsPlan p) (drawn total : ℕ) (more : drawn ≤
       let is : IsWindow (due points) = All-get_or IsWindow p.windows (length points) always inside planned.each_window in
       omega (arith, waits, same, is.0)
 
-  pub points_extend : (points : List ℕ) → length points < length p.tables → AreInWindows p.windows points drawn → (drawn ≡ 0) ⊎ ((length p.tables ≤ length points + 1) ⊎ (drawn < (window p (length points + 1)).earliest)) → AreExtended p.windows points drawn total
+  pub points_extend : (points : List ℕ) → length points < length p.tables → AreInWindows p.windows points drawn →
+      (drawn ≡ 0) ⊎ ((length p.tables ≤ length points + 1) ⊎ (drawn < (window p (length points + 1)).earliest)) → AreExtended p.windows points drawn total
   points_extend points few placed ready =
-      extended (length p.tables - (length points + 1)) points (omega (arith, few)) (reached_more p.windows points drawn total placed more) (ready_by points ready)
+      extended (length p.tables - (length points + 1)) points (omega (arith, few)) (reached_more p.windows points drawn total placed more)
+      (ready_by points ready)

@@ -6,26 +6,16 @@ use Rattle.binding_file.specs.declared.refusals.FileError.TheVariants as file_er
 use Rattle.binding_file.specs.declared.refusals.FileRefused.TheVariants as refused
 
 -- what was read of the front, and then right behind it
-pub front_joined : (a b : Option Contents) (name list piece : List ℕ) (have count : ℕ) → b ≡ a → have ≡ length list
-    → Told a (λ m. list ≡ take have (content m name))
-    → Told b (λ m. piece ≡ take count (drop have (content m name)))
-    → Told a (λ m. list ++ piece ≡ take (have + count) (content m name))
-front_joined None b name list piece have count same len first second = tt
-front_joined (Some m) b name list piece have count same len first second =
+pub front_longer : (h : Option Contents) (name list piece : List ℕ) (have count : ℕ) → have ≡ length list → length piece ≡ count
+    → Told h (λ m. list ≡ take (length list) (content m name))
+    → Told h (λ m. piece ≡ take count (drop have (content m name)))
+    → Told h (λ m. list ++ piece ≡ take (length (list ++ piece)) (content m name))
+front_longer None name list piece have count same whole first second = tt
+front_longer (Some m) name list piece have count same whole first second =
     let bytes = content m name in
-    let next : piece ≡ take count (drop have bytes) = subst (λ o. Told o (λ m. piece ≡ take count (drop have (content m name)))) same second in
-    ap (λ l. l ++ piece) first ∙ ap (λ l. take have bytes ++ l) next ∙ sym (take-add have count bytes)
-
--- the same of a list that has so many bytes
-pub front_longer : (a b : Option Contents) (name list piece more : List ℕ) (have count : ℕ) → b ≡ a → have ≡ length list → length piece ≡ count → more ≡ list ++ piece
-    → Told a (λ m. list ≡ take (length list) (content m name))
-    → Told b (λ m. piece ≡ take count (drop have (content m name)))
-    → Told a (λ m. more ≡ take (length more) (content m name))
-front_longer None b name list piece more have count same len whole is first second = tt
-front_longer (Some m) b name list piece more have count same len whole is first second =
-    let front : list ≡ take have (content m name) = first ∙ ap (λ n. take n (content m name)) (sym len) in
-    let long : have + count ≡ length more = omega (arith, ap length is, length-append list piece, len, whole) in
-    is ∙ front_joined (Some m) b name list piece have count same len front second ∙ ap (λ n. take n (content m name)) long
+    let front : list ≡ take have (content m name) = first ∙ ap (λ n. take n bytes) (sym same) in
+    let long : have + count ≡ length (list ++ piece) = omega (arith, length-append list piece, same, whole) in
+    ap (λ l. l ++ piece) front ∙ (ap (λ l. take have bytes ++ l) second ∙ (sym (take-add have count bytes) ∙ ap (λ n. take n bytes) long))
 
 -- a list that is too long is refused as too big
 fits_big : (bytes : List ℕ) → most_bytes < length bytes → fits bytes ≡ Err refused.TooBig
@@ -47,6 +37,7 @@ pub table_told : (h : Option Contents) (name bytes text : List ℕ) (r : Result 
 table_told None name bytes text r is front says = tt
 table_told (Some m) name bytes text r is front says = table_of_front (content m name) r (subst (λ b. TableOf b r) (is ∙ front) says)
 
-pub refusal_told : (h : Option Contents) (name bytes text : List ℕ) (error : FileError) (refusal : FileRefused) → text ≡ bytes → error ≡ file_error.Refused refusal
+pub refusal_told : (h : Option Contents) (name bytes text : List ℕ) (error : FileError) (refusal : FileRefused) → text ≡ bytes →
+    error ≡ file_error.Refused refusal
     → Told h (λ m. bytes ≡ take 16777217 (content m name)) → IsFileCause text error → Told h (λ m. TableOf (content m name) (Err refusal))
 refusal_told h name bytes text error refusal is cause front says = table_told h name bytes text (Err refusal) is front (subst (IsFileCause text) cause says)

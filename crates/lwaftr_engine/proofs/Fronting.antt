@@ -7,15 +7,15 @@ use Rattle.lwaftr_engine.proofs.Words.{Form, Rec, entries_of, unfinished_of, Has
 use Rattle.lwaftr_engine.proofs.Words.{last_steps, last_versions, HoldsFront, IsAtSummary, IsFront, IsFrontOf, IsUnder, Stop, is_table, shown_points, stop_by}
 use Rattle.lwaftr_engine.proofs.Words.{whole_lines, HasWritten, Setup, Spot, Suits, loads_of, RunLaws, IsPlanOf, Did, DidFront, Course, lines_from}
 use Rattle.lwaftr_engine.proofs.Words.{packets_from, verdicts_of, NoneIsDue, load_lines, named, IsPlan, Tables, AreAllPoints, AreInWindows, in_force, Window}
-use Rattle.lwaftr_engine.proofs.Words.{AreWritten, State, World, is_failure}
+use Rattle.lwaftr_engine.proofs.Words.{AreWritten, Outside, State, World, is_failure}
 use Rattle.lwaftr_engine.specs.Finishing.{TookFront}
-use Rattle.lwaftr_engine.proofs.Begun.{begun_by, lines_split}
+use Rattle.lwaftr_engine.proofs.Begun.{TakenUnder, begun_by, lines_in_front}
 use Rattle.lwaftr_engine.proofs.Closing.{HasCourse, course_with, is_written, suits_bare, totals_are, ClosedRun, few_points, its_planned, points_placed}
-use Rattle.lwaftr_engine.proofs.Courses.{bare, limited_first, output_front, some_course, verdicts_front, verdicts_same, with_points}
+use Rattle.lwaftr_engine.proofs.Courses.{ShownCourse, bare, limited_first, output_front, some_course, verdicts_front, verdicts_same, with_points}
 use Rattle.lwaftr_engine.proofs.Extending.{AreExtended, in_force_before, points_extend}
 use Rattle.lwaftr_engine.proofs.Going.{wrote_same}
 use Rattle.lwaftr_engine.proofs.Parts.{front_part, all_of, front_at_end, front_in}
-use Rattle.lwaftr_engine.proofs.Telling.{in_force_first, lines_fit, printed_few}
+use Rattle.lwaftr_engine.proofs.Telling.{IsRising, in_force_first, lines_fit, printed_few}
 use Rattle.lwaftr_engine.proofs.Writing.{IsOpening, WroteFront, front_of_all, in_others, in_tables, wrote_front}
 
 -- a front of the first list is one of it and what follows
@@ -30,28 +30,35 @@ no_points windows = record {
   inside = λ k inside. absurd (omega (arith, inside));
 }
 
+-- points for all tables whose windows open by the last of these records
+pub first_points : {tables : ℕ → BindingTable} {windows : List Window} {plan : Tables} → IsPlan plan → IsPlanOf tables windows plan → (rs : List Rec) →
+    (points : List ℕ) × AreAllPoints windows points (length rs)
+first_points {plan = plan} planned of rs =
+    let few : 0 < length plan.tables = omega (arith, planned.paired) in
+    let more : AreExtended plan.windows [] 0 (length rs) =
+    points_extend plan planned 0 (length rs) (omega arith) [] few (no_points plan.windows) (inl refl) in
+    (more.later, rw (← of.same_windows) more.all)
+
 -- the outputs are being made
-pub at_opening : RunLaws → (x : Setup) {tables : ℕ → BindingTable} {windows : List Window} {plan : Tables} → IsPlan plan → IsPlanOf tables windows plan →
-    IfSome x.run.errors IsRate → (rs : List Rec) {a d : Contents} (stop : Stop) →
+pub at_opening : RunLaws → (x : Setup) {tables : ℕ → BindingTable} {windows : List Window} → IfSome x.run.errors IsRate → (rs : List Rec)
+    (points : (points : List ℕ) × AreAllPoints windows points (length rs)) {a d : Contents} (stop : Stop) →
     Rises stop.failed stop.before.files.spoiled stop.after.files.spoiled × (stop.after.said ≡ stop.before.said) → (half : IsOpening x.run x.written a d) →
     IsFront x.run tables windows x.slots x.form x.written rs half.made a d stop
-at_opening laws x {tables} {plan} planned of rate rs {a} {d} stop nothing half =
-    let few : 0 < length plan.tables = omega (arith, planned.paired) in
-    let more : AreExtended plan.windows [] 0 (length rs) = points_extend plan planned 0 (length rs) (omega arith) [] few (no_points plan.windows) (inl refl) in
-    let told = shown_points (nat_lt 2 half.made) x.run x.slots more.later (content d x.run.versions) in
-    let whole = some_course laws.limits tables more.later x.run.errors x.form rs rate in
+at_opening laws x {tables} rate rs (points, placed) {a} {d} stop nothing half =
+    let told = shown_points (nat_lt 2 half.made) x.run x.slots points (content d x.run.versions) in
+    let whole = some_course laws.limits tables points x.run.errors x.form rs rate in
     let shown = some_course laws.limits tables told x.run.errors x.form rs rate in
     let packets = packets_from shown.course x.written 0 rs (entries_of x.form rs) in
     record {
-      points = more.later;
-      placed = rw (← of.same_windows) more.all;
+      points = points;
+      placed = placed;
       course = whole.course;
       under_all = whole.under;
       shown = shown.course;
       under_told = shown.under;
       output = widen (file_head x.written) packets (content a x.run.output) (content d x.run.output) (nat_lt 0 half.made) half.output;
       verdicts = widen [] (verdicts_of shown.course x.form rs) (content a x.run.verdicts) (content d x.run.verdicts) (nat_lt 1 half.made) half.verdicts;
-      versions = widen (initial_text x.run.table) (load_lines more.later (loads_of x)) (content a x.run.versions) (content d x.run.versions)
+      versions = widen (initial_text x.run.table) (load_lines points (loads_of x)) (content a x.run.versions) (content d x.run.versions)
           (nat_lt 2 half.made) half.versions;
       others = half.others;
       sink = inl nothing;
@@ -75,54 +82,70 @@ drawn_below draws h drawn k d inside = elim (cases_lt (get_or draws k d).0 (leng
       absurd (omega (arith, counted draws k d inside, drawn.each_once (get_or draws k d).0, none))
 ]
 
--- what the first loads' lines say, by how much of VERSIONS there is
-told_same : (x : Setup) (windows : List Window) (points printed later : List ℕ) (loads n : ℕ) (text : List ℕ) → AreSlotsOf x.run windows x.slots → AreAllPoints windows points n → points ≡ printed ++ later → NoneIsDue printed (drop loads x.slots) →
-    length (load_lines points (take loads (loads_of x))) + length (initial_text x.run.table) ≤ length text → (number : ℕ) → in_force points number ≤ length printed →
-    in_force (shown_points true x.run x.slots points text) number ≡ in_force points number
-told_same x windows points printed later loads n text slots_of placed all none held number few =
-    let short : length printed ≤ 0 + count_by is_table x.slots =
-    omega (arith, placed.each, count_by-le-length (λ (w : Window). nat_le w.earliest n) windows, slots_of.windows_are, ap (λ (l : List ℕ). length l) all, length-append printed later) in
-    let first : length printed ≤ 0 + count_by is_table (take loads x.slots) = printed_few 0 x.slots loads printed slots_of.numbered none short in
-    let more : count_by is_table (take loads x.slots) ≤ count_by is_table (take (whole_lines points (length text - length (initial_text x.run.table)) (named x.run.loads x.slots)) x.slots) =
-    lines_fit points (length text - length (initial_text x.run.table)) x.run.loads x.slots loads slots_of.loads_are (omega (arith, held)) in
-    in_force_first points (count_by is_table (take (whole_lines points (length text - length (initial_text x.run.table)) (named x.run.loads x.slots)) x.slots)) number placed.placed.rising (omega (arith, few, first, more))
-
 -- Under every list of points that says the same of the first records, a front of these lines of them, by all points, is a front of
 -- what is due.
 abbrev AreFronts : Setup → (ℕ → BindingTable) → List ℕ → List Rec → List Rec → (Course → List ℕ) → Type 0
-AreFronts x tables points taken rest lines = (shown : List ℕ) → ((number : ℕ) → number < length taken → in_force shown number ≡ in_force points number) → (c : Course) →
-    IsUnder tables shown x.run.errors x.form (taken ++ rest) c → (part : List ℕ) → IsFrontOf (lines (with_points c points)) part → IsFrontOf (verdicts_of c x.form (taken ++ rest)) part
+AreFronts x tables points taken rest lines = (s : ShownCourse x tables points taken rest) (part : List ℕ) →
+    IsFrontOf (lines (with_points s.course points)) part → IsFrontOf (verdicts_of s.course x.form (taken ++ rest)) part
 
 -- the last lines are written to a front
-finish_begun : {x : Setup} {c : Course} {s : State} {b d e : Contents} {rs : List Rec} → HasWritten x c b d s rs → DidFront x.run (last_steps x s.progress s.points rs) d e →
+finish_begun : {x : Setup} {c : Course} {s : State} {b d e : Contents} {rs : List Rec} → HasWritten x c b d s rs →
+    DidFront x.run (last_steps x s.progress s.points rs) d e →
     HasBegun x c s.points (verdicts_of c x.form rs) b e rs
 finish_begun {x} {c} {s} {b} {d} {e} {rs} h front =
     rw (← (append-nil s.points)) (by_front (wrote_front x.run news [] ends d e front)) where
+      t : TakenUnder
+      t = record { x = x; c = c; opened = b; before = d; s = s; taken = rs; h = h }
+
       news : List ℕ
       news = last_versions x s.progress s.points
 
       ends : List ℕ
       ends = last_lines s.progress rs
 
+      due : List ℕ
+      due = verdicts_of c x.form rs
+
       versions : (part : List ℕ) → IsFrontOf news part →
           IsFrontOf (load_lines (s.points ++ []) (loads_of x)) (load_lines (s.points ++ []) (take s.progress.printed (loads_of x)) ++ part)
-      versions part front =
-          rw (append-nil s.points) (front_at_end (load_lines s.points (loads_of x)) (load_lines s.points (take s.progress.printed (loads_of x))) news part
-          (lines_split s.points s.progress.printed (loads_of x)) front)
+      versions part front = rw (append-nil s.points) (lines_in_front s.points s.progress.printed (loads_of x) front)
 
-      lines : (part : List ℕ) → IsFrontOf ends part → IsFrontOf (verdicts_of c x.form rs) (lines_from c 0 (entries_of x.form rs) ++ part)
+      lines : (part : List ℕ) → IsFrontOf ends part → IsFrontOf due (lines_from c 0 (entries_of x.form rs) ++ part)
       lines part front =
           let L = lines_from c 0 (entries_of x.form rs) in
-          front_at_end (verdicts_of c x.form rs) L ends part (ap (λ (f : Form). L ++ flat_map (ended_text false) (unfinished_of f rs)) h.stage_form) front
+          front_at_end due L ends part (ap (λ (f : Form). L ++ flat_map (ended_text false) (unfinished_of f rs)) h.stage_form) front
 
-      by_front : WroteFront x.run news [] ends d e → HasBegun x c (s.points ++ []) (verdicts_of c x.form rs) b e rs
-      by_front (in_tables count w) = begun_by h [] (verdicts_of c x.form rs) (take count news) [] (versions (take count news) (count, refl)) (lines [] (0, refl)) w
+      by_front : WroteFront x.run news [] ends d e → HasBegun x c (s.points ++ []) due b e rs
+      by_front (in_tables count w) = begun_by t [] due (take count news) [] (versions (take count news) (count, refl)) (lines [] (0, refl)) w
       by_front (in_others p l w) =
-          begun_by h [] (verdicts_of c x.form rs) news (take l ends) (versions news (all_of news)) (lines (take l ends) (l, refl)) (wrote_same refl (take-nil p) refl w)
+          begun_by t [] due news (take l ends) (versions news (all_of news)) (lines (take l ends) (l, refl)) (wrote_same (refl, take-nil p, refl) w)
+
+-- what is put last: nothing, or all outputs are whole, and a front of the summary
+abbrev EndsWith : ClosedRun → List ℕ → List Rec → Contents → Stop → Course → Type 0
+EndsWith r points rs e stop c = (Rises stop.failed stop.before.files.spoiled stop.after.files.spoiled × (stop.after.said ≡ stop.before.said))
+    ⊎ ((stop.after.files.spoiled ≡ stop.before.files.spoiled)
+    × IsAtSummary r.x.run r.x.slots c points r.x.form r.x.written rs e stop.before.said stop.after.said)
+
+-- all lines are written, and a part of the summary is put
+at_summary : (r : ClosedRun) {d e : Contents} {said now : Option (List ℕ)} {rs : List Rec} → AreAllPoints r.windows r.s.points (length rs) →
+    AreWritten r.x r.opened d r.s rs → (c : Course) → IsUnder r.tables r.s.points r.x.run.errors r.x.form rs c →
+    Did r.x.run (last_steps r.x r.s.progress r.s.points rs) d e → TookFront (last_line r.s.progress r.s.points) said now →
+    IsAtSummary r.x.run r.x.slots c r.s.points r.x.form r.x.written rs e said now
+at_summary r {d} {said = said} {rs = rs} placed are c under did took =
+    let has : HasCourse r d rs = course_with r placed are c under in
+    let whole = is_written r {said = said} has (record { did = did; took = refl }) in
+    record {
+      output = whole.output;
+      verdicts = whole.verdicts;
+      versions = whole.versions;
+      count = took.0;
+      took = took.1 ∙ ap (λ (t : Totals). option_map (λ (out : List ℕ). out ++ take took.0 (summary_text t)) said) (totals_are r has);
+    }
 
 module _ (r : ClosedRun) (slots_of : AreSlotsOf r.x.run r.windows r.x.slots) where
   -- a course whose points say of the numbers drawn what those of the desk say suits
-  suits_if : (c : Course) → c.tables ≡ r.tables → ((number : ℕ) → number < length r.s.draws → c.version number ≡ in_force r.s.points number) → Suits r.s.plan r.s.draws c
+  suits_if : (c : Course) → c.tables ≡ r.tables → ((number : ℕ) → number < length r.s.draws → c.version number ≡ in_force r.s.points number) →
+      Suits r.s.plan r.s.draws c
   suits_if c tables_are version_are =
       let suits : Suits r.s.plan r.s.draws (bare r.tables r.s.points) = suits_bare r.of r.closed in
       record {
@@ -131,20 +154,33 @@ module _ (r : ClosedRun) (slots_of : AreSlotsOf r.x.run r.windows r.x.slots) whe
             version_are (get_or r.s.draws k d).0 (drawn_below r.s.draws r.h r.closed.drawn k d inside) ∙ suits.versions k d inside;
       }
 
+  -- what the first loads' lines say, by how much of VERSIONS there is
+  told_same : (points printed : List ℕ) (loads : ℕ) (text : List ℕ) → IsRising points → length printed ≤ 0 + count_by is_table r.x.slots →
+      NoneIsDue printed (drop loads r.x.slots) → length (load_lines points (take loads (loads_of r.x))) + length (initial_text r.x.run.table) ≤ length text →
+      (number : ℕ) → in_force points number ≤ length printed → in_force (shown_points true r.x.run r.x.slots points text) number ≡ in_force points number
+  told_same points printed loads text rising short none held number few =
+      let slots = r.x.slots in
+      let size = length text - length (initial_text r.x.run.table) in
+      let first : length printed ≤ 0 + count_by is_table (take loads r.x.slots) = printed_few 0 slots loads printed slots_of.numbered none short in
+      let enough : length (load_lines points (take loads (loads_of r.x))) ≤ length text - length (initial_text r.x.run.table) = omega (arith, held) in
+      let more : count_by is_table (take loads r.x.slots)
+      ≤ count_by is_table (take (whole_lines points (length text - length (initial_text r.x.run.table)) (named r.x.run.loads r.x.slots)) r.x.slots) =
+      lines_fit points size r.x.run.loads slots loads slots_of.loads_are enough in
+      let count = count_by is_table (take (whole_lines points size (named r.x.run.loads slots)) slots) in
+      in_force_first points count number rising (omega (arith, few, first, more))
+
   -- fronts of what these records write are written
   at_begun : (points : List ℕ) (taken rest : List Rec) → AreAllPoints r.windows points (length (taken ++ rest)) → (d : Contents) (lines : Course → List ℕ) →
       AreFronts r.x r.tables points taken rest lines →
       ((c : Course) → c.tables ≡ r.tables → c.version ≡ in_force points → HasBegun r.x c points (lines c) r.opened d taken) → (stop : Stop) →
-      ((c : Course) → IsUnder r.tables points r.x.run.errors r.x.form (taken ++ rest) c →
-      (Rises stop.failed stop.before.files.spoiled stop.after.files.spoiled × (stop.after.said ≡ stop.before.said))
-      ⊎ ((stop.after.files.spoiled ≡ stop.before.files.spoiled)
-      × IsAtSummary r.x.run r.x.slots c points r.x.form r.x.written (taken ++ rest) d stop.before.said stop.after.said)) →
+      ((c : Course) → IsUnder r.tables points r.x.run.errors r.x.form (taken ++ rest) c → EndsWith r points (taken ++ rest) d stop c) →
       IsFront r.x.run r.tables r.windows r.x.slots r.x.form r.x.written (taken ++ rest) 3 r.old d stop
   at_begun points taken rest all d lines fronts begun stop sink =
       -- some course of the records that were taken, which tells how much of VERSIONS there is
       let run = r.x.run in
       let form = r.x.form in
       let head = initial_text run.table in
+      let text = content d run.versions in
       let seen = shown_points true run r.x.slots points (content d run.versions) in
       let some = some_course r.laws.limits r.tables points run.errors form taken r.rate in
       let it0 = begun some.course some.under.tables_are some.under.in_force_are in
@@ -158,26 +194,37 @@ module _ (r : ClosedRun) (slots_of : AreSlotsOf r.x.run r.windows r.x.slots) whe
         length-append told w0.more,
         ap (λ (l : List ℕ). length l) r.opening.versions,
       ) in
+      let short : length it0.printed ≤ 0 + count_by is_table r.x.slots =
+      omega (
+        arith,
+        all.each,
+        count_by-le-length (λ (w : Window). nat_le w.earliest (length (taken ++ rest))) r.windows,
+        slots_of.windows_are,
+        ap (λ (l : List ℕ). length l) it0.all,
+        length-append it0.printed it0.later,
+      ) in
       let same : (number : ℕ) → number < length taken → in_force seen number ≡ in_force points number = λ number inside.
-      told_same r.x r.windows points it0.printed it0.later it0.loads (length (taken ++ rest)) (content d run.versions) slots_of all it0.all it0.none_due held number
-      (omega (arith, it0.spoken number inside, ap (λ (f : ℕ → ℕ). f number) some.under.in_force_are)) in
-      let shown = some_course r.laws.limits r.tables seen run.errors form (taken ++ rest) r.rate in
+      let few : in_force points number ≤ length it0.printed =
+      omega (arith, it0.spoken number inside, ap (λ (f : ℕ → ℕ). f number) some.under.in_force_are) in
+      told_same points it0.printed it0.loads text all.placed.rising short it0.none_due held number few in
       let whole = some_course r.laws.limits r.tables points run.errors form (taken ++ rest) r.rate in
-      let it = begun (with_points shown.course points) shown.under.tables_are refl in
-      let w = it.wrote (limited_first r.laws taken rest points same shown.under) in
+      let by_shown = some_course r.laws.limits r.tables seen run.errors form (taken ++ rest) r.rate in
+      let s : ShownCourse r.x r.tables points taken rest = record { shown = seen; same = same; course = by_shown.course; under = by_shown.under } in
+      let it = begun (with_points s.course points) s.under.tables_are refl in
+      let w = it.wrote (limited_first r.laws s) in
       let versions = load_lines points (loads_of r.x) in
       record {
         points = points;
         placed = all;
         course = whole.course;
         under_all = whole.under;
-        shown = shown.course;
-        under_told = shown.under;
+        shown = s.course;
+        under_told = s.under;
         output =
-            let front = output_front r.laws taken rest points same shown.under r.x.written w.in_packets in
+            let front = output_front r.laws s w.in_packets in
             (front.0, w.wrote.output ∙ (ap (λ (l : List ℕ). l ++ w.packets_part) r.opening.output ∙ front.1));
         verdicts =
-            let front = fronts seen same shown.course shown.under w.lines_part w.in_lines in
+            let front = fronts s w.lines_part w.in_lines in
             (front.0, w.wrote.verdicts ∙ (ap (λ (l : List ℕ). l ++ w.lines_part) r.opening.verdicts ∙ front.1));
         versions =
             let part = load_lines points (take it.loads (loads_of r.x)) ++ w.more in
@@ -189,58 +236,45 @@ module _ (r : ClosedRun) (slots_of : AreSlotsOf r.x.run r.windows r.x.slots) whe
 
   -- rounds were ended by a fault
   pub at_rounds : (stop : Stop) → Rises stop.failed stop.before.files.spoiled stop.after.files.spoiled × (stop.after.said ≡ stop.before.said) →
-      {first : Spot} {lost lost_now : ℕ} {last : Option (List ℕ × ℕ)} {d : Contents} (broken : IsBrokenFrom r.x r.s first lost lost_now last r.opened d) →
+      {first : Spot} {a b : Outside} {d : Contents} (broken : IsBrokenFrom r.x r.s first a b r.opened d) →
       IsFront r.x.run r.tables r.windows r.x.slots r.x.form r.x.written broken.records 3 r.old d stop
   at_rounds stop nothing {d = d} broken =
       let cut = broken.part in
+      let drawn = length r.s.draws in
       let total = length broken.records in
       let more : AreExtended r.s.plan.windows r.s.points (length r.s.draws) (length broken.records) =
-      points_extend r.s.plan (its_planned r.closed) (length r.s.draws) total broken.drawn r.s.points (few_points r.closed) (points_placed r.closed) broken.up_to_date in
+      points_extend r.s.plan (its_planned r.closed) drawn total broken.drawn r.s.points (few_points r.closed) (points_placed r.closed) broken.up_to_date in
       let points = r.s.points ++ more.later in
       let A : List Window → Type 0 = λ w. AreAllPoints w (r.s.points ++ more.later) (length broken.records) in
       let L : List Rec → Type 0 = λ rs. AreAllPoints r.windows (r.s.points ++ more.later) (length rs) in
-      rw cut.all (at_begun points cut.taken cut.rest (subst L cut.all (subst A r.of.same_windows more.all)) d (λ c. lines_from c 0 (entries_of r.x.form cut.taken))
-      (λ shown same c under part front. verdicts_front r.laws cut.taken cut.rest points same under r.x.written front)
+      let all = subst L cut.all (subst A r.of.same_windows more.all) in
+      rw cut.all (at_begun points cut.taken cut.rest all d (λ c. lines_from c 0 (entries_of r.x.form cut.taken)) (λ s part front. verdicts_front r.laws s front)
       (λ c tables_are version_are. cut.begun more.later c (suits_if c tables_are (λ number low.
-      ap (λ (f : ℕ → ℕ). f number) version_are ∙ in_force_before r.s.points more.later (length r.s.draws) number more.behind low)))
+      ap (λ (f : ℕ → ℕ). f number) version_are ∙ in_force_before r.s.points more.later drawn number more.behind low)))
       stop (λ c under. inl nothing))
 
-  -- all lines are written, and a part of the summary is put
-  at_summary : {d e : Contents} {said now : Option (List ℕ)} {rs : List Rec} → AreAllPoints r.windows r.s.points (length rs) → AreWritten r.x r.opened d r.s rs → (c : Course) →
-      IsUnder r.tables r.s.points r.x.run.errors r.x.form rs c → Did r.x.run (last_steps r.x r.s.progress r.s.points rs) d e →
-      TookFront (last_line r.s.progress r.s.points) said now → IsAtSummary r.x.run r.x.slots c r.s.points r.x.form r.x.written rs e said now
-  at_summary {d} {said = said} {rs = rs} placed are c under did took =
-      let has : HasCourse r d rs = course_with r placed are c under in
-      let whole = is_written r {said = said} has (record { did = did; took = refl }) in
-      record {
-        output = whole.output;
-        verdicts = whole.verdicts;
-        versions = whole.versions;
-        count = took.0;
-        took = took.1 ∙ ap (λ (t : Totals). option_map (λ (out : List ℕ). out ++ take took.0 (summary_text t)) said) (totals_are r has);
-      }
+  abbrev Half : Fault → World → World → List Rec → Contents → Contents → Type 0
+  Half why before after rs d e =
+      IsHalfFinished r.x r.s.progress r.s.points rs (is_failure why) before.files.spoiled after.files.spoiled before.said after.said d e
 
   -- the records have ended, and what is left is written in part
-  pub at_finish : (why : Fault) (before after : World) {d e : Contents} {rs : List Rec} → AreAllPoints r.windows r.s.points (length rs) → AreWritten r.x r.opened d r.s rs →
-      IsHalfFinished r.x r.s.progress r.s.points rs (is_failure why) before.files.spoiled after.files.spoiled before.said after.said d e →
+  pub at_finish : (why : Fault) (before after : World) {d e : Contents} {rs : List Rec} → AreAllPoints r.windows r.s.points (length rs) →
+      AreWritten r.x r.opened d r.s rs → Half why before after rs d e →
       IsFront r.x.run r.tables r.windows r.x.slots r.x.form r.x.written rs 3 r.old e (stop_by why before after)
   at_finish why before after {d} {e} {rs} placed are half =
       let points = r.s.points in
       rw (← (append-nil rs)) (at_begun points rs [] (rw (append-nil rs) placed) e (λ c. verdicts_of c r.x.form rs)
-      (λ shown same c under part front. (
-        front.0,
-        front.1 ∙ ap (λ (l : List ℕ). take front.0 l)
-            (verdicts_same r.laws rs [] points same under r.x.written ∙ ap (λ (l : List Rec). verdicts_of c r.x.form l) (sym (append-nil rs))),
-      ))
+      (λ s part front.
+      let every = sym (append-nil rs) in
+      let same = verdicts_same r.laws s ∙ ap (λ (l : List Rec). verdicts_of s.course r.x.form l) every in
+      (front.0, front.1 ∙ ap (λ (l : List ℕ). take front.0 l) same))
       (λ c tables_are version_are. finish_begun (are c (suits_if c tables_are (λ number low. ap (λ (f : ℕ → ℕ). f number) version_are))) (front half))
       (stop_by why before after) (sink half)) where
-        front : IsHalfFinished r.x r.s.progress r.s.points rs (is_failure why) before.files.spoiled after.files.spoiled before.said after.said d e → DidFront r.x.run (last_steps r.x r.s.progress r.s.points rs) d e
+        front : Half why before after rs d e → DidFront r.x.run (last_steps r.x r.s.progress r.s.points rs) d e
         front (inl (rises, (did, took))) = did
         front (inr (same, (did, took))) = front_of_all r.x.run (last_steps r.x r.s.progress r.s.points rs) d e did
 
-        sink : IsHalfFinished r.x r.s.progress r.s.points rs (is_failure why) before.files.spoiled after.files.spoiled before.said after.said d e → (c : Course) →
-            IsUnder r.tables r.s.points r.x.run.errors r.x.form (rs ++ []) c →
-            (Rises (stop_by why before after).failed before.files.spoiled after.files.spoiled × (after.said ≡ before.said))
-            ⊎ ((after.files.spoiled ≡ before.files.spoiled) × IsAtSummary r.x.run r.x.slots c r.s.points r.x.form r.x.written (rs ++ []) e before.said after.said)
+        sink : Half why before after rs d e → (c : Course) → IsUnder r.tables r.s.points r.x.run.errors r.x.form (rs ++ []) c →
+            EndsWith r r.s.points (rs ++ []) e (stop_by why before after) c
         sink (inl (rises, (did, took))) c under = inl (rises, took)
-        sink (inr (same, (did, took))) c under = inr (same, rw (append-nil rs) (at_summary placed are c (rw (← (append-nil rs)) under) did took))
+        sink (inr (same, (did, took))) c under = inr (same, rw (append-nil rs) (at_summary r placed are c (rw (← (append-nil rs)) under) did took))

@@ -1,16 +1,11 @@
 -- A round: what was read, judged and written, put together.
 use Rattle.lwaftr_engine.proofs.Words.{◌≡◌, ℕ, ◌+◌, ◌-◌, ◌<◌, ◌≤◌, List, ◌++◌, length, get_or, take, Some, inl, inr, sym, ◌∙◌, ap, arith, append_assoc}
-use Rattle.lwaftr_engine.proofs.Words.{length-append, slice_get, cases_lt, slice_get-get_or, Contents, content, RunJob, Totals, Form, Rec, Entry, entries_of}
-use Rattle.lwaftr_engine.proofs.Words.{items_in, Item, Staged, Stands, HasWritten, IsLimitedRun, Setup, Wrote, loads_of, RunLaws, all_asking, HasJudged}
-use Rattle.lwaftr_engine.proofs.Words.{IsStaged, Pending, no_totals, totals_from, AreJoined, HasAsked, IsLimited, lines_from, packets_from, HasOutcomes}
+use Rattle.lwaftr_engine.proofs.Words.{length-append, slice_get, cases_lt, slice_get-get_or, Contents, content, RunJob, Totals, Rec, Entry, entries_of}
+use Rattle.lwaftr_engine.proofs.Words.{items_in, Item, HasWritten, IsLimitedRun, Setup, Wrote, loads_of, RunLaws, all_asking, HasJudged}
+use Rattle.lwaftr_engine.proofs.Words.{Pending, no_totals, totals_from, AreJoined, HasAsked, IsLimited, lines_from, packets_from, HasOutcomes}
 use Rattle.lwaftr_engine.proofs.Words.{IsCourseOf, IsRendered, lines_in, packets_in, load_lines, Outcome, no_outcome, asks, cond, string_bytes, map-append}
 use Rattle.lwaftr_engine.proofs.Words.{sum_by-append, Course, State, Suits}
 use Rattle.lwaftr_engine.proofs.Elements.{all_at}
-
-pub entries_more : (form : Form) (before after : Staged) (records : List Rec) (es : List Entry) (taken : List Rec) → before.form ≡ form → Stands before taken →
-    IsStaged before after records es → entries_of form (taken ++ records) ≡ entries_of form taken ++ es
-entries_more form before after records es taken is stands staged =
-    rw (← is) (staged.entries taken stands)
 
 -- behind what was written, more is
 pub wrote_more : {run : RunJob} {a b d : Contents} {v p l more_v more_p more_l : List ℕ} → Wrote run v p l a b → Wrote run more_v more_p more_l b d →
@@ -23,11 +18,11 @@ wrote_more {run} {a} {v} {p} {l} {more_v} {more_p} {more_l} first second = recor
 }
 
 -- the same lists, written otherwise
-pub wrote_same : {run : RunJob} {a b : Contents} {v w p q l k : List ℕ} → v ≡ w → p ≡ q → l ≡ k → Wrote run v p l a b → Wrote run w q k a b
-wrote_same {run} {a} v_is p_is l_is wrote = record {
-  versions_is = wrote.versions_is ∙ ap (λ (u : List ℕ). content a run.versions ++ u) v_is;
-  output = wrote.output ∙ ap (λ (u : List ℕ). content a run.output ++ u) p_is;
-  verdicts = wrote.verdicts ∙ ap (λ (u : List ℕ). content a run.verdicts ++ u) l_is;
+pub wrote_same : {run : RunJob} {a b : Contents} {v w p q l k : List ℕ} → (v ≡ w) × (p ≡ q) × (l ≡ k) → Wrote run v p l a b → Wrote run w q k a b
+wrote_same {run} {a} same wrote = record {
+  versions_is = wrote.versions_is ∙ ap (λ (u : List ℕ). content a run.versions ++ u) same.0;
+  output = wrote.output ∙ ap (λ (u : List ℕ). content a run.output ++ u) same.1;
+  verdicts = wrote.verdicts ∙ ap (λ (u : List ℕ). content a run.verdicts ++ u) same.2;
   others = wrote.others;
 }
 
@@ -36,106 +31,148 @@ asking_append es more =
     ap (λ (l : List Item). all_asking l) (map-append (λ (e : Entry). e.item) es more)
     ∙ sum_by-append (λ (i : Item). cond (asks (Some i)) 1 0) (items_in es) (items_in more)
 
-module _ (laws : RunLaws) {x : Setup} {p q : State} {records : List Rec} {made : Pending} {opened a : Contents} {c : Course} {taken : List Rec}
-    (judged : HasJudged x p q records made) (suits : Suits p.plan q.draws c) (h : HasWritten x c opened a p taken) where
-  pub more : entries_of x.form (taken ++ records) ≡ entries_of x.form taken ++ judged.entries
-  more = entries_more x.form p.progress.stage q.progress.stage records judged.entries taken h.stage_form h.stands judged.staged
+-- a round that was judged behind the records that were taken and written, under a course that suits
+pub record RoundUnder : Type 0 where
+  pub laws : RunLaws
+  pub x : Setup
+  pub p : State
+  pub q : State
+  pub records : List Rec
+  pub made : Pending
+  pub judged : HasJudged x p q records made
+  pub c : Course
+  pub suits : Suits p.plan q.draws c
+  pub opened : Contents
+  pub before : Contents
+  pub taken : List Rec
+  pub h : HasWritten x c opened before p taken
 
-  course : IsCourseOf c x.form taken records (entries_of x.form taken) judged.entries judged.outcomes p.progress.limit
-  course = record {
-    counted = h.entries;
-    outcomes_of = rw (← h.number) (judged.have c suits);
-    asked = h.asked;
-  }
+module _ (r : RoundUnder) where
+  abbrev es : List Entry
+  es = r.judged.entries
 
-  asked_more : HasAsked x.form (taken ++ records) (entries_of x.form (taken ++ records)) c q.progress.limit
-  asked_more =
-      rw more (judged.rendered.asked c taken (entries_of x.form taken) (sym h.number) course)
+  abbrev old : List Entry
+  old = entries_of r.x.form r.taken
 
-  limited_behind : IsLimitedRun x c (taken ++ records) → IsLimited x.run.errors x.form (taken ++ records) (entries_of x.form taken ++ judged.entries) c
+  -- the records with those of the round, and their entries
+  abbrev pub every : List Rec
+  every = r.taken ++ r.records
+
+  abbrev pub every_entry : List Entry
+  every_entry = entries_of r.x.form (r.taken ++ r.records)
+
+  more : entries_of r.x.form (r.taken ++ r.records) ≡ entries_of r.x.form r.taken ++ r.judged.entries
+  more = rw (← r.h.stage_form) (r.judged.staged.entries r.taken r.h.stands)
+
+  course : IsCourseOf r.c r.x.form r.taken r.records old es r.judged.outcomes r.p.progress.limit
+  course = record { counted = r.h.entries; outcomes_of = rw (← r.h.number) (r.judged.have r.c r.suits); asked = r.h.asked }
+
+  asked_more : HasAsked r.x.form every every_entry r.c r.q.progress.limit
+  asked_more = rw more (r.judged.rendered.asked r.c r.taken old (sym r.h.number) course)
+
+  limited_behind : IsLimitedRun r.x r.c every → IsLimited r.x.run.errors r.x.form every (entries_of r.x.form r.taken ++ r.judged.entries) r.c
   limited_behind limited = rw (← more) limited
 
-  pub limited_before : IsLimitedRun x c (taken ++ records) → IsLimitedRun x c taken
-  limited_before limited = laws.begins x.run.errors x.form taken records (entries_of x.form taken) judged.entries c h.entries (limited_behind limited)
+  pub limited_before : IsLimitedRun r.x r.c every → IsLimitedRun r.x r.c r.taken
+  limited_before limited = r.laws.begins r.x.run.errors r.x.form r.taken r.records old es r.c r.h.entries (limited_behind limited)
 
-  rendered : IsLimitedRun x c (taken ++ records) → IsRendered c x.written p.progress.number records judged.entries p.progress.totals q.progress.totals made.rendered
-  rendered limited =
-      judged.rendered.rendered c taken (entries_of x.form taken) (sym h.number) course (rw judged.rate (limited_behind limited))
+  rendered : IsLimitedRun r.x r.c every →
+      IsRendered r.c r.x.written r.p.progress.number r.records es r.p.progress.totals r.q.progress.totals r.made.rendered
+  rendered limited = r.judged.rendered.rendered r.c r.taken old (sym r.h.number) course (rw r.judged.rate (limited_behind limited))
 
-  joined : AreJoined c x.written 0 taken records (entries_of x.form taken) judged.entries
-  joined = laws.joins c x.written 0 taken records (entries_of x.form taken) judged.entries h.entries
+  joined : AreJoined r.c r.x.written 0 r.taken r.records old es
+  joined = r.laws.joins r.c r.x.written 0 r.taken r.records old es r.h.entries
 
-  start : 0 + length taken ≡ p.progress.number
-  start = omega (arith, h.number)
+  start : 0 + length r.taken ≡ r.p.progress.number
+  start = omega (arith, r.h.number)
 
-  pub packets_are : IsLimitedRun x c (taken ++ records) →
-      packets_from c x.written 0 taken (entries_of x.form taken) ++ packets_in made.rendered ≡ packets_from c x.written 0 (taken ++ records) (entries_of x.form (taken ++ records))
+  abbrev pub old_packets : List ℕ
+  old_packets = packets_from r.c r.x.written 0 r.taken (entries_of r.x.form r.taken)
+
+  abbrev pub old_lines : List ℕ
+  old_lines = lines_from r.c 0 (entries_of r.x.form r.taken)
+
+  pub packets_are : IsLimitedRun r.x r.c every → old_packets ++ packets_in r.made.rendered ≡ packets_from r.c r.x.written 0 every every_entry
   packets_are limited =
-      ap (λ (l : List ℕ). packets_from c x.written 0 taken (entries_of x.form taken) ++ l)
-      ((rendered limited).packets ∙ ap (λ (n : ℕ). packets_from c x.written n records judged.entries) (sym start))
-      ∙ (sym joined.packets ∙ ap (λ (l : List Entry). packets_from c x.written 0 (taken ++ records) l) (sym more))
+      ap (λ (l : List ℕ). old_packets ++ l) ((rendered limited).packets ∙ ap (λ (n : ℕ). packets_from r.c r.x.written n r.records es) (sym start))
+      ∙ (sym joined.packets ∙ ap (λ (l : List Entry). packets_from r.c r.x.written 0 every l) (sym more))
 
-  pub lines_are : IsLimitedRun x c (taken ++ records) →
-      lines_from c 0 (entries_of x.form taken) ++ lines_in made.rendered ≡ lines_from c 0 (entries_of x.form (taken ++ records))
+  pub lines_are : IsLimitedRun r.x r.c every → old_lines ++ lines_in r.made.rendered ≡ lines_from r.c 0 every_entry
   lines_are limited =
-      ap (λ (l : List ℕ). lines_from c 0 (entries_of x.form taken) ++ l) ((rendered limited).lines ∙ ap (λ (n : ℕ). lines_from c n judged.entries) (sym start))
-      ∙ (sym joined.lines ∙ ap (λ (l : List Entry). lines_from c 0 l) (sym more))
+      ap (λ (l : List ℕ). old_lines ++ l) ((rendered limited).lines ∙ ap (λ (n : ℕ). lines_from r.c n es) (sym start))
+      ∙ (sym joined.lines ∙ ap (λ (l : List Entry). lines_from r.c 0 l) (sym more))
 
-  pub versions_are : (later : List ℕ) → load_lines (p.points ++ (judged.news ++ later)) (take p.progress.printed (loads_of x)) ++ string_bytes made.versions ≡ load_lines (q.points ++ later) (take q.progress.printed (loads_of x))
+  -- the points of the round, and those that come later
+  pub points_are : (later : List ℕ) → r.p.points ++ (r.judged.news ++ later) ≡ r.q.points ++ later
+  points_are later = sym (append_assoc r.p.points r.judged.news later) ∙ ap (λ (l : List ℕ). l ++ later) (sym r.judged.new_lines.points_are)
+
+  pub versions_are : (later : List ℕ) →
+      load_lines (r.p.points ++ (r.judged.news ++ later)) (take r.p.progress.printed (loads_of r.x)) ++ string_bytes r.made.versions
+      ≡ load_lines (r.q.points ++ later) (take r.q.progress.printed (loads_of r.x))
   versions_are later =
-      let all : p.points ++ (judged.news ++ later) ≡ q.points ++ later = sym (append_assoc p.points judged.news later) ∙ ap (λ (l : List ℕ). l ++ later) (sym judged.new_lines.points_are) in
-      ap (λ (l : List ℕ). load_lines l (take p.progress.printed (loads_of x)) ++ string_bytes made.versions) all
-      ∙ (ap (λ (l : List ℕ). load_lines (q.points ++ later) (take p.progress.printed (loads_of x)) ++ l) (judged.new_lines.lines_are later)
-      ∙ laws.lines (q.points ++ later) (loads_of x) p.progress.printed q.progress.printed judged.new_lines.forward)
+      let loads = loads_of r.x in
+      let first = r.p.progress.printed in
+      ap (λ (l : List ℕ). load_lines l (take first loads) ++ string_bytes r.made.versions) (points_are later)
+      ∙ (ap (λ (l : List ℕ). load_lines (r.q.points ++ later) (take first loads) ++ l) (r.judged.new_lines.lines_are later)
+      ∙ r.laws.lines (r.q.points ++ later) loads first r.q.progress.printed r.judged.new_lines.forward)
 
-  totals_more : IsLimitedRun x c (taken ++ records) → q.progress.totals ≡ totals_from c no_totals 0 (entries_of x.form (taken ++ records))
+  totals_more : IsLimitedRun r.x r.c every → r.q.progress.totals ≡ totals_from r.c no_totals 0 every_entry
   totals_more limited =
       (rendered limited).totals
-      ∙ (ap (λ (t : Totals). totals_from c t p.progress.number judged.entries) (h.totals (limited_before limited))
-      ∙ (ap (λ (n : ℕ). totals_from c (totals_from c no_totals 0 (entries_of x.form taken)) n judged.entries) (sym start)
-      ∙ (sym (joined.totals no_totals) ∙ ap (λ (l : List Entry). totals_from c no_totals 0 l) (sym more))))
+      ∙ (ap (λ (t : Totals). totals_from r.c t r.p.progress.number es) (r.h.totals (limited_before limited))
+      ∙ (ap (λ (n : ℕ). totals_from r.c (totals_from r.c no_totals 0 old) n es) (sym start)
+      ∙ (sym (joined.totals no_totals) ∙ ap (λ (l : List Entry). totals_from r.c no_totals 0 l) (sym more))))
 
-  entries_count : length (entries_of x.form (taken ++ records)) ≡ length (taken ++ records)
+  entries_count : length every_entry ≡ length every
   entries_count =
       ap (λ (l : List Entry). length l) more
-      ∙ omega (arith, length-append (entries_of x.form taken) judged.entries, length-append taken records, h.entries, judged.staged.count)
+      ∙ omega (arith, length-append (entries_of r.x.form r.taken) r.judged.entries, length-append r.taken r.records, r.h.entries, r.judged.staged.count)
 
-  pub spoken_more : (number : ℕ) → number < length (taken ++ records) → c.version number ≤ length q.points
-  spoken_more number inside = elim (cases_lt number (length taken)) [
-    | inl before ↦ omega (arith, h.spoken number before, length-append p.points judged.news, ap (λ (l : List ℕ). length l) judged.new_lines.points_are)
+  pub spoken_more : (number : ℕ) → number < length (r.taken ++ r.records) → r.c.version number ≤ length r.q.points
+  spoken_more number inside = elim (cases_lt number (length r.taken)) [
+    | inl before ↦
+        omega (
+          arith,
+          r.h.spoken number before,
+          length-append r.p.points r.judged.news,
+          ap (λ (l : List ℕ). length l) r.judged.new_lines.points_are,
+        )
     | inr behind ↦
-        spoken_new number (number - length taken) (omega (arith, behind, h.number)) (omega (arith, behind, inside, length-append taken records, judged.staged.count, judged.outcomes_count))
+        spoken_new number (number - length r.taken) (omega (arith, behind, r.h.number))
+        (omega (arith, behind, inside, length-append r.taken r.records, r.judged.staged.count, r.judged.outcomes_count))
   ] where
-    spoken_new : (number k : ℕ) → number ≡ p.progress.number + k → k < length judged.outcomes → c.version number ≤ length q.points
+    spoken_new : (number k : ℕ) → number ≡ r.p.progress.number + k → k < length r.judged.outcomes → r.c.version number ≤ length r.q.points
     spoken_new number k is within =
-        let at : slice_get judged.outcomes k ≡ Some (get_or judged.outcomes k no_outcome) = slice_get-get_or judged.outcomes k no_outcome within in
-        let few : (get_or judged.outcomes k no_outcome).version ≤ length q.points =
-        all_at (λ (y : Outcome). y.version ≤ length q.points) judged.outcomes k (get_or judged.outcomes k no_outcome) judged.versions at in
-        let have : HasOutcomes c p.progress.number judged.entries judged.outcomes = judged.have c suits in
-        let version : (get_or judged.outcomes k no_outcome).version ≡ c.version (get_or judged.outcomes k no_outcome).number = have.versions k (get_or judged.outcomes k no_outcome) at in
-        let same : (get_or judged.outcomes k no_outcome).number ≡ number = have.numbers k (get_or judged.outcomes k no_outcome) at ∙ sym is in
-        rw (← (version ∙ ap (λ (n : ℕ). c.version n) same)) few
+        let o : Outcome = get_or r.judged.outcomes k no_outcome in
+        let at : slice_get r.judged.outcomes k ≡ Some (get_or r.judged.outcomes k no_outcome) = slice_get-get_or r.judged.outcomes k no_outcome within in
+        let few : (get_or r.judged.outcomes k no_outcome).version ≤ length r.q.points =
+        all_at (λ (y : Outcome). y.version ≤ length r.q.points) r.judged.outcomes k o r.judged.versions at in
+        let have : HasOutcomes r.c r.p.progress.number r.judged.entries r.judged.outcomes = r.judged.have r.c r.suits in
+        let version : (get_or r.judged.outcomes k no_outcome).version ≡ r.c.version (get_or r.judged.outcomes k no_outcome).number = have.versions k o at in
+        let same : (get_or r.judged.outcomes k no_outcome).number ≡ number = have.numbers k o at ∙ sym is in
+        rw (← (version ∙ ap (λ (n : ℕ). r.c.version n) same)) few
 
-  reads_more : all_asking (items_in (entries_of x.form (taken ++ records))) ≤ q.reads
+  reads_more : all_asking (items_in every_entry) ≤ r.q.reads
   reads_more =
-      let same : all_asking (items_in (entries_of x.form (taken ++ records))) ≡ all_asking (items_in (entries_of x.form taken)) + all_asking (items_in judged.entries) =
-      ap (λ (l : List Entry). all_asking (items_in l)) more ∙ asking_append (entries_of x.form taken) judged.entries in
-      omega (arith, same, h.reads, judged.reads)
+      let same : all_asking (items_in (entries_of r.x.form (r.taken ++ r.records)))
+      ≡ all_asking (items_in (entries_of r.x.form r.taken)) + all_asking (items_in r.judged.entries) =
+      ap (λ (l : List Entry). all_asking (items_in l)) more ∙ asking_append old es in
+      omega (arith, same, r.h.reads, r.judged.reads)
 
   -- a round more is written
-  pub written_more : (d : Contents) → Wrote x.run (string_bytes made.versions) (packets_in made.rendered) (lines_in made.rendered) a d →
-      HasWritten x c opened d q (taken ++ records)
+  pub written_more : (d : Contents) → Wrote r.x.run (string_bytes r.made.versions) (packets_in r.made.rendered) (lines_in r.made.rendered) r.before d →
+      HasWritten r.x r.c r.opened d r.q (r.taken ++ r.records)
   written_more d wrote = record {
-    stands = judged.staged.stands taken h.stands;
-    stage_form = judged.staged.form ∙ h.stage_form;
-    number = omega (arith, judged.numbered, h.number, length-append taken records);
+    stands = r.judged.staged.stands r.taken r.h.stands;
+    stage_form = r.judged.staged.form ∙ r.h.stage_form;
+    number = omega (arith, r.judged.numbered, r.h.number, length-append r.taken r.records);
     entries = entries_count;
     asked = asked_more;
     totals = totals_more;
     files = λ later limited.
-        wrote_same (versions_are later) (packets_are limited) (lines_are limited)
-        (wrote_more (h.files (judged.news ++ later) (limited_before limited)) wrote);
-    none_due = judged.new_lines.none_due;
+        wrote_same (versions_are later, packets_are limited, lines_are limited)
+        (wrote_more (r.h.files (r.judged.news ++ later) (limited_before limited)) wrote);
+    none_due = r.judged.new_lines.none_due;
     spoken = spoken_more;
     reads = reads_more;
   }

@@ -31,7 +31,8 @@ pub record AreRead (run : RunJob) (t : BindingTable) (ls : List Load) (m : Conte
   pub table : TableOf (content m run.table) (Ok t)
   pub loads : AreLoadsOf m run.loads ls
 
-pub are_read : (run : RunJob) (t : BindingTable) (ls : List Load) (h : Option Contents) → Told h (λ m. TableOf (content m run.table) (Ok t)) → Told h (λ m. AreLoadsOf m run.loads ls) →
+pub are_read : (run : RunJob) (t : BindingTable) (ls : List Load) (h : Option Contents) → Told h (λ m. TableOf (content m run.table) (Ok t)) →
+    Told h (λ m. AreLoadsOf m run.loads ls) →
     Told h (λ m. AreRead run t ls m)
 are_read run t ls None table loads = tt
 are_read run t ls (Some m) table loads = record { table = table; loads = loads }
@@ -76,13 +77,16 @@ module _ (r : ReadRun) where
   slots_of = slots_of_run r.run r.old answers found.1
 
   whole_run : {refused : Bool} {new : Contents} {said now : Option (List ℕ)} {history : Option HistoryValue} {ending : Option CaptureBad} →
-      IsWhole r.run its_tables its_windows its_slots r.old new said now history ending → some_refused answers ≡ refused → IsWholeRun r.run r.old new said now history ending refused
+      IsWhole r.run its_tables its_windows its_slots r.old new said now history ending → some_refused answers ≡ refused →
+      IsWholeRun r.run r.old new said now history ending refused
   whole_run whole same = record { first = r.t; answers = answers; tables = tables; some_load_refused = same; whole = whole }
 
-  broken_run : {new : Contents} {stop : Stop} {history : Option HistoryValue} → IsStopped r.run its_tables its_windows its_slots stop history r.old new → IsBrokenRun r.run r.old new stop history
+  broken_run : {new : Contents} {stop : Stop} {history : Option HistoryValue} → IsStopped r.run its_tables its_windows its_slots stop history r.old new →
+      IsBrokenRun r.run r.old new stop history
   broken_run left = record { first = r.t; answers = answers; tables = tables; broken = left.0 slots_of; none = left.1 }
 
-  by_status : (result : Status) (before now : World) (history : Option HistoryValue) (new : Contents) → LeavesBy r.run its_tables its_windows its_slots result before now history r.old new →
+  by_status : (result : Status) (before now : World) (history : Option HistoryValue) (new : Contents) →
+      LeavesBy r.run its_tables its_windows its_slots result before now history r.old new →
       some_slot_refused its_slots ≡ some_refused answers → Leaves r.run result before now history r.old new
   by_status status.Done before now history new left same = whole_run left.0 (sym same ∙ left.1)
   by_status status.DoneRefused before now history new left same = whole_run left.0 (sym same ∙ left.1)
@@ -99,20 +103,37 @@ module _ (r : ReadRun) where
   by_status status.OutOfMemory before now history new (inr left) same = inr (broken_run left)
   by_status _ before now history new left same = absurd left
 
-  pub leaves : (result : Status) (before now : World) (history : Option HistoryValue) (new : Contents) → LeavesMade r.run r.made.plan r.made.slots result before now history r.old new →
+  pub leaves : (result : Status) (before now : World) (history : Option HistoryValue) (new : Contents) →
+      LeavesMade r.run r.made.plan r.made.slots result before now history r.old new →
       Leaves r.run result before now history r.old new
   leaves result before now history new left = by_status result before now history new (rw (← slots) (left its_tables its_windows plan)) (refused_are answers 0)
 
 -- reads of the capture are among those of all files
-pub among_all : (run : RunJob) (result : Status) (old new : Option (List ℕ × ℕ)) → FailsIn (run.input ∷ []) result old new → FailsIn (table_names run ++ run.input ∷ []) result old new
-among_all run status.ReadFault old new failed = record { name = failed.name; place = failed.place; among = Contains-append_right (table_names run) (run.input ∷ []) failed.name failed.among; last_is = failed.last_is }
+pub among_all : (run : RunJob) (result : Status) (old new : Option (List ℕ × ℕ)) → FailsIn (run.input ∷ []) result old new →
+    FailsIn (table_names run ++ run.input ∷ []) result old new
+among_all run status.ReadFault old new failed = record {
+  name = failed.name;
+  place = failed.place;
+  among = Contains-append_right (table_names run) (run.input ∷ []) failed.name failed.among;
+  last_is = failed.last_is;
+}
 among_all run status.WriteFault old new failed = tt
 among_all run status.OutOfMemory old new failed = tt
 among_all run _ old new failed = failed
 
 -- a read of one of the table files
 pub table_read : (run : RunJob) (last : Option (List ℕ × ℕ)) → IsReadOf (table_names run) last → IsReadOf (table_names run ++ run.input ∷ []) last
-table_read run last failed = record { name = failed.name; place = failed.place; among = Contains-append_left (table_names run) (run.input ∷ []) failed.name failed.among; last_is = failed.last_is }
+table_read run last failed = record {
+  name = failed.name;
+  place = failed.place;
+  among = Contains-append_left (table_names run) (run.input ∷ []) failed.name failed.among;
+  last_is = failed.last_is;
+}
 
 pub load_read : (run : RunJob) (last : Option (List ℕ × ℕ)) → IsReadOf (map (λ (load : LoadWords). load.name) run.loads) last → IsReadOf (table_names run) last
-load_read run last failed = record { name = failed.name; place = failed.place; among = (suc failed.among.0, omega (arith, failed.among.1), failed.among.2); last_is = failed.last_is }
+load_read run last failed = record {
+  name = failed.name;
+  place = failed.place;
+  among = (suc failed.among.0, omega (arith, failed.among.1), failed.among.2);
+  last_is = failed.last_is;
+}

@@ -33,27 +33,27 @@ through P Q R one (x ∷ xs) (y ∷ ys) [] h k = absurd k
 through P Q R one (x ∷ xs) (y ∷ ys) (z ∷ zs) h k = (one x y z h.0 k.0, through P Q R one xs ys zs h.1 k.1)
 
 -- one element more on either side
-pub zipped_more : {A B : Type 0} (R : A → B → Type 0) (xs : List A) (ys more : List B) (at : ℕ) (x : A) (y : B) → slice_get xs at ≡ Some x → more ≡ ys ++ y ∷ [] →
-    AllZip R (take at xs) ys → R x y → AllZip R (take (at + 1) xs) more
-zipped_more {A} {B} R xs ys more at x y is pushed before one =
-    rw pushed (rw (← (one_more xs at x is)) (all_zipped_more R (take at xs) ys x y before one))
+pub zipped_more : {A B : Type 0} (R : A → B → Type 0) (xs : List A) (ys : List B) (at : ℕ) (x : A) (y : B) → slice_get xs at ≡ Some x →
+    AllZip R (take at xs) ys → R x y → AllZip R (take (at + 1) xs) (ys ++ y ∷ [])
+zipped_more {A} {B} R xs ys at x y is before one = rw (← (one_more xs at x is)) (all_zipped_more R (take at xs) ys x y before one)
 
 -- so many elements more on either side
-pub zipped_on : {A B : Type 0} (R : A → B → Type 0) (xs : List A) (ys zs more : List B) (at count n : ℕ) → n ≡ count → more ≡ ys ++ zs →
-    AllZip R (take at xs) ys → AllZip R (take n (drop at xs)) zs → AllZip R (take (at + count) xs) more
-zipped_on {A} {B} R xs ys zs more at count n many is before next =
-    let behind : AllZip R (take count (drop at xs)) zs = rw (← many) next in
-    rw is (rw (take-add at count xs) (joined R (take at xs) (take count (drop at xs)) ys zs before behind))
+pub zipped_on : {A B : Type 0} (R : A → B → Type 0) (xs : List A) (ys zs : List B) (at count : ℕ) → AllZip R (take at xs) ys →
+    AllZip R (take count (drop at xs)) zs → AllZip R (take (at + count) xs) (ys ++ zs)
+zipped_on {A} {B} R xs ys zs at count before next =
+    rw (take-add at count xs) (joined R (take at xs) (take count (drop at xs)) ys zs before next)
 
-pub told_more : {A B : Type 0} (R : Contents → A → B → Type 0) (h : Option Contents) (xs : List A) (ys more : List B) (at : ℕ) (x : A) (y : B) → slice_get xs at ≡ Some x → more ≡ ys ++ y ∷ [] →
-    Told h (λ m. AllZip (R m) (take at xs) ys) → Told h (λ m. R m x y) → Told h (λ m. AllZip (R m) (take (at + 1) xs) more)
-told_more R None xs ys more at x y is pushed told one = tt
-told_more R (Some m) xs ys more at x y is pushed told one = zipped_more (R m) xs ys more at x y is pushed told one
+pub told_more : {A B : Type 0} (R : Contents → A → B → Type 0) (h : Option Contents) (xs : List A) (ys : List B) (at : ℕ) (x : A) (y : B) →
+    slice_get xs at ≡ Some x → Told h (λ m. AllZip (R m) (take at xs) ys) → Told h (λ m. R m x y) →
+    Told h (λ m. AllZip (R m) (take (at + 1) xs) (ys ++ y ∷ []))
+told_more R None xs ys at x y is told one = tt
+told_more R (Some m) xs ys at x y is told one = zipped_more (R m) xs ys at x y is told one
 
-pub told_on : {A B : Type 0} (R : Contents → A → B → Type 0) (h : Option Contents) (xs : List A) (ys zs more : List B) (at count n : ℕ) → n ≡ count → more ≡ ys ++ zs →
-    Told h (λ m. AllZip (R m) (take at xs) ys) → Told h (λ m. AllZip (R m) (take n (drop at xs)) zs) → Told h (λ m. AllZip (R m) (take (at + count) xs) more)
-told_on R None xs ys zs more at count n many is told next = tt
-told_on R (Some m) xs ys zs more at count n many is told next = zipped_on (R m) xs ys zs more at count n many is told next
+pub told_on : {A B : Type 0} (R : Contents → A → B → Type 0) (h : Option Contents) (xs : List A) (ys zs : List B) (at count : ℕ) →
+    Told h (λ m. AllZip (R m) (take at xs) ys) → Told h (λ m. AllZip (R m) (take count (drop at xs)) zs) →
+    Told h (λ m. AllZip (R m) (take (at + count) xs) (ys ++ zs))
+told_on R None xs ys zs at count told next = tt
+told_on R (Some m) xs ys zs at count told next = zipped_on (R m) xs ys zs at count told next
 
 said : (m : Contents) (w : LoadWords) (f : LoadFile) (l : Load) → IsFileOf m w f → IsLoadOfFile f l → IsLoadOf m w l
 said m w f l file load = record {
@@ -63,7 +63,8 @@ said m w f l file load = record {
 }
 
 -- the loads of files are those of the words that the files were read for
-pub loads_told : (h : Option Contents) (ws : List LoadWords) (fs : List LoadFile) (ls : List Load) → Told h (λ m. AllZip (IsFileOf m) ws fs) → AllZip IsLoadOfFile fs ls → Told h (λ m. AreLoadsOf m ws ls)
+pub loads_told : (h : Option Contents) (ws : List LoadWords) (fs : List LoadFile) (ls : List Load) → Told h (λ m. AllZip (IsFileOf m) ws fs) →
+    AllZip IsLoadOfFile fs ls → Told h (λ m. AreLoadsOf m ws ls)
 loads_told None ws fs ls read loads = tt
 loads_told (Some m) ws fs ls read loads = through (IsFileOf m) IsLoadOfFile (IsLoadOf m) (said m) ws fs ls read loads
 
@@ -83,17 +84,26 @@ among_all_names : (ws : List LoadWords) (at count : ℕ) (name : List ℕ) → C
 among_all_names ws at count name among =
     let rest = drop count (drop at ws) in
     let whole : names_of (take at ws) ++ (names_of (take count (drop at ws)) ++ names_of rest) ≡ names_of ws =
-    ap (λ (l : List (List ℕ)). names_of (take at ws) ++ l) (sym (map-append (λ (load : LoadWords). load.name) (take count (drop at ws)) rest) ∙ ap (λ (l : List LoadWords). names_of l) (take-append-drop count (drop at ws)))
+    ap (λ (l : List (List ℕ)). names_of (take at ws) ++ l)
+    (sym (map-append (λ (load : LoadWords). load.name) (take count (drop at ws)) rest) ∙ ap (λ (l : List LoadWords). names_of l)
+    (take-append-drop count (drop at ws)))
     ∙ (sym (map-append (λ (load : LoadWords). load.name) (take at ws) (drop at ws)) ∙ ap (λ (l : List LoadWords). names_of l) (take-append-drop at ws)) in
     rw (← whole) (Contains-append_right (names_of (take at ws)) (names_of (take count (drop at ws)) ++ names_of rest) name
     (Contains-append_left (names_of (take count (drop at ws))) (names_of rest) name among))
 
-fails_among : (failed : Bool) (ws : List LoadWords) (at count : ℕ) (before now : Option (List ℕ × ℕ)) → FailsAmong failed (names_of (take count (drop at ws))) before now → FailsAmong failed (names_of ws) before now
+fails_among : (failed : Bool) (ws : List LoadWords) (at count : ℕ) (before now : Option (List ℕ × ℕ)) →
+    FailsAmong failed (names_of (take count (drop at ws))) before now → FailsAmong failed (names_of ws) before now
 fails_among false ws at count before now same = same
-fails_among true ws at count before now failed = record { name = failed.name; place = failed.place; among = among_all_names ws at count failed.name failed.among; last_is = failed.last_is }
+fails_among true ws at count before now failed = record {
+  name = failed.name;
+  place = failed.place;
+  among = among_all_names ws at count failed.name failed.among;
+  last_is = failed.last_is;
+}
 
 -- what reads the files of some of the words reads among those of all
-pub reads_within : (failed : Bool) (ws : List LoadWords) (at count : ℕ) (a b d : Outside) → b ≡ a → OnlyReadsAmong failed (names_of (take count (drop at ws))) b d → OnlyReadsAmong failed (names_of ws) a d
+pub reads_within : (failed : Bool) (ws : List LoadWords) (at count : ℕ) (a b d : Outside) → b ≡ a →
+    OnlyReadsAmong failed (names_of (take count (drop at ws))) b d → OnlyReadsAmong failed (names_of ws) a d
 reads_within failed ws at count a b d same only =
     let some : OnlyReadsAmong failed (names_of (take count (drop at ws))) a d =
     rw (← same) only in

@@ -16,9 +16,11 @@ marked_more : (more : List ℕ) (b : Bucket) (times : List ℕ) (marks : List Bo
 marked_more [] b times marks some stands = record { bucket = b; marks = marks; rate_is = refl; stands = rw (append-nil times) stands }
 marked_more (time ∷ more) b times marks some stands =
     rw (← (append_assoc times (time ∷ []) more)) (elim (cases_lt (b.rate * second) (b.level - b.rate * (max b.time time - b.time) + second)) [
-      | inl full ↦ marked_more more (record { rate = b.rate; level = b.level - b.rate * (max b.time time - b.time); time = max b.time time }) (times ++ time ∷ []) (marks ++ false ∷ []) some
+      | inl full ↦ marked_more more (record { rate = b.rate; level = b.level - b.rate * (max b.time time - b.time); time = max b.time time })
+          (times ++ time ∷ []) (marks ++ false ∷ []) some
           (kept b times marks time (max b.time time) (b.level - b.rate * (max b.time time - b.time)) stands refl refl some full)
-      | inr fits ↦ marked_more more (record { rate = b.rate; level = b.level - b.rate * (max b.time time - b.time) + second; time = max b.time time }) (times ++ time ∷ []) (marks ++ true ∷ []) some
+      | inr fits ↦ marked_more more (record { rate = b.rate; level = b.level - b.rate * (max b.time time - b.time) + second; time = max b.time time })
+          (times ++ time ∷ []) (marks ++ true ∷ []) some
           (sent b times marks time (max b.time time) (b.level - b.rate * (max b.time time - b.time)) stands refl refl some fits)
     ])
 

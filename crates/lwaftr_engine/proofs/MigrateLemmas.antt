@@ -14,21 +14,30 @@ nothing_more line (Some l) = ap (λ (k : List ℕ). Some k) (sym (append-nil l))
 pub no_line : (said : Option (List ℕ)) → TookFront IsMigratedLine said said
 no_line said = (migrated_text 0, (0, refl), 0, omega arith, nothing_more (migrated_text 0) said)
 
-leaves_by : (input output : List ℕ) (t : BindingTable) (old new : Contents) (said now : Option (List ℕ)) (before after : World) → before.said ≡ said → after.said ≡ now → HoldsText input output t old new → (s : Status) → Puts s (migrated_text (length t.bindings)) said now →
-    LeavesMigrated input output s before after old new
-leaves_by input output t old new said now before after e f holds status.Done put = record { table = t; holds = holds; took = f ∙ (put ∙ ap (λ (x : Option (List ℕ)). option_map (λ (taken : List ℕ). taken ++ migrated_text (length t.bindings)) x) (sym e)) }
-leaves_by input output t old new said now before after e f holds status.WriteFault put = inr (record { table = t; holds = holds; count = put.0; took = f ∙ (put.2 ∙ ap (λ (x : Option (List ℕ)). option_map (λ (taken : List ℕ). taken ++ take put.0 (migrated_text (length t.bindings))) x) (sym e)) })
-leaves_by input output t old new said now before after e f holds status.OutOfMemory put = inr (record { table = t; holds = holds; count = put.0; took = f ∙ (put.2 ∙ ap (λ (x : Option (List ℕ)). option_map (λ (taken : List ℕ). taken ++ take put.0 (migrated_text (length t.bindings))) x) (sym e)) })
-leaves_by input output t old new said now before after e f holds _ put = absurd put
+leaves_by : (input output : List ℕ) (t : BindingTable) (old new : Contents) (before after : World) → HoldsText input output t old new → (s : Status) →
+    Puts s (migrated_text (length t.bindings)) before.said after.said → LeavesMigrated input output s before after old new
+leaves_by input output t old new before after holds status.Done put = record { table = t; holds = holds; took = put }
+leaves_by input output t old new before after holds status.WriteFault put = inr (record { table = t; holds = holds; count = put.0; took = put.2 })
+leaves_by input output t old new before after holds status.OutOfMemory put = inr (record { table = t; holds = holds; count = put.0; took = put.2 })
+leaves_by input output t old new before after holds _ put = absurd put
+
+-- a file is made, and then it holds these bytes
+pub written_anew : (output bytes : List ℕ) (h0 h1 h2 : Option Contents) → Moves h0 h1 (λ m n. Writes m n output []) →
+    Moves h1 h2 (λ m n. Writes m n output (content m output ++ bytes)) → Moves h0 h2 (λ m n. Writes m n output bytes)
+written_anew output bytes h0 h1 h2 made appended =
+    moves_join h0 h1 h2 _ _ _
+    (λ m n o u v.
+    record { here = v.here ∙ ap (λ (l : List ℕ). l ++ bytes) u.here; others = λ other e. v.others other e ∙ u.others other e })
+    made appended
 
 -- the text is written whole
-pub migrated : (input output : List ℕ) (t : BindingTable) (text bytes : List ℕ) → bytes ≡ text → (count : ℕ) → count ≡ length t.bindings → (s : Status) (before after : World) → TextOf text (Ok (in_edition_two t)) → Puts s (migrated_text count) before.said after.said →
-    (h0 h1 h2 h3 : Option Contents) → h1 ≡ h0 → Told h0 (λ m. TableOf (content m input) (Ok t)) → Moves h1 h2 (λ m n. Writes m n output []) → Moves h2 h3 (λ m n. Writes m n output (content m output ++ bytes)) →
-    Moves h0 h3 (LeavesMigrated input output s before after)
-migrated input output t text bytes bytes_is count count_is s before after spelled put h0 h1 h2 h3 same table made appended =
-    let whole : Moves h1 h3 (λ m n. Writes m n output text) =
-    moves_join h1 h2 h3 _ _ _
-    (λ m n o u v. record { here = v.here ∙ (ap (λ (l : List ℕ). l ++ bytes) u.here ∙ bytes_is); others = λ other e. v.others other e ∙ u.others other e }) made appended in
-    told_then h0 h1 h3 _ _ _
-    (λ m n is writes. leaves_by input output t m n before.said after.said before after refl refl (record { text = text; is_new = record { table = is; spelled = spelled }; writes = writes }) s (rw (← count_is) put))
-    same table whole
+pub migrated : (input output : List ℕ) (t : BindingTable) (text : List ℕ) (s : Status) (before after : World) → TextOf text (Ok (in_edition_two t)) →
+    Puts s (migrated_text (length t.bindings)) before.said after.said → Told before.files.held (λ m. TableOf (content m input) (Ok t)) →
+    Moves before.files.held after.files.held (λ m n. Writes m n output text) →
+    Moves before.files.held after.files.held (LeavesMigrated input output s before after)
+migrated input output t text s before after spelled put table writes =
+    told_then before.files.held before.files.held after.files.held _ _ _
+    (λ m n is whole.
+    let holds : HoldsText input output t m n = record { text = text; is_new = record { table = is; spelled = spelled }; writes = whole } in
+    leaves_by input output t m n before after holds s put)
+    refl table writes

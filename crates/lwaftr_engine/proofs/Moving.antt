@@ -2,7 +2,8 @@
 use Rattle.lwaftr_engine.proofs.Words.{◌≡◌, Option, Some, None, Contents, Moves, Told}
 
 -- two steps are one
-pub moves_join : (a b c : Option Contents) (P Q R : Contents → Contents → Type 0) → ((m n o : Contents) → P m n → Q n o → R m o) → Moves a b P → Moves b c Q → Moves a c R
+pub moves_join : (a b c : Option Contents) (P Q R : Contents → Contents → Type 0) → ((m n o : Contents) → P m n → Q n o → R m o) → Moves a b P → Moves b c Q →
+    Moves a c R
 moves_join None None None P Q R both first second = tt
 moves_join None None (Some o) P Q R both first second = second
 moves_join None (Some n) c P Q R both first second = absurd first
@@ -31,14 +32,16 @@ moves_by None (Some n) P R each step = step
 moves_by (Some m) None P R each step = step
 moves_by (Some m) (Some n) P R each step = each m n step
 
-told_moves : (a c : Option Contents) (P : Contents → Type 0) (Q R : Contents → Contents → Type 0) → ((m o : Contents) → P m → Q m o → R m o) → Told a P → Moves a c Q → Moves a c R
+told_moves : (a c : Option Contents) (P : Contents → Type 0) (Q R : Contents → Contents → Type 0) → ((m o : Contents) → P m → Q m o → R m o) → Told a P →
+    Moves a c Q → Moves a c R
 told_moves None None P Q R both told step = tt
 told_moves None (Some o) P Q R both told step = step
 told_moves (Some m) None P Q R both told step = step
 told_moves (Some m) (Some o) P Q R both told step = both m o told step
 
 -- a step that begins with what is told already
-pub told_then : (a b c : Option Contents) (P : Contents → Type 0) (Q R : Contents → Contents → Type 0) → ((m o : Contents) → P m → Q m o → R m o) → b ≡ a → Told a P → Moves b c Q → Moves a c R
+pub told_then : (a b c : Option Contents) (P : Contents → Type 0) (Q R : Contents → Contents → Type 0) → ((m o : Contents) → P m → Q m o → R m o) → b ≡ a →
+    Told a P → Moves b c Q → Moves a c R
 told_then a b c P Q R both same told step =
     told_moves a c P Q R both told (rw (← same) step)
 

@@ -13,14 +13,20 @@ front_part {A} whole first rest count is =
     (is ∙ (ap (λ (l : List A). l ++ rest) (sym (take-append-drop count first)) ∙ append_assoc (take count first) (drop count first) rest))
 
 -- with a part of the next list it is a front of both and what follows
-pub front_more : (whole part next rest : List ℕ) (count : ℕ) → whole ≡ (part ++ next) ++ rest → part ++ take count next ≡ take (length (part ++ take count next)) whole
+pub front_more : (whole part next rest : List ℕ) (count : ℕ) → whole ≡ (part ++ next) ++ rest →
+    part ++ take count next ≡ take (length (part ++ take count next)) whole
 front_more whole part next rest count is =
-    let cut : part ++ next ≡ (part ++ take count next) ++ drop count next = ap (λ (l : List ℕ). part ++ l) (sym (take-append-drop count next)) ∙ sym (append_assoc part (take count next) (drop count next)) in
-    front_of whole (part ++ take count next) (drop count next ++ rest) (is ∙ (ap (λ (l : List ℕ). l ++ rest) cut ∙ append_assoc (part ++ take count next) (drop count next) rest))
+    let cut : part ++ next ≡ (part ++ take count next) ++ drop count next =
+    ap (λ (l : List ℕ). part ++ l) (sym (take-append-drop count next)) ∙ sym (append_assoc part (take count next) (drop count next)) in
+    front_of whole (part ++ take count next) (drop count next ++ rest)
+    (is ∙ (ap (λ (l : List ℕ). l ++ rest) cut ∙ append_assoc (part ++ take count next) (drop count next) rest))
 
 -- a list is a front of itself
 pub all_of : (list : List ℕ) → IsFrontOf list list
 all_of list = (length list, sym (take-length list))
+
+pub all_alone : (list : List ℕ) → IsFrontOf list (list ++ [])
+all_alone list = (length list, append-nil list ∙ sym (take-length list))
 
 -- so is a front of what stands in the middle, behind what stands before it
 pub front_in : (whole first next rest part : List ℕ) → whole ≡ (first ++ next) ++ rest → IsFrontOf next part → IsFrontOf whole (first ++ part)

@@ -1,7 +1,7 @@
 -- What command words come to where nobody is waited for.
 use Rattle.lwaftr_engine.proofs.Words.{◌≡◌, ◌⊎◌, ℕ, List, Option, Some, None, inl, inr, refl, sym, ◌∙◌, Contents, Moves, Told, Outside, RunJob, HistoryValue}
 use Rattle.lwaftr_engine.proofs.Words.{HasCause, HasOneCause, IsFault, KeepsDemo, IsAskedFor, KeepsRun, Leaves, IsLeft, World, world, Status}
-use Rattle.lwaftr_engine.proofs.UnopenedLemmas.{others_same}
+use Rattle.lwaftr_engine.proofs.Adding.{others_same}
 use Rattle.lwaftr_engine.specs.declared.at_once.AtOnce.TheVariants as at_once
 use Rattle.lwaftr_engine.specs.declared.status.Status.TheVariants as status
 
@@ -56,7 +56,8 @@ no_run run s w history short none =
       has_history = refl;
     }))
 
-pub no_show : (seed count : ℕ) (s : Status) (w : World) (history : Option HistoryValue) → s ≡ status.OutOfMemory → history ≡ None → KeepsDemo seed count s w w history
+pub no_show : (seed count : ℕ) (s : Status) (w : World) (history : Option HistoryValue) → s ≡ status.OutOfMemory → history ≡ None →
+    KeepsDemo seed count s w w history
 no_show seed count s w history short none =
     rw short (rw none (record {
       kept = refl;

@@ -1,5 +1,5 @@
 -- What a question about a table file leaves.
-use Rattle.lwaftr_engine.proofs.Words.{◌≡◌, inl, inr, ℕ, ◌≤◌, List, [], ◌∷◌, length, Option, Some, None, Result, Ok, Err, ap, arith, subst, sym, Contents}
+use Rattle.lwaftr_engine.proofs.Words.{◌≡◌, inl, inr, ℕ, ◌≤◌, List, [], ◌∷◌, length, Option, Some, None, Result, Ok, Err, ap, arith, subst, Contents}
 use Rattle.lwaftr_engine.proofs.Words.{content, Told, V4, V6, TableOf, FileRefused, bound, BindingTable, Binding, IsNoTable, IsOwnerText, Puts, Answers}
 use Rattle.lwaftr_engine.proofs.Words.{IsLineOf, IsOwnerLine, NamesOwner, RefusesAs, NoTable, Status, first_b4, IsCompiled}
 use Rattle.lwaftr_engine.proofs.Laws.{OneAnswer}
@@ -32,19 +32,20 @@ named (b ∷ []) owner line few is text = subst (λ o. IsOwnerText o line) is te
 named (b ∷ c ∷ bs) owner line few is text = absurd (omega (arith, few))
 
 -- what is put of a line that answers a question
-pub answered : (IsLine : List ℕ → Type 0) (line : List ℕ) (s : Status) (said now : Option (List ℕ)) → IsLine line → Puts s line said now → Answers IsLine s said now
+pub answered : (IsLine : List ℕ → Type 0) (line : List ℕ) (s : Status) (said now : Option (List ℕ)) → IsLine line → Puts s line said now →
+    Answers IsLine s said now
 answered IsLine line status.Done said now it p = (line, it, p)
 answered IsLine line status.WriteFault said now it p = (line, it, p.0, p.1, p.2)
 answered IsLine line status.OutOfMemory said now it p = inr (line, it, p.0, p.1, p.2)
 answered IsLine line _ said now it p = absurd p
 
--- what is put of the line of an owner under the words of the file's table
-pub owner_answers : (h : Option Contents) (name : List ℕ) (v4 : V4) (port : ℕ) (t : BindingTable) (words slice : List ℕ) (owner : Option V6) (line put : List ℕ) (s : Status) (said now : Option (List ℕ))
-    → Told h (λ m. TableOf (content m name) (Ok t)) → IsCompiled t words → slice ≡ words
-    → ((u : BindingTable) → IsCompiled u slice → owner ≡ first_b4 (bound u.bindings v4 (want.Port port)))
-    → IsOwnerText owner line → put ≡ line → Puts s put said now → Answers (λ text. IsLineOf (IsOwnerLine v4 port) h name text) s said now
-owner_answers h name v4 port t words slice owner line put s said now spelled compiled is found text same puts =
-    let owner_is = found t (subst (λ l. IsCompiled t l) (sym is) compiled) in
-    let asked : IsOwnerLine v4 port t line = named (bound t.bindings v4 (want.Port port)) owner line (compiled.lawful.at_most_one v4 (want.Port port)) owner_is text in
-    answered (λ l. IsLineOf (IsOwnerLine v4 port) h name l) line s said now
-    (record { table = t; valid = compiled.valid; spelled = spelled; asked = asked }) (subst (λ l. Puts s l said now) same puts)
+-- the line of an owner under the file's table
+pub owner_line : (h : Option Contents) (name : List ℕ) (v4 : V4) (port : ℕ) (t : BindingTable) (words : List ℕ) (owner : Option V6) (line : List ℕ)
+    → Told h (λ m. TableOf (content m name) (Ok t)) → IsCompiled t words → owner ≡ first_b4 (bound t.bindings v4 (want.Port port)) → IsOwnerText owner line
+    → IsLineOf (IsOwnerLine v4 port) h name line
+owner_line h name v4 port t words owner line spelled compiled is text = record {
+  table = t;
+  valid = compiled.valid;
+  spelled = spelled;
+  asked = named (bound t.bindings v4 (want.Port port)) owner line (compiled.lawful.at_most_one v4 (want.Port port)) is text;
+}

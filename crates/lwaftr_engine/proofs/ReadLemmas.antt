@@ -1,29 +1,55 @@
 -- Which reads failed: none, or one of the capture.
-use Rattle.lwaftr_engine.proofs.Words.{◌≡◌, ℕ, Bool, true, false, List, inl, inr, ◌∙◌, FailsAt, OnlyReads, Outside, Rises, CaptureError, FailsBehind, MayFailIn}
-use Rattle.lwaftr_engine.proofs.Words.{Status}
+use Rattle.lwaftr_engine.proofs.Words.{◌≡◌, ℕ, Bool, true, false, List, inl, inr, refl, ◌∙◌, FailsAt, Moves, OnlyReads, Outside, Rises, CaptureError}
+use Rattle.lwaftr_engine.proofs.Words.{FailsBehind, MayFailIn}
+use Rattle.lwaftr_engine.proofs.Words.{KeepsRest, OthersKept, ReadsOf, RunJob, Status}
+use Rattle.lwaftr_engine.proofs.Adding.{others_more, others_same}
 use Rattle.lwaftr_engine.proofs.UnopenedLemmas.{failed_as}
 use Rattle.lwaftr_engine.specs.declared.status.Status.TheVariants as status
 
-pub none_failed : (name : List ℕ) (a b : Outside) → b.lost ≡ a.lost → b.last ≡ a.last → MayFailIn name a b
-none_failed name a b lost last = inl (lost, last)
-
-pub failed_by : (failed : Bool) (name : List ℕ) (Inside : ℕ → Type 0) (a b : Outside) → Rises failed a.lost b.lost → FailsAt failed name Inside a.last b.last → MayFailIn name a b
+failed_by : (failed : Bool) (name : List ℕ) (Inside : ℕ → Type 0) (a b : Outside) → Rises failed a.lost b.lost →
+    FailsAt failed name Inside a.last b.last → MayFailIn name a b
 failed_by true name Inside a b rose at = inr (rose, (at.0, at.2))
 failed_by false name Inside a b same at = inl (same, at)
 
 -- behind a step in which no read failed, and before one
-pub fails_after : (name : List ℕ) (a b d : Outside) → b.lost ≡ a.lost → b.last ≡ a.last → MayFailIn name b d → MayFailIn name a d
+fails_after : (name : List ℕ) (a b d : Outside) → b.lost ≡ a.lost → b.last ≡ a.last → MayFailIn name b d → MayFailIn name a d
 fails_after name a b d lost last (inl same) = inl (same.0 ∙ lost, same.1 ∙ last)
 fails_after name a b d lost last (inr one) = inr (rw (← lost) one.0, one.1)
 
-pub fails_before : (name : List ℕ) (a b d : Outside) → d.lost ≡ b.lost → d.last ≡ b.last → MayFailIn name a b → MayFailIn name a d
+fails_before : (name : List ℕ) (a b d : Outside) → d.lost ≡ b.lost → d.last ≡ b.last → MayFailIn name a b → MayFailIn name a d
 fails_before name a b d lost last (inl same) = inl (lost ∙ same.0, last ∙ same.1)
 fails_before name a b d lost last (inr one) = inr (rw lost one.0, (one.1.0, last ∙ one.1.1))
 
--- the capture was not opened
-pub fails_unopened : (T : Type 0) (k name : List ℕ) → k ≡ name → (Inside : ℕ → Type 0) (a b : Outside) (error : CaptureError) → OnlyReads (failed_as T error) k Inside a b → MayFailIn name a b
-fails_unopened T k name named Inside a b error only =
-    rw (← named) (failed_by (failed_as T error) k Inside a b only.lost only.last)
+module _ (run : RunJob) where
+  -- nothing was done
+  pub rest_none : (a : Outside) → KeepsRest run a a
+  rest_none a = record { others = others_same run a.held a.held refl; capture_read = inl (refl, refl) }
+
+  -- behind steps in which no read failed, and before such ones
+  pub rest_after : (a b d : Outside) → Moves a.held b.held (OthersKept run) → b.lost ≡ a.lost → b.last ≡ a.last → KeepsRest run b d → KeepsRest run a d
+  rest_after a b d others lost last rest = record {
+    others = others_more run a.held b.held d.held others rest.others;
+    capture_read = fails_after run.input a b d lost last rest.capture_read;
+  }
+
+  pub rest_before : (a b d : Outside) → KeepsRest run a b → Moves b.held d.held (OthersKept run) → d.lost ≡ b.lost → d.last ≡ b.last → KeepsRest run a d
+  rest_before a b d rest others lost last = record {
+    others = others_more run a.held b.held d.held rest.others others;
+    capture_read = fails_before run.input a b d lost last rest.capture_read;
+  }
+
+  -- the records were read
+  pub rest_read : (failed : Bool) (a b : Outside) → Moves a.held b.held (OthersKept run) → ReadsOf failed run.input a b → KeepsRest run a b
+  rest_read failed a b others reads =
+      record { others = others; capture_read = failed_by failed run.input (λ _. Unit {0}) a b reads.lost reads.last }
+
+  -- the capture was not opened
+  pub rest_unopened : (T : Type 0) (k : List ℕ) → k ≡ run.input → (Inside : ℕ → Type 0) (a b : Outside) (error : CaptureError) →
+      OnlyReads (failed_as T error) k Inside a b → KeepsRest run a b
+  rest_unopened T k named Inside a b error only = record {
+    others = others_same run a.held b.held only.held;
+    capture_read = rw (← named) (failed_by (failed_as T error) k Inside a b only.lost only.last);
+  }
 
 pub fails_behind : (input : List ℕ) (s : Status) (a b : Outside) → MayFailIn input a b → FailsBehind input s a b
 fails_behind input status.WriteFault a b may = may

@@ -1,10 +1,10 @@
 -- The run over the generated capture is the demonstration's.
 use Rattle.lwaftr_engine.proofs.Words.{◌≡◌, ℕ, zero, suc, ◌+◌, ◌<◌, ◌≤◌, ◌%◌, ◌^◌, nat_le, cond, Bool, true, false, List, [], ◌∷◌, length, map, All, drop}
 use Rattle.lwaftr_engine.proofs.Words.{Option, Some, None, Result, Ok, ◌⊎◌, inl, inr, refl, sym, ◌∙◌, ap, subst, arith, le-leb, ◌&&◌, nat_lt, IsNone, IsSome}
-use Rattle.lwaftr_engine.proofs.Words.{count_by, range_with_len, All-cons, All-nil, length-map-range_with_len, sum_by-cons, Contents, content, RunJob}
+use Rattle.lwaftr_engine.proofs.Words.{count_by, range_with_len, All-cons, All-nil, length-map-range_with_len, sum_by-cons, Contents}
 use Rattle.lwaftr_engine.proofs.Words.{HistoryValue, IsCapture, IsRecordable, TimedPacket, capture_bytes, timed, written_form, CaptureBad, Form, Rec, bytes6}
 use Rattle.lwaftr_engine.proofs.Words.{Puts, HasDemoHistory, IsDemo, IsDemoLine, demo_tables, middle, middle_window, IsWhole, Header, IsInput, IsInputBy}
-use Rattle.lwaftr_engine.proofs.Words.{IsCourse, IsHistoryOf, IsShow, Show, Status, is_pcapng, Slot, AreAllPoints, Window, drawn, state_after, capture_of}
+use Rattle.lwaftr_engine.proofs.Words.{IsCourse, IsHistoryOf, IsShow, Show, Status, is_pcapng, AreAllPoints, Window, drawn, state_after, capture_of}
 use Rattle.lwaftr_engine.proofs.Words.{generated, packet4_of, packet_by, tunnel_head, way_of, Draw, Kind, Way, HasSummary, BindingTable, IsPlanOf}
 use Rattle.lwaftr_engine.proofs.Words.{some_slot_refused}
 use Rattle.lwaftr_engine.proofs.Laws.{OneReading}
@@ -42,7 +42,8 @@ can_record seed number few =
 can_record_all : (seed first count : ℕ) → first + count ≤ 1000000 → All IsRecordable (map (generated seed) (range_with_len first count))
 can_record_all seed first zero few = All-nil IsRecordable
 can_record_all seed first (suc count) few =
-    All-cons IsRecordable (generated seed first) (map (generated seed) (range_with_len (first + 1) count)) (can_record seed first (omega (arith, few))) (can_record_all seed (first + 1) count (omega (arith, few)))
+    All-cons IsRecordable (generated seed first) (map (generated seed) (range_with_len (first + 1) count)) (can_record seed first (omega (arith, few)))
+    (can_record_all seed (first + 1) count (omega (arith, few)))
 
 last_false : (b : Bool) → (b && false) ≡ false
 last_false true = refl
@@ -51,15 +52,13 @@ last_false false = refl
 is_classic : (packets : List TimedPacket) → is_pcapng (capture_bytes false packets) ≡ false
 is_classic packets = last_false (nat_lt 3 (length (capture_bytes false packets)))
 
-same_form : (x : Result Form CaptureBad) (f g : Form) → x ≡ Ok f → x ≡ Ok g → f ≡ g
-same_form x f g a b = cc (a, b)
-
 map_length : (rs : List Rec) → length (map timed rs) ≡ length rs
 map_length [] = refl
 map_length (r ∷ rs) = ap suc (map_length rs)
 
 -- the records of a classic capture are as many as the packets that were written
-counted : OneReading → (packets : List TimedPacket) (rs : List Rec) → IsCapture (capture_bytes false packets) (Ok (written_form false)) rs None → map timed rs ≡ packets →
+counted : OneReading → (packets : List TimedPacket) (rs : List Rec) → IsCapture (capture_bytes false packets) (Ok (written_form false)) rs None →
+    map timed rs ≡ packets →
     (header : Header) (others : List Rec) → IsInputBy false (capture_bytes false packets) header others None → length others ≡ length packets
 counted one packets rs capture are header others input =
     let bytes : List ℕ = capture_bytes false packets in
@@ -68,7 +67,8 @@ counted one packets rs capture are header others input =
     let same : rs ≡ others = (one false (drop 24 bytes) 24 0 rs others None None capture.1 (subst P form input.2.1)).0 in
     ap (λ (l : List Rec). length l) (sym same) ∙ (sym (map_length rs) ∙ ap (λ (l : List TimedPacket). length l) are)
 
-count_is : OneReading → WrittenIsRead → (seed count : ℕ) → count ≤ 1000000 → (header : Header) (rs : List Rec) → IsInput (capture_of seed count) header rs None → length rs ≡ count
+count_is : OneReading → WrittenIsRead → (seed count : ℕ) → count ≤ 1000000 → (header : Header) (rs : List Rec) →
+    IsInput (capture_of seed count) header rs None → length rs ≡ count
 count_is one written seed count few header rs input =
     let packets : List TimedPacket = map (generated seed) (range_with_len 0 count) in
     let size : length packets ≡ count = length-map-range_with_len (generated seed) 0 count in
@@ -93,36 +93,43 @@ at_middle count (p ∷ []) are =
 at_middle count (p ∷ q ∷ points) are = absurd (omega (arith, are.each, is_open count))
 
 -- what the run leaves at `Done` is the demonstration's summary and history
-shows : OneReading → WrittenIsRead → (seed count : ℕ) → count ≤ 1000000 → (run : RunJob) (slots : List Slot) (old new : Contents) (line : List ℕ) (history : Option HistoryValue) → run.errors ≡ None →
-    content old run.input ≡ capture_of seed count → IsWhole run demo_tables (middle_window count) slots old new (Some []) (Some line) history None → IsDemo seed count line history
-shows one written seed count few run slots old new line history no_limit holds whole =
-    let C : List ℕ → Type 0 = λ bytes. IsInput bytes whole.header whole.records None in
-    let input : IsInput (capture_of seed count) whole.header whole.records None = subst C holds whole.capture in
-    let many : length whole.records ≡ count = count_is one written seed count few whole.header whole.records input in
+shows : OneReading → WrittenIsRead → {seed count : ℕ} → count ≤ 1000000 → (show : Show) → IsShow seed count show → {new : Contents} {line : List ℕ}
+    {history : Option HistoryValue} →
+    IsWhole show.job demo_tables (middle_window count) show.made.slots show.files new (Some []) (Some line) history None → IsDemo seed count line history
+shows one written {seed} {count} few show is {history = history} whole =
+    let windows = middle_window count in
+    let form = whole.header.form in
     let r = whole.is_run in
+    let C : List ℕ → Type 0 = λ bytes. IsInput bytes whole.header whole.records None in
+    let input : IsInput (capture_of seed count) whole.header whole.records None = subst C is.holds whole.capture in
+    let many : length whole.records ≡ count = count_is one written seed count few whole.header whole.records input in
     let A : ℕ → Type 0 = λ n. AreAllPoints (middle_window count) r.points n in
     let points_are : r.points ≡ middle count ∷ [] = at_middle count r.points (subst A many r.is_course.placed) in
-    let E : Option ℕ → Type 0 = λ e. IsCourse demo_tables (middle_window count) e r.points whole.header.form whole.records r.course in
-    let P : List ℕ → Type 0 = λ ps. IsCourse demo_tables (middle_window count) None ps whole.header.form whole.records r.course in
-    let H : List ℕ → Type 0 = λ ps. IsHistoryOf demo_tables (middle_window count) ps whole.header.form whole.records history in
+    let E : Option ℕ → Type 0 = λ e. IsCourse demo_tables windows e r.points form whole.records r.course in
+    let P : List ℕ → Type 0 = λ ps. IsCourse demo_tables windows None ps form whole.records r.course in
+    let H : List ℕ → Type 0 = λ ps. IsHistoryOf demo_tables windows ps form whole.records history in
     record {
       header = whole.header;
       records = whole.records;
       capture = input;
       counted = many;
       course = r.course;
-      is_course = subst P points_are (subst E no_limit r.is_course);
+      is_course = subst P points_are (subst E is.job.no_limit r.is_course);
       line_is = cc r.outputs.summary;
       is_history = inr (subst H points_are r.is_history);
     }
 
 -- the same of a sink in memory that had nothing
-pub is_demo : OneReading → WrittenIsRead → (seed count : ℕ) → count ≤ 1000000 → (show : Show) → IsShow seed count show → (new : Contents) (before line : List ℕ) → before ≡ [] → (history : Option HistoryValue) →
+pub is_demo : OneReading × WrittenIsRead → (seed count : ℕ) → count ≤ 1000000 → (show : Show) → IsShow seed count show →
+    (new : Contents) (before line : List ℕ) →
+    before ≡ [] → (history : Option HistoryValue) →
     ((tables : ℕ → BindingTable) (windows : List Window) → IsPlanOf tables windows show.made.plan →
-    IsWhole show.job tables windows show.made.slots show.files new (Some before) (Some line) history None × (some_slot_refused show.made.slots ≡ false)) → IsDemo seed count line history
-is_demo one written seed count few show is new before line none history leaves =
-    let W : List ℕ → Type 0 = λ said. IsWhole show.job demo_tables (middle_window count) show.made.slots show.files new (Some said) (Some line) history None in
-    shows one written seed count few show.job show.made.slots show.files new line history is.job.no_limit is.holds (subst W none (leaves demo_tables (middle_window count) is.plan).0)
+    IsWhole show.job tables windows show.made.slots show.files new (Some before) (Some line) history None × (some_slot_refused show.made.slots ≡ false)) →
+    IsDemo seed count line history
+is_demo laws seed count few show is new before line none history leaves =
+    let W : List ℕ → Type 0 = λ said.
+    IsWhole show.job demo_tables (middle_window count) show.made.slots show.files new (Some said) (Some line) history None in
+    shows laws.0 laws.1 few show is (subst W none (leaves demo_tables (middle_window count) is.plan).0)
 
 -- the line says nothing of the history
 pub line_alone : (seed count : ℕ) (line : List ℕ) (history : Option HistoryValue) → IsDemo seed count line history → IsDemoLine seed count line
@@ -142,15 +149,18 @@ some_not_none (Some value) some none = absurd (cc none)
 some_not_none None some none = absurd (cc some)
 
 -- the history that is handed out with the line
-pub shown_history : (seed count : ℕ) (line : List ℕ) (said now : Option (List ℕ)) (history : Option HistoryValue) → IsDemo seed count line history → HasSummary said now history → HasDemoHistory seed count status.Done history
+pub shown_history : (seed count : ℕ) (line : List ℕ) (said now : Option (List ℕ)) (history : Option HistoryValue) → IsDemo seed count line history →
+    HasSummary said now history → HasDemoHistory seed count status.Done history
 shown_history seed count line said now history is summed = (line, is, some_not_none history (some_summed said now history summed))
 
 -- a line that cannot be put
-pub no_history : (seed count : ℕ) (s : Status) (line : List ℕ) (said now : Option (List ℕ)) (history : Option HistoryValue) → Puts s line said now → (s ≡ status.Done → ⊥) → history ≡ None → HasDemoHistory seed count s history
+pub no_history : (seed count : ℕ) (s : Status) (line : List ℕ) (said now : Option (List ℕ)) (history : Option HistoryValue) → Puts s line said now →
+    (s ≡ status.Done → ⊥) → history ≡ None → HasDemoHistory seed count s history
 no_history seed count status.Done line said now history put other none = absurd (other refl)
 no_history seed count _ line said now history put other none = none
 
-pub put_ends : (s : Status) (line : List ℕ) (said now : Option (List ℕ)) → Puts s line said now → (s ≡ status.Done) ⊎ ((s ≡ status.WriteFault) ⊎ (s ≡ status.OutOfMemory))
+pub put_ends : (s : Status) (line : List ℕ) (said now : Option (List ℕ)) → Puts s line said now →
+    (s ≡ status.Done) ⊎ ((s ≡ status.WriteFault) ⊎ (s ≡ status.OutOfMemory))
 put_ends status.Done line said now put = inl refl
 put_ends status.WriteFault line said now put = inr (inl refl)
 put_ends status.OutOfMemory line said now put = inr (inr refl)

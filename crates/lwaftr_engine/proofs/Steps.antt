@@ -16,11 +16,13 @@ suits_before plan draws news later c is suits =
     let P : ℕ × ℕ → Type 0 = λ d. c.version d.0 ≡ d.1 in
     record { tables = suits.tables; versions = all_before P draws news (rw (← is) suits.versions) }
 
-pub none_waits : (plan : Tables) (desk : View) (records : ℕ) → desk.plan ≡ plan → NoneIsLeft desk ⊎ WaitsFor desk records → (length plan.tables ≤ length desk.points + 1) ⊎ (records < (window plan (length desk.points + 1)).earliest)
+pub none_waits : (plan : Tables) (desk : View) (records : ℕ) → desk.plan ≡ plan → NoneIsLeft desk ⊎ WaitsFor desk records →
+    (length plan.tables ≤ length desk.points + 1) ⊎ (records < (window plan (length desk.points + 1)).earliest)
 none_waits plan desk records same (inl none) = inl (rw (← same) none)
 none_waits plan desk records same (inr waits) = inr (rw (← same) waits.1)
 
 -- what is due is in force behind a round
-pub none_is_due : (plan : Tables) (seat desk : View) → desk.plan ≡ plan → HasWholeShare seat → IsSettled seat desk → IsUpToDate plan (length seat.actor.draws) desk.points
+pub none_is_due : (plan : Tables) (seat desk : View) → desk.plan ≡ plan → HasWholeShare seat → IsSettled seat desk →
+    IsUpToDate plan (length seat.actor.draws) desk.points
 none_is_due plan seat desk same whole settled =
     inr (rw (settled.all_drawn whole) (none_waits plan desk seat.seen.records same settled.none_due))

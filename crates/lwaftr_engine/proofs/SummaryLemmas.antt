@@ -3,7 +3,8 @@ use Rattle.lwaftr_engine.proofs.Words.{◌≡◌, ℕ, List, ◌++◌, length, O
 use Rattle.lwaftr_engine.proofs.Words.{IsHistory, last_line, HasSummary, IsSummedUp, Progress, IsWithin, with_version}
 
 -- the areas that were closed, and the line of the whole run
-pub summed_up : (p : Progress) (points : List ℕ) (draws : List (ℕ × ℕ)) (h : HistoryValue) (said now : Option (List ℕ)) → IsHistory h → AreDrawn h draws → length draws ≡ p.number → IsWithin p.totals p.number → points ≡ h.points →
+pub summed_up : (p : Progress) (points : List ℕ) (draws : List (ℕ × ℕ)) (h : HistoryValue) (said now : Option (List ℕ)) → IsHistory h → AreDrawn h draws →
+    length draws ≡ p.number → IsWithin p.totals p.number → points ≡ h.points →
     now ≡ option_map (λ taken. taken ++ last_line p points) said → IsSummedUp said now h
 summed_up p points draws h said now closed drawn number within points_are took = record {
   closed = closed;

@@ -28,6 +28,7 @@ asked_run (command ∷ rest) run asks = run_job_of asks.0 run asks.2.1
 pub same_migration : {a b c d : List ℕ} → asked.Migrate a b ≡ asked.Migrate c d → (a ≡ c) × (b ≡ d)
 same_migration e = (cc e, cc e)
 
-pub demo_asked : (words : List (List ℕ)) (seed count workers : ℕ) → Asks words (asked.Demo seed count workers) → ((1 ≤ count) × (count ≤ 1000000)) × IsWorkers workers
+pub demo_asked : (words : List (List ℕ)) (seed count workers : ℕ) → Asks words (asked.Demo seed count workers) →
+    ((1 ≤ count) × (count ≤ 1000000)) × IsWorkers workers
 demo_asked [] seed count workers asks = absurd asks
 demo_asked (command ∷ rest) seed count workers asks = (asks.2.1.counted, asks.2.1.worked)

@@ -1,10 +1,9 @@
 -- A capture that cannot be opened.
 use Rattle.lwaftr_engine.proofs.Words.{◌≡◌, ℕ, ◌<◌, Bool, true, false, List, Option, Some, None, Result, Err, inl, inr, refl, sym, ap, subst, Contents, content}
 use Rattle.lwaftr_engine.proofs.Words.{Moves, Told, FailsAt, OnlyReads, Outside, RunJob, Agrees, is_read_fault, RefusesHeader, CaptureError, NoneOfFilesRose}
-use Rattle.lwaftr_engine.proofs.Words.{header_by, header_of, in_blocks, in_classic, IsEarly, LeavesMade, unopened_status, HasHistory, OthersKept, IsInHeader}
+use Rattle.lwaftr_engine.proofs.Words.{header_by, header_of, in_blocks, in_classic, IsEarly, LeavesMade, unopened_status, HasHistory, IsInHeader}
 use Rattle.lwaftr_engine.proofs.Words.{IsInHead, IsInHeadBy, OpensEither, RefusesBy, Reader, Slot, Tables, World}
 use Rattle.lwaftr_engine.proofs.JobLemmas.{early_blocks, early_classic}
-use Rattle.lwaftr_engine.proofs.Moving.{moves_none}
 use Rattle.capture_io.specs.Header as classic_header
 use Rattle.capture_io.specs.declared.forms.CaptureError.TheVariants as failure
 use Rattle.pcapng_io.specs.Captures as blocks
@@ -19,7 +18,8 @@ IsShort before after (failure.Bad refusal) = Unit {0}
 IsShort before after failure.ReadFault = Unit {0}
 IsShort before after failure.OutOfMemory = NoneOfFilesRose before after
 
-pub is_short : (T : Type 0) (name : List ℕ) (Inside : ℕ → Type 0) (before after : Outside) (error : CaptureError) → OnlyReads (failed_as T error) name Inside before after → IsShort before after error
+pub is_short : (T : Type 0) (name : List ℕ) (Inside : ℕ → Type 0) (before after : Outside) (error : CaptureError) →
+    OnlyReads (failed_as T error) name Inside before after → IsShort before after error
 is_short T name Inside before after (failure.Bad refusal) only = tt
 is_short T name Inside before after failure.ReadFault only = tt
 is_short T name Inside before after failure.OutOfMemory only = record { lost = only.lost; spoiled = only.spoiled; faults = only.faults; last = only.last }
@@ -30,14 +30,16 @@ IsUnopened run m last (failure.Bad refusal) = header_of (content m run.input) �
 IsUnopened run m last failure.ReadFault = IsEarly run.input (content m run.input) last
 IsUnopened run m last failure.OutOfMemory = Unit {0}
 
-classic_by : (T : Type 0) (run : RunJob) (m : Contents) (error : CaptureError) (old last : Option (List ℕ × ℕ)) → false ≡ blocks.is_pcapng (content m run.input) → Agrees (Err error) (classic_header.header_in (content m run.input)) →
+classic_by : (T : Type 0) (run : RunJob) (m : Contents) (error : CaptureError) (old last : Option (List ℕ × ℕ)) →
+    false ≡ blocks.is_pcapng (content m run.input) → Agrees (Err error) (classic_header.header_in (content m run.input)) →
     FailsAt (failed_as T error) run.input (λ place. place < 24) old last → IsUnopened run m last error
 classic_by T run m (failure.Bad refusal) old last kind agrees failed =
     let H : Bool → Type 0 = λ b. header_by b (content m run.input) ≡ Err refusal in subst H kind (ap in_classic agrees)
 classic_by T run m failure.ReadFault old last kind agrees failed = early_classic run.input (content m run.input) old last kind failed
 classic_by T run m failure.OutOfMemory old last kind agrees failed = tt
 
-blocks_by : (T : Type 0) (run : RunJob) (m : Contents) (error : CaptureError) (old last : Option (List ℕ × ℕ)) → true ≡ blocks.is_pcapng (content m run.input) → Agrees (Err error) (blocks.header_in (content m run.input)) →
+blocks_by : (T : Type 0) (run : RunJob) (m : Contents) (error : CaptureError) (old last : Option (List ℕ × ℕ)) → true ≡ blocks.is_pcapng (content m run.input) →
+    Agrees (Err error) (blocks.header_in (content m run.input)) →
     FailsAt (failed_as T error) run.input (IsInHeader (Some m) run.input) old last → IsUnopened run m last error
 blocks_by T run m (failure.Bad refusal) old last kind agrees failed =
     let H : Bool → Type 0 = λ b. header_by b (content m run.input) ≡ Err refusal in subst H kind (ap in_blocks agrees)
@@ -46,42 +48,48 @@ blocks_by T run m failure.OutOfMemory old last kind agrees failed = tt
 
 -- which format it is, is told by the bytes
 by_format : (run : RunJob) (m : Contents) (error : CaptureError) (old last : Option (List ℕ × ℕ)) (is : Bool) → is ≡ blocks.is_pcapng (content m run.input)
-    → RefusesBy error is (content m run.input) → FailsAt (failed_as Reader error) run.input (IsInHeadBy is (content m run.input)) old last → IsUnopened run m last error
+    → RefusesBy error is (content m run.input) → FailsAt (failed_as Reader error) run.input (IsInHeadBy is (content m run.input)) old last → IsUnopened run m
+    last error
 by_format run m error old last true kind refuses failed = blocks_by Reader run m error old last kind refuses failed
 by_format run m error old last false kind refuses failed = classic_by Reader run m error old last kind refuses failed
 
-by_name : (run : RunJob) (h : Option Contents) (error : CaptureError) (old last : Option (List ℕ × ℕ)) → Told h (λ m. OpensEither (Err error) (content m run.input))
+by_name : (run : RunJob) (h : Option Contents) (error : CaptureError) (old last : Option (List ℕ × ℕ)) →
+    Told h (λ m. OpensEither (Err error) (content m run.input))
     → FailsAt (failed_as Reader error) run.input (IsInHead h run.input) old last → Told h (λ m. IsUnopened run m last error)
 by_name run None error old last opened failed = tt
 by_name run (Some m) error old last opened failed = by_format run m error old last (blocks.is_pcapng (content m run.input)) refl opened failed
 
 pub either_unopened : (run : RunJob) (h : Option Contents) (k : List ℕ) → k ≡ run.input → (error : CaptureError) (old last : Option (List ℕ × ℕ))
-    → Told h (λ m. OpensEither (Err error) (content m k)) → FailsAt (failed_as Reader error) k (IsInHead h k) old last → Told h (λ m. IsUnopened run m last error)
+    → Told h (λ m. OpensEither (Err error) (content m k)) → FailsAt (failed_as Reader error) k (IsInHead h k) old last → Told h
+    (λ m. IsUnopened run m last error)
 either_unopened run h k named error old last =
-    let P : List ℕ → Type 0 = λ q. Told h (λ m. OpensEither (Err error) (content m q)) → FailsAt (failed_as Reader error) q (IsInHead h q) old last → Told h (λ m. IsUnopened run m last error) in
+    let P : List ℕ → Type 0 =
+    λ q. Told h (λ m. OpensEither (Err error) (content m q)) → FailsAt (failed_as Reader error) q (IsInHead h q) old last → Told h
+    (λ m. IsUnopened run m last error) in
     subst P (sym named) (by_name run h error old last)
 
-by_error : (run : RunJob) (plan : Tables) (slots : List Slot) (error : CaptureError) (m : Contents) (before now : World) → now.said ≡ before.said → IsShort before.files now.files error →
+by_error : (run : RunJob) (plan : Tables) (slots : List Slot) (error : CaptureError) (m : Contents) (before now : World) → now.said ≡ before.said →
+    IsShort before.files now.files error →
     IsUnopened run m now.files.last error → LeavesMade run plan slots (unopened_status error) before now None m m
 by_error run plan slots (failure.Bad refusal) m before now same short why = λ tables windows of. inr (why, record { files = refl; sink = same; none = refl })
 by_error run plan slots failure.ReadFault m before now same short why = λ tables windows of. inr (why, record { files = refl; sink = same; none = refl })
 by_error run plan slots failure.OutOfMemory m before now same short why = λ tables windows of. inl (record { files = refl; sink = same; none = refl }, short)
 
-pub unopened_leaves : (run : RunJob) (plan : Tables) (slots : List Slot) (error : CaptureError) (before now : World) → now.files.held ≡ before.files.held → now.said ≡ before.said →
+pub unopened_leaves : (run : RunJob) (plan : Tables) (slots : List Slot) (error : CaptureError) (before now : World) → now.files.held ≡ before.files.held →
+    now.said ≡ before.said →
     IsShort before.files now.files error → Told before.files.held (λ m. IsUnopened run m now.files.last error) →
     Moves before.files.held now.files.held (LeavesMade run plan slots (unopened_status error) before now None)
 unopened_leaves run plan slots error before now held same short why =
     let H : Option Contents → Type 0 = λ h. Moves before.files.held h (LeavesMade run plan slots (unopened_status error) before now None) in
     subst H (sym held) (by_held before.files.held why) where
-      by_held : (h : Option Contents) → Told h (λ m. IsUnopened run m now.files.last error) → Moves h h (LeavesMade run plan slots (unopened_status error) before now None)
+      by_held : (h : Option Contents) → Told h (λ m. IsUnopened run m now.files.last error) →
+          Moves h h (LeavesMade run plan slots (unopened_status error) before now None)
       by_held None why = tt
       by_held (Some m) why = by_error run plan slots error m before now same short why
 
 -- where the capture is not opened there is no history
-pub history_by_error : (input : List ℕ) (error : CaptureError) (last : Option (List ℕ × ℕ)) (said : Option (List ℕ)) → RefusesHeader error → HasHistory input (unopened_status error) last said said None
+pub history_by_error : (input : List ℕ) (error : CaptureError) (last : Option (List ℕ × ℕ)) (said : Option (List ℕ)) → RefusesHeader error →
+    HasHistory input (unopened_status error) last said said None
 history_by_error input (failure.Bad refusal) last said refuses = (refuses, refl)
 history_by_error input failure.ReadFault last said refuses = refl
 history_by_error input failure.OutOfMemory last said refuses = refl
-
-pub others_same : (run : RunJob) (h0 h1 : Option Contents) → h1 ≡ h0 → Moves h0 h1 (OthersKept run)
-others_same run h0 h1 same = moves_none h0 h1 _ (λ m name u v w. refl) same

@@ -4,7 +4,8 @@ use Rattle.lwaftr_engine.proofs.Words.{append_assoc, length-append, length-take-
 use Rattle.lwaftr_engine.proofs.Moving.{moves_join}
 use Rattle.lwaftr_engine.proofs.Parts.{front_more}
 
-split_at : (f : Part → List ℕ) (parts : List Part) (i : ℕ) (part : Part) → slice_get parts i ≡ Some part → flat_map f parts ≡ (flat_map f (take i parts) ++ f part) ++ flat_map f (drop (i + 1) parts)
+split_at : (f : Part → List ℕ) (parts : List Part) (i : ℕ) (part : Part) → slice_get parts i ≡ Some part →
+    flat_map f parts ≡ (flat_map f (take i parts) ++ f part) ++ flat_map f (drop (i + 1) parts)
 split_at f [] i part e = absurd (cc e)
 split_at f (p ∷ ps) zero part e =
     let same : p ≡ part = cc e in ap (λ (q : Part). f q ++ flat_map f ps) same
@@ -16,21 +17,30 @@ split_at f (p ∷ ps) (suc i) part e =
     ∙ ap (λ (n : ℕ). ((f p ++ flat_map f (take i ps)) ++ f part) ++ flat_map f (drop n (p ∷ ps))) (sym place)))
 
 -- all bytes of the first parts, and then a part of those of the next one
-pub cut_parts : (f : Part → List ℕ) (name : List ℕ) (parts : List Part) (i : ℕ) (part : Part) (bytes : List ℕ) (h0 h1 h2 : Option Contents) → slice_get parts i ≡ Some part → bytes ≡ f part →
+pub cut_parts : (f : Part → List ℕ) (name : List ℕ) (parts : List Part) (i : ℕ) (part : Part) (h0 h1 h2 : Option Contents) → slice_get parts i ≡ Some part →
     Moves h0 h1 (λ m n. Writes m n name (content m name ++ flat_map f (take i parts))) →
-    Moves h1 h2 (λ m n. (count : ℕ) × (count ≤ length bytes) × Writes m n name (content m name ++ take count bytes)) →
+    Moves h1 h2 (λ m n. (count : ℕ) × (count ≤ length (f part)) × Writes m n name (content m name ++ take count (f part))) →
     Moves h0 h2 (λ m n. (count : ℕ) × (count ≤ length (flat_map f parts)) × Writes m n name (content m name ++ take count (flat_map f parts)))
-cut_parts f name parts i part bytes h0 h1 h2 at is first second =
+cut_parts f name parts i part h0 h1 h2 at first second =
     moves_join h0 h1 h2 _ _ _
     (λ m n o u w.
     let X = flat_map f (take i parts) in
-    let whole : flat_map f parts ≡ (flat_map f (take i parts) ++ bytes) ++ flat_map f (drop (i + 1) parts) =
-    split_at f parts i part at ∙ ap (λ (l : List ℕ). (flat_map f (take i parts) ++ l) ++ flat_map f (drop (i + 1) parts)) (sym is) in
-    let front : X ++ take w.0 bytes ≡ take (length (X ++ take w.0 bytes)) (flat_map f parts) = front_more (flat_map f parts) X bytes (flat_map f (drop (i + 1) parts)) w.0 whole in (
-      length (X ++ take w.0 bytes),
-      omega (arith, ap (λ (l : List ℕ). length l) whole, length-append (X ++ bytes) (flat_map f (drop (i + 1) parts)), length-append X bytes, length-append X (take w.0 bytes), length-take-le w.0 bytes),
+    let Y = flat_map f (drop (i + 1) parts) in
+    let whole : flat_map f parts ≡ (flat_map f (take i parts) ++ f part) ++ flat_map f (drop (i + 1) parts) = split_at f parts i part at in
+    let front : X ++ take w.0 (f part) ≡ take (length (X ++ take w.0 (f part))) (flat_map f parts) =
+    front_more (flat_map f parts) X (f part) Y w.0 whole in (
+      length (X ++ take w.0 (f part)),
+      omega (
+        arith,
+        ap (λ (l : List ℕ). length l) whole,
+        length-append (X ++ f part) Y,
+        length-append X (f part),
+        length-append X (take w.0 (f part)),
+        length-take-le w.0 (f part),
+      ),
       record {
-        here = w.2.here ∙ (ap (λ (l : List ℕ). l ++ take w.0 bytes) u.here ∙ (append_assoc (content m name) X (take w.0 bytes) ∙ ap (λ (l : List ℕ). content m name ++ l) front));
+        here = w.2.here ∙ (ap (λ (l : List ℕ). l ++ take w.0 (f part)) u.here
+            ∙ (append_assoc (content m name) X (take w.0 (f part)) ∙ ap (λ (l : List ℕ). content m name ++ l) front));
         others = λ other e. w.2.others other e ∙ u.others other e;
       },
     ))

@@ -1,7 +1,8 @@
 -- Steps of writing: how they join, and what the files hold by them.
 use Rattle.lwaftr_engine.proofs.Words.{◌≡◌, ℕ, zero, suc, ◌+◌, ◌≤◌, nat_lt, Bool, true, false, if◌then◌else◌, List, [], ◌∷◌, ◌++◌, length, take, Option, refl}
 use Rattle.lwaftr_engine.proofs.Words.{sym, ◌∙◌, ap, append-nil, append_assoc, take-append-add, take-length, Contents, content, Moves, Writes, initial_text}
-use Rattle.lwaftr_engine.proofs.Words.{RunJob, file_head, Written, HoldsFront, Wrote, OthersKept, Did, DidFront, File, Step, add, adds, holds, make, name_of}
+use Rattle.lwaftr_engine.proofs.Words.{RunJob, file_head, Written, HoldsFront, Wrote, OthersKept, Did, DidFront, File, Step, add, adds, holds, make}
+use Rattle.lwaftr_engine.proofs.Words.{making_steps, name_of}
 use Rattle.lwaftr_engine.proofs.Words.{opening_steps, out_file, round_steps, same_file, verdicts_file, versions_file, BreaksLast, DidBoth, Fault, IfErr, IfOk}
 use Rattle.lwaftr_engine.proofs.Words.{OnOk, Result, inl, inr, Err, Ok, arith, cases_lt, take_all, ◌-◌}
 use Rattle.lwaftr_engine.proofs.Apart.{AreFilesApart}
@@ -44,7 +45,8 @@ holds_two a b file first second held =
     ∙ (ap (λ (l : List ℕ). holds file (adds b second) l) (holds_adds a file first held) ∙ holds_adds b file second (behind a file first held))
 
 holds_round : (file : File) (versions packets lines held : List ℕ) →
-    holds file (round_steps versions packets lines) held ≡ behind verdicts_file file lines (behind out_file file packets (behind versions_file file versions held))
+    holds file (round_steps versions packets lines) held ≡ behind verdicts_file file lines
+    (behind out_file file packets (behind versions_file file versions held))
 holds_round file versions packets lines held =
     holds_more file (adds versions_file versions) (adds out_file packets ++ adds verdicts_file lines) held
     ∙ (ap (λ (l : List ℕ). holds file (adds out_file packets ++ adds verdicts_file lines) l) (holds_adds versions_file file versions held)
@@ -77,7 +79,8 @@ module _ (run : RunJob) where
   pub joined : (a b : List Step) (h0 h1 h2 : Option Contents) → Moves h0 h1 (Did run a) → Moves h1 h2 (Did run b) → Moves h0 h2 (Did run (a ++ b))
   joined a b h0 h1 h2 first second = moves_join h0 h1 h2 _ _ _ (λ m n o u w. did_join run a b m n o u w) first second
 
-  pub joined_front : (a b : List Step) (h0 h1 h2 : Option Contents) → Moves h0 h1 (Did run a) → Moves h1 h2 (DidFront run b) → Moves h0 h2 (DidFront run (a ++ b))
+  pub joined_front : (a b : List Step) (h0 h1 h2 : Option Contents) → Moves h0 h1 (Did run a) → Moves h1 h2 (DidFront run b) →
+      Moves h0 h2 (DidFront run (a ++ b))
   joined_front a b h0 h1 h2 first second =
       moves_join h0 h1 h2 _ _ _ (λ m n o u w. front_behind run a b m n o u w) first second
 
@@ -131,39 +134,24 @@ module _ (run : RunJob) (far : AreFilesApart run) where
   kept m n verdicts_file bytes w = λ name u v z. w.others name v
   kept m n versions_file bytes w = λ name u v z. w.others name z
 
-  pub made : (file : File) (k : List ℕ) → k ≡ name_of run file → (a b : Option Contents) → Moves a b (λ m n. Writes m n k []) → Moves a b (Did run (make file ∷ []))
-  made file k is a b step =
-      moves_by a b _ _
-      (λ m n w.
-      record { files = each m n file (λ held. []) (rw (← is) w); others = kept m n file [] (rw (← is) w) }) step
+  pub made : (file : File) (a b : Option Contents) → Moves a b (λ m n. Writes m n (name_of run file) []) → Moves a b (Did run (make file ∷ []))
+  made file a b step =
+      moves_by a b _ _ (λ m n w. record { files = each m n file (λ held. []) w; others = kept m n file [] w }) step
 
-  -- all three are made, one after another
-  pub all_made : (k0 k1 k2 : List ℕ) → k0 ≡ run.output → k1 ≡ run.verdicts → k2 ≡ run.versions → (a b d e : Option Contents) → Moves a b (λ m n. Writes m n k0 []) → Moves b d (λ m n. Writes m n k1 []) →
-      Moves d e (λ m n. Writes m n k2 []) → Moves a e (Did run (make out_file ∷ make verdicts_file ∷ make versions_file ∷ []))
-  all_made k0 k1 k2 is0 is1 is2 a b d e first second third =
-      joined run (make out_file ∷ []) (make verdicts_file ∷ make versions_file ∷ []) a b e (made out_file k0 is0 a b first)
-      (joined run (make verdicts_file ∷ []) (make versions_file ∷ []) b d e (made verdicts_file k1 is1 b d second) (made versions_file k2 is2 d e third))
+  put : (m n : Contents) (file : File) (due : List ℕ) → Writes m n (name_of run file) (content m (name_of run file) ++ due) → Did run (adds file due) m n
+  put m n file due w = record {
+    files = λ other. each m n file (λ held. held ++ due) w other ∙ sym (holds_adds file other due (content m (name_of run other)));
+    others = kept m n file (content m (name_of run file) ++ due) w;
+  }
 
-  put : (m n : Contents) (file : File) (k bytes due : List ℕ) → k ≡ name_of run file → bytes ≡ due → Writes m n k (content m k ++ bytes) → Did run (adds file due) m n
-  put m n file k bytes due is due_is w =
-      let here : Writes m n (name_of run file) (content m (name_of run file) ++ due) = rw (← due_is) (rw (← is) w) in
-      record {
-        files = λ other. each m n file (λ held. held ++ due) here other ∙ sym (holds_adds file other due (content m (name_of run other)));
-        others = kept m n file (content m (name_of run file) ++ due) here;
-      }
+  pub added : (file : File) (due : List ℕ) (a b : Option Contents) →
+      Moves a b (λ m n. Writes m n (name_of run file) (content m (name_of run file) ++ due)) → Moves a b (Did run (adds file due))
+  added file due a b step = moves_by a b _ _ (λ m n w. put m n file due w) step
 
-  pub added : (file : File) (k bytes due : List ℕ) → k ≡ name_of run file → bytes ≡ due → (a b : Option Contents) →
-      Moves a b (λ m n. Writes m n k (content m k ++ bytes)) → Moves a b (Did run (adds file due))
-  added file k bytes due is due_is a b step =
-      moves_by a b _ _ (λ m n w. put m n file k bytes due is due_is w) step
-
-  pub cut : (file : File) (k bytes due : List ℕ) → k ≡ name_of run file → bytes ≡ due → (a b : Option Contents) →
-      Moves a b (λ m n. (count : ℕ) × (count ≤ length bytes) × Writes m n k (content m k ++ take count bytes)) → Moves a b (DidFront run (adds file due))
-  cut file k bytes due is due_is a b step =
-      moves_by a b _ _
-      (λ m n w.
-      let same : take w.0 bytes ≡ take w.0 due = ap (λ (l : List ℕ). take w.0 l) due_is in
-      (w.0, rw (take_adds w.0 file due) (put m n file k (take w.0 bytes) (take w.0 due) is same w.2))) step
+  pub cut : (file : File) (due : List ℕ) (a b : Option Contents) →
+      Moves a b (λ m n. (count : ℕ) × (count ≤ length due) × Writes m n (name_of run file) (content m (name_of run file) ++ take count due)) →
+      Moves a b (DidFront run (adds file due))
+  cut file due a b step = moves_by a b _ _ (λ m n w. (w.0, rw (take_adds w.0 file due) (put m n file (take w.0 due) w.2))) step
 
 -- the outputs are made, with this header and this line
 pub record IsOpenedWith (run : RunJob) (head line : List ℕ) (old new : Contents) : Type 0 where
@@ -175,7 +163,8 @@ pub record IsOpenedWith (run : RunJob) (head line : List ℕ) (old new : Content
 abbrev pub IsOpened : RunJob → Written → Contents → Contents → Type 0
 IsOpened run w old new = IsOpenedWith run (file_head w) (initial_text run.table) old new
 
-opened_with : (run : RunJob) (head line : List ℕ) (m n : Contents) → Did run (make out_file ∷ make verdicts_file ∷ make versions_file ∷ (adds out_file head ++ adds versions_file line)) m n → IsOpenedWith run head line m n
+opened_with : (run : RunJob) (head line : List ℕ) (m n : Contents) → Did run (making_steps ++ (adds out_file head ++ adds versions_file line)) m n →
+    IsOpenedWith run head line m n
 opened_with run head line m n did = record {
   output = did.files out_file ∙ holds_two out_file versions_file out_file head line [];
   verdicts = did.files verdicts_file ∙ holds_two out_file versions_file verdicts_file head line [];
@@ -187,7 +176,8 @@ pub opened : (run : RunJob) (w : Written) (m n : Contents) → Did run (opening_
 opened run w m n did = opened_with run (file_head w) (initial_text run.table) m n did
 
 -- a front of bytes for one file and of more steps
-take_both : (count : ℕ) (file : File) (bytes : List ℕ) (rest : List Step) → take count (adds file bytes ++ rest) ≡ adds file (take count bytes) ++ take (count - length bytes) rest
+take_both : (count : ℕ) (file : File) (bytes : List ℕ) (rest : List Step) →
+    take count (adds file bytes ++ rest) ≡ adds file (take count bytes) ++ take (count - length bytes) rest
 take_both zero file bytes rest = let none : 0 ≡ 0 - length bytes = omega arith in ap (λ (n : ℕ). take n rest) none
 take_both (suc count) file [] rest = let same : suc count ≡ suc count - 0 = omega arith in ap (λ (n : ℕ). take n rest) same
 take_both (suc count) file (byte ∷ bytes) rest =
@@ -203,18 +193,39 @@ pub record IsOpening (run : RunJob) (w : Written) (old new : Contents) : Type 0 
   pub others : OthersKept run old new
 
 pub opening_front : (run : RunJob) (w : Written) (m n : Contents) → DidFront run (opening_steps run w) m n → IsOpening run w m n
-opening_front run w m n (zero, did) = record { made = 0; output = did.files out_file; verdicts = did.files verdicts_file; versions = did.files versions_file; others = did.others }
-opening_front run w m n (suc zero, did) = record { made = 1; output = (0, did.files out_file); verdicts = did.files verdicts_file; versions = did.files versions_file; others = did.others }
-opening_front run w m n (suc (suc zero), did) = record { made = 2; output = (0, did.files out_file); verdicts = (0, did.files verdicts_file); versions = did.files versions_file; others = did.others }
+opening_front run w m n (zero, did) = record {
+  made = 0;
+  output = did.files out_file;
+  verdicts = did.files verdicts_file;
+  versions = did.files versions_file;
+  others = did.others;
+}
+opening_front run w m n (suc zero, did) = record {
+  made = 1;
+  output = (0, did.files out_file);
+  verdicts = did.files verdicts_file;
+  versions = did.files versions_file;
+  others = did.others;
+}
+opening_front run w m n (suc (suc zero), did) = record {
+  made = 2;
+  output = (0, did.files out_file);
+  verdicts = (0, did.files verdicts_file);
+  versions = did.files versions_file;
+  others = did.others;
+}
 opening_front run w m n (suc (suc (suc count)), did) =
+    let head = file_head w in
     let line = initial_text run.table in
-    let shown = take_both count out_file (file_head w) (adds versions_file line)
-    ∙ ap (λ (l : List Step). adds out_file (take count (file_head w)) ++ l) (take_adds (count - length (file_head w)) versions_file line) in
-    let it = opened_with run (take count (file_head w)) (take (count - length (file_head w)) line) m n (rw (← shown) did) in
-    record { made = 3; output = (count, it.output); verdicts = (0, it.verdicts); versions = (count - length (file_head w), it.versions); others = it.others }
+    let left = count - length head in
+    let shown = take_both count out_file head (adds versions_file line)
+    ∙ ap (λ (l : List Step). adds out_file (take count head) ++ l) (take_adds left versions_file line) in
+    let it = opened_with run (take count head) (take left line) m n (rw (← shown) did) in
+    record { made = 3; output = (count, it.output); verdicts = (0, it.verdicts); versions = (left, it.versions); others = it.others }
 
 -- a round is written
-pub wrote : (run : RunJob) (versions packets lines : List ℕ) (m n : Contents) → Did run (round_steps versions packets lines) m n → Wrote run versions packets lines m n
+pub wrote : (run : RunJob) (versions packets lines : List ℕ) (m n : Contents) → Did run (round_steps versions packets lines) m n →
+    Wrote run versions packets lines m n
 wrote run versions packets lines m n did = record {
   versions_is = did.files versions_file ∙ holds_round versions_file versions packets lines (content m run.versions);
   output = did.files out_file ∙ holds_round out_file versions packets lines (content m run.output);
@@ -227,18 +238,20 @@ pub data WroteFront (run : RunJob) (versions packets lines : List ℕ) (old new 
   in_tables : (count : ℕ) → Wrote run (take count versions) [] [] old new → WroteFront run versions packets lines old new
   in_others : (p l : ℕ) → Wrote run versions (take p packets) (take l lines) old new → WroteFront run versions packets lines old new
 
-pub wrote_front : (run : RunJob) (versions packets lines : List ℕ) (m n : Contents) → DidFront run (round_steps versions packets lines) m n → WroteFront run versions packets lines m n
+pub wrote_front : (run : RunJob) (versions packets lines : List ℕ) (m n : Contents) → DidFront run (round_steps versions packets lines) m n →
+    WroteFront run versions packets lines m n
 wrote_front run versions packets lines m n (count, did) =
     let k = count - length versions in
-    let shown : take count (round_steps versions packets lines) ≡ round_steps (take count versions) (take k packets) (take (k - length packets) lines) =
+    let l = k - length packets in
+    let shown : take count (round_steps versions packets lines) ≡ round_steps (take count versions) (take k packets) (take l lines) =
     take_both count versions_file versions (adds out_file packets ++ adds verdicts_file lines)
-    ∙ ap (λ (l : List Step). adds versions_file (take count versions) ++ l) (take_both k out_file packets (adds verdicts_file lines)
-    ∙ ap (λ (l : List Step). adds out_file (take k packets) ++ l) (take_adds (k - length packets) verdicts_file lines)) in
-    let w = wrote run (take count versions) (take k packets) (take (k - length packets) lines) m n (rw (← shown) did) in
+    ∙ ap (λ (s : List Step). adds versions_file (take count versions) ++ s) (take_both k out_file packets (adds verdicts_file lines)
+    ∙ ap (λ (s : List Step). adds out_file (take k packets) ++ s) (take_adds l verdicts_file lines)) in
+    let w = wrote run (take count versions) (take k packets) (take l lines) m n (rw (← shown) did) in
     elim (cases_lt count (length versions)) [
       | inl less ↦
           let none : count - length versions ≡ 0 = omega arith in
           let nor : count - length versions - length packets ≡ 0 = omega arith in
-          in_tables count (wrote_same refl (ap (λ (x : ℕ). take x packets) none) (ap (λ (x : ℕ). take x lines) nor) w)
-      | inr more ↦ in_others k (k - length packets) (wrote_same (take_all count versions more) refl refl w)
+          in_tables count (wrote_same (refl, ap (λ (x : ℕ). take x packets) none, ap (λ (x : ℕ). take x lines) nor) w)
+      | inr more ↦ in_others k l (wrote_same (take_all count versions more, refl, refl) w)
     ]

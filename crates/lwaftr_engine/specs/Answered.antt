@@ -1,12 +1,9 @@
 -- What reading a table file says of the file, and whether it failed.
-use Rattle.std.specs.Prelude.{◌≡◌, ℕ, ◌≤◌, Bool, true, false, List, ◌++◌, codes, length, take, Option, Some, None, Result, Ok, Err}
+use Rattle.std.specs.Prelude.{Bool, Err, List, None, Ok, Option, Result, Some, codes, false, length, take, true, ℕ, ◌++◌, ◌≡◌, ◌≤◌}
 use Rattle.std.specs.Option.{option_map}
-use Rattle.aftr_base.specs.declared.numbers.V6.{V6}
-use Rattle.binding_file.specs.Files.{TableOf}
+use Rattle.lwaftr_engine.specs.Words.{NoTable, Status, TableOf, V6}
 use Rattle.lwaftr_engine.specs.Questions.{IsAddressLine}
-use Rattle.lwaftr_engine.specs.declared.status.Status.{Status}
 use Rattle.lwaftr_engine.specs.declared.status.Status.TheVariants as status
-use Rattle.lwaftr_engine.specs.declared.table_file.NoTable.{NoTable}
 use Rattle.lwaftr_engine.specs.declared.table_file.NoTable.TheVariants as none
 
 -- the bytes are refused with this cause, if that is why there is no table

@@ -1,20 +1,14 @@
 -- What the outputs hold where rounds were ended by a fault.
-use Rattle.std.specs.Prelude.{◌≡◌, ◌⊎◌, ℕ, ◌<◌, ◌≤◌, List, ◌++◌, drop, length, take, Option}
-use Rattle.aftr_base.specs.Contents.{Contents, content}
-use Rattle.aftr_base.specs.Outside.{Rose}
-use Rattle.capture_io.specs.declared.forms.CaptureBad.{CaptureBad}
-use Rattle.capture_io.specs.declared.forms.Rec.{Rec}
-use Rattle.item_stage.specs.Items.{entries_of}
+use Rattle.std.specs.Prelude.{List, Option, drop, length, take, ℕ, ◌++◌, ◌<◌, ◌≡◌, ◌≤◌, ◌⊎◌}
+use Rattle.lwaftr_engine.specs.Words.{CaptureBad, Contents, Course, NoneIsDue, Outside, Rec, Rose, content, entries_of, lines_from, load_lines, packets_from}
 use Rattle.lwaftr_engine.specs.Endings.{AreBefore}
 use Rattle.lwaftr_engine.specs.Fronts.{IsFrontOf}
 use Rattle.lwaftr_engine.specs.Progress.{IsLimitedRun, IsUpToDate, Setup, Spot, State, Suits, Wrote, loads_of}
-use Rattle.run_output.specs.Outputs.{Course, lines_from, packets_from}
-use Rattle.run_output.specs.Versions.{NoneIsDue, load_lines}
 
 -- these are all records where no read of this file failed, and those before the read that failed where one did
-abbrev pub Takes : List ℕ → Spot → List ℕ → List Rec → ℕ → ℕ → Option (List ℕ × ℕ) → Type 0
-Takes name reader bytes rs lost lost_now last = ((lost_now ≡ lost) × ((ended : Option CaptureBad) × reader.left bytes 0 rs ended))
-    ⊎ (Rose lost lost_now × AreBefore (reader.left bytes 0) name reader.at rs last)
+abbrev pub Takes : List ℕ → Spot → List ℕ → List Rec → Outside → Outside → Type 0
+Takes name reader bytes rs a b = ((b.lost ≡ a.lost) × ((ended : Option CaptureBad) × reader.left bytes 0 rs ended))
+    ⊎ (Rose a.lost b.lost × AreBefore (reader.left bytes 0) name reader.at rs b.last)
 
 -- behind what the outputs held stand these first lines of tables and a front of what follows, and fronts of packets and of lines
 pub record WroteFronts (x : Setup) (first tables packets lines : List ℕ) (old new : Contents) : Type 0 where
@@ -47,12 +41,12 @@ pub record IsCutFrom (x : Setup) (s : State) (opened now : Contents) (records : 
       HasBegun x c (s.points ++ later) (lines_from c 0 (entries_of x.form taken)) opened now taken
 
 -- rounds were ended by a fault: no more records were drawn than there are, and each table whose window is open is in force
-pub record IsBrokenFrom (x : Setup) (s : State) (first : Spot) (lost lost_now : ℕ) (last : Option (List ℕ × ℕ)) (opened now : Contents) : Type 0 where
+pub record IsBrokenFrom (x : Setup) (s : State) (first : Spot) (a b : Outside) (opened now : Contents) : Type 0 where
   pub records : List Rec
-  pub taken : Takes x.run.input first (content opened x.run.input) records lost lost_now last
+  pub taken : Takes x.run.input first (content opened x.run.input) records a b
   pub drawn : length s.draws ≤ length records
   pub up_to_date : IsUpToDate s.plan (length s.draws) s.points
   pub part : IsCutFrom x s opened now records
 
-abbrev pub Breaks : Setup → State → Spot → ℕ → ℕ → Option (List ℕ × ℕ) → Contents → Contents → Type 0
-Breaks x s first lost lost_now last opened now = first.stood (content opened x.run.input) → IsBrokenFrom x s first lost lost_now last opened now
+abbrev pub Breaks : Setup → State → Spot → Outside → Outside → Contents → Contents → Type 0
+Breaks x s first a b opened now = first.stood (content opened x.run.input) → IsBrokenFrom x s first a b opened now

@@ -1,9 +1,8 @@
 -- What a status says of the faults of the outside.
-use Rattle.std.specs.Prelude.{◌≡◌, ◌⊎◌, ℕ, List, Option, Some}
+use Rattle.std.specs.Prelude.{List, Option, Some, ℕ, ◌≡◌, ◌⊎◌}
 use Rattle.std.specs.List.{Contains}
-use Rattle.aftr_base.specs.Outside.{Outside, Rose}
+use Rattle.lwaftr_engine.specs.Words.{Outside, Rose, Status}
 use Rattle.lwaftr_engine.specs.Worlds.{World}
-use Rattle.lwaftr_engine.specs.declared.status.Status.{Status}
 use Rattle.lwaftr_engine.specs.declared.status.Status.TheVariants as status
 
 -- no call of the outside failed

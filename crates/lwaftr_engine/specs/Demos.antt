@@ -1,27 +1,23 @@
 -- The demonstration: a run over generated traffic, with one change of tables in its middle.
-use Rattle.std.specs.Prelude.{◌≡◌, ◌⊎◌, ℕ, ◌/◌, List, [], ◌∷◌, length, Option, None, IsNone, Ok}
-use Rattle.aftr_text.specs.Lines.{summary_text}
-use Rattle.area_swap.specs.Histories.{HistoryValue}
-use Rattle.binding_rules.specs.Tables.{BindingTable}
-use Rattle.capture_io.specs.declared.forms.Rec.{Rec}
+use Rattle.std.specs.Prelude.{IsNone, List, None, Ok, Option, length, ℕ, [], ◌/◌, ◌∷◌, ◌≡◌, ◌⊎◌}
+use Rattle.lwaftr_engine.specs.Words.{BindingTable, Course, HistoryValue, Rec, Status, Window, capture_of, summary_text, table_from, totals_of}
 use Rattle.lwaftr_engine.specs.Causes.{HasOneCause}
 use Rattle.lwaftr_engine.specs.Inputs.{Header, IsInput}
 use Rattle.lwaftr_engine.specs.Questions.{Answers}
 use Rattle.lwaftr_engine.specs.Runs.{IsCourse, IsHistoryOf}
 use Rattle.lwaftr_engine.specs.Tables.{table_by}
 use Rattle.lwaftr_engine.specs.Worlds.{World}
-use Rattle.lwaftr_engine.specs.declared.status.Status.{Status}
 use Rattle.lwaftr_engine.specs.declared.status.Status.TheVariants as status
-use Rattle.run_output.specs.Outputs.{Course, totals_of}
-use Rattle.swap_core.specs.declared.plan.Window.{Window}
-use Rattle.traffic_gen.specs.Traffic.{capture_of, table_from}
 
 -- the second table comes into force before this record
 abbrev pub middle : ℕ → ℕ
 middle count = count / 2
 
+abbrev pub half_way : ℕ → Window
+half_way count = record { earliest = middle count; latest = middle count }
+
 abbrev pub middle_window : ℕ → List Window
-middle_window count = (record { earliest = middle count; latest = middle count }) ∷ []
+middle_window count = half_way count ∷ []
 
 -- all subscribers at first, and then those of the second table
 abbrev pub demo_tables : ℕ → BindingTable

@@ -1,17 +1,9 @@
 -- What a run leaves, by how the reading ended.
-use Rattle.std.specs.Prelude.{◌≡◌, ℕ, ◌<◌, ◌≤◌, Bool, true, List, [], ◌∷◌, ◌++◌, All, map, Option, Some, None, Ok, Err}
+use Rattle.std.specs.Prelude.{All, Bool, Err, List, None, Ok, Option, Some, map, true, ℕ, [], ◌++◌, ◌<◌, ◌∷◌, ◌≡◌, ◌≤◌}
 use Rattle.std.specs.List.{Contains}
-use Rattle.aftr_base.specs.Contents.{Contents, content}
-use Rattle.aftr_text.specs.declared.jobs.RunJob.{RunJob}
-use Rattle.area_swap.specs.Histories.{HistoryValue}
-use Rattle.binding_file.specs.Files.{TableOf}
-use Rattle.binding_rules.specs.Tables.{BindingTable}
-use Rattle.capture_io.specs.declared.forms.CaptureBad.{CaptureBad}
-use Rattle.capture_io.specs.declared.forms.Rec.{Rec}
+use Rattle.lwaftr_engine.specs.Words.{BindingTable, CaptureBad, Contents, HistoryValue, Rec, RunJob, Slot, TableOf, Window, content}
 use Rattle.lwaftr_engine.specs.Inputs.{Header, IsInput, header_of}
 use Rattle.lwaftr_engine.specs.Runs.{IsRun}
-use Rattle.reload_plan.specs.declared.loads.Slot.{Slot}
-use Rattle.swap_core.specs.declared.plan.Window.{Window}
 use Rattle.lwaftr_engine.specs.Tables.{Answer, AreAnswers, slots_in, some_refused, table_by, windows_in}
 
 -- the table files of the run say this

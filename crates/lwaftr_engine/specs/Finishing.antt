@@ -1,21 +1,11 @@
 -- What is written when the records have ended.
-use Rattle.std.specs.Prelude.{◌≡◌, ◌⊎◌, ℕ, Bool, false, List, [], ◌++◌, drop, flat_map, length, take, Option, None, Result, Ok, Err}
+use Rattle.std.specs.Prelude.{Bool, Err, List, None, Ok, Option, Result, drop, false, flat_map, length, take, ℕ, [], ◌++◌, ◌≡◌, ◌⊎◌}
 use Rattle.std.specs.Option.{option_map}
-use Rattle.aftr_base.specs.Contents.{Contents}
-use Rattle.aftr_base.specs.Outside.{Rises}
-use Rattle.aftr_base.specs.declared.outside.Fault.{Fault}
-use Rattle.aftr_text.specs.Lines.{ended_text, summary_text}
-use Rattle.area_swap.specs.Histories.{HistoryValue}
-use Rattle.capture_io.specs.declared.forms.Rec.{Rec}
-use Rattle.capture_io.specs.declared.rounds.Ending.{Ending}
-use Rattle.item_stage.specs.Items.{unfinished_of}
-use Rattle.item_stage.specs.Stages.{Stands}
-use Rattle.lwaftr_engine.specs.declared.rounds.Progress.{Progress}
+use Rattle.lwaftr_engine.specs.Words.{Contents, Ending, Fault, HistoryValue, Progress, Rec, Rises, Stands, ended_text, load_lines, summary_text, unfinished_of}
+use Rattle.lwaftr_engine.specs.Words.{with_version}
 use Rattle.lwaftr_engine.specs.Promises.{HasSummary}
 use Rattle.lwaftr_engine.specs.Progress.{Setup, loads_of}
 use Rattle.lwaftr_engine.specs.Writing.{Did, DidFront, Step, round_steps}
-use Rattle.run_output.specs.Counting.{with_version}
-use Rattle.run_output.specs.Versions.{load_lines}
 
 -- the last lines of tables, of the points of the whole run, and those of the datagrams that were never whole
 abbrev pub last_versions : Setup → Progress → List ℕ → List ℕ
@@ -27,8 +17,11 @@ last_lines p taken = flat_map (ended_text false) (unfinished_of p.stage.form tak
 abbrev pub last_line : Progress → List ℕ → List ℕ
 last_line p points = summary_text (with_version p.totals (length points))
 
+abbrev pub last_round : Setup → Progress → List ℕ → List ℕ → List Step
+last_round x p points lines = round_steps (last_versions x p points) [] lines
+
 abbrev pub last_steps : Setup → Progress → List ℕ → List Rec → List Step
-last_steps x p points taken = round_steps (last_versions x p points) [] (last_lines p taken)
+last_steps x p points taken = last_round x p points (last_lines p taken)
 
 -- all lines are written, and the summary is put
 pub record IsFinished (x : Setup) (p : Progress) (points : List ℕ) (taken : List Rec) (old new : Contents) (said now : Option (List ℕ)) : Type 0 where

@@ -1,32 +1,17 @@
 -- What the outputs hold where a run was ended by a file or a sink that cannot be written, or for want of memory.
-use Rattle.std.specs.Prelude.{◌≡◌, ◌⊎◌, ℕ, suc, ◌-◌, ◌<◌, nat_le, nat_lt, Bool, true, false, if◌then◌else◌, List, [], ◌∷◌, ◌++◌, count_by, length}
-use Rattle.std.specs.Prelude.{take, Option, None, Ok}
+use Rattle.std.specs.Prelude.{Bool, List, None, Ok, Option, count_by, false, if◌then◌else◌, length, nat_le, nat_lt, suc, take, true, ℕ, [], ◌++◌, ◌-◌, ◌<◌, ◌∷◌}
+use Rattle.std.specs.Prelude.{◌≡◌, ◌⊎◌}
 use Rattle.std.specs.Option.{option_map}
-use Rattle.aftr_base.specs.Contents.{Contents, content}
-use Rattle.aftr_base.specs.Outside.{Rises, Rose}
-use Rattle.aftr_base.specs.declared.outside.Fault.{Fault}
+use Rattle.lwaftr_engine.specs.Words.{AreAllPoints, BindingTable, CaptureBad, Contents, Course, Fault, Form, HistoryValue, IsLimited, NamedSlot, Rec, Rises}
+use Rattle.lwaftr_engine.specs.Words.{Rose, RunJob, Slot, Window, Written, content, entries_of, in_force, initial_text, named, output_of, slot_text}
+use Rattle.lwaftr_engine.specs.Words.{summary_text, totals_of, verdicts_of, versions_of}
 use Rattle.aftr_base.specs.declared.outside.Fault.TheVariants as fault
-use Rattle.aftr_text.specs.Lines.{initial_text, summary_text}
-use Rattle.aftr_text.specs.declared.jobs.RunJob.{RunJob}
-use Rattle.area_swap.specs.Histories.{HistoryValue}
-use Rattle.binding_rules.specs.Tables.{BindingTable}
-use Rattle.capture_io.specs.declared.forms.CaptureBad.{CaptureBad}
-use Rattle.capture_io.specs.declared.forms.Form.{Form}
-use Rattle.capture_io.specs.declared.forms.Rec.{Rec}
-use Rattle.capture_io.specs.declared.written.Written.{Written}
 use Rattle.lwaftr_engine.specs.Endings.{AreBefore, AreTables}
 use Rattle.lwaftr_engine.specs.Inputs.{Header, IsInput, header_of}
 use Rattle.lwaftr_engine.specs.Runs.{OthersKept}
 use Rattle.lwaftr_engine.specs.Tables.{Answer, slots_in, table_by, windows_in}
 use Rattle.lwaftr_engine.specs.Worlds.{World}
-use Rattle.item_stage.specs.Items.{entries_of}
-use Rattle.reload_plan.specs.declared.loads.Slot.{Slot}
 use Rattle.reload_plan.specs.declared.loads.Slot.TheVariants as slot
-use Rattle.run_output.specs.Limiting.{IsLimited}
-use Rattle.run_output.specs.Outputs.{Course, output_of, totals_of, verdicts_of}
-use Rattle.run_output.specs.Versions.{NamedSlot, named, slot_text, versions_of}
-use Rattle.swap_core.specs.Points.{AreAllPoints, in_force}
-use Rattle.swap_core.specs.declared.plan.Window.{Window}
 
 -- the first bytes of these
 abbrev pub IsFrontOf : List ℕ → List ℕ → Type 0

@@ -1,15 +1,11 @@
 -- What the bytes of a capture are that is read, of either format: a pcapng file begins with a section header, and every other file
 -- is taken as a classic one.
-use Rattle.std.specs.Prelude.{◌≡◌, ℕ, nat_lt, Bool, true, false, not, List, length, Option, Result, Ok, Err}
+use Rattle.std.specs.Prelude.{Bool, Err, List, Ok, Option, Result, false, length, nat_lt, not, true, ℕ, ◌≡◌}
+use Rattle.lwaftr_engine.specs.Words.{CaptureBad, Form, Rec, Seen, Written}
 use Rattle.capture_io.specs.Capture as classic
 use Rattle.capture_io.specs.Header as classic_header
-use Rattle.capture_io.specs.declared.forms.CaptureBad.{CaptureBad}
-use Rattle.capture_io.specs.declared.forms.Form.{Form}
-use Rattle.capture_io.specs.declared.forms.Rec.{Rec}
-use Rattle.capture_io.specs.declared.written.Written.{Written}
 use Rattle.capture_io.specs.declared.written.Written.TheVariants as written
 use Rattle.pcapng_io.specs.Captures as blocks
-use Rattle.pcapng_io.specs.Seen.{Seen}
 
 -- What is said of all records, in which form packets are written for them, and where the file header ends, if it does: a pcapng
 -- file without an interface has a header that does not.

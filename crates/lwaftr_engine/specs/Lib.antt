@@ -1,6 +1,6 @@
 -- The promises of the program's calls stand in Promises, Questions, Migrations, Demos and Prompt, over Causes, Endings, Fronts, Inputs,
 -- Runs, Statuses, Tables and Worlds. What stands in Answered, Broken, Finishing, Loads, Planned, Progress, RunLaws, Shows, Underway and
--- Writing is for the parts of the engine alone.
+-- Writing is for the parts of the engine alone. Words has the names that all of them take from elsewhere.
 pub mod Causes
 pub mod Demos
 pub mod Endings
@@ -24,3 +24,4 @@ pub mod Planned
 pub mod Shows
 pub mod Underway
 pub mod Writing
+pub mod Words

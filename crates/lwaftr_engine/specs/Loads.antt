@@ -1,16 +1,9 @@
 -- The loads of a run as they are read.
-use Rattle.std.specs.Prelude.{◌≡◌, ℕ, Bool, true, false, List, Option, take}
+use Rattle.std.specs.Prelude.{Bool, List, Option, false, take, true, ℕ, ◌≡◌}
 use Rattle.std.specs.List.{AllZip}
-use Rattle.aftr_base.specs.Contents.{Contents, content}
-use Rattle.aftr_base.specs.Outside.{Outside, Rises}
-use Rattle.aftr_text.specs.declared.jobs.LoadWords.{LoadWords}
-use Rattle.binding_file.specs.Files.{TableOf}
+use Rattle.lwaftr_engine.specs.Words.{Contents, IsLoadedAs, IsSound, Load, LoadFile, LoadWords, Outside, Rises, TableOf, content}
 use Rattle.lwaftr_engine.specs.Causes.{IsReadOf}
 use Rattle.lwaftr_engine.specs.Tables.{Answer}
-use Rattle.reload_plan.specs.Accepted.{IsSound}
-use Rattle.load_files.specs.Texts.{IsLoadedAs}
-use Rattle.reload_plan.specs.declared.loads.Load.{Load}
-use Rattle.load_files.specs.declared.files.LoadFile.{LoadFile}
 
 -- what the load's file says, and the load by it
 pub record IsLoadOf (m : Contents) (words : LoadWords) (load : Load) : Type 0 where

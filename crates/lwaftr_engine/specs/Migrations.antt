@@ -1,17 +1,12 @@
 -- A table file written anew in the newer edition, under another name.
-use Rattle.std.specs.Prelude.{◌≡◌, ◌⊎◌, ℕ, List, ◌++◌, length, take, Option, None, Ok}
+use Rattle.std.specs.Prelude.{List, None, Ok, Option, length, take, ℕ, ◌++◌, ◌≡◌, ◌⊎◌}
 use Rattle.std.specs.Option.{option_map}
-use Rattle.aftr_base.specs.Contents.{Contents, content, Moves, Told, Writes}
-use Rattle.aftr_base.specs.Outside.{Rose}
-use Rattle.aftr_text.specs.Lines.{migrated_text}
-use Rattle.area_swap.specs.Histories.{HistoryValue}
-use Rattle.binding_file.specs.Files.{TableOf, TextOf}
-use Rattle.binding_rules.specs.Tables.{BindingTable, binding_table}
+use Rattle.lwaftr_engine.specs.Words.{BindingTable, Contents, HistoryValue, Moves, Rose, Status, TableOf, TextOf, Told, Writes, binding_table, content}
+use Rattle.lwaftr_engine.specs.Words.{migrated_text}
 use Rattle.binding_rules.specs.declared.settings.Edition.TheVariants as edition
 use Rattle.lwaftr_engine.specs.Causes.{HasOneCause}
 use Rattle.lwaftr_engine.specs.Questions.{Answers, FailedIn, IsComplete, RefusesAs}
 use Rattle.lwaftr_engine.specs.Worlds.{World}
-use Rattle.lwaftr_engine.specs.declared.status.Status.{Status}
 use Rattle.lwaftr_engine.specs.declared.status.Status.TheVariants as status
 
 -- the same settings and bindings in the newer edition

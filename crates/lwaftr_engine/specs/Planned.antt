@@ -1,21 +1,12 @@
 -- What the parts of a run's job are told, and what they leave.
-use Rattle.std.specs.Prelude.{◌≡◌, ◌⊎◌, ℕ, ◌+◌, ◌≤◌, Bool, true, false, if◌then◌else◌, List, [], ◌∷◌, All, count_by, length, Option, Some, None}
-use Rattle.std.specs.Prelude.{IfSome, Result, Ok, Err}
-use Rattle.aftr_base.specs.Contents.{Contents, content}
-use Rattle.aftr_base.specs.declared.outside.Fault.{Fault}
+use Rattle.std.specs.Prelude.{All, Bool, Err, IfSome, List, None, Ok, Option, Result, Some, count_by, false, if◌then◌else◌, length, true, ℕ, [], ◌+◌, ◌∷◌, ◌≡◌}
+use Rattle.std.specs.Prelude.{◌≤◌, ◌⊎◌}
+use Rattle.lwaftr_engine.specs.Words.{AreApart, AreRising, BindingTable, CaptureBad, CaptureError, Contents, Ending, Fault, Form, HistoryValue, IsCompiled}
+use Rattle.lwaftr_engine.specs.Words.{IsLoad, IsRate, IsWorkers, Load, Made, Rec, RunJob, Slot, Status, Tables, Window, Written, accepted, content, slots_from}
+use Rattle.lwaftr_engine.specs.Words.{windows_of}
 use Rattle.aftr_base.specs.declared.outside.Fault.TheVariants as fault
-use Rattle.aftr_text.specs.Jobs.{AreApart, AreRising, IsLoad, IsRate, IsWorkers, windows_of}
-use Rattle.aftr_text.specs.declared.jobs.RunJob.{RunJob}
-use Rattle.area_swap.specs.Histories.{HistoryValue}
-use Rattle.binding_rules.specs.Tables.{BindingTable}
-use Rattle.capture_io.specs.declared.forms.CaptureBad.{CaptureBad}
-use Rattle.capture_io.specs.declared.forms.CaptureError.{CaptureError}
 use Rattle.capture_io.specs.declared.forms.CaptureError.TheVariants as failure
-use Rattle.capture_io.specs.declared.forms.Form.{Form}
-use Rattle.capture_io.specs.declared.forms.Rec.{Rec}
-use Rattle.capture_io.specs.declared.rounds.Ending.{Ending}
 use Rattle.capture_io.specs.declared.rounds.Ending.TheVariants as ending
-use Rattle.capture_io.specs.declared.written.Written.{Written}
 use Rattle.lwaftr_engine.specs.Causes.{NoneOfFilesRose}
 use Rattle.lwaftr_engine.specs.Endings.{IsCut, IsUntouched, IsWhole}
 use Rattle.lwaftr_engine.specs.Fronts.{IsBroken, Stop, is_table, stop_by}
@@ -23,16 +14,8 @@ use Rattle.lwaftr_engine.specs.Inputs.{Header, IsInput, header_of}
 use Rattle.lwaftr_engine.specs.Progress.{Setup, Spot}
 use Rattle.lwaftr_engine.specs.Runs.{IsPlanOf}
 use Rattle.lwaftr_engine.specs.Worlds.{World}
-use Rattle.lwaftr_engine.specs.declared.status.Status.{Status}
 use Rattle.lwaftr_engine.specs.declared.status.Status.TheVariants as status
-use Rattle.reload_plan.specs.Accepted.{accepted, slots_from}
-use Rattle.reload_plan.specs.declared.loads.Load.{Load}
-use Rattle.reload_plan.specs.declared.loads.Made.{Made}
-use Rattle.reload_plan.specs.declared.loads.Slot.{Slot}
 use Rattle.reload_plan.specs.declared.loads.Slot.TheVariants as slot
-use Rattle.swap_core.specs.Plans.{Tables}
-use Rattle.swap_core.specs.declared.plan.Window.{Window}
-use Rattle.table_words.specs.Layout.{IsCompiled}
 
 -- what is known of a run that words asked for
 pub record IsRunJob (run : RunJob) : Type 0 where

@@ -1,30 +1,12 @@
 -- How far a run has come, and what its outputs hold by then.
-use Rattle.std.specs.Prelude.{◌≡◌, ℕ, ◌+◌, ◌^◌, ◌<◌, ◌≤◌, ◌⊎◌, Bool, true, false, List, [], ◌∷◌, ◌++◌, length, take, drop, All, Option, Some, None}
-use Rattle.aftr_base.specs.Contents.{Contents, content}
-use Rattle.aftr_base.specs.Outside.{FailsAt, Outside, Rises, Rose}
-use Rattle.aftr_text.specs.declared.jobs.RunJob.{RunJob}
-use Rattle.area_swap.specs.Histories.{AreDrawn, HistoryValue, IsHistory}
-use Rattle.area_swap.specs.Values.{HasWholeShare, IsIdle, IsOf, IsResting}
-use Rattle.capture_io.specs.declared.forms.CaptureBad.{CaptureBad}
-use Rattle.capture_io.specs.declared.forms.Form.{Form}
-use Rattle.capture_io.specs.declared.forms.Rec.{Rec}
-use Rattle.capture_io.specs.declared.rounds.Ending.{Ending}
+use Rattle.std.specs.Prelude.{All, Bool, List, None, Option, Some, drop, false, length, take, true, ℕ, [], ◌++◌, ◌+◌, ◌<◌, ◌^◌, ◌∷◌, ◌≡◌, ◌≤◌, ◌⊎◌}
+use Rattle.lwaftr_engine.specs.Words.{AreDrawn, CaptureBad, Contents, Course, Ending, FailsAt, Form, HasAsked, HasWholeShare, HistoryValue, IsCompiled}
+use Rattle.lwaftr_engine.specs.Words.{IsHistory, IsIdle, IsLimited, IsOf, IsResting, IsWithin, Left, Moves, NamedSlot, NoneIsDue, Outside, Precedes, Progress}
+use Rattle.lwaftr_engine.specs.Words.{Rec, Rises, Rose, Router, RunJob, Shift, Slot, Stands, Tables, Task, Written, content, entries_of, items_in, lines_from}
+use Rattle.lwaftr_engine.specs.Words.{load_lines, named, no_totals, packets_from, rate_of, table, totals_from, window}
 use Rattle.capture_io.specs.declared.rounds.Ending.TheVariants as ending
-use Rattle.capture_io.specs.declared.written.Written.{Written}
-use Rattle.capture_io.specs.Rounds.{Left, Precedes}
-use Rattle.item_stage.specs.Items.{entries_of, items_in}
-use Rattle.item_stage.specs.Stages.{Stands}
+use Rattle.lwaftr_engine.specs.Causes.{MayFailIn}
 use Rattle.lwaftr_engine.specs.Runs.{OthersKept, all_asking}
-use Rattle.lwaftr_engine.specs.declared.rounds.Progress.{Progress}
-use Rattle.lwaftr_engine.specs.declared.shift.Shift.{Shift}
-use Rattle.lwaftr_engine.specs.declared.tasks.Task.{Task}
-use Rattle.reload_plan.specs.declared.loads.Slot.{Slot}
-use Rattle.run_output.specs.Counting.{IsWithin, no_totals, totals_from}
-use Rattle.run_output.specs.Limiting.{HasAsked, IsLimited, rate_of}
-use Rattle.run_output.specs.Outputs.{Course, lines_from, packets_from}
-use Rattle.run_output.specs.Versions.{NamedSlot, NoneIsDue, load_lines, named}
-use Rattle.swap_core.specs.Plans.{Tables, table, window}
-use Rattle.table_words.specs.Layout.{IsCompiled}
 
 -- what a run is told before its first record
 pub record Setup : Type 0 where
@@ -57,8 +39,11 @@ pub record State : Type 0 where
   pub points : List ℕ
   pub reads : ℕ
 
-abbrev pub state_of : Progress → Shift → State
-state_of p s = record { progress = p; plan = s.areas.plan; draws = s.seat.known.actor.draws; points = s.desk.known.points; reads = s.seat.known.reads }
+abbrev pub state_by : Progress → Shift → State
+state_by p s = record { progress = p; plan = s.areas.plan; draws = s.seat.known.actor.draws; points = s.desk.known.points; reads = s.seat.known.reads }
+
+abbrev pub state_of : Router → State
+state_of r = state_by r.progress r.shift
 
 -- the workers' seat and the desk between two rounds
 pub record IsOnDuty (plan : Tables) (s : Shift) : Type 0 where
@@ -170,6 +155,11 @@ pub record ReadsOf (failed : Bool) (name : List ℕ) (before now : Outside) : Ty
   pub faults : Rises failed before.faults now.faults
   pub lost : Rises failed before.lost now.lost
   pub last : FailsAt failed name (λ _. Unit {0}) before.last now.last
+
+-- whatever came of a run's steps: other names hold what they held, and no read failed, or one of the capture
+pub record KeepsRest (run : RunJob) (before now : Outside) : Type 0 where
+  pub others : Moves before.held now.held (OthersKept run)
+  pub capture_read : MayFailIn run.input before now
 
 -- counts of writes and of puts that failed: one of them rose exactly where a call failed
 abbrev pub OneRises : Bool → ℕ → ℕ → ℕ → ℕ → Type 0

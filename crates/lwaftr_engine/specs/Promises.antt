@@ -1,17 +1,9 @@
 -- The promises of the program's call on a run.
-use Rattle.std.specs.Prelude.{◌≡◌, ◌⊎◌, ℕ, Bool, true, false, List, [], ◌∷◌, ◌++◌, length, Option, Some, None, Ok, Err}
+use Rattle.std.specs.Prelude.{Bool, Err, List, None, Ok, Option, Some, false, length, true, ℕ, [], ◌++◌, ◌∷◌, ◌≡◌, ◌⊎◌}
 use Rattle.std.specs.Option.{option_map}
-use Rattle.aftr_base.specs.Contents.{Contents, content, Moves, Told}
+use Rattle.lwaftr_engine.specs.Words.{BindingTable, CaptureBad, Contents, HistoryValue, IsHistory, IsOfHeader, IsOfRecord, Moves, Rec, RunJob, Status, TableOf}
+use Rattle.lwaftr_engine.specs.Words.{Told, Totals, content, summary_text}
 use Rattle.aftr_base.specs.declared.outside.Fault.TheVariants as fault
-use Rattle.aftr_text.specs.Lines.{summary_text}
-use Rattle.aftr_text.specs.declared.jobs.RunJob.{RunJob}
-use Rattle.aftr_text.specs.declared.summaries.Totals.{Totals}
-use Rattle.area_swap.specs.Histories.{HistoryValue, IsHistory}
-use Rattle.binding_file.specs.Files.{TableOf}
-use Rattle.binding_rules.specs.Tables.{BindingTable}
-use Rattle.capture_io.specs.Refusals.{IsOfHeader, IsOfRecord}
-use Rattle.capture_io.specs.declared.forms.CaptureBad.{CaptureBad}
-use Rattle.capture_io.specs.declared.forms.Rec.{Rec}
 use Rattle.lwaftr_engine.specs.Causes.{FailsBehind, FailsIn, HasCause, IsFault, NoneOfFilesRose}
 use Rattle.lwaftr_engine.specs.Endings.{AreTables, IsBadHeader, IsCutRun, IsUnread, IsUntouched, IsWholeRun, table_names}
 use Rattle.lwaftr_engine.specs.Fronts.{IsBrokenRun, stop_by}
@@ -19,7 +11,6 @@ use Rattle.lwaftr_engine.specs.Inputs.{Header, IsInput, header_of}
 use Rattle.lwaftr_engine.specs.Runs.{OthersKept}
 use Rattle.lwaftr_engine.specs.Tables.{Answer, some_refused}
 use Rattle.lwaftr_engine.specs.Worlds.{World}
-use Rattle.lwaftr_engine.specs.declared.status.Status.{Status}
 use Rattle.lwaftr_engine.specs.declared.status.Status.TheVariants as status
 
 -- what the files hold at a status, what the sink took, and the history

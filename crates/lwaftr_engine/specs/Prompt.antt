@@ -1,8 +1,7 @@
 -- What command words come to without waiting for anybody.
 use Rattle.std.specs.Prelude.{◌≡◌, ◌⊎◌}
-use Rattle.lwaftr_engine.specs.declared.at_once.AtOnce.{AtOnce}
+use Rattle.lwaftr_engine.specs.Words.{AtOnce, Status}
 use Rattle.lwaftr_engine.specs.declared.at_once.AtOnce.TheVariants as at_once
-use Rattle.lwaftr_engine.specs.declared.status.Status.{Status}
 use Rattle.lwaftr_engine.specs.declared.status.Status.TheVariants as status
 
 -- it ended with a status of which this holds

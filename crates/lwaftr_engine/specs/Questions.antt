@@ -1,20 +1,11 @@
 -- The two questions about a table file: is it valid, and who owns a port of an address. Each is answered by one line.
-use Rattle.std.specs.Prelude.{◌≡◌, ◌⊎◌, ℕ, ◌≤◌, List, [], ◌∷◌, ◌++◌, codes, decimal, length, take, Option, Some, None, Ok, Err}
+use Rattle.std.specs.Prelude.{Err, List, None, Ok, Option, Some, codes, decimal, length, take, ℕ, [], ◌++◌, ◌∷◌, ◌≡◌, ◌≤◌, ◌⊎◌}
 use Rattle.std.specs.Option.{option_map}
-use Rattle.addr_text.specs.Canonical.{IsCanonical, groups_of}
-use Rattle.aftr_base.specs.Contents.{Contents, content, Told}
-use Rattle.aftr_base.specs.declared.numbers.V4.{V4}
-use Rattle.aftr_base.specs.declared.numbers.V6.{V6}
-use Rattle.area_swap.specs.Histories.{HistoryValue}
-use Rattle.binding_file.specs.Files.{TableOf}
-use Rattle.binding_file.specs.declared.refusals.FileRefused.{FileRefused}
-use Rattle.binding_rules.specs.Bindings.{bound}
-use Rattle.binding_rules.specs.Tables.{BindingTable, IsValid}
-use Rattle.binding_rules.specs.declared.binding.Binding.{Binding}
+use Rattle.lwaftr_engine.specs.Words.{Binding, BindingTable, Contents, FileRefused, HistoryValue, IsCanonical, IsValid, Status, TableOf, Told, V4, V6, bound}
+use Rattle.lwaftr_engine.specs.Words.{content, groups_of}
 use Rattle.binding_rules.specs.declared.binding.Want.TheVariants as want
 use Rattle.lwaftr_engine.specs.Causes.{HasOneCause, NothingFailed}
 use Rattle.lwaftr_engine.specs.Worlds.{World}
-use Rattle.lwaftr_engine.specs.declared.status.Status.{Status}
 use Rattle.lwaftr_engine.specs.declared.status.Status.TheVariants as status
 
 -- the line of a valid file with so many bindings

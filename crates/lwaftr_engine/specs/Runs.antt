@@ -1,29 +1,9 @@
 -- The files of a run: those of one router that took the records in order, each under the table in force at its number.
-use Rattle.std.specs.Prelude.{◌≡◌, ◌≢◌, ℕ, ◌+◌, ◌<◌, ◌≤◌, List, ◌++◌, length, count_by, slice_get, Option, Some}
+use Rattle.std.specs.Prelude.{List, Option, Some, count_by, length, slice_get, ℕ, ◌++◌, ◌+◌, ◌<◌, ◌≡◌, ◌≢◌, ◌≤◌}
 use Rattle.std.specs.Option.{option_map}
-use Rattle.aftr_base.specs.Contents.{Contents, content}
-use Rattle.aftr_text.specs.Lines.{summary_text}
-use Rattle.aftr_text.specs.declared.jobs.RunJob.{RunJob}
-use Rattle.area_swap.specs.Histories.{HistoryValue}
-use Rattle.binding_rules.specs.Tables.{BindingTable}
-use Rattle.capture_io.specs.declared.forms.Rec.{Rec}
-use Rattle.ip_codec.specs.declared.items.Item.{Item}
-use Rattle.item_stage.specs.Items.{entries_of, items_in}
-use Rattle.capture_io.specs.declared.forms.Form.{Form}
-use Rattle.capture_io.specs.declared.written.Written.{Written}
-use Rattle.packet_render.specs.Counted.{Sends}
-use Rattle.packet_render.specs.Sent.{sent}
-use Rattle.reload_plan.specs.declared.loads.Slot.{Slot}
-use Rattle.run_output.specs.Limiting.{IsLimited}
-use Rattle.run_output.specs.Outputs.{Course, output_of, totals_of, verdict_at, verdicts_of}
-use Rattle.run_output.specs.Versions.{named, versions_of}
-use Rattle.swap_core.specs.Plans.{Tables, table}
-use Rattle.swap_core.specs.Points.{AreAllPoints, in_force}
-use Rattle.swap_core.specs.declared.plan.Window.{Window}
-use Rattle.table_words.specs.Layout.{IsCompiled}
-use Rattle.verdict_core.specs.Access.{HasAccess}
-use Rattle.verdict_core.specs.declared.verdicts.Verdict.{Verdict}
-use Rattle.worker_gate.specs.Outcomes.{asks}
+use Rattle.lwaftr_engine.specs.Words.{AreAllPoints, BindingTable, Contents, Course, Form, HasAccess, HistoryValue, IsCompiled, IsLimited, Item, Rec, RunJob}
+use Rattle.lwaftr_engine.specs.Words.{Sends, Slot, Tables, Verdict, Window, Written, asks, content, entries_of, in_force, items_in, named, output_of, sent}
+use Rattle.lwaftr_engine.specs.Words.{summary_text, table, totals_of, verdict_at, verdicts_of, versions_of}
 
 -- a name other than the three outputs holds what it held
 abbrev pub OthersKept : RunJob → Contents → Contents → Type 0

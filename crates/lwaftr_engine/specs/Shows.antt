@@ -1,17 +1,10 @@
 -- What the run of the demonstration is told.
-use Rattle.std.specs.Prelude.{◌≡◌, ℕ, false, [], ◌∷◌, All, length, None}
-use Rattle.aftr_base.specs.Contents.{content}
-use Rattle.aftr_text.specs.declared.jobs.RunJob.{RunJob}
-use Rattle.binding_rules.specs.Tables.{BindingTable}
+use Rattle.std.specs.Prelude.{All, None, Ok, false, length, ℕ, [], ◌∷◌, ◌≡◌}
+use Rattle.lwaftr_engine.specs.Words.{AreCompiled, BindingTable, Made, RunJob, Show, capture_of, content}
 use Rattle.lwaftr_engine.specs.Demos.{demo_tables, middle_window}
 use Rattle.lwaftr_engine.specs.Planned.{IsRunJob, some_slot_refused}
 use Rattle.lwaftr_engine.specs.Runs.{IsPlanOf}
 use Rattle.lwaftr_engine.specs.Tables.{table_by}
-use Rattle.lwaftr_engine.specs.declared.demo.Show.{Show}
-use Rattle.reload_plan.specs.declared.loads.Made.{Made}
-use Rattle.std.specs.Prelude.{Ok}
-use Rattle.table_words.specs.Layout.{AreCompiled}
-use Rattle.traffic_gen.specs.Traffic.{capture_of}
 
 pub record IsDemoJob (count : ℕ) (run : RunJob) : Type 0 where
   pub job : IsRunJob run

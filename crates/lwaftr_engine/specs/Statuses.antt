@@ -1,8 +1,6 @@
 -- The codes and texts of the statuses.
-use Rattle.std.specs.Prelude.{ℕ, List, ◌++◌, codes}
-use Rattle.binding_file.specs.Names.{refused_text}
-use Rattle.capture_io.specs.Texts.{capture_text}
-use Rattle.lwaftr_engine.specs.declared.status.Status.{Status}
+use Rattle.std.specs.Prelude.{List, codes, ℕ, ◌++◌}
+use Rattle.lwaftr_engine.specs.Words.{Status, capture_text, refused_text}
 use Rattle.lwaftr_engine.specs.declared.status.Status.TheVariants as status
 
 abbrev pub code_of : Status → ℕ

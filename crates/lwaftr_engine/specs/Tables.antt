@@ -1,13 +1,7 @@
 -- What the table files of a run say, and which tables it has by them.
-use Rattle.std.specs.Prelude.{ℕ, ◌+◌, Bool, true, false, List, [], ◌∷◌, get_or, Result, Ok, Err}
-use Rattle.aftr_base.specs.Contents.{Contents, content}
-use Rattle.aftr_text.specs.declared.jobs.LoadWords.{LoadWords}
-use Rattle.binding_file.specs.Files.{TableOf}
-use Rattle.binding_file.specs.declared.refusals.FileRefused.{FileRefused}
-use Rattle.binding_rules.specs.Tables.{BindingTable}
-use Rattle.reload_plan.specs.declared.loads.Slot.{Slot}
+use Rattle.std.specs.Prelude.{Bool, Err, List, Ok, Result, false, get_or, true, ℕ, [], ◌+◌, ◌∷◌}
+use Rattle.lwaftr_engine.specs.Words.{BindingTable, Contents, FileRefused, LoadWords, Slot, TableOf, Window, content}
 use Rattle.reload_plan.specs.declared.loads.Slot.TheVariants as slot
-use Rattle.swap_core.specs.declared.plan.Window.{Window}
 
 -- what a table file says: a table, or why it is none
 abbrev pub Answer : Type 0

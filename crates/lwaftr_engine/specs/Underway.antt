@@ -1,37 +1,15 @@
 -- Rounds under way: what was judged and is not written yet, and the round that was read and is not judged yet.
-use Rattle.std.specs.Prelude.{◌≡◌, ◌⊎◌, ℕ, ◌+◌, ◌^◌, ◌<◌, ◌≤◌, List, [], ◌++◌, length, drop, All, IfOk, Option, Some, None, Result, string_bytes}
-use Rattle.aftr_base.specs.Contents.{Contents, Moves, Told, content}
-use Rattle.aftr_base.specs.Outside.{Outside, Rises, Rose, has_failed}
-use Rattle.aftr_base.specs.declared.outside.Fault.{Fault}
-use Rattle.aftr_text.specs.declared.summaries.Totals.{Totals}
-use Rattle.capture_io.specs.Refusals.{EndsInRecords}
-use Rattle.capture_io.specs.Rounds.{GoesOn, IsPlaced, is_cut}
-use Rattle.capture_io.specs.declared.forms.Form.{Form}
-use Rattle.capture_io.specs.declared.forms.Rec.{Rec}
+use Rattle.std.specs.Prelude.{All, IfOk, List, None, Option, Result, Some, drop, length, string_bytes, ℕ, [], ◌++◌, ◌+◌, ◌<◌, ◌^◌, ◌≡◌, ◌≤◌, ◌⊎◌}
+use Rattle.lwaftr_engine.specs.Words.{AreCompiled, Bucket, Contents, Course, EndsInRecords, Entry, Fault, Form, GoesOn, HasAsked, HasOutcomes, IsCourseOf}
+use Rattle.lwaftr_engine.specs.Words.{IsLimited, IsPlaced, IsRendered, IsSettled, Moves, NoneIsDue, Outcome, Outside, Part, Pending, Progress, Rec, Rises, Rose}
+use Rattle.lwaftr_engine.specs.Words.{Round, Router, Shift, Staged, Stands, Told, Totals, between, content, entries_of, has_failed, is_cut, items_in, lines_in}
+use Rattle.lwaftr_engine.specs.Words.{load_lines, no_totals, packets_in, rate_of}
 use Rattle.capture_io.specs.declared.rounds.Ending.TheVariants as ending
-use Rattle.capture_io.specs.declared.rounds.Round.{Round}
-use Rattle.error_limit.specs.Limits.{Bucket}
-use Rattle.item_stage.specs.Items.{entries_of, items_in}
-use Rattle.item_stage.specs.Stages.{Staged, Stands}
-use Rattle.item_stage.specs.declared.entries.Entry.{Entry}
 use Rattle.lwaftr_engine.specs.Broken.{IsCutFrom}
-use Rattle.lwaftr_engine.specs.Causes.{MayFailIn}
-use Rattle.lwaftr_engine.specs.Progress.{AddsTo, AreWritten, HasTaken, IsInRange, IsOnDuty, IsUpToDate, ReadsOf, Setup, Spot, State, Stops, Suits, loads_of}
-use Rattle.lwaftr_engine.specs.Progress.{state_of}
-use Rattle.lwaftr_engine.specs.Runs.{OthersKept, all_asking}
+use Rattle.lwaftr_engine.specs.Progress.{AddsTo, AreWritten, HasTaken, IsInRange, IsOnDuty, IsUpToDate, KeepsRest, ReadsOf, Setup, Spot, State, Stops, Suits}
+use Rattle.lwaftr_engine.specs.Progress.{loads_of, state_of}
+use Rattle.lwaftr_engine.specs.Runs.{all_asking}
 use Rattle.lwaftr_engine.specs.Writing.{Did, DidFront, Step, round_steps}
-use Rattle.lwaftr_engine.specs.declared.rounds.Pending.{Pending}
-use Rattle.lwaftr_engine.specs.declared.rounds.Progress.{Progress}
-use Rattle.lwaftr_engine.specs.declared.shift.Shift.{Shift}
-use Rattle.run_output.specs.Counting.{no_totals}
-use Rattle.run_output.specs.Limiting.{HasAsked, IsLimited, rate_of}
-use Rattle.run_output.specs.Outputs.{Course}
-use Rattle.run_output.specs.Rendering.{HasOutcomes, IsCourseOf, IsRendered, lines_in, packets_in}
-use Rattle.run_output.specs.Versions.{NoneIsDue, between, load_lines}
-use Rattle.run_output.specs.declared.parts.Part.{Part}
-use Rattle.table_words.specs.Layout.{AreCompiled}
-use Rattle.worker_gate.specs.Reloading.{IsSettled}
-use Rattle.worker_gate.specs.declared.outcomes.Outcome.{Outcome}
 
 -- what is not written yet
 abbrev pub steps_of : Pending → List Step
@@ -94,8 +72,8 @@ pub record IsCutNext (name : List ℕ) (before now : Spot) (number : ℕ) (bytes
   pub next : before.stood bytes → IsNext name before now number bytes round last
 
 -- no read failed, or one did in the round that was read
-abbrev pub ReadsPast : List ℕ → Spot → Spot → ℕ → List ℕ → ℕ → ℕ → Option (List ℕ × ℕ) → Type 0
-ReadsPast name before now number bytes lost lost_now last = (lost_now ≡ lost) ⊎ (Rose lost lost_now × IsCutNext name before now number bytes last)
+abbrev pub ReadsPast : List ℕ → Spot → Spot → ℕ → List ℕ → Outside → Outside → Type 0
+ReadsPast name before now number bytes a b = (b.lost ≡ a.lost) ⊎ (Rose a.lost b.lost × IsCutNext name before now number bytes b.last)
 
 -- some records were judged, the last of them are not written, and the next round is read
 pub record IsUnderWay (x : Setup) (s : State) (steps : List Step) (first reader : Spot) (round : Round) (last : Option (List ℕ × ℕ))
@@ -127,13 +105,13 @@ pub record IsFirst (form : Form) (errors : Option ℕ) (p : Progress) : Type 0 w
   pub printed : p.printed ≡ 0
 
 -- what the first round begins with
-pub record IsAtStart (x : Setup) (shift : Shift) (p : Progress) : Type 0 where
+pub record IsAtStart (x : Setup) (r : Router) : Type 0 where
   pub loads : length x.slots ≡ length x.run.loads
-  pub compiled : All AreCompiled shift.areas.plan.tables
-  pub duty : IsOnDuty shift.areas.plan shift
-  pub no_draws : shift.seat.known.actor.draws ≡ []
-  pub no_points : shift.desk.known.points ≡ []
-  pub first : IsFirst x.form x.run.errors p
+  pub compiled : All AreCompiled r.shift.areas.plan.tables
+  pub duty : IsOnDuty r.shift.areas.plan r.shift
+  pub no_draws : r.shift.seat.known.actor.draws ≡ []
+  pub no_points : r.shift.desk.known.points ≡ []
+  pub first : IsFirst x.form x.run.errors r.progress
 
 -- what the next round begins with, whatever is read for it
 pub record CanGoOn (x : Setup) (shift : Shift) (p : Progress) : Type 0 where
@@ -145,9 +123,9 @@ pub record CanGoOn (x : Setup) (shift : Shift) (p : Progress) : Type 0 where
   pub up_to_date : IsUpToDate shift.areas.plan (length shift.seat.known.actor.draws) shift.desk.known.points
 
 -- what judging needs
-pub record CanJudge (x : Setup) (shift : Shift) (p : Progress) (round : Round) : Type 0 where
-  pub ready : CanGoOn x shift p
-  pub in_hand : IsInHand p.number round
+pub record CanJudge (x : Setup) (r : Router) (round : Round) : Type 0 where
+  pub ready : CanGoOn x r.shift r.progress
+  pub in_hand : IsInHand r.progress.number round
 
 -- The workers and the desk, whatever came of a round: no more records were drawn than there are up to a number, and each table whose
 -- window is open is in force.
@@ -159,16 +137,16 @@ pub record StaysOnDuty (before now : Shift) (number : ℕ) : Type 0 where
   pub up_to_date : IsUpToDate now.areas.plan (length now.seat.known.actor.draws) now.desk.known.points
 
 -- all records so far were drawn, and no table is due
-pub record IsSettledAt (x : Setup) (now : Shift) (q : Progress) : Type 0 where
-  pub bounded : IsInRange x q
-  pub drawn : length now.seat.known.actor.draws ≡ q.number
-  pub settled : IsSettled now.seat.known now.desk.known
+pub record IsSettledAt (x : Setup) (r : Router) : Type 0 where
+  pub bounded : IsInRange x r.progress
+  pub drawn : length r.shift.seat.known.actor.draws ≡ r.progress.number
+  pub settled : IsSettled r.shift.seat.known r.shift.desk.known
 
 -- a round went well
-pub record WentWell (x : Setup) (before now : Shift) (p q : Progress) (round : Round) (made : Pending) : Type 0 where
-  pub judged : HasJudged x (state_of p before) (state_of q now) round.records made
-  pub after : IsSettledAt x now q
-  pub number : q.number ≡ round.number
+pub record WentWell (x : Setup) (before now : Router) (round : Round) : Type 0 where
+  pub judged : HasJudged x (state_of before) (state_of now) round.records now.made
+  pub after : IsSettledAt x now
+  pub number : now.progress.number ≡ round.number
 
 -- what was read behind so many records, once the files held this
 pub record HasRead (x : Setup) (before now : Spot) (number : ℕ) (held : Option Contents) (last : Option (List ℕ × ℕ)) (round : Round) : Type 0 where
@@ -176,18 +154,21 @@ pub record HasRead (x : Setup) (before now : Spot) (number : ℕ) (held : Option
   pub placed : IsPlaced before.at now.at round
   pub told : Told held (λ m. before.stood (content m x.run.input) → IsNext x.run.input before now number (content m x.run.input) round last)
 
+-- what a round wrote is in the outputs, and the next one was read
+pub record HasPutAndRead (x : Setup) (u : List Step) (number : ℕ) (before now : Spot) (Ready : ℕ → Type 0) (a b : Outside) (round : Round) : Type 0 where
+  pub wrote : Moves a.held b.held (Did x.run u)
+  pub read : HasRead x before now number b.held b.last round
+  pub ready : Ready round.number
+  pub reads : ReadsOf (is_cut round.ending) x.run.input a b
+
 -- What a round wrote is put into the outputs, and the next one is read. Where the call is ended by a fault, some of the first is
 -- done, and a read of the capture may have failed.
 pub record PutsAndReads (x : Setup) (u : List Step) (number : ℕ) (before now : Spot) (Ready : ℕ → Type 0) (a b : Outside)
     (r : Result Round Fault) : Type 0 where
-  pub wrote : IfOk r (λ _. Moves a.held b.held (Did x.run u))
+  pub well : IfOk r (HasPutAndRead x u number before now Ready a b)
   pub part : Moves a.held b.held (DidFront x.run u)
-  pub read : IfOk r (λ round. HasRead x before now number b.held b.last round)
-  pub past : Told b.held (λ m. ReadsPast x.run.input before now number (content m x.run.input) a.lost b.lost b.last)
-  pub ready : IfOk r (λ round. Ready round.number)
-  pub reads : IfOk r (λ round. ReadsOf (is_cut round.ending) x.run.input a b)
-  pub capture_read : MayFailIn x.run.input a b
-  pub others : Moves a.held b.held (OthersKept x.run)
+  pub past : Told b.held (λ m. ReadsPast x.run.input before now number (content m x.run.input) a b)
+  pub rest : KeepsRest x.run a b
   pub spoiled : Rises (has_failed r) a.spoiled b.spoiled
 
 -- it has nothing that is to be written

@@ -1,6 +1,6 @@
 -- What a job finds outside, and what it leaves there.
-use Rattle.std.specs.Prelude.{ℕ, List, Option}
-use Rattle.aftr_base.specs.Outside.{Outside}
+use Rattle.std.specs.Prelude.{List, Option, ℕ}
+use Rattle.lwaftr_engine.specs.Words.{Outside}
 
 -- the files, what the sink took so far (where that is told), and how many puts failed
 pub record World : Type 0 where

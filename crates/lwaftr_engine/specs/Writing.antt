@@ -1,10 +1,6 @@
 -- What a run writes, step by step: done whole, or to a front.
-use Rattle.std.specs.Prelude.{◌≡◌, ◌⊎◌, ℕ, Bool, true, false, if◌then◌else◌, List, [], ◌∷◌, ◌++◌, take}
-use Rattle.aftr_base.specs.Contents.{Contents, content}
-use Rattle.aftr_text.specs.Lines.{initial_text}
-use Rattle.aftr_text.specs.declared.jobs.RunJob.{RunJob}
-use Rattle.capture_io.specs.Packets.{file_head}
-use Rattle.capture_io.specs.declared.written.Written.{Written}
+use Rattle.std.specs.Prelude.{Bool, List, false, if◌then◌else◌, take, true, ℕ, [], ◌++◌, ◌∷◌, ◌≡◌, ◌⊎◌}
+use Rattle.lwaftr_engine.specs.Words.{Contents, RunJob, Written, content, file_head, initial_text}
 use Rattle.lwaftr_engine.specs.Runs.{OthersKept}
 
 -- the files that a run writes
@@ -59,9 +55,11 @@ BreaksLast run steps Well others old new =
     DidFront run steps old new ⊎ (Well × ((between : Contents) × Did run steps old between × DidFront run others between new))
 
 -- the outputs are opened: all three are made, then the header of the capture is written and the line of the first table
+abbrev pub making_steps : List Step
+making_steps = make out_file ∷ make verdicts_file ∷ make versions_file ∷ []
+
 abbrev pub opening_steps : RunJob → Written → List Step
-opening_steps run written =
-    make out_file ∷ make verdicts_file ∷ make versions_file ∷ (adds out_file (file_head written) ++ adds versions_file (initial_text run.table))
+opening_steps run written = making_steps ++ (adds out_file (file_head written) ++ adds versions_file (initial_text run.table))
 
 -- lines of tables are written, then packets, then lines of records
 abbrev pub round_steps : List ℕ → List ℕ → List ℕ → List Step

@@ -2,7 +2,7 @@
 ghost use Rattle.std.specs.Prelude.{◌≡◌, ◌⊎◌, ◌≤◌, IfOk, None};
 ghost use Rattle.aftr_base.specs.Outside.{Outside};
 ghost use Rattle.lwaftr_engine.specs.Causes.{HasOneCause};
-ghost use Rattle.lwaftr_engine.specs.Demos.{HasDemoHistory, IsDemoLine, middle};
+ghost use Rattle.lwaftr_engine.specs.Demos.{HasDemoHistory, IsDemoLine, half_way};
 ghost use Rattle.lwaftr_engine.specs.Questions.{Answers};
 ghost use Rattle.lwaftr_engine.specs.Shows.{IsDemoJob, IsDemoMade, IsShow};
 ghost use Rattle.lwaftr_engine.specs.Worlds.{world};
@@ -10,6 +10,7 @@ ghost use Rattle.lwaftr_engine.specs.Worlds.{world};
 use crate::jobs::run_made;
 use crate::queries::put_line;
 use crate::status::Status;
+use crate::tasks::Means;
 use aftr_base::{MemSink, OutOfMemory, QuietFiles, Sink, Text};
 use aftr_text::{LoadList, LoadWords, RunJob};
 use area_swap::History;
@@ -35,7 +36,7 @@ struct Show {
 
 // When the second table comes into force.
 fn middle_of(count: u32) -> Window
-    ensures { (result.earliest ≡ middle count) × (result.latest ≡ middle count) }
+    ensures { result ≡ half_way count }
 {
     let half = count / 2;
     Window {
@@ -98,13 +99,11 @@ fn prepared(alloc: Global, seed: u64, count: u32, workers: u32) -> Result<Show, 
 
 /// Runs over the generated traffic of a seed, in files of its own, and puts the summary.
 pub fn show_demo<R: Threads + Wait + Sync, O: Sink, G: Gate + Sync>(
-    rt: &R,
-    alloc: Global,
+    means: &Means<'_, R, G>,
     seed: u64,
     count: u32,
     workers: u32,
     out: &mut O,
-    gate: &G,
     history: &mut Option<History>,
 ) -> Status
     requires some { 1 ≤ count }
@@ -120,6 +119,7 @@ pub fn show_demo<R: Threads + Wait + Sync, O: Sink, G: Gate + Sync>(
     // Laws, and no steps: a capture has one reading, and what is written is read.
     one_reading();
     written_is_read();
+    let alloc = means.alloc;
     let Ok(show) = prepared(alloc, seed, count, workers) else {
         return Status::OutOfMemory;
     };
@@ -130,16 +130,7 @@ pub fn show_demo<R: Threads + Wait + Sync, O: Sink, G: Gate + Sync>(
     } = show;
     let mut line = MemSink::new(alloc);
     let mut closed = None;
-    match run_made(
-        rt,
-        alloc,
-        &mut files,
-        &mut line,
-        &job,
-        made,
-        gate,
-        &mut closed,
-    ) {
+    match run_made(means, &mut files, &mut line, &job, made, &mut closed) {
         Status::Done => {}
         // Files and a sink in memory fail for want of memory alone.
         _ => return Status::OutOfMemory,

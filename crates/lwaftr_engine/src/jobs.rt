@@ -2,12 +2,11 @@
 ghost use Rattle.std.specs.Prelude.{◌≡◌, [], ◌∷◌, All, IfOk, None, length};
 ghost use Rattle.aftr_base.specs.Contents.{Moves, Told, content};
 ghost use Rattle.binding_rules.specs.Tables.{BindingTable};
-ghost use Rattle.lwaftr_engine.specs.Causes.{FailsIn, HasCause, MayFailIn};
+ghost use Rattle.lwaftr_engine.specs.Causes.{FailsIn, HasCause};
 ghost use Rattle.lwaftr_engine.specs.Loads.{AreFitFor};
 ghost use Rattle.lwaftr_engine.specs.Planned.{IsAtFirst, IsMade, IsRunJob, LeavesMade, done_status, ended_status, some_slot_refused, unopened_status};
-ghost use Rattle.lwaftr_engine.specs.Progress.{spot};
+ghost use Rattle.lwaftr_engine.specs.Progress.{KeepsRest, setup_of, spot};
 ghost use Rattle.lwaftr_engine.specs.Promises.{HasHistory, KeepsRun};
-ghost use Rattle.lwaftr_engine.specs.Runs.{OthersKept};
 ghost use Rattle.lwaftr_engine.specs.Worlds.{world};
 ghost use Rattle.table_words.specs.Layout.{AreCompiled, IsCompiled};
 
@@ -15,17 +14,18 @@ use crate::loads::loads_in;
 use crate::run::run_capture;
 use crate::status::Status;
 use crate::table_file::{NoTable, table_in};
-use crate::tasks::Task;
+use crate::tasks::{Means, Task};
 use aftr_base::{Fault, Files, OutOfMemory, Sink, WordList};
 use aftr_text::RunJob;
 use area_swap::History;
 use binding_file::one_table;
-use capture_io::{CaptureError, CaptureReader, Ending, Written, one_reading};
+use capture_io::{CaptureError, CaptureReader, Ending, one_reading};
 use pcapng_io::{NgReader, Reader};
 use reload_plan::{Load, Made, Slot, plan};
 use std::alloc::Global;
 use std::sync::Wait;
 use std::thread::Threads;
+use swap_core::Plan;
 use table_words::compile;
 use worker_gate::Gate;
 
@@ -96,55 +96,42 @@ fn done_status(refused: bool) -> Status
 
 // What a run does once its tables are read and its capture is opened: the reader stands before the first record.
 fn run_opened<R: Threads + Wait + Sync, F: Files, O: Sink, C: CaptureReader, G: Gate + Sync>(
-    rt: &R,
-    alloc: Global,
+    means: &Means<'_, R, G>,
     files: &mut F,
     out: &mut O,
-    job: &RunJob,
-    made: Made,
-    written: Written,
+    task: Task<'_>,
+    plan: Plan,
     reader: &mut C,
-    gate: &G,
     history: &mut Option<History>,
 ) -> Status
-    requires job { IsRunJob job.now }
-    requires compiled { All AreCompiled made.plan.tables }
-    requires count { length made.slots ≡ length job.now.loads }
+    requires job { IsRunJob (setup_of task).run }
+    requires compiled { All AreCompiled plan.tables }
+    requires count { length (setup_of task).slots ≡ length (setup_of task).run.loads }
     requires ready { C.ready reader.old 0 }
     requires opened { Told (F.outside files.old).held (λ m. IsAtFirst (spot (C.stands reader.old) (C.left reader.old) (C.at reader.old))
-        (C.form reader.old) written (content m job.now.input)) }
+        (setup_of task).form (setup_of task).written (content m (setup_of task).run.input)) }
     requires none { history.old ≡ None }
-    ensures left { Moves (F.outside files.old).held (F.outside files.new).held (LeavesMade job.now made.plan made.slots result
+    ensures left { Moves (F.outside files.old).held (F.outside files.new).held (LeavesMade (setup_of task.entry).run plan (setup_of task.entry).slots result
         (world (F.outside files.old) (O.out out.old) (O.faults out.old))
         (world (F.outside files.new) (O.out out.new) (O.faults out.new)) history.new) }
-    ensures others { Moves (F.outside files.old).held (F.outside files.new).held (OthersKept job.now) }
     ensures cause { HasCause result (world (F.outside files.old) (O.out out.old) (O.faults out.old))
         (world (F.outside files.new) (O.out out.new) (O.faults out.new)) }
-    ensures failed_read { FailsIn (job.now.input ∷ []) result (F.outside files.old).last (F.outside files.new).last }
-    ensures capture_read { MayFailIn job.now.input (F.outside files.old) (F.outside files.new) }
-    ensures has_history { HasHistory job.now.input result (F.outside files.new).last (O.out out.old) (O.out out.new) history.new }
+    ensures failed_read { FailsIn ((setup_of task.entry).run.input ∷ []) result (F.outside files.old).last (F.outside files.new).last }
+    ensures rest { KeepsRest (setup_of task.entry).run (F.outside files.old) (F.outside files.new) }
+    ensures has_history { HasHistory (setup_of task.entry).run.input result (F.outside files.new).last (O.out out.old) (O.out out.new) history.new }
 {
-    let Made { plan, slots } = made;
-    let refused = has_refused(slots.as_slice());
-    let task = Task {
-        job,
-        slots: slots.as_slice(),
-        form: reader.form(),
-        written,
-    };
-    let ended = run_capture(rt, alloc, files, out, task, plan, reader, gate, history);
+    let refused = has_refused(task.slots);
+    let ended = run_capture(means, files, out, task, plan, reader, history);
     ended_status(ended, refused)
 }
 
 /// Opens the capture, which may be of either format, and takes its records: the steps of a run behind the reading of its tables.
 pub fn run_made<R: Threads + Wait + Sync, F: Files, O: Sink, G: Gate + Sync>(
-    rt: &R,
-    alloc: Global,
+    means: &Means<'_, R, G>,
     files: &mut F,
     out: &mut O,
     job: &RunJob,
     made: Made,
-    gate: &G,
     history: &mut Option<History>,
 ) -> Status
     requires job { IsRunJob job.now }
@@ -154,28 +141,22 @@ pub fn run_made<R: Threads + Wait + Sync, F: Files, O: Sink, G: Gate + Sync>(
     ensures left { Moves (F.outside files.old).held (F.outside files.new).held (LeavesMade job.now made.plan made.slots result
         (world (F.outside files.old) (O.out out.old) (O.faults out.old))
         (world (F.outside files.new) (O.out out.new) (O.faults out.new)) history.new) }
-    ensures others { Moves (F.outside files.old).held (F.outside files.new).held (OthersKept job.now) }
     ensures cause { HasCause result (world (F.outside files.old) (O.out out.old) (O.faults out.old))
         (world (F.outside files.new) (O.out out.new) (O.faults out.new)) }
     ensures failed_read { FailsIn (job.now.input ∷ []) result (F.outside files.old).last (F.outside files.new).last }
-    ensures capture_read { MayFailIn job.now.input (F.outside files.old) (F.outside files.new) }
+    ensures rest { KeepsRest job.now (F.outside files.old) (F.outside files.new) }
     ensures has_history { HasHistory job.now.input result (F.outside files.new).last (O.out out.old) (O.out out.new) history.new }
 {
-    match Reader::open(alloc, files, job.input.as_str()) {
+    let Made { plan, slots } = made;
+    match Reader::open(means.alloc, files, job.input.as_str()) {
         Ok(mut reader) => {
-            let written = reader.written();
-            run_opened(
-                rt,
-                alloc,
-                files,
-                out,
+            let task = Task {
                 job,
-                made,
-                written,
-                &mut reader,
-                gate,
-                history,
-            )
+                slots: slots.as_slice(),
+                form: reader.form(),
+                written: reader.written(),
+            };
+            run_opened(means, files, out, task, plan, &mut reader, history)
         }
         Err(error) => unopened(error),
     }
@@ -183,12 +164,10 @@ pub fn run_made<R: Threads + Wait + Sync, F: Files, O: Sink, G: Gate + Sync>(
 
 /// Does the run.
 pub fn run_job<R: Threads + Wait + Sync, F: Files, O: Sink, G: Gate + Sync>(
-    rt: &R,
-    alloc: Global,
+    means: &Means<'_, R, G>,
     job: &RunJob,
     files: &mut F,
     out: &mut O,
-    gate: &G,
     history: &mut Option<History>,
 ) -> Status
     requires job { IsRunJob job.now }
@@ -200,6 +179,7 @@ pub fn run_job<R: Threads + Wait + Sync, F: Files, O: Sink, G: Gate + Sync>(
     one_table();
     one_reading();
     NgReader::one_left();
+    let alloc = means.alloc;
     let table = match table_in(alloc, files, job.table.as_str()) {
         Ok(table) => table,
         Err(NoTable::ReadFault) => return Status::ReadFault,
@@ -210,7 +190,7 @@ pub fn run_job<R: Threads + Wait + Sync, F: Files, O: Sink, G: Gate + Sync>(
         return Status::OutOfMemory;
     };
     drop(table);
-    let loads = match loads_in(rt, alloc, files, job.loads.as_slice(), job.workers) {
+    let loads = match loads_in(means.rt, alloc, files, job.loads.as_slice(), job.workers) {
         Ok(loads) => loads,
         Err(Fault::Failed) => return Status::ReadFault,
         Err(Fault::OutOfMemory) => return Status::OutOfMemory,
@@ -218,5 +198,5 @@ pub fn run_job<R: Threads + Wait + Sync, F: Files, O: Sink, G: Gate + Sync>(
     let Ok(made) = made_of(alloc, first, loads, job) else {
         return Status::OutOfMemory;
     };
-    run_made(rt, alloc, files, out, job, made, gate, history)
+    run_made(means, files, out, job, made, history)
 }

@@ -5,7 +5,7 @@ ghost use Rattle.aftr_base.specs.Outside.{OnlyWrites, has_failed};
 ghost use Rattle.aftr_base.specs.Pieces.{AppendedAll};
 ghost use Rattle.aftr_text.specs.Jobs.{AreApart};
 ghost use Rattle.lwaftr_engine.specs.Runs.{OthersKept};
-ghost use Rattle.lwaftr_engine.specs.Writing.{Did, DidFront, opening_steps, round_steps};
+ghost use Rattle.lwaftr_engine.specs.Writing.{Did, DidFront, making_steps, opening_steps, round_steps};
 ghost use Rattle.run_output.specs.Rendering.{lines_in, packets_in};
 
 use aftr_base::{Fault, Files, append_all};
@@ -30,9 +30,7 @@ pub fn open_outputs<F: Files>(
     let mut header = Vec::new(alloc);
     written.push_header(&mut header)?;
     let line = initial_line(alloc, job.table.as_str())?;
-    files.create(alloc, job.output.as_str())?;
-    files.create(alloc, job.verdicts.as_str())?;
-    files.create(alloc, job.versions.as_str())?;
+    make_outputs(alloc, files, job)?;
     append_all(alloc, files, job.output.as_str(), &header)?;
     append_all(
         alloc,
@@ -40,6 +38,20 @@ pub fn open_outputs<F: Files>(
         job.versions.as_str(),
         line.as_str().as_bytes(),
     )?;
+    Ok(())
+}
+
+// Makes the three outputs.
+fn make_outputs<F: Files>(alloc: Global, files: &mut F, job: &RunJob) -> Result<(), Fault>
+    requires apart { AreApart job.now }
+    ensures made { OnOk result (Moves (F.outside files.old).held (F.outside files.new).held (Did job.now making_steps)) }
+    ensures half { IfErr result (λ _. Moves (F.outside files.old).held (F.outside files.new).held (DidFront job.now making_steps)) }
+    ensures others { Moves (F.outside files.old).held (F.outside files.new).held (OthersKept job.now) }
+    ensures writes { OnlyWrites (has_failed result) (F.outside files.old) (F.outside files.new) }
+{
+    files.create(alloc, job.output.as_str())?;
+    files.create(alloc, job.verdicts.as_str())?;
+    files.create(alloc, job.versions.as_str())?;
     Ok(())
 }
 

@@ -8,8 +8,7 @@ ghost use Rattle.aftr_text.specs.Jobs.{AreApart};
 ghost use Rattle.capture_io.specs.Refusals.{EndsInRecords};
 ghost use Rattle.capture_io.specs.Rounds.{is_cut};
 ghost use Rattle.lwaftr_engine.specs.Broken.{Breaks};
-ghost use Rattle.lwaftr_engine.specs.Causes.{MayFailIn};
-ghost use Rattle.lwaftr_engine.specs.Progress.{Goes, IsOnDuty, ReadsOf, setup_of, spot, state_of};
+ghost use Rattle.lwaftr_engine.specs.Progress.{Goes, IsOnDuty, KeepsRest, ReadsOf, setup_of, spot, state_of};
 ghost use Rattle.lwaftr_engine.specs.Runs.{OthersKept};
 ghost use Rattle.lwaftr_engine.specs.Underway.{CanJudge, HasRead, IsAtStart, IsNothing, IsSettledAt};
 ghost use Rattle.lwaftr_engine.specs.Underway.{PutsAndReads, StaysOnDuty, WentWell, steps_of};
@@ -18,7 +17,7 @@ ghost use Rattle.lwaftr_engine.specs.Writing.{BreaksLast, Did, DidBoth, DidFront
 use crate::known::run_laws;
 use crate::outputs::write_round;
 use crate::shift::{Shift, judge_round};
-use crate::tasks::Task;
+use crate::tasks::{Means, Task};
 use aftr_base::{Fault, Files, OutOfMemory};
 use aftr_text::Totals;
 use capture_io::{CaptureReader, Ending, Records, Round};
@@ -59,60 +58,85 @@ pub struct Pending {
     pub versions: String,
 }
 
-/// The lists of rounds. They change places from round to round, so that memory is taken in the first ones alone.
+/// What a run keeps from round to round.
+#[derive(Drop)]
+pub struct Router {
+    pub shift: Shift,
+    pub progress: Progress,
+    /// What the round writes that was judged last.
+    pub made: Pending,
+}
+
+/// The lists of the first rounds. They change places from round to round, so that memory is taken in these alone.
 #[derive(Drop)]
 pub struct Room {
     pub records: Records,
     pub spare: Records,
     pub pending: Pending,
-    pub made: Pending,
+}
+
+/// A round under way.
+#[derive(Drop)]
+struct UnderWay {
+    /// It was read, and is not judged yet.
+    round: Round,
+    /// What the round before it writes, which is not in the outputs yet.
+    pending: Pending,
 }
 
 // Judges a round, and renders what it writes.
 fn judge<R: Threads + Wait + Sync, G: Gate + Sync>(
-    rt: &R,
-    alloc: Global,
+    means: &Means<'_, R, G>,
     task: Task<'_>,
-    gate: &G,
-    shift: &mut Shift,
-    progress: &mut Progress,
+    router: &mut Router,
     round: &Round,
-    made: &mut Pending,
 ) -> Result<(), OutOfMemory>
-    requires can { CanJudge (setup_of task) shift.old progress.old round.now }
-    ensures well { IfOk result (λ _. WentWell (setup_of task.entry) shift.old shift.new progress.old progress.new round.now made.new) }
-    ensures duty { StaysOnDuty shift.old shift.new round.now.number }
+    requires can { CanJudge (setup_of task) router.old round.now }
+    ensures well { IfOk result (λ _. WentWell (setup_of task.entry) router.old router.new round.now) }
+    ensures duty { StaysOnDuty router.old.shift router.new.shift round.now.number }
 {
-    let start = progress.number;
-    let items = progress.stage.items(rt, alloc, &round.records, start)?;
-    judge_round(rt, shift, &items, start, round.number, gate);
+    let rt = means.rt;
+    let alloc = means.alloc;
+    let start = router.progress.number;
+    let items = router
+        .progress
+        .stage
+        .items(rt, alloc, &round.records, start)?;
+    judge_round(
+        rt,
+        &mut router.shift,
+        &items,
+        start,
+        round.number,
+        means.gate,
+    );
     let judged = RoundRecords {
         start,
         records: &round.records,
         items: &items,
-        outcomes: &shift.crew.outcomes(),
+        outcomes: &router.shift.crew.outcomes(),
     };
     render_round(
         rt,
         task.form,
         task.written,
         &judged,
-        &mut progress.limit,
-        &mut progress.totals,
-        &mut made.rendered,
+        &mut router.progress.limit,
+        &mut router.progress.totals,
+        &mut router.made.rendered,
     )?;
-    progress.stage.take_back(items);
-    made.versions.clear();
+    router.progress.stage.take_back(items);
+    router.made.versions.clear();
     let printed = push_new_versions(
         alloc,
-        &mut made.versions,
+        &mut router.made.versions,
         task.job.loads.as_slice(),
         task.slots,
-        shift.desk.points(),
-        progress.printed,
+        router.shift.desk.points(),
+        router.progress.printed,
     )?;
-    progress.printed = printed;
-    progress.number = round.number;
+    router.progress.printed = printed;
+    router.progress.number = round.number;
     Ok(())
 }
 
@@ -230,34 +254,32 @@ fn call_both<R: Threads, F: FnMut() -> A + Send, G: FnMut() -> B, A: Send, B>(
 // Judges a round beside putting what the round before it wrote into the outputs and reading the next one: in a new thread, or, of
 // one worker, behind that.
 fn step<R: Threads + Wait + Sync, F: Files, C: CaptureReader, G: Gate + Sync>(
-    rt: &R,
-    alloc: Global,
+    means: &Means<'_, R, G>,
     files: &mut F,
     task: Task<'_>,
     reader: &mut C,
-    gate: &G,
-    shift: &mut Shift,
-    progress: &mut Progress,
-    round: &Round,
-    pending: &Pending,
-    made: &mut Pending,
+    router: &mut Router,
+    under_way: &UnderWay,
     spare: &mut Option<Records>,
 ) -> Result<Round, Fault>
     requires apart { AreApart (setup_of task).run }
-    requires can { CanJudge (setup_of task) shift.old progress.old round.now }
-    requires ready { C.ready reader.old round.now.number }
-    ensures well { IfOk result (λ _. WentWell (setup_of task.entry) shift.old shift.new progress.old progress.new round.now made.new) }
-    ensures duty { StaysOnDuty shift.old shift.new round.now.number }
-    ensures outside { PutsAndReads (setup_of task.entry) (steps_of pending.now) round.now.number
+    requires can { CanJudge (setup_of task) router.old under_way.now.round }
+    requires ready { C.ready reader.old under_way.now.round.number }
+    ensures well { IfOk result (λ _. WentWell (setup_of task.entry) router.old router.new under_way.now.round) }
+    ensures duty { StaysOnDuty router.old.shift router.new.shift under_way.now.round.number }
+    ensures outside { PutsAndReads (setup_of task.entry) (steps_of under_way.now.pending) under_way.now.round.number
         (spot (C.stands reader.old) (C.left reader.old) (C.at reader.old)) (spot (C.stands reader.new) (C.left reader.new) (C.at reader.new))
         (λ n. C.ready reader.new n) (F.outside files.old) (F.outside files.new) result }
 {
+    let alloc = means.alloc;
+    let round = &under_way.round;
+    let pending = &under_way.pending;
     let number = round.number;
     let mut judging = ||
-        requires { IsSync R.row × (IsSync G.row × CanJudge (setup_of task) shift.now progress.now round.now) }
-        ensures { IfOk result (λ _. WentWell (setup_of task.entry) shift.entry.now shift.exit.now progress.entry.now progress.exit.now
-            round.entry.now made.exit.now) × StaysOnDuty shift.entry.now shift.exit.now round.entry.now.number }
-    { judge(rt, alloc, task, gate, shift, progress, round, made) };
+        requires { IsSync R.row × (IsSync G.row × CanJudge (setup_of task) router.now round.now) }
+        ensures { IfOk result (λ _. WentWell (setup_of task.entry) router.entry.now router.exit.now round.entry.now)
+            × StaysOnDuty router.entry.now.shift router.exit.now.shift round.entry.now.number }
+    { judge(means, task, router, round) };
     let mut outside = ||
         requires { AreApart (setup_of task).run × ((number ≤ 2 ^ 31) × C.ready reader.now number) }
         ensures { PutsAndReads (setup_of task.entry) (steps_of pending.entry.now) number
@@ -266,7 +288,7 @@ fn step<R: Threads + Wait + Sync, F: Files, C: CaptureReader, G: Gate + Sync>(
             (λ n. C.ready reader.exit.now n) (F.outside files.entry.now) (F.outside files.exit.now) result }
     { put_and_read(alloc, files, task, reader, pending, number, spare) };
     let beside = task.job.workers > 1;
-    let (judged, next) = call_both(rt, beside, &mut judging, &mut outside);
+    let (judged, next) = call_both(means.rt, beside, &mut judging, &mut outside);
     let next = next?;
     judged?;
     Ok(next)
@@ -274,70 +296,61 @@ fn step<R: Threads + Wait + Sync, F: Files, C: CaptureReader, G: Gate + Sync>(
 
 // Puts what the round before the last one wrote, and judges and puts the last one.
 fn last_steps<R: Threads + Wait + Sync, F: Files, G: Gate + Sync>(
-    rt: &R,
-    alloc: Global,
+    means: &Means<'_, R, G>,
     files: &mut F,
     task: Task<'_>,
-    gate: &G,
-    shift: &mut Shift,
-    progress: &mut Progress,
-    round: &Round,
-    before: &Pending,
-    made: &mut Pending,
+    router: &mut Router,
+    under_way: &UnderWay,
 ) -> Result<(), Fault>
     requires apart { AreApart (setup_of task).run }
-    requires can { CanJudge (setup_of task) shift.old progress.old round.now }
-    ensures well { IfOk result (λ _. WentWell (setup_of task.entry) shift.old shift.new progress.old progress.new round.now made.new) }
-    ensures duty { StaysOnDuty shift.old shift.new round.now.number }
+    requires can { CanJudge (setup_of task) router.old under_way.now.round }
+    ensures well { IfOk result (λ _. WentWell (setup_of task.entry) router.old router.new under_way.now.round) }
+    ensures duty { StaysOnDuty router.old.shift router.new.shift under_way.now.round.number }
     ensures wrote { IfOk result (λ _. Moves (F.outside files.old).held (F.outside files.new).held
-        (DidBoth (setup_of task.entry).run (steps_of before.now) (steps_of made.new))) }
+        (DidBoth (setup_of task.entry).run (steps_of under_way.now.pending) (steps_of router.new.made))) }
     ensures begun { IfErr result (λ _. Moves (F.outside files.old).held (F.outside files.new).held
-        (BreaksLast (setup_of task.entry).run (steps_of before.now)
-        (WentWell (setup_of task.entry) shift.old shift.new progress.old progress.new round.now made.new) (steps_of made.new))) }
+        (BreaksLast (setup_of task.entry).run (steps_of under_way.now.pending)
+        (WentWell (setup_of task.entry) router.old router.new under_way.now.round) (steps_of router.new.made))) }
     ensures others { Moves (F.outside files.old).held (F.outside files.new).held (OthersKept (setup_of task.entry).run) }
     ensures writes { OnlyWrites (has_failed result) (F.outside files.old) (F.outside files.new) }
 {
-    put(alloc, files, task, before)?;
-    judge(rt, alloc, task, gate, shift, progress, round, made)?;
-    put(alloc, files, task, made)
+    put(means.alloc, files, task, &under_way.pending)?;
+    judge(means, task, router, &under_way.round)?;
+    put(means.alloc, files, task, &router.made)
 }
 
 /// Takes all records in rounds, and answers how they ended. A fault is one of writing.
 pub fn run_records<R: Threads + Wait + Sync, F: Files, C: CaptureReader, G: Gate + Sync>(
-    rt: &R,
-    alloc: Global,
+    means: &Means<'_, R, G>,
     files: &mut F,
     task: Task<'_>,
     reader: &mut C,
-    gate: &G,
-    shift: &mut Shift,
-    progress: &mut Progress,
+    router: &mut Router,
     room: Room,
 ) -> Result<Ending, Fault>
     requires apart { AreApart (setup_of task).run }
     requires workers { (1 ≤ (setup_of task).run.workers) × ((setup_of task).run.workers ≤ 16) }
-    requires start { IsAtStart (setup_of task) shift.old progress.old }
-    requires ready { C.ready reader.old progress.old.number }
+    requires start { IsAtStart (setup_of task) router.old }
+    requires ready { C.ready reader.old router.old.progress.number }
     requires nothing { IsNothing room.pending }
 
     // Where all went well.
     ensures went { IfOk result (λ ending. Moves (F.outside files.old).held (F.outside files.new).held
-        (Goes (setup_of task.entry) (state_of progress.new shift.new) (spot (C.stands reader.old) (C.left reader.old) (C.at reader.old))
+        (Goes (setup_of task.entry) (state_of router.new) (spot (C.stands reader.old) (C.left reader.old) (C.at reader.old))
         (spot (C.stands reader.new) (C.left reader.new) (C.at reader.new)) (Some ending) (F.outside files.new).last)) }
-    ensures after { IfOk result (λ _. IsSettledAt (setup_of task.entry) shift.new progress.new) }
+    ensures after { IfOk result (λ _. IsSettledAt (setup_of task.entry) router.new) }
     ensures reads { IfOk result (λ ending. ReadsOf (is_cut (Some ending)) (setup_of task.entry).run.input (F.outside files.old) (F.outside files.new)) }
     ensures in_records { IfOk result (λ ending. EndsInRecords (Some ending)) }
 
     // Where they could not be written to their end.
     ensures broken { IfErr result (λ _. Moves (F.outside files.old).held (F.outside files.new).held
-        (Breaks (setup_of task.entry) (state_of progress.new shift.new) (spot (C.stands reader.old) (C.left reader.old) (C.at reader.old))
-        (F.outside files.old).lost (F.outside files.new).lost (F.outside files.new).last)) }
+        (Breaks (setup_of task.entry) (state_of router.new) (spot (C.stands reader.old) (C.left reader.old) (C.at reader.old))
+        (F.outside files.old) (F.outside files.new))) }
 
     // Whatever came.
-    ensures capture_read { MayFailIn (setup_of task.entry).run.input (F.outside files.old) (F.outside files.new) }
-    ensures areas { shift.new.areas ≡ shift.old.areas }
-    ensures duty { IsOnDuty shift.new.areas.plan shift.new }
-    ensures others { Moves (F.outside files.old).held (F.outside files.new).held (OthersKept (setup_of task.entry).run) }
+    ensures rest { KeepsRest (setup_of task.entry).run (F.outside files.old) (F.outside files.new) }
+    ensures areas { router.new.shift.areas ≡ router.old.shift.areas }
+    ensures duty { IsOnDuty router.new.shift.areas.plan router.new.shift }
     ensures spoiled { Rises (has_failed result) (F.outside files.old).spoiled (F.outside files.new).spoiled }
 {
     // Laws, and no steps: whatever is left has some ending, and what holds of every run.
@@ -346,24 +359,20 @@ pub fn run_records<R: Threads + Wait + Sync, F: Files, C: CaptureReader, G: Gate
     let Room {
         records,
         spare,
-        mut pending,
-        mut made,
+        pending,
     } = room;
     let mut spare = Some(spare);
-    let mut round = read_next(alloc, files, task, reader, progress.number, records)?;
+    let number = router.progress.number;
+    let round = read_next(means.alloc, files, task, reader, number, records)?;
+    let mut under_way = UnderWay { round, pending };
     'rounds: loop {
-        if let Some(ending) = round.ending {
-            last_steps(
-                rt, alloc, files, task, gate, shift, progress, &round, &pending, &mut made,
-            )?;
+        if let Some(ending) = under_way.round.ending {
+            last_steps(means, files, task, router, &under_way)?;
             return Ok(ending);
         }
-        let next = step(
-            rt, alloc, files, task, reader, gate, shift, progress, &round, &pending, &mut made,
-            &mut spare,
-        )?;
-        mem::swap(&mut pending, &mut made);
-        let Round { records, .. } = mem::replace(&mut round, next);
+        let next = step(means, files, task, reader, router, &under_way, &mut spare)?;
+        mem::swap(&mut under_way.pending, &mut router.made);
+        let Round { records, .. } = mem::replace(&mut under_way.round, next);
         spare = Some(records);
     }
 }

@@ -5,21 +5,19 @@ ghost use Rattle.aftr_base.specs.Outside.{has_failed};
 ghost use Rattle.aftr_text.specs.Jobs.{AreApart, IsRate, IsWorkers};
 ghost use Rattle.capture_io.specs.Refusals.{EndsInRecords};
 ghost use Rattle.capture_io.specs.Rounds.{is_cut};
-ghost use Rattle.lwaftr_engine.specs.Causes.{MayFailIn};
 ghost use Rattle.lwaftr_engine.specs.Finishing.{HasHistoryBy};
 ghost use Rattle.lwaftr_engine.specs.Planned.{LeavesOpened};
-ghost use Rattle.lwaftr_engine.specs.Progress.{OneRises, ReadsOf, setup_of, spot};
-ghost use Rattle.lwaftr_engine.specs.Runs.{OthersKept};
-ghost use Rattle.lwaftr_engine.specs.Underway.{IsFirst, IsNothing};
+ghost use Rattle.lwaftr_engine.specs.Progress.{KeepsRest, OneRises, ReadsOf, setup_of, spot};
+ghost use Rattle.lwaftr_engine.specs.Underway.{IsAtStart, IsFirst, IsNothing};
 ghost use Rattle.lwaftr_engine.specs.Worlds.{world};
 ghost use Rattle.table_words.specs.Layout.{AreCompiled};
 
 use crate::finishing::finish;
 use crate::known::run_laws;
 use crate::outputs::open_outputs;
-use crate::rounds::{Pending, Progress, Room, run_records};
+use crate::rounds::{Pending, Progress, Room, Router, run_records};
 use crate::shift::{begin_shift, end_shift};
-use crate::tasks::Task;
+use crate::tasks::{Means, Task};
 use aftr_base::{Fault, Files, OutOfMemory, Sink};
 use aftr_text::Totals;
 use area_swap::History;
@@ -59,7 +57,23 @@ fn at_first(alloc: Global, form: Form, errors: Option<u32>) -> Result<Progress, 
     })
 }
 
-// The lists of the first round.
+// What a run keeps, before its first record.
+fn router_of(alloc: Global, task: Task<'_>, plan: Plan) -> Result<Router, OutOfMemory>
+    requires workers { IsWorkers (setup_of task).run.workers }
+    requires errors { IfSome (setup_of task).run.errors IsRate }
+    requires loads { length (setup_of task).slots ≡ length (setup_of task).run.loads }
+    requires compiled { All AreCompiled plan.tables }
+    ensures start { IfOk result (IsAtStart (setup_of task.entry)) }
+    ensures plan { IfOk result (λ router. router.shift.areas.plan ≡ plan) }
+{
+    Ok(Router {
+        shift: begin_shift(alloc, plan, task.job.workers)?,
+        progress: at_first(alloc, task.form, task.job.errors)?,
+        made: no_pending(alloc, task.job.workers)?,
+    })
+}
+
+// The lists of the first rounds.
 fn first_room(alloc: Global, workers: u32) -> Result<Room, OutOfMemory>
     requires some_one { 1 ≤ workers }
     requires few { workers ≤ 16 }
@@ -69,7 +83,6 @@ fn first_room(alloc: Global, workers: u32) -> Result<Room, OutOfMemory>
         records: Records::new(alloc),
         spare: Records::new(alloc),
         pending: no_pending(alloc, workers)?,
-        made: no_pending(alloc, workers)?,
     })
 }
 
@@ -88,14 +101,12 @@ fn no_pending(alloc: Global, workers: u32) -> Result<Pending, OutOfMemory>
 /// Makes the outputs, takes all records, and writes what is left: the steps of a run from the opening of its outputs on. The
 /// reader stands before the first record. However it ends, the areas are closed; they become the history where all is written.
 pub fn run_capture<R: Threads + Wait + Sync, F: Files, O: Sink, C: CaptureReader, G: Gate + Sync>(
-    rt: &R,
-    alloc: Global,
+    means: &Means<'_, R, G>,
     files: &mut F,
     out: &mut O,
     task: Task<'_>,
     plan: Plan,
     reader: &mut C,
-    gate: &G,
     history: &mut Option<History>,
 ) -> Result<Ending, Fault>
     requires apart { AreApart (setup_of task).run }
@@ -111,30 +122,24 @@ pub fn run_capture<R: Threads + Wait + Sync, F: Files, O: Sink, C: CaptureReader
         (world (F.outside files.new) (O.out out.new) (O.faults out.new)) history.new) }
     ensures history { HasHistoryBy result (O.out out.old) (O.out out.new) history.new }
     ensures in_records { IfOk result (λ ending. EndsInRecords (Some ending)) }
-    ensures others { Moves (F.outside files.old).held (F.outside files.new).held (OthersKept (setup_of task.entry).run) }
     ensures reads { IfOk result (λ ending. ReadsOf (is_cut (Some ending)) (setup_of task.entry).run.input (F.outside files.old) (F.outside files.new)) }
-    ensures capture_read { MayFailIn (setup_of task.entry).run.input (F.outside files.old) (F.outside files.new) }
+    ensures rest { KeepsRest (setup_of task.entry).run (F.outside files.old) (F.outside files.new) }
     ensures writing { OneRises (has_failed result) (F.outside files.old).spoiled (F.outside files.new).spoiled (O.faults out.old) (O.faults out.new) }
 {
     // Laws, and no steps: whatever is left has some ending, and what holds of every run and plan.
     C::some_left();
     run_laws();
     plan.len();
-    let mut progress = at_first(alloc, task.form, task.job.errors)?;
+    let alloc = means.alloc;
+    let mut router = router_of(alloc, task, plan)?;
     let room = first_room(alloc, task.job.workers)?;
-    let mut shift = begin_shift(alloc, plan, task.job.workers)?;
     open_outputs(alloc, files, task.job, task.written)?;
-    let taken = run_records(
-        rt,
-        alloc,
-        files,
-        task,
-        reader,
-        gate,
-        &mut shift,
-        &mut progress,
-        room,
-    );
+    let taken = run_records(means, files, task, reader, &mut router, room);
+    let Router {
+        shift,
+        progress,
+        ..
+    } = router;
     let closed = end_shift(shift);
     let ending = taken?;
     finish(alloc, files, out, task, &progress, closed.points())?;

@@ -1,7 +1,7 @@
 // The workers of a run, and the desk that puts the next tables into force beside them.
 ghost use Rattle.std.specs.Prelude.{◌≡◌, ◌+◌, ◌≤◌, [], All, IfOk, length};
 ghost use Rattle.item_stage.specs.Items.{items_in};
-ghost use Rattle.lwaftr_engine.specs.Progress.{IsClosed, IsOnDuty, Suits, state_of};
+ghost use Rattle.lwaftr_engine.specs.Progress.{IsClosed, IsOnDuty, Suits, state_by};
 ghost use Rattle.lwaftr_engine.specs.Runs.{all_asking};
 ghost use Rattle.lwaftr_engine.specs.Underway.{StaysOnDuty};
 ghost use Rattle.lwaftr_engine.specs.declared.rounds.Progress.{Progress};
@@ -97,7 +97,7 @@ pub fn judge_round<R: Threads + Wait + Sync, G: Gate + Sync>(
 /// Closes the areas.
 pub fn end_shift(shift: Shift) -> History
     requires duty { IsOnDuty shift.areas.plan shift }
-    ensures { (p : Progress) → IsClosed (state_of p shift) result }
+    ensures { (p : Progress) → IsClosed (state_by p shift) result }
 {
     let Shift {
         areas,

@@ -1,7 +1,18 @@
-// What a run is told before its first record.
+// What a run is told before its first record, and by what means it is done.
 use aftr_text::RunJob;
 use capture_io::{Form, Written};
 use reload_plan::Slot;
+use std::alloc::Global;
+
+/// By what means a job is done.
+#[derive(Drop)]
+pub struct Means<'a, R, G> {
+    /// The right to begin threads and to wait.
+    pub rt: &'a R,
+    pub alloc: Global,
+    /// What workers pass between a draw and its judgement.
+    pub gate: &'a G,
+}
 
 /// What a run is told before its first record.
 #[derive(Clone, Copy)]

@@ -16,6 +16,7 @@ use crate::at_once::{AtOnce, do_at_once};
 use crate::demo::show_demo;
 use crate::jobs::run_job;
 use crate::status::Status;
+use crate::tasks::Means;
 use aftr_base::{Files, Sink};
 use area_swap::History;
 use std::alloc::Global;
@@ -81,13 +82,14 @@ pub fn lwaftr<R: Threads + Wait + Sync, F: Files, O: Sink, G: Gate + Sync>(
         (world (F.outside files.old) (O.out out.old) (O.faults out.old))
         (world (F.outside files.new) (O.out out.new) (O.faults out.new)) }
 {
+    let means = Means { rt, alloc, gate };
     match do_at_once(alloc, words, files, out) {
         AtOnce::Ended(status) => status,
-        AtOnce::Run(job) => run_job(rt, alloc, &job, files, out, gate, history),
+        AtOnce::Run(job) => run_job(&means, &job, files, out, history),
         AtOnce::Demo {
             seed,
             count,
             workers,
-        } => show_demo(rt, alloc, seed, count, workers, out, gate, history),
+        } => show_demo(&means, seed, count, workers, out, history),
     }
 }

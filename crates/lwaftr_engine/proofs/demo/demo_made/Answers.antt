@@ -1,7 +1,9 @@
-use Rattle.lwaftr_engine.proofs.ShowLemmas.{demo_made_ok}
+use Rattle.lwaftr_engine.proofs.ShowLemmas.{demo_made}
 use Rattle.lwaftr_engine.proofs.demo.demo_made.Goals as goal
 
 pub returns : goal.returns
 returns c =
-    demo_made_ok c.args.count c.args.first.now c.args.second.now c.in_ok-compile-2.field-0 c.in_ok-compile.field-0 c.middle_of.result c.new-loads.result.items c.push.new.self.items c.plan.result
-    c.middle_of.ensures c.in_ok-compile-2.ensures.words c.in_ok-compile.ensures.words c.new-loads.ensures.items c.in_ok-push.ensures.items c.plan.ensures.plan c.plan.ensures.slots c.plan.ensures.compiled
+    let plan = rw (c.in_ok-push.ensures.items, c.new-loads.ensures.items, c.middle_of.ensures) at c.plan.ensures.plan in
+    let slots = rw (c.in_ok-push.ensures.items, c.new-loads.ensures.items) at c.plan.ensures.slots in
+    demo_made c.args.count c.args.first.now c.args.second.now c.in_ok-compile-2.field-0 c.in_ok-compile.field-0 c.plan.result
+    c.in_ok-compile-2.ensures.words c.in_ok-compile.ensures.words plan slots c.plan.ensures.compiled

@@ -10,7 +10,8 @@ returns-in-Err-Failed g c =
     let a = f.outside c.args.files.now in
     let first = read_well _ _ _ _ c.in-Ok.ensures.reads in
     let is : c.loads_in.result ≡ Err fault.Failed = cc (c.in-Err-Failed.is, c.in-Err-Failed.field-0-is) in
-    keeps_unread c.args.job.now c.in-Ok.table a (f.outside c.loads_in.new.files) (g.O.Sink.out c.args.out.now) (g.O.Sink.faults c.args.out.now) c.args.history.now c.requires.none
+    keeps_unread c.args.job.now c.in-Ok.table a (f.outside c.loads_in.new.files) (g.O.Sink.out c.args.out.now) (g.O.Sink.faults c.args.out.now)
+    c.args.history.now c.requires.none
     (rw (is, c.as_slice.ensures, first) at c.loads_in.ensures.reads) (rw c.as_str.ensures at c.in-Ok.ensures.table)
 
 pub returns : goal.returns
@@ -21,7 +22,13 @@ returns g c =
     let d = f.outside c.loads_in.new.files in
     let first = read_well _ _ _ _ c.in-Ok.ensures.reads in
     let run : MadeRun = record {
-      one = record { table = c.one_table.ensures.answer; capture = c.one_reading.ensures; blocks_left = λ seen. c.one_left.ensures (record { seen = seen; ahead = [] }) };
+      one =
+          record {
+            table = c.one_table.ensures.answer;
+            capture = c.one_reading.ensures;
+            blocks_left = λ seen. c.one_left.ensures
+                (record { seen = seen; ahead = [] });
+          };
       run = c.args.job.now;
       t = c.in-Ok.table;
       ls = c.in-Ok-loads_in.loads.items;
@@ -35,5 +42,6 @@ returns g c =
       table = rw c.as_str.ensures at c.in-Ok.ensures.table;
       loads = rw (c.as_slice.ensures, first) at c.in-Ok-loads_in.ensures.loads;
     } in
+    let left = c.run_made.ensures in
     keeps_run run d c.run_made.result c.run_made.new.history (read_all first c.in-Ok-loads_in.ensures.reads)
-    c.run_made.ensures.left c.run_made.ensures.others c.run_made.ensures.cause c.run_made.ensures.failed_read c.run_made.ensures.capture_read c.run_made.ensures.has_history
+    left.left left.rest left.cause left.failed_read left.has_history

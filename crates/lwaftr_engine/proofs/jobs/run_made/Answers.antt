@@ -1,14 +1,15 @@
 use Rattle.lwaftr_engine.proofs.Words.{IsInHead, Reader, refl, world, read_well}
 use Rattle.lwaftr_engine.proofs.OpenLemmas.{opened_first}
-use Rattle.lwaftr_engine.proofs.ReadLemmas.{fails_after, fails_unopened}
+use Rattle.lwaftr_engine.proofs.ReadLemmas.{rest_unopened}
 use Rattle.lwaftr_engine.proofs.UnopenedLemmas.{either_unopened, is_short, unopened_leaves, history_by_error}
 use Rattle.lwaftr_engine.proofs.jobs.run_made.Goals as goal
 
 pub run_opened-requires-clause-opened : goal.run_opened-requires-clause-opened
 run_opened-requires-clause-opened g c κs within =
     let f = g.F.Files in
-    opened_first c.in-Ok.reader c.written-written.result c.written-written.ensures c.in-Ok.ensures.fresh c.as_str.result.now c.args.job.now.input c.as_str.ensures
-    (f.outside c.args.files.now).held (f.outside c.open.new.files).held c.in-Ok.ensures.reads.held c.in-Ok.ensures.told
+    let opened = c.in-Ok.ensures in
+    rw (opened.reads.held, c.form.ensures, c.written.ensures) (opened_first c.in-Ok.reader c.args.job.now.input (f.outside c.args.files.now).held
+    opened.fresh (rw c.as_str.ensures at opened.told))
 
 pub returns-in-Err-clause-left : goal.returns-in-Err-clause-left
 returns-in-Err-clause-left g c =
@@ -20,23 +21,25 @@ returns-in-Err-clause-left g c =
     let before = world a (o.out c.args.out.now) (o.faults c.args.out.now) in
     let now = world b (o.out c.args.out.now) (o.faults c.args.out.now) in
     let error = c.in-Err.error in
-    rw (c.unopened.ensures, c.requires.none) (unopened_leaves run c.args.made.plan c.args.made.slots error before now c.in-Err.ensures.reads.held refl
-    (is_short Reader c.as_str.result.now (IsInHead a.held c.as_str.result.now) a b error c.in-Err.ensures.reads)
-    (either_unopened run a.held c.as_str.result.now c.as_str.ensures error a.last b.last c.in-Err.ensures.told c.in-Err.ensures.reads.last))
+    let name = c.as_str.result.now in
+    let opened = c.in-Err.ensures in
+    rw (c.unopened.ensures, c.requires.none) (unopened_leaves run c.args.made.plan c.args.made.slots error before now opened.reads.held refl
+    (is_short Reader name (IsInHead a.held name) a b error opened.reads)
+    (either_unopened run a.held name c.as_str.ensures error a.last b.last opened.told opened.reads.last))
 
 pub returns-in-Ok-clause-left : goal.returns-in-Ok-clause-left
 returns-in-Ok-clause-left g c =
-    rw (← (read_well _ _ _ _ c.in-Ok.ensures.reads)) c.run_opened.ensures.left
+    rw (← c.as_slice.ensures) (rw (← (read_well _ _ _ _ c.in-Ok.ensures.reads)) c.run_opened.ensures.left)
 
-pub returns-in-Err-clause-capture_read : goal.returns-in-Err-clause-capture_read
-returns-in-Err-clause-capture_read g c =
+pub returns-in-Err-clause-rest : goal.returns-in-Err-clause-rest
+returns-in-Err-clause-rest g c =
     let f = g.F.Files in
-    fails_unopened Reader c.as_str.result.now c.args.job.now.input c.as_str.ensures (IsInHead (f.outside c.args.files.now).held c.as_str.result.now) (f.outside c.args.files.now) (f.outside c.open.new.files) c.in-Err.error c.in-Err.ensures.reads
+    let a = f.outside c.args.files.now in
+    let name = c.as_str.result.now in
+    rest_unopened c.args.job.now Reader name c.as_str.ensures (IsInHead a.held name) a (f.outside c.open.new.files) c.in-Err.error c.in-Err.ensures.reads
 
-pub returns-in-Ok-clause-capture_read : goal.returns-in-Ok-clause-capture_read
-returns-in-Ok-clause-capture_read g c =
-    let f = g.F.Files in
-    fails_after c.args.job.now.input (f.outside c.args.files.now) (f.outside c.open.new.files) (f.outside c.run_opened.new.files) c.in-Ok.ensures.reads.lost c.in-Ok.ensures.reads.last c.run_opened.ensures.capture_read
+pub returns-in-Ok-clause-rest : goal.returns-in-Ok-clause-rest
+returns-in-Ok-clause-rest g c = rw (← (read_well _ _ _ _ c.in-Ok.ensures.reads)) c.run_opened.ensures.rest
 
 pub returns-in-Err-clause-has_history : goal.returns-in-Err-clause-has_history
 returns-in-Err-clause-has_history g c =

@@ -7,10 +7,15 @@ files-preserved g c =
     let f = g.F.Files in
     let ws = c.args.words.now in
     let there = slice_get_read ws (length ws) c.files.at c.index-words-at.result refl (omega (arith, c.files-test.true)) c.index-words-at.is in
+    let items = c.files.read.items in
+    let at = c.files.at in
+    let words = c.index-words-at.result in
+    let read = c.in_ok-file in
+    let pushed = c.in_ok-push.ensures.items in
+    let text = rw c.files.invariant.outside at read.ensures.text in
     record {
       within = omega (arith, c.files-test.true);
-      texts = told_more IsFileOf (f.outside c.args.files.now).held ws c.files.read.items c.push.new.self.items c.files.at c.index-words-at.result c.in_ok-file.file
-          there c.in_ok-push.ensures.items c.files.invariant.texts (rw c.files.invariant.outside at c.in_ok-file.ensures.text);
-      windows = zipped_more HasWindowOf ws c.files.read.items c.push.new.self.items c.files.at c.index-words-at.result c.in_ok-file.file there c.in_ok-push.ensures.items c.files.invariant.windows c.in_ok-file.ensures.window;
+      texts = rw pushed (told_more IsFileOf (f.outside c.args.files.now).held ws items at words read.file there c.files.invariant.texts text);
+      windows = rw pushed (zipped_more HasWindowOf ws items at words read.file there c.files.invariant.windows read.ensures.window);
       outside = read_well _ _ _ _ c.in_ok-file.ensures.reads ∙ c.files.invariant.outside;
     }

@@ -8,13 +8,15 @@ batches-preserved g c =
     let ws = c.args.words.now in
     let at = c.batches.at in
     let count = c.min-count.result in
-    let n = at + count - at in
-    let many : n ≡ count = omega arith in
+    let many : c.batches.at + c.min-count.result - c.batches.at ≡ c.min-count.result = omega arith in
+    let items = c.batches.loads.items in
+    let batch = c.in_ok-batch in
+    let appended = c.in_ok-append.ensures.items in
+    let loads = rw (c.batches.invariant.outside, many) at batch.ensures.loads in
     record {
       within = omega (arith, c.batches.invariant.within, c.min-count.ensures);
-      loads = told_on IsLoadOf (f.outside c.args.files.now).held ws c.batches.loads.items c.in_ok-batch.batch.items c.append.new.self.items at count n
-          many c.in_ok-append.ensures.items c.batches.invariant.loads (rw c.batches.invariant.outside at c.in_ok-batch.ensures.loads);
-      fit = zipped_on IsFitFor ws c.batches.loads.items c.in_ok-batch.batch.items c.append.new.self.items at count n many c.in_ok-append.ensures.items c.batches.invariant.fit c.in_ok-batch.ensures.fit;
+      loads = rw appended (told_on IsLoadOf (f.outside c.args.files.now).held ws items batch.batch.items at count c.batches.invariant.loads loads);
+      fit = rw appended (zipped_on IsFitFor ws items batch.batch.items at count c.batches.invariant.fit (rw many at batch.ensures.fit));
       outside = read_all c.batches.invariant.outside c.in_ok-batch.ensures.reads;
     }
 
@@ -26,4 +28,5 @@ returns-in_err-batch-clause-reads g c =
     let a = f.outside c.args.files.now in
     let d = f.outside c.batch_in.new.files in
     let e = err_from_is_err_and c.from_residual-in_err-batch.result c.from_residual-in_err-batch.ensures.1 in
-    rw (ap (λ r. has_failed r) (e.1 ∙ ap Err e.2)) (reads_within _ ws at (at + c.min-count.result - at) a (f.outside c.batches.files) d c.batches.invariant.outside c.in_err-batch.ensures.reads)
+    rw (ap (λ r. has_failed r) (e.1 ∙ ap Err e.2)) (reads_within _ ws at (at + c.min-count.result - at) a (f.outside c.batches.files) d
+    c.batches.invariant.outside c.in_err-batch.ensures.reads)

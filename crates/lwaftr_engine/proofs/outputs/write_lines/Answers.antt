@@ -9,5 +9,10 @@ returns-in_err-append_all-clause-held g c =
     let mid = (g.F.Files.outside c.parts.files).held in
     let new = (g.F.Files.outside c.append_all.new.files).held in
     let f : Part → List ℕ = λ (p : Part). p.lines.items in
-    appended_err c.from_residual.result old new c.args.name.now (lines_in c.args.parts.now) c.from_residual.ensures.0
-    (cut_parts f c.args.name.now c.args.parts.now c.parts.i c.index-parts-i.result c.deref.result.now old mid new (slice_get_read c.args.parts.now (length c.args.parts.now) c.parts.i c.index-parts-i.result refl (omega (arith, c.parts-test.true)) c.index-parts-i.is) (c.deref.ensures.value ∙ ap f (sym c.index-parts-i.is)) c.parts.invariant.held c.in_err-append_all.ensures.held)
+    let parts = c.args.parts.now in
+    let name = c.args.name.now in
+    let part = c.index-parts-i.result in
+    let at = slice_get_read parts (length parts) c.parts.i part refl (omega (arith, c.parts-test.true)) c.index-parts-i.is in
+    let bytes = c.deref.ensures.value ∙ ap f (sym c.index-parts-i.is) in
+    appended_err c.from_residual.result old new name (lines_in parts) c.from_residual.ensures.0
+    (cut_parts f name parts c.parts.i part old mid new at c.parts.invariant.held (rw bytes at c.in_err-append_all.ensures.held))

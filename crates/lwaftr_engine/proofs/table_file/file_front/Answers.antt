@@ -1,11 +1,18 @@
-use Rattle.lwaftr_engine.proofs.Words.{◌++◌, ◌∙◌, ap, arith}
+use Rattle.lwaftr_engine.proofs.Words.{List, ap, arith, ℕ, ◌++◌, ◌∙◌}
 use Rattle.aftr_base.proofs.OutsideLemmas.{read_well}
 use Rattle.lwaftr_engine.proofs.FrontLemmas.{front_longer}
 use Rattle.lwaftr_engine.proofs.table_file.file_front.Goals as goal
 
 pub pieces-preserved : goal.pieces-preserved
-pieces-preserved g c = record {
-  within = grind arith;
-  bytes = front_longer (g.F.Files.outside c.args.files.now).held (g.F.Files.outside c.pieces.files).held c.args.name.now c.pieces.list.items c.in_ok-piece.piece c.extend_from_slice.new.self.items c.len-have.result c.min-count.result (ap (λ o. o.held) c.pieces.invariant.outside) (grind arith) (grind arith) (c.in_ok-extend_from_slice.ensures.items ∙ ap (λ l. c.pieces.list.items ++ l) c.as_slice-bytes.ensures) c.pieces.invariant.bytes c.in_ok-piece.ensures.bytes;
-  outside = read_well c.args.name.now _ _ _ c.in_ok-piece.ensures.reads ∙ c.pieces.invariant.outside;
-}
+pieces-preserved g c =
+    let h = (g.F.Files.outside c.args.files.now).held in
+    let list = c.pieces.list.items in
+    let known = c.pieces.invariant in
+    let piece = c.in_ok-piece in
+    let longer = c.in_ok-extend_from_slice.ensures.items ∙ ap (λ (l : List ℕ). c.pieces.list.items ++ l) c.as_slice-bytes.ensures in
+    record {
+      within = grind arith;
+      bytes = rw longer (front_longer h c.args.name.now list piece.piece c.len-have.result c.min-count.result (grind arith) (grind arith) known.bytes
+          (rw known.outside at piece.ensures.bytes));
+      outside = read_well c.args.name.now _ _ _ piece.ensures.reads ∙ known.outside;
+    }
