@@ -16,6 +16,8 @@ mod lines;
 #[cfg(test)]
 mod message_verdicts;
 #[cfg(test)]
+mod named_packets;
+#[cfg(test)]
 mod passing;
 #[cfg(test)]
 mod rendering;

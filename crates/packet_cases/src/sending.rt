@@ -1,14 +1,15 @@
-// What the tests of packets that are sent share: items with their packet read, what is recorded for verdicts on them, and the
+// What the lines of packets that are sent share: items with their packet read, what is recorded for verdicts on them, and the
 // records taken apart.
 ghost use Rattle.std.specs.Prelude.{◌≡◌, ◌≤◌, true, false};
 ghost use Rattle.ip_codec.specs.Packet4.{is_fragment, packet4, packet_len};
 ghost use Rattle.ip_codec.specs.Seen.{seen};
 ghost use Rattle.verdict_core.specs.Fitting.{Fits, HasRoom};
 
+use crate::named_packets::packet;
 use crate::stages::{PLAIN, form, records_of};
-use aftr_base::{OutOfMemory, V4, V6};
+use aftr_base::{V4, V6};
 use capture_io::Written;
-use case_data::{AFTR, SUBSCRIBER};
+use case_data::{AFTR, OWN, SUBSCRIBER};
 use icmp_codec::icmp6;
 use icmp_relay::read_quote;
 use ip_codec::{ItemView, Outer, ReadPacket, Rule, read_packet};
@@ -20,40 +21,16 @@ use std::thread::Threads;
 use verdict_core::{Path, Reply, Verdict};
 
 // The form and the time of every record in these tests.
-pub const FORM: Written = Written::Classic { nano: false };
+const FORM: Written = Written::Classic { nano: false };
 
-pub const SECONDS: u32 = 1;
+const SECONDS: u32 = 1;
 
-pub const FRACTION: u32 = 0x0201;
+const FRACTION: u32 = 0x0201;
 
 const TIME: &[u8; 8] = b"\x01\0\0\0\x01\x02\0\0";
 
 // What is recorded, and how many packets the call said.
-pub type Recorded = (u32, Vec<u8>);
-
-// Bytes that tell their places.
-pub fn pattern(alloc: Global, len: usize) -> Result<Vec<u8>, OutOfMemory> {
-    let mut list = Vec::new(alloc);
-    for place in 0..len {
-        list.push((place % 251) as u8)?;
-    }
-    Ok(list)
-}
-
-pub fn joined(alloc: Global, first: &[u8], rest: &[u8]) -> Result<Vec<u8>, OutOfMemory> {
-    let mut list = Vec::new(alloc);
-    list.extend_from_slice(first)?;
-    list.extend_from_slice(rest)?;
-    Ok(list)
-}
-
-// A part of the bytes; nothing where they are shorter.
-pub fn part(bytes: &[u8], from: usize, to: usize) -> &[u8] {
-    match bytes.get(from..to) {
-        Some(part) => part,
-        None => &[],
-    }
-}
+type Recorded = (u32, Vec<u8>);
 
 // The header of a subscriber's tunnel packet.
 fn outer(from: V6) -> Outer {
@@ -95,7 +72,7 @@ fn is_sendable(packet: &ReadPacket<'_>, room: usize) -> bool
 }
 
 // What is recorded for a packet of a subscriber that goes out.
-pub fn sent_out(alloc: Global, bytes: &[u8], mtu: u16) -> Result<Recorded, Fail> {
+fn sent_out(alloc: Global, bytes: &[u8], mtu: u16) -> Result<Recorded, Fail> {
     let Ok(inner) = read_packet(bytes) else {
         return Err("a packet".into());
     };
@@ -113,7 +90,7 @@ pub fn sent_out(alloc: Global, bytes: &[u8], mtu: u16) -> Result<Recorded, Fail>
 }
 
 // What is recorded for a packet that goes to a subscriber, as record `number`.
-pub fn sent_in(alloc: Global, bytes: &[u8], mtu: u16, number: u32) -> Result<Recorded, Fail> {
+fn sent_in(alloc: Global, bytes: &[u8], mtu: u16, number: u32) -> Result<Recorded, Fail> {
     let Ok(packet) = read_packet(bytes) else {
         return Err("a packet".into());
     };
@@ -135,7 +112,7 @@ pub fn sent_in(alloc: Global, bytes: &[u8], mtu: u16, number: u32) -> Result<Rec
 }
 
 // What is recorded for a packet of one subscriber that goes to another.
-pub fn sent_back(alloc: Global, bytes: &[u8], to: V6, mtu: u16) -> Result<Recorded, Fail> {
+fn sent_back(alloc: Global, bytes: &[u8], to: V6, mtu: u16) -> Result<Recorded, Fail> {
     let Ok(inner) = read_packet(bytes) else {
         return Err("a packet".into());
     };
@@ -160,7 +137,7 @@ pub fn sent_back(alloc: Global, bytes: &[u8], to: V6, mtu: u16) -> Result<Record
 }
 
 // What is recorded for a packet of a subscriber that is dropped in silence.
-pub fn dropped(alloc: Global, bytes: &[u8]) -> Result<Recorded, Fail> {
+fn dropped(alloc: Global, bytes: &[u8]) -> Result<Recorded, Fail> {
     let Ok(inner) = read_packet(bytes) else {
         return Err("a packet".into());
     };
@@ -176,7 +153,7 @@ pub fn dropped(alloc: Global, bytes: &[u8]) -> Result<Recorded, Fail> {
 }
 
 // What a subscriber is told of a packet whose time to live is used up.
-pub fn exceeded(alloc: Global, bytes: &[u8], own: V4, path: Path) -> Result<Recorded, Fail> {
+fn exceeded(alloc: Global, bytes: &[u8], own: V4, path: Path) -> Result<Recorded, Fail> {
     let Ok(inner) = read_packet(bytes) else {
         return Err("a packet".into());
     };
@@ -192,7 +169,7 @@ pub fn exceeded(alloc: Global, bytes: &[u8], own: V4, path: Path) -> Result<Reco
 }
 
 // What a subscriber is told of a packet to an address and port that nobody has.
-pub fn unreachable(alloc: Global, bytes: &[u8], own: V4, path: Path) -> Result<Recorded, Fail> {
+fn unreachable(alloc: Global, bytes: &[u8], own: V4, path: Path) -> Result<Recorded, Fail> {
     let Ok(inner) = read_packet(bytes) else {
         return Err("a packet".into());
     };
@@ -222,7 +199,7 @@ fn policy_on(alloc: Global, outer: Outer, inner: ReadPacket<'_>) -> Result<Recor
 }
 
 // The same of an IPv4 packet that came from this end.
-pub fn policy(alloc: Global, bytes: &[u8], end: V6) -> Result<Recorded, Fail> {
+fn policy(alloc: Global, bytes: &[u8], end: V6) -> Result<Recorded, Fail> {
     let Ok(inner) = read_packet(bytes) else {
         return Err("a packet".into());
     };
@@ -230,11 +207,7 @@ pub fn policy(alloc: Global, bytes: &[u8], end: V6) -> Result<Recorded, Fail> {
 }
 
 // The same of a tunnel packet, as a stage takes it from a record without a frame.
-pub fn policy_about<R: Threads + Sync>(
-    rt: &R,
-    alloc: Global,
-    bytes: &[u8],
-) -> Result<Recorded, Fail> {
+fn policy_about<R: Threads + Sync>(rt: &R, alloc: Global, bytes: &[u8]) -> Result<Recorded, Fail> {
     let mut stage = Stage::new(alloc, form(PLAIN))?;
     let records = records_of(alloc, &[bytes])?;
     let items = stage.items(rt, alloc, &records, 0)?;
@@ -248,7 +221,7 @@ pub fn policy_about<R: Threads + Sync>(
 }
 
 // What a host is told of a packet that is too big.
-pub fn too_big(alloc: Global, bytes: &[u8], own: V4, mtu: u16) -> Result<Recorded, Fail> {
+fn too_big(alloc: Global, bytes: &[u8], own: V4, mtu: u16) -> Result<Recorded, Fail> {
     let Ok(packet) = read_packet(bytes) else {
         return Err("a packet".into());
     };
@@ -265,7 +238,7 @@ pub fn too_big(alloc: Global, bytes: &[u8], own: V4, mtu: u16) -> Result<Recorde
 }
 
 // What a sender is told of an ICMPv6 error about the tunnel packet that carried its own.
-pub fn relayed(
+fn relayed(
     alloc: Global,
     src: V6,
     message: &[u8],
@@ -302,7 +275,7 @@ pub fn relayed(
 
 // The packet of record `index`, where every record before it has the time of the tests and its length twice. The numbers of
 // the form are little-endian.
-pub fn packet_at(out: &[u8], index: usize) -> Option<&[u8]> {
+fn packet_at(out: &[u8], index: usize) -> Option<&[u8]> {
     let mut rest = out;
     for _ in 0..index {
         let (_, behind) = first_record(rest)?;
@@ -327,24 +300,133 @@ fn first_record(bytes: &[u8]) -> Option<(&[u8], &[u8])> {
     rest.split_at_checked(captured as usize)
 }
 
-// Whether the packet of record `index` is these parts, one behind the other.
-pub fn is_packet(out: &[u8], index: usize, parts: &[&[u8]]) -> bool {
-    let Some(packet) = packet_at(out, index) else {
-        return false;
-    };
-    let mut rest = packet;
-    for part in parts {
-        match rest.strip_prefix(*part) {
-            Some(behind) => rest = behind,
-            None => return false,
-        }
+// Whether the packet of record `index` is just these bytes.
+fn is_packet(out: &[u8], index: usize, bytes: &[u8]) -> bool {
+    match packet_at(out, index) {
+        Some(packet) => packet == bytes,
+        None => false,
     }
-    rest.is_empty()
 }
 
 // Whether just so many packets are recorded, as the call said.
-pub fn are_just(recorded: &Recorded, count: u32) -> bool {
-    recorded.0 == count
-        && packet_at(&recorded.1, count as usize).is_none()
-        && (count == 0 || packet_at(&recorded.1, count as usize - 1).is_some())
+fn are_just(recorded: &Recorded, count: u32) -> bool {
+    let (said, out) = recorded;
+    let all = match count.checked_sub(1) {
+        Some(last) => {
+            packet_at(out, last as usize).is_some() && packet_at(out, count as usize).is_none()
+        }
+        None => out.is_empty(),
+    };
+    *said == count && all
+}
+
+// Puts a part behind bytes: a packet by its name, or `FROM..TO` of bytes that tell their places.
+fn push_part(alloc: Global, bytes: &mut Vec<u8>, part: &str) -> Result<(), Fail> {
+    match part.split_once("..") {
+        Some((from, to)) => {
+            for place in from.parse::<usize>()?..to.parse::<usize>()? {
+                bytes.push((place % 251) as u8)?;
+            }
+        }
+        None => bytes.extend_from_slice(&packet(alloc, part)?)?,
+    }
+    Ok(())
+}
+
+/// The bytes of parts that are apart by `+`.
+pub fn bytes_of(alloc: Global, parts: &str) -> Result<Vec<u8>, Fail> {
+    let mut bytes = Vec::new(alloc);
+    for part in parts.split('+') {
+        push_part(alloc, &mut bytes, part)?;
+    }
+    Ok(bytes)
+}
+
+// Another subscriber's end of its tunnel.
+const OTHER: V6 = V6(0x2001_0db8_0001_0000_0000_0000_0000_0002);
+
+// A host on the way of the tunnel packets.
+const ON_THE_WAY: V6 = V6(0x2001_0db8_0009_0000_0000_0000_0000_0001);
+
+const BACK: Path = Path::Tunnel {
+    from: AFTR,
+    to: SUBSCRIBER,
+    hop: 64,
+};
+
+// What is recorded of a packet on this way, by the greatest size, or the one that is told, and the number of the record.
+fn recorded(
+    alloc: Global,
+    way: &str,
+    bytes: &[u8],
+    mtu: u16,
+    number: u32,
+) -> Result<Recorded, Fail> {
+    match way {
+        "out" => sent_out(alloc, bytes, mtu),
+        "in" => sent_in(alloc, bytes, mtu, number),
+        "back" => sent_back(alloc, bytes, OTHER, mtu),
+        "dropped" => dropped(alloc, bytes),
+        "exceeded" => exceeded(alloc, bytes, OWN, BACK),
+        "unreachable" => unreachable(alloc, bytes, OWN, BACK),
+        "policy" => policy(alloc, bytes, OTHER),
+        "too-big" => too_big(alloc, bytes, OWN, mtu),
+        "relayed" => relayed(alloc, ON_THE_WAY, bytes, OWN, mtu, Path::Plain),
+        "relayed-back" => relayed(alloc, ON_THE_WAY, bytes, OWN, mtu, BACK),
+        _ => Err("a way".into()),
+    }
+}
+
+// The same by the words of a line.
+fn recorded_as<R: Threads + Sync>(
+    rt: &R,
+    alloc: Global,
+    words: &str,
+    bytes: &[u8],
+) -> Result<Recorded, Fail> {
+    let mut words = words.split(' ');
+    let way = words.next().unwrap_or("");
+    if way == "policy-about" {
+        return policy_about(rt, alloc, bytes);
+    }
+    let mtu = words.next().unwrap_or("0").parse()?;
+    let number = words.next().unwrap_or("0").parse()?;
+    recorded(alloc, way, bytes, mtu, number)
+}
+
+// Whether the packet that a part of a line tells of is recorded: its place among them, and its parts.
+fn is_recorded(alloc: Global, out: &[u8], told: &str) -> Result<bool, Fail> {
+    let (index, parts) = told.split_once(' ').ok_or("a place")?;
+    Ok(is_packet(out, index.parse()?, &bytes_of(alloc, parts)?))
+}
+
+// Whether what is recorded is what a line says: how many packets, and some of them.
+fn are_recorded(alloc: Global, recorded: &Recorded, line: &str) -> Result<bool, Fail> {
+    let mut told = line.split('|');
+    let mut right = are_just(recorded, told.next().unwrap_or("").parse()?);
+    for packet in told {
+        right &= is_recorded(alloc, &recorded.1, packet)?;
+    }
+    Ok(right)
+}
+
+fn is_right<R: Threads + Sync>(rt: &R, alloc: Global, line: &str) -> Result<bool, Fail> {
+    let (way, rest) = line.split_once('|').ok_or("a packet")?;
+    let (parts, rest) = rest.split_once('|').ok_or("what is recorded")?;
+    let recorded = recorded_as(rt, alloc, way, &bytes_of(alloc, parts)?)?;
+    are_recorded(alloc, &recorded, rest)
+}
+
+/// The first line of which something else is recorded. Those behind `#` say what the next ones are about.
+pub fn first_wrong<R: Threads + Sync>(
+    rt: &R,
+    alloc: Global,
+    lines: &'static str,
+) -> Result<&'static str, Fail> {
+    for line in lines.lines() {
+        if !line.starts_with('#') && !is_right(rt, alloc, line)? {
+            return Ok(line);
+        }
+    }
+    Ok("")
 }

@@ -1,213 +1,91 @@
-// Packets of subscribers, hand-made, with checksums by an independent program, under compiled tables.
-ghost use Rattle.table_words.specs.Layout.{AreCompiled};
-
-use crate::under_tables::{
-    FORWARDED, dropped, exceeded, judged, judged_over, padded, sent_by, table, table_under, told,
-    too_big, tunnel, up,
-};
-use aftr_base::{V6, WordList};
-use binding_rules::Softwire;
-use case_data::{AFTR, FIRST_FRAGMENT, NO_PORTS, SETTINGS, THREE_BYTES, UP, subscriber};
+// Verdicts under compiled tables, on items of each kind.
+use crate::under_tables::{dropped, first_wrong, judged, table};
+use crate::{down_verdicts, hairpin_verdicts, message_verdicts};
 use ip_codec::{ItemView, Rule};
 use std::test::Fail;
 use table_words::compile;
-use verdict_core::{Reply, Verdict};
+use verdict_core::Verdict;
 
-// The first packet with a wrong checksum.
-const CHECKSUM: &[u8; 32] =
-    b"\x45\0\0\x20\0\x01\0\0\x40\x11\x14\x91\xcb\0\x71\x01\xc6\x33\x64\x07\x04\xd0\0\x35\0\x0c\0\0test";
+// Packets of subscribers: a table with its settings, and then a line for each item with its verdict, as `under_tables` reads them.
+const LINES: &str = "\
+52|
+# the identifiers 52 and 53 of the shared address (RFC 7597, appendix A), by source port
+1 up port 1232|out 1500
+1 up port 1235|out 1500
+1 up port 2256|out 1500
+1 up port 64723|out 1500
+1 up port 1236|no-binding silent
+1 up port 208|no-binding silent
 
-// To the router's own address.
-const TO_OWN: &[u8; 32] =
-    b"E\0\0 \0\x01\0\0@\x11|\xc9\xcb\0q\x01\xc0\0\x02\x01\x04\xd0\05\0\x0c\0\0test";
+52 53|
+1 up port 1232|out 1500
+2 up port 1232|no-binding silent
+1 up port 1235|out 1500
+2 up port 1235|no-binding silent
+1 up port 2256|out 1500
+2 up port 2256|no-binding silent
+1 up port 64723|out 1500
+2 up port 64723|no-binding silent
+2 up port 1236|out 1500
+1 up port 1236|no-binding silent
+1 up port 208|no-binding silent
 
-// The first packet with a time to live of 1.
-const UP_TTL_1: &[u8; 32] =
-    b"E\0\0 \0\x01\0\0\x01\x11S\x90\xcb\0q\x01\xc63d\x07\x04\xd0\05\0\x0c\0\0test";
+52|
+# the rule of each drop
+2 up|no-binding silent
+1-elsewhere up|not-ours silent
+1-elsewhere checksum|not-ours silent
+1-elsewhere unreachable-up-bad|not-ours silent
+1 to-own|to-self silent
+2 to-own|no-binding silent
+1 checksum|inner-checksum silent
+1 up front 31|inner-malformed silent
+1 three-bytes|no-port silent
+1 first-fragment|no-port silent
+1 no-ports|no-binding silent
+1 unreachable-up-bad|icmp-bad silent
+1 unreachable-up-ttl-1|ttl silent
 
-// The same with a time to live of 0.
-const UP_TTL_0: &[u8; 32] =
-    b"E\0\0 \0\x01\0\0\0\x11T\x90\xcb\0q\x01\xc63d\x07\x04\xd0\05\0\x0c\0\0test";
+52 53|no-icmp
+# an echo by its identifier, and an error by the port of the packet that it quotes, whatever `icmp_in` says
+1 echo-up|out 1500
+2 echo-up|no-binding silent
+1 unreachable-up|out 1500
+2 unreachable-up|no-binding silent
 
-// An echo request with the identifier 1232.
-const ECHO_UP: &[u8; 32] =
-    b"E\0\0 \0\x01\0\0@\x01\x14\xa0\xcb\0q\x01\xc63d\x07\x08\0\x14^\x04\xd0\0\x01ping";
+52|errors-up
+# told to the tunnel that the packet came through, whosoever its source is, but not to a group of hosts
+1 up|out 1500
+2 up|no-binding policy router 2 64
+group up|no-binding silent
 
-// Port unreachable about a packet to the subscriber's port 1232.
-const UNREACHABLE_UP: &[u8; 60] =
-    b"E\0\0<\0\x01\0\0@\x01\x14\x84\xcb\0q\x01\xc63d\x07\x03\x03\x10\x12\0\0\0\0E\0\0 \0\x01\0\0@\x11\x14\x90\xc63d\x07\xcb\0q\x01\05\x04\xd0\0\x0c\0\0test";
+52|
+# a time to live that is used up
+1 up-ttl-1|ttl exceeded own router 1 64
+2 up-ttl-1|no-binding silent
+1 up-ttl-0|ttl exceeded own router 1 64
+2 up-ttl-0|no-binding silent
 
-// The same with a time to live of 1.
-const UNREACHABLE_UP_TTL_1: &[u8; 60] =
-    b"E\0\0<\0\x01\0\0\x01\x01S\x84\xcb\0q\x01\xc63d\x07\x03\x03\x10\x12\0\0\0\0E\0\0 \0\x01\0\0@\x11\x14\x90\xc63d\x07\xcb\0q\x01\05\x04\xd0\0\x0c\0\0test";
+52|mtu4-576
+# up to the greatest size; in pieces where DF is clear
+1 up-576-df long 576|out 576
+1 up-577-df long 577|too-big too-big 576 own router 1 64
+1 up-577 long 577|out 576
 
-// The same with a wrong ICMP checksum.
-const UNREACHABLE_UP_BAD: &[u8; 60] =
-    b"E\0\0<\0\x01\0\0@\x01\x14\x84\xcb\0q\x01\xc63d\x07\x03\x03\x10\x13\0\0\0\0E\0\0 \0\x01\0\0@\x11\x14\x90\xc63d\x07\xcb\0q\x01\05\x04\xd0\0\x0c\0\0test";
-
-// The start of an upstream packet of 576 bytes with DF.
-const UP_576_DF: &[u8; 28] =
-    b"E\0\x02@\0\x01@\0@\x11\xd2o\xcb\0q\x01\xc63d\x07\x04\xd0\05\x02,\0\0";
-
-// The same of 577 bytes.
-const UP_577_DF: &[u8; 28] =
-    b"E\0\x02A\0\x01@\0@\x11\xd2n\xcb\0q\x01\xc63d\x07\x04\xd0\05\x02-\0\0";
-
-// The same without DF.
-const UP_577: &[u8; 28] = b"E\0\x02A\0\x01\0\0@\x11\x12o\xcb\0q\x01\xc63d\x07\x04\xd0\05\x02-\0\0";
-
-// The verdict on the first packet from another source port, in the tunnel of the subscriber with this number.
-fn judged_from(words: &WordList, number: u32, port: u16) -> Verdict
-    requires { AreCompiled words.now }
-{
-    let mut packet = *UP;
-    packet[20..22].copy_from_slice(&port.to_be_bytes());
-    judged(words, &sent_by(number, &packet))
-}
-
-#[test]
-fn forwards_the_ports_of_the_sender(rt: HostRuntime) -> Result<(), Fail> {
-    let alloc = rt.alloc();
-    // The identifiers 52 and 53 of the shared address (RFC 7597, appendix A).
-    let one = compile(alloc, &table(alloc, &[(6, 8, 52)])?)?;
-    let two = compile(alloc, &table(alloc, &[(6, 8, 52), (6, 8, 53)])?)?;
-    let no_binding = dropped(Rule::NoBinding);
-    for port in [1232, 1235, 2256, 64_723] {
-        assert_eq!(rt; judged_from(&one, 1, port), FORWARDED, "{port}");
-        assert_eq!(rt; judged_from(&two, 1, port), FORWARDED, "{port}");
-        assert_eq!(rt; judged_from(&two, 2, port), no_binding, "{port}");
-    }
-    assert_eq!(rt; judged_from(&two, 2, 1236), FORWARDED);
-    for port in [1236, 208] {
-        assert_eq!(rt; judged_from(&one, 1, port), no_binding, "{port}");
-        assert_eq!(rt; judged_from(&two, 1, port), no_binding, "{port}");
-    }
-    Ok(())
-}
-
-#[test]
-fn names_the_rule_of_each_drop(rt: HostRuntime) -> Result<(), Fail> {
-    let alloc = rt.alloc();
-    let words = compile(alloc, &table(alloc, &[(6, 8, 52)])?)?;
-    let router = V6(AFTR.0 + 1);
-    let cases: [(V6, V6, &[u8], Rule); 13] = [
-        (subscriber(2), AFTR, UP, Rule::NoBinding),
-        (subscriber(1), router, UP, Rule::NotOurs),
-        (subscriber(1), router, CHECKSUM, Rule::NotOurs),
-        (subscriber(1), router, UNREACHABLE_UP_BAD, Rule::NotOurs),
-        (subscriber(1), AFTR, TO_OWN, Rule::ToSelf),
-        (subscriber(2), AFTR, TO_OWN, Rule::NoBinding),
-        (subscriber(1), AFTR, CHECKSUM, Rule::InnerChecksum),
-        (subscriber(1), AFTR, &UP[..31], Rule::InnerMalformed),
-        (subscriber(1), AFTR, THREE_BYTES, Rule::NoPort),
-        (subscriber(1), AFTR, FIRST_FRAGMENT, Rule::NoPort),
-        (subscriber(1), AFTR, NO_PORTS, Rule::NoBinding),
-        (subscriber(1), AFTR, UNREACHABLE_UP_BAD, Rule::IcmpBad),
-        (subscriber(1), AFTR, UNREACHABLE_UP_TTL_1, Rule::Ttl),
-    ];
-    for (src, dst, inner, rule) in cases {
-        let item = up(src, dst, inner);
-        assert_eq!(rt; judged(&words, &item), dropped(rule), "{rule}");
-    }
-    Ok(())
-}
-
-// An echo by its identifier, and an error by the port of the packet that it quotes, whatever `icmp_in` says.
-#[test]
-fn forwards_icmp(rt: HostRuntime) -> Result<(), Fail> {
-    let alloc = rt.alloc();
-    let settings = Softwire {
-        icmp_in: false,
-        ..SETTINGS
-    };
-    let words = compile(
-        alloc,
-        &table_under(alloc, settings, &[(6, 8, 52), (6, 8, 53)])?,
-    )?;
-    for inner in [&ECHO_UP[..], UNREACHABLE_UP] {
-        assert_eq!(rt; judged(&words, &sent_by(1, inner)), FORWARDED);
-        assert_eq!(rt;
-            judged(&words, &sent_by(2, inner)),
-            dropped(Rule::NoBinding)
-        );
-    }
-    Ok(())
-}
-
-// To the tunnel that the packet came through, whosoever its source is.
-#[test]
-fn tells_a_sender_that_its_source_is_not_its_own(rt: HostRuntime) -> Result<(), Fail> {
-    let alloc = rt.alloc();
-    let settings = Softwire {
-        errors_up: true,
-        ..SETTINGS
-    };
-    let words = compile(alloc, &table_under(alloc, settings, &[(6, 8, 52)])?)?;
-    let policy = Reply::Policy {
-        from: AFTR,
-        to: subscriber(2),
-        hop: 64,
-    };
-    let cases: [(V6, Verdict); 3] = [
-        (subscriber(1), FORWARDED),
-        (subscriber(2), told(Rule::NoBinding, policy)),
-        // A group of hosts is not told.
-        (
-            V6(0xff02_0000_0000_0000_0000_0000_0000_0001),
-            dropped(Rule::NoBinding),
-        ),
-    ];
-    for (src, expected) in cases {
-        assert_eq!(rt; judged(&words, &up(src, AFTR, UP)), expected);
-    }
-    Ok(())
-}
+whole|
+# a whole address
+1 up|out 1500
+1 no-ports|out 1500";
 
 #[test]
-fn tells_a_sender_whose_time_to_live_is_used_up(rt: HostRuntime) -> Result<(), Fail> {
-    let alloc = rt.alloc();
-    let words = compile(alloc, &table(alloc, &[(6, 8, 52)])?)?;
-    for inner in [UP_TTL_1, UP_TTL_0] {
-        let expected = told(Rule::Ttl, exceeded(tunnel(1)));
-        assert_eq!(rt; judged(&words, &sent_by(1, inner)), expected);
-        assert_eq!(rt;
-            judged(&words, &sent_by(2, inner)),
-            dropped(Rule::NoBinding)
-        );
-    }
-    Ok(())
-}
-
-// In pieces where DF is clear.
-#[test]
-fn forwards_up_to_the_mtu(rt: HostRuntime) -> Result<(), Fail> {
-    let alloc = rt.alloc();
-    let settings = Softwire {
-        mtu4: 576,
-        ..SETTINGS
-    };
-    let words = compile(alloc, &table_under(alloc, settings, &[(6, 8, 52)])?)?;
-    let forwarded = Verdict::Outward { mtu: 576 };
-    let too_big = told(Rule::TooBig, too_big(576, tunnel(1)));
-    let cases: [(&[u8], usize, Verdict); 3] = [
-        (UP_576_DF, 576, forwarded),
-        (UP_577_DF, 577, too_big),
-        (UP_577, 577, forwarded),
-    ];
-    for (start, len, expected) in cases {
-        let packet = padded(alloc, start, len)?;
-        assert_eq!(rt; judged(&words, &sent_by(1, &packet)), expected, "{len}");
-    }
-    Ok(())
-}
-
-#[test]
-fn forwards_a_whole_address(rt: HostRuntime) -> Result<(), Fail> {
-    let alloc = rt.alloc();
-    let words = compile(alloc, &table(alloc, &[(0, 0, 0)])?)?;
-    for inner in [UP, NO_PORTS] {
-        let item = sent_by(1, inner);
-        assert_eq!(rt; judged(&words, &item), FORWARDED);
+fn items_have_their_verdicts(rt: HostRuntime) -> Result<(), Fail> {
+    for lines in [
+        LINES,
+        hairpin_verdicts::LINES,
+        down_verdicts::LINES,
+        message_verdicts::LINES,
+    ] {
+        assert_eq!(rt; first_wrong(rt.alloc(), lines)?, None);
     }
     Ok(())
 }
@@ -232,23 +110,6 @@ fn keeps_what_the_stage_said(rt: HostRuntime) -> Result<(), Fail> {
     ] {
         let bad = ItemView::Bad(rule);
         assert_eq!(rt; judged(&words, &bad), dropped(rule), "{rule}");
-    }
-    Ok(())
-}
-
-#[test]
-fn settings_handed_in_give_the_same_verdict(rt: HostRuntime) -> Result<(), Fail> {
-    let alloc = rt.alloc();
-    let words = compile(alloc, &table(alloc, &[(6, 8, 52)])?)?;
-    let cases: [(&[u8], Verdict); 4] = [
-        (UP, FORWARDED),
-        (CHECKSUM, dropped(Rule::InnerChecksum)),
-        (THREE_BYTES, dropped(Rule::NoPort)),
-        (TO_OWN, dropped(Rule::ToSelf)),
-    ];
-    for (inner, expected) in cases {
-        let item = sent_by(1, inner);
-        assert_eq!(rt; judged_over(&words, &item), expected);
     }
     Ok(())
 }
