@@ -219,8 +219,7 @@ fn first_wrong(alloc: Global, lines: &'static str) -> Result<&'static str, Fail>
     Ok("")
 }
 
-// Classic captures; blocks; simple packets and resolutions.
-const LINES: &str = "c 112 0 212 1.0 72 112; end
+const CLASSIC: &str = "c 112 0 212 1.0 72 112; end
 c 23 0 212 cut header at 0
 c 112 0 31 magic
 c 112 4 3 version
@@ -232,8 +231,9 @@ c 112 34 4 too long at 24
 x 112 0 77 1795739461.1000 72 112; end
 y 90 0 161 1700000000.123456789 50 90; end
 c23 147 0 212 1.0 72 112; 2.5 3 131; 3.6 0 147; end
-cl 128 0 212 1.0 72 112; too long at 112
-sihtur 152 0 10 1.0 72 152; end
+cl 128 0 212 1.0 72 112; too long at 112";
+
+const BLOCKS: &str = "sihtur 152 0 10 1.0 72 152; end
 siohtur 164 0 10 1.0 72 164; end
 sihtur 151 0 10 ng cut 48
 siehtur 172 0 10 ng mixed-links 48
@@ -255,8 +255,10 @@ sihtur 152 53 1 ng cut 48
 sihtur 152 56 1 ng interface 48
 sihtur 152 63 255 ng time 48
 sihtur 152 68 73 ng captured 48
-sihtur 152 70 4 ng too-long 48
-SIHtu8R 144 43 80 0.0 80 144; end
+sihtur 152 70 4 ng too-long 48";
+
+// Simple packets, and resolutions.
+const SIMPLE: &str = "SIHtu8R 144 43 80 0.0 80 144; end
 SIHtu8R 144 43 0 ng captured 48
 SIHtu8R 144 43 81 ng captured 48
 SIHtu8R 144 31 5 ng interface 48
@@ -276,8 +278,20 @@ snhtur 164 44 8 1.0 72 164; end
 snhtur 164 44 0 1.0 72 164; end";
 
 #[test]
-fn captures_say_in_pieces_what_they_say_whole(rt: HostRuntime) -> Result<(), Fail> {
-    assert_eq!(rt; first_wrong(rt.alloc(), LINES)?, "");
+fn classic_captures_say_in_pieces_what_they_say_whole(rt: HostRuntime) -> Result<(), Fail> {
+    assert_eq!(rt; first_wrong(rt.alloc(), CLASSIC)?, "");
+    Ok(())
+}
+
+#[test]
+fn blocks_say_in_pieces_what_they_say_whole(rt: HostRuntime) -> Result<(), Fail> {
+    assert_eq!(rt; first_wrong(rt.alloc(), BLOCKS)?, "");
+    Ok(())
+}
+
+#[test]
+fn simple_packets_and_resolutions_are_so_in_pieces(rt: HostRuntime) -> Result<(), Fail> {
+    assert_eq!(rt; first_wrong(rt.alloc(), SIMPLE)?, "");
     Ok(())
 }
 

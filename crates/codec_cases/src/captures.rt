@@ -72,6 +72,7 @@ fn has_just(
         told == form
             && time_of(told, record.seconds, record.fraction) == time
             && frame_of(told.link, record.bytes.as_slice()) == frame
+            && record.next_at == capture.len() as u64
             && matches!(behind, Next::End),
     )
 }

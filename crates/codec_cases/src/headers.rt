@@ -137,6 +137,7 @@ fn is_datagram(bytes: &[u8]) -> bool {
         return false;
     };
     (view.src, view.dst) == (SHARED, SERVER)
+        && view.header.len() == 20
         && view.total_len() == UP.len()
         && is_both(UP, view.header, view.payload)
 }
@@ -185,7 +186,7 @@ fn ip6_packets_are_read_and_written(rt: HostRuntime) -> Result<(), Fail> {
         (&bytes[..71], Ip6Bad::Payload),
         (UP, Ip6Bad::Short { have: 32 }),
         (
-            b"\x46\0\0\0\0\0\x04\x40\x20\x01\x0d\xb8\0\x01\0\0\0\0\0\0\0\0\0\x01\x20\x01\x0d\xb8\0\0\0\0\0\0\0\0\0\0\0\x01",
+            b"\x46\0\0\0\0\x20\x04\x40\x20\x01\x0d\xb8\0\x01\0\0\0\0\0\0\0\0\0\x01\x20\x01\x0d\xb8\0\0\0\0\0\0\0\0\0\0\0\x01",
             Ip6Bad::Version,
         ),
     ];

@@ -52,12 +52,20 @@ fn answer<F: Files>(
     }
 }
 
-// Whether a call is answered so: by what was read, by how many bytes were appended, or by `failed`.
+// Whether these bytes are the first ones of a buffer of zeros, and the others are as they were.
+fn are_read(into: &[u8], bytes: &[u8]) -> bool {
+    match into.strip_prefix(bytes) {
+        Some(rest) => [0; 8].starts_with(rest),
+        None => false,
+    }
+}
+
+// Whether a call is answered so: by what was read, by how many bytes were appended, or by `failed`, with nothing read.
 fn is_answered(answer: Result<usize, Fault>, reads: bool, into: &[u8], wanted: &str) -> bool {
     match answer {
-        Ok(count) if reads => into.get(..count) == Some(wanted.as_bytes()),
+        Ok(count) if reads => count == wanted.len() && are_read(into, wanted.as_bytes()),
         Ok(count) => wanted.parse() == Ok(count),
-        Err(why) => why == Fault::Failed && wanted == "failed",
+        Err(why) => why == Fault::Failed && wanted == "failed" && are_read(into, b""),
     }
 }
 

@@ -220,36 +220,40 @@ fn put_in_each<F: Files>(
     Ok(())
 }
 
-// Whether each of these files holds what was put into it, by files that wrote them in turn.
-fn hold_all<F: Files>(alloc: Global, files: &mut F, path: &str) -> Result<bool, Fail> {
+// The number of the first of these files that does not hold what was put into it, read by who wrote them in turn.
+fn first_wrong<F: Files>(alloc: Global, files: &mut F, path: &str) -> Result<Option<u32>, Fail> {
     for number in 10..30u32 {
         let name = format!(in alloc; "{path}_{number}")?;
         let mut into = [0; 4];
         let count = fill(alloc, files, name.as_str(), 0, &mut into);
         if count != Ok(3) || into != *b"abc\0" {
-            return Ok(false);
+            return Ok(Some(number));
         }
     }
-    Ok(true)
+    Ok(None)
 }
 
-fn in_turn<R: FileSystem + Drop>(alloc: Global, system: R, path: &str) -> Result<bool, Fail> {
+fn in_turn<R: FileSystem + Drop>(
+    alloc: Global,
+    system: R,
+    path: &str,
+) -> Result<Option<u32>, Fail> {
     let mut files = RealFiles::new(system, alloc);
     put_in_each(alloc, &mut files, path, b"a", true)?;
     put_in_each(alloc, &mut files, path, b"b", false)?;
     put_in_each(alloc, &mut files, path, b"c", false)?;
-    hold_all(alloc, &mut files, path)
+    first_wrong(alloc, &mut files, path)
 }
 
 #[test]
 fn twenty_files_are_written_in_turn(rt: HostRuntime) -> Result<(), Fail> {
     let path = temporary(&rt, "turn")?;
-    let all = in_turn(rt.alloc(), &rt, path.as_str())?;
+    let wrong = in_turn(rt.alloc(), &rt, path.as_str())?;
     for number in 10..30u32 {
         let name = format!(in rt.alloc(); "{}_{number}", path.as_str())?;
         fs::remove_file(&rt, name.as_str())?;
     }
-    assert!(rt; all);
+    assert_eq!(rt; wrong, None);
     Ok(())
 }
 

@@ -224,25 +224,28 @@ const SECTION: &[u8; 60] =
 const BLOCK_HEAD: &[u8; 28] =
     b"\x06\0\0\0\x40\0\0\0\0\0\0\0\0\0\0\0\0\xca\x9a\x3b\x20\0\0\0\x20\0\0\0";
 
-// What is written of a packet of so many bytes at 1 second: the header, and what stands before it, and behind one of 33.
-fn pushed(alloc: Global, form: Written, size: u32) -> Result<Vec<u8>, Fail>
+// What is written of a packet of so many bytes at 1 second: the header, and what stands before it, and behind one of 33. And where
+// the first two of these end.
+fn pushed(alloc: Global, form: Written, size: u32) -> Result<(Vec<u8>, [usize; 2]), Fail>
     requires { size ≤ 262144 }
 {
     let mut out = Vec::new(alloc);
     form.push_header(&mut out)?;
+    let header = out.len();
     form.push_head(&mut out, 1, 0, size)?;
+    let head = out.len();
     form.push_tail(&mut out, 33)?;
-    Ok(out)
+    Ok((out, [header, head]))
 }
 
 #[test]
 fn what_is_pushed_are_these_bytes(rt: HostRuntime) -> Result<(), Fail> {
     let blocks = joined(rt.alloc(), &[SECTION, BLOCK_HEAD, b"\0\0\0\x44\0\0\0"])?;
-    assert!(rt; pushed(rt.alloc(), Written::Blocks, 32)? == blocks);
-    let classic = pushed(rt.alloc(), Written::Classic { nano: false }, 72)?;
-    assert_eq!(rt;
-        CAPTURE.strip_prefix(classic.as_slice()).map(<[u8]>::len),
-        Some(72)
-    );
+    let (written, ends) = pushed(rt.alloc(), Written::Blocks, 32)?;
+    assert!(rt; written == blocks);
+    assert_eq!(rt; ends, [60, 88]);
+    let (written, ends) = pushed(rt.alloc(), Written::Classic { nano: false }, 72)?;
+    assert!(rt; CAPTURE.starts_with(&written));
+    assert_eq!(rt; (ends, written.len()), ([24, 40], 40));
     Ok(())
 }
