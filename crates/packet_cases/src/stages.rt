@@ -126,17 +126,51 @@ fn are_up_short_up<I: RoundItems + Sync>(items: &I) -> bool {
         && is_wanted(&items.item(2), "up", UP)
 }
 
-// Whether a stage makes these items of three records and gives no datagram up, then none of no records, and whether nothing waits.
-fn takes_rounds<R: Threads + Sync>(rt: &R, alloc: Global) -> Result<[bool; 3], Fail> {
+// A packet, an empty record, and the packet again.
+fn three_records(alloc: Global) -> Result<Records, Fail>
+    ensures { IfOk result (λ records. length records ≡ 3) }
+{
     let packet = bytes_of(alloc, "up-tunnel+up")?;
+    let records = records_of(alloc, &[&packet, b"", &packet])?;
+    Ok(records)
+}
+
+// Whether a stage makes their items of three records, and gives no datagram up.
+fn makes_three<R: Threads + Sync>(
+    rt: &R,
+    alloc: Global,
+    stage: &mut Stage,
+    records: &Records,
+) -> Result<bool, OutOfMemory>
+    requires start { stage.old.number ≡ 0 }
+    requires three { length records.now ≡ 3 }
+    ensures { IfOk result (λ _. stage.new.number ≡ 3) }
+{
+    let items = stage.items(rt, alloc, records, 0)?;
+    Ok(items.len() > 1 && items.ended(1).is_empty() && are_up_short_up(&items))
+}
+
+// Whether it makes none of no records behind them.
+fn makes_none<R: Threads + Sync>(
+    rt: &R,
+    alloc: Global,
+    stage: &mut Stage,
+) -> Result<bool, OutOfMemory>
+    requires start { stage.old.number ≡ 3 }
+{
+    let records = records_of(alloc, &[])?;
+    let items = stage.items(rt, alloc, &records, 3)?;
+    Ok(items.len() == 0)
+}
+
+// Whether a stage takes these two rounds, and nothing waits then.
+fn takes_rounds<R: Threads + Sync>(rt: &R, alloc: Global) -> Result<[bool; 3], Fail> {
+    let records = three_records(alloc)?;
     let mut stage = Stage::new(alloc, form(PLAIN))?;
-    let first = records_of(alloc, &[&packet, b"", &packet])?;
-    let items = stage.items(rt, alloc, &first, 0)?;
-    let three = items.len() > 1 && items.ended(1).is_empty() && are_up_short_up(&items);
-    let none = records_of(alloc, &[])?;
-    let count = first.len() as u32;
-    let empty = stage.items(rt, alloc, &none, count)?.len() == 0;
-    Ok([three, empty, stage.unfinished(alloc)?.as_slice().is_empty()])
+    let three = makes_three(rt, alloc, &mut stage, &records)?;
+    let none = makes_none(rt, alloc, &mut stage)?;
+    let waiting = stage.unfinished(alloc)?;
+    Ok([three, none, waiting.as_slice().is_empty()])
 }
 
 #[test]
