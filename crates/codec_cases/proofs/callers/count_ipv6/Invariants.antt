@@ -1,4 +1,4 @@
-use Rattle.std.proofs.Common.{ℕ, ◌+◌, ◌*◌, ◌-◌, ◌^◌, ◌≤◌}
+use Rattle.std.proofs.Common.{◌+◌, ◌*◌, ◌-◌, ◌^◌, ◌≤◌}
 use Rattle.codec_cases.proofs.callers.count_ipv6.Given as goal
 
 abbrev pub invariant-records : goal.invariant-records

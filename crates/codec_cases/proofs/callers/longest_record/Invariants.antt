@@ -1,4 +1,4 @@
-use Rattle.std.proofs.Common.{ℕ, ◌-◌, ◌^◌, ◌≤◌}
+use Rattle.std.proofs.Common.{◌-◌, ◌^◌, ◌≤◌}
 use Rattle.codec_cases.proofs.callers.longest_record.Given as goal
 
 abbrev pub invariant-rounds : goal.invariant-rounds
