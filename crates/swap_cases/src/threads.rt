@@ -148,11 +148,13 @@ fn by_four<R: Threads + Sync>(
     let (mut one, two) = join(
         rt,
         || -> (WorkerSeat, Done)
-            requires { IsSync R.row × (IsOf areas.now seat × (IsIdle seat.known × ((seat.known.share % 2 ≡ 0) × ((0 < long) × All (λ (words : List ℕ). long ≤ length words) areas.now.plan.tables)))) }
+            requires { IsSync R.row × (IsOf areas.now seat × (IsIdle seat.known × ((seat.known.share % 2 ≡ 0)
+                × ((0 < long) × All (λ (words : List ℕ). long ≤ length words) areas.now.plan.tables)))) }
             ensures { IsOf areas.entry.now result.0 × (IsIdle result.0.known × (result.0.known.share ≡ seat.known.share)) }
         { by_two(rt, areas, seat, long, end) },
         || -> (WorkerSeat, Done)
-            requires { IsSync R.row × (IsOf areas.now other × (IsIdle other.known × ((other.known.share % 2 ≡ 0) × ((0 < long) × All (λ (words : List ℕ). long ≤ length words) areas.now.plan.tables)))) }
+            requires { IsSync R.row × (IsOf areas.now other × (IsIdle other.known × ((other.known.share % 2 ≡ 0)
+                × ((0 < long) × All (λ (words : List ℕ). long ≤ length words) areas.now.plan.tables)))) }
             ensures { IsOf areas.entry.now result.0 × (IsIdle result.0.known × (result.0.known.share ≡ other.known.share)) }
         { by_two(rt, areas, other, long, end) },
     );
@@ -205,7 +207,8 @@ fn by_five<R: Threads + Sync>(
     let (drawn, desk) = join(
         rt,
         || -> (WorkerSeat, Done)
-            requires { IsSync R.row × (IsOf areas.now seat × (IsIdle seat.known × ((seat.known.share % 4 ≡ 0) × ((0 < long) × All (λ (words : List ℕ). long ≤ length words) areas.now.plan.tables)))) }
+            requires { IsSync R.row × (IsOf areas.now seat × (IsIdle seat.known × ((seat.known.share % 4 ≡ 0)
+                × ((0 < long) × All (λ (words : List ℕ). long ≤ length words) areas.now.plan.tables)))) }
             ensures { IsOf areas.entry.now result.0 × (IsIdle result.0.known × (result.0.known.share ≡ seat.known.share)) }
         { by_four(rt, areas, seat, long, end) },
         || -> Desk
