@@ -30,8 +30,7 @@ const MOST: u32 = 64;
 // How many numbers a worker draws at once: few enough that all have work to the end, as many as make an exchange worth its cost.
 fn draw_size(count: u32, workers: usize) -> u32
     requires { 0 < workers }
-    ensures some { 1 ≤ result }
-    ensures fits { count < 4294967296 }
+    ensures { 1 ≤ result }
 {
     let share = count as usize / workers / 16;
     (share.min(MOST as usize) as u32).max(1)

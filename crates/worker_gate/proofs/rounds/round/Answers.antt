@@ -15,7 +15,7 @@ invariant_of-crew g c =
       c.run.ensures.workers.0,
       omega (arith, i.3, c.run.ensures.sheets.0, c.run.ensures.workers.1),
       omega (arith, i.4, c.run.ensures.room),
-      omega (arith, c.run.ensures.places.1, c.draw_size.ensures.fits),
+      omega (arith, c.run.ensures.places.1),
       c.run.ensures.places.0,
     )
 
