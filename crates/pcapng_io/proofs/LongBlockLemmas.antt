@@ -78,11 +78,20 @@ module _ (seen : Seen) (first left : List ℕ) (number : ℕ) (frame : Frame) (l
       omega (arith, within, ap (λ (x : Frame). x.total) is)) e
 
 -- what the fields say, where the end lets it stand
-pub fields_told : (seen : Seen) (window : Ahead) (slice left : List ℕ) (number : ℕ) (frame f : Frame) (read said : Result Block CaptureBad) → (frame.kind ≡ 1 → ⊥) → 262176 ≤ length window.bytes → slice ≡ window.bytes →
+fields_told : (seen : Seen) (window : Ahead) (slice left : List ℕ) (number : ℕ) (frame f : Frame) (read said : Result Block CaptureBad) → (frame.kind ≡ 1 → ⊥) → 262176 ≤ length window.bytes → slice ≡ window.bytes →
     read ≡ body_in seen slice number frame → read ≡ said → IsStart window.bytes left → tail_of frame left seen.known.at ≡ Ok f → ended frame left seen.known.at (body_in seen left number frame) ≡ said
 fields_told seen window slice left number frame f read said kind long same is e s t =
     ap (λ r. r >>= (λ x. body_in seen left number frame)) t
     ∙ (fields_same seen window.bytes left number frame s kind (omega (arith, long)) ∙ (ap (λ l. body_in seen l number frame) (sym same) ∙ (sym is ∙ e)))
+
+-- the same of all bytes that begin with the window
+pub with_fields : (held : Option Contents) (name : List ℕ) (seen : Seen) (window : Ahead) (slice : List ℕ) (number : ℕ) (frame f : Frame) (read said : Result Block CaptureBad) → (frame.kind ≡ 1 → ⊥) →
+    262176 ≤ length window.bytes → slice ≡ window.bytes → read ≡ body_in seen slice number frame → read ≡ said →
+    WithFront held name seen.known.at window (λ all. tail_of frame (drop seen.known.at all) seen.known.at ≡ Ok f) →
+    WithFront held name seen.known.at window (λ all. ended frame (drop seen.known.at all) seen.known.at (body_in seen (drop seen.known.at all) number frame) ≡ said)
+with_fields None name seen window slice number frame f read said kind long same is e told = tt
+with_fields (Some m) name seen window slice number frame f read said kind long same is e told = λ s.
+    fields_told seen window slice (drop seen.known.at (content m name)) number frame f read said kind long same is e s.start (told s)
 
 pub passed_size : (seen : Seen) (slice : List ℕ) (number : ℕ) (frame : Frame) (read : Result Block CaptureBad) (b : Block) (p : Passed) → read ≡ body_in seen slice number frame → read ≡ Ok b → b ≡ block.Passed p → size_of p ≡ frame.total
 passed_size seen slice number frame read b p is e same = subst (λ (x : Block). HasTotal frame.total x) same (body_total seen slice number frame b (sym is ∙ e))

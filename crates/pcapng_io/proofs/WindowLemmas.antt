@@ -11,10 +11,10 @@ use Rattle.capture_io.specs.declared.rounds.Ending.{Ending}
 use Rattle.capture_io.specs.declared.rounds.Ending.TheVariants as end
 use Rattle.capture_io.specs.Fronts.{IsFront, IsStart}
 use Rattle.capture_io.specs.Records.{IsWithin, placed}
-use Rattle.capture_io.specs.Rounds.{IsCount, IsEnding, IsInNext, IsPlaced, Precedes, bytes_captured}
+use Rattle.capture_io.specs.Rounds.{IsEnding, IsInNext, Precedes, bytes_captured}
 use Rattle.pcapng_io.specs.declared.pieces.Taken.{Taken}
 use Rattle.pcapng_io.specs.Seen.{IsSoundSeen, Seen}
-use Rattle.pcapng_io.specs.Pieces.{AreBlocks, Ended, IsFound, IsOpen, IsSearch, round_of}
+use Rattle.pcapng_io.specs.Pieces.{AreBlocks, Ended, IsFound, IsOpen, IsSearch}
 use Rattle.pcapng_io.specs.Rounds.{left_of}
 use Rattle.capture_io.specs.Windows.{Ahead, IsMore}
 use Rattle.pcapng_io.proofs.PieceLemmas.{rest_front}
@@ -58,19 +58,6 @@ module _ (held : Option Contents) (name : List ℕ) (old now later : Seen) (ahea
         follows = follows s;
         ended = ended (content m name) (fronts s);
       }
-
-  pub search_count : (taken.ending ≡ None → 0 < length places) → IsCount number most (round_of window.bytes places taken)
-  search_count some = record {
-    numbered = t.numbered;
-    most = t.few;
-    some = λ none. omega (arith, length-map places (placed window.bytes), some none);
-    few = t.count;
-    bytes = t.within;
-    sizes = t.sizes;
-  }
-
-  pub search_placed : IsPlaced old.known.at later.known.at (round_of window.bytes places taken)
-  search_placed = record { forward = omega (arith, search.forward, t.at); within = t.placed }
 
   -- where only blocks without packets were taken, the search goes on with the rest
   pub search_passes : (rest : Ahead) → places ≡ [] → rest.bytes ≡ drop taken.used window.bytes → rest.last ≡ window.last → (taken.number ≡ number) × IsSearch held name old later ahead rest number
@@ -127,16 +114,6 @@ cut_found (Some m) name old now ahead window number taken search none same is = 
   ended = subst (λ (e : Option Ending). IsEnding (left_of now) (content m name) taken.number e) (sym is) tt;
 }
 
-pub cut_count : (number most : ℕ) (window : List ℕ) (taken : Taken) → number ≤ 2 ^ 31 → 1 ≤ most → taken.number ≡ number → taken.ending ≡ Some end.ReadFault → IsCount number most (round_of window [] taken)
-cut_count number most window taken few some same is = record {
-  numbered = omega (arith, same);
-  most = omega (arith, same, few);
-  some = λ none. let wrong : Some end.ReadFault ≡ None = sym is ∙ none in absurd (cc);
-  few = omega arith;
-  bytes = omega (arith, some);
-  sizes = λ k d within. absurd (omega arith);
-}
-
 pub cut_inside : (held : Option Contents) (name : List ℕ) (old now : Seen) (ahead : List ℕ) (window : Ahead) (number place : ℕ) → IsSearch held name old now ahead window number →
     IsOpen now window.bytes window.last number → place ≡ now.known.at + length window.bytes →
     IsInNext name (λ all. IsStart ahead (drop old.known.at all)) (left_of now) now.known.at held number place
@@ -170,44 +147,43 @@ pub found_of : (held : Option Contents) (name : List ℕ) (old now later : Seen)
 found_of held name old now later ahead window number most places taken search t =
     search_found held name old now later ahead window number most places taken (bytes_captured (map (placed window.bytes) places)) search t.are t.ended
 
-pub count_of : (held : Option Contents) (name : List ℕ) (old now later : Seen) (ahead : List ℕ) (window : Ahead) (number most : ℕ) (places : List Place) (taken : Taken) →
-    IsSearch held name old now ahead window number → IsTaken now later window number most places taken → (taken.ending ≡ None → 0 < length places) → IsCount number most (round_of window.bytes places taken)
-count_of held name old now later ahead window number most places taken search t some =
-    search_count held name old now later ahead window number most places taken (bytes_captured (map (placed window.bytes) places)) search t.are some
+-- Nothing was found in the bytes that were there, and those that were taken were let go: the search goes on with the rest, which is open.
+pub record IsUnfound (held : Option Contents) (name : List ℕ) (old now later : Seen) (ahead : List ℕ) (window rest : Ahead) (number used : ℕ) (places : List Place) : Type 0 where
+  pub none : places ≡ []
+  pub search : IsSearch held name old later ahead rest number
+  pub is_open : IsOpen later rest.bytes rest.last number
+  pub at : later.known.at ≡ now.known.at + used
+  pub inside : used ≤ length window.bytes
 
-pub placed_of : (held : Option Contents) (name : List ℕ) (old now later : Seen) (ahead : List ℕ) (window : Ahead) (number most : ℕ) (places : List Place) (taken : Taken) →
-    IsSearch held name old now ahead window number → IsTaken now later window number most places taken → IsPlaced old.known.at later.known.at (round_of window.bytes places taken)
-placed_of held name old now later ahead window number most places taken search t =
-    search_placed held name old now later ahead window number most places taken (bytes_captured (map (placed window.bytes) places)) search t.are
+-- as the code has the bytes and the places
+pub unfound : {held : Option Contents} {name : List ℕ} {old now later : Seen} {ahead : List ℕ} {window : Ahead} {number most : ℕ} {piece : List ℕ} {last : Bool} {found : List Place} →
+    (places : List Place) (taken : Taken) (rest : Ahead) → IsSearch held name old now ahead window number → piece ≡ window.bytes → last ≡ window.last →
+    AreBlocks now later piece last number most (map (placed piece) places) taken.used taken.number (bytes_captured (map (placed piece) places)) →
+    Ended now later piece last taken.number taken.ending →
+    (taken.ending ≡ None → places ≡ [] → IsOpen later (drop taken.used piece) last taken.number) → All (IsWithin piece) places →
+    found ≡ places → (taken.ending ≡ None) × (found ≡ []) → rest.bytes ≡ drop taken.used window.bytes → rest.last ≡ window.last →
+    IsUnfound held name old now later ahead window rest number taken.used places
+unfound {held} {name} {old} {now} {later} {ahead} {window} {number} {most} {piece} {last} places taken rest search bytes_is last_is blocks ended unsaid within same nothing bytes rest_last =
+    let t : IsTaken now later window number most places taken = taken_of now later window number most places taken piece last bytes_is last_is blocks ended unsaid within in
+    let none : places ≡ [] = sym same ∙ nothing.1 in
+    let passed = search_passes held name old now later ahead window number most places taken (bytes_captured (map (placed window.bytes) places)) search t.are rest none bytes rest_last in
+    let given : IsOpen later (drop taken.used window.bytes) window.last taken.number = t.unsaid nothing.0 none in
+    record {
+      none = none;
+      search = passed.1;
+      is_open = subst (λ (l : List ℕ). IsOpen later l rest.last number) (sym bytes)
+          (subst (λ (b : Bool). IsOpen later (drop taken.used window.bytes) b number) (sym rest_last)
+          (subst (λ (n : ℕ). IsOpen later (drop taken.used window.bytes) window.last n) passed.0 given));
+      at = t.are.at;
+      inside = t.are.inside;
+    }
 
--- the search after a pass and a read
-pub goes_on : (held after : Option Contents) (name : List ℕ) (old now later : Seen) (ahead : List ℕ) (window rest more : Ahead) (number most : ℕ) (places : List Place) (taken : Taken) →
-    after ≡ held → IsSearch held name old now ahead window number → IsTaken now later window number most places taken → places ≡ [] → rest.bytes ≡ drop taken.used window.bytes → rest.last ≡ window.last →
-    IsMore after name later.known.at rest more → IsSearch held name old later ahead more number
-goes_on held after name old now later ahead window rest more number most places taken same search t none bytes last read =
-    search_more held after name old later ahead rest more number same
-    (search_passes held name old now later ahead window number most places taken (bytes_captured (map (placed window.bytes) places)) search t.are rest none bytes last).1 read
-
--- the search after a pass and a read that failed
-module _ (held : Option Contents) (name : List ℕ) (old now later : Seen) (ahead : List ℕ) (window rest : Ahead) (number most : ℕ) (places : List Place) (taken cut : Taken)
-    (search : IsSearch held name old now ahead window number) (t : IsTaken now later window number most places taken) (none : places ≡ []) (bytes : rest.bytes ≡ drop taken.used window.bytes)
-    (last : rest.last ≡ window.last) where
-  pub passed : (taken.number ≡ number) × IsSearch held name old later ahead rest number
-  passed = search_passes held name old now later ahead window number most places taken (bytes_captured (map (placed window.bytes) places)) search t.are rest none bytes last
-
-  pub failed_found : (more : Ahead) → more ≡ rest → cut.used ≡ 0 → cut.number ≡ number → cut.ending ≡ Some end.ReadFault → IsFound held name old later ahead more.bytes places number cut
-  failed_found more same used nth ending =
-      let found : IsFound held name old later ahead rest.bytes [] number cut = cut_found held name old later ahead rest number cut passed.1 used nth ending in
-      subst (λ (a : Ahead). IsFound held name old later ahead a.bytes places number cut) (sym same) (subst (λ (l : List Place). IsFound held name old later ahead rest.bytes l number cut) (sym none) found)
-
-  pub unsaid_rest : taken.ending ≡ None → IsOpen later rest.bytes rest.last number
-  unsaid_rest ending =
-      let given : IsOpen later (drop taken.used window.bytes) window.last taken.number = t.unsaid ending none in
-      subst (λ (l : List ℕ). IsOpen later l rest.last number) (sym bytes)
-      (subst (λ (b : Bool). IsOpen later (drop taken.used window.bytes) b number) (sym last) (subst (λ (n : ℕ). IsOpen later (drop taken.used window.bytes) window.last n) passed.0 given))
-
-  pub failed_inside : (place : ℕ) → taken.ending ≡ None → place ≡ later.known.at + length rest.bytes → IsInNext name (λ all. IsStart ahead (drop old.known.at all)) (left_of later) later.known.at held number place
-  failed_inside place ending is = cut_inside held name old later ahead rest number place passed.1 (unsaid_rest ending) is
+-- the search after a read that failed
+pub failed_found : (held : Option Contents) (name : List ℕ) (old later : Seen) (ahead : List ℕ) (rest more : Ahead) (number : ℕ) (places : List Place) (cut : Taken) → places ≡ [] →
+    IsSearch held name old later ahead rest number → more ≡ rest → cut.used ≡ 0 → cut.number ≡ number → cut.ending ≡ Some end.ReadFault → IsFound held name old later ahead more.bytes places number cut
+failed_found held name old later ahead rest more number places cut none search same used nth ending =
+    let found : IsFound held name old later ahead rest.bytes [] number cut = cut_found held name old later ahead rest number cut search used nth ending in
+    subst (λ (a : Ahead). IsFound held name old later ahead a.bytes places number cut) (sym same) (subst (λ (l : List Place). IsFound held name old later ahead rest.bytes l number cut) (sym none) found)
 
 -- a read that failed, by its error
 pub failed_reads : (T : Type 0) (name : List ℕ) (P : ℕ → Type 0) (e : Fault) (a b : Outside) → e ≡ fault.Failed → OnlyReads (has_failed {T = T} (Err e)) name P a b → OnlyReads true name P a b

@@ -1,12 +1,11 @@
 -- The fields in front and the end say what all bytes say.
-use Rattle.std.proofs.Common.{◌∙◌, ap, drop, length, subst, sym, Ok, Err, arith}
+use Rattle.std.proofs.Common.{◌∙◌, ap, length, subst, sym, Ok, Err, arith}
 use Rattle.std.proofs.lemmas.Result.{err_from_is_err_and}
 use Rattle.pcapng_io.specs.declared.block.Block.{Block}
 use Rattle.std.proofs.lemmas.Bool.Decides.{nat_tests}
-use Rattle.pcapng_io.specs.Long.{IsLonger, StandsAt}
+use Rattle.pcapng_io.specs.Long.{IsLonger}
 use Rattle.pcapng_io.specs.Seen.{seen_by}
-use Rattle.pcapng_io.proofs.LongLemmas.{with_begins, with_both}
-use Rattle.pcapng_io.proofs.LongBlockLemmas.{fields_told, never_end, passed_size, with_size}
+use Rattle.pcapng_io.proofs.LongBlockLemmas.{never_end, passed_size, with_fields, with_size}
 use Rattle.pcapng_io.proofs.RefusalLemmas.{body_kind, passed_on}
 use Rattle.pcapng_io.proofs.long.read_body.Goals as goal
 
@@ -15,23 +14,13 @@ returns-then-frame-eq-INTERFACE-clause-sound g c = c.in_ok-block.ensures.sound c
 
 pub returns-in_ok-read_options-in-Packet-clause-told : goal.returns-in_ok-read_options-in-Packet-clause-told
 returns-in_ok-read_options-in-Packet-clause-told g c =
-    let held = (g.F.Files.outside c.args.files.now).held in
-    let at = c.args.sought.known.at in
-    let first = c.args.window.now in
-    with_both held c.args.name.now at first
-    (λ all (s : StandsAt at first all) t. fields_told (seen_by c.args.sought.known c.args.interfaces.now) first c.as_slice.result.now (drop at all) c.args.sought.number c.args.frame c.in_ok-read_options-in-Packet.field-0 c.body_of_fields.result (Ok c.in-Ok.block)
-    (λ k. grind (arith, nat_tests)) c.requires.kept c.as_slice.ensures c.body_of_fields.ensures.says c.in-Ok.is s.start t)
-    (with_begins held c.args.name.now at first) c.in_ok-read_options-in-Packet.ensures.told
+    with_fields (g.F.Files.outside c.args.files.now).held c.args.name.now (seen_by c.args.sought.known c.args.interfaces.now) c.args.window.now c.as_slice.result.now c.args.sought.number c.args.frame
+    c.in_ok-read_options-in-Packet.field-0 c.body_of_fields.result (Ok c.in-Ok.block) (λ k. grind (arith, nat_tests)) c.requires.kept c.as_slice.ensures c.body_of_fields.ensures.says c.in-Ok.is c.in_ok-read_options-in-Packet.ensures.told
 
 pub returns-in_ok-read_end-in-Passed-clause-told : goal.returns-in_ok-read_end-in-Passed-clause-told
 returns-in_ok-read_end-in-Passed-clause-told g c =
-    let held = (g.F.Files.outside c.args.files.now).held in
-    let at = c.args.sought.known.at in
-    let first = c.args.window.now in
-    with_both held c.args.name.now at first
-    (λ all (s : StandsAt at first all) t. fields_told (seen_by c.args.sought.known c.args.interfaces.now) first c.as_slice.result.now (drop at all) c.args.sought.number c.args.frame c.in_ok-read_end-in-Passed.field-0 c.body_of_fields.result (Ok c.in-Ok.block)
-    (λ k. grind (arith, nat_tests)) c.requires.kept c.as_slice.ensures c.body_of_fields.ensures.says c.in-Ok.is s.start t)
-    (with_begins held c.args.name.now at first) c.in_ok-read_end-in-Passed.ensures.told
+    with_fields (g.F.Files.outside c.args.files.now).held c.args.name.now (seen_by c.args.sought.known c.args.interfaces.now) c.args.window.now c.as_slice.result.now c.args.sought.number c.args.frame
+    c.in_ok-read_end-in-Passed.field-0 c.body_of_fields.result (Ok c.in-Ok.block) (λ k. grind (arith, nat_tests)) c.requires.kept c.as_slice.ensures c.body_of_fields.ensures.says c.in-Ok.is c.in_ok-read_end-in-Passed.ensures.told
 
 pub returns-in_ok-read_end-in-Passed-clause-stands : goal.returns-in_ok-read_end-in-Passed-clause-stands
 returns-in_ok-read_end-in-Passed-clause-stands g c =
@@ -45,13 +34,8 @@ returns-in-End-clause-told g c =
 
 pub returns-in-Err-clause-told : goal.returns-in-Err-clause-told
 returns-in-Err-clause-told g c =
-    let held = (g.F.Files.outside c.args.files.now).held in
-    let at = c.args.sought.known.at in
-    let first = c.args.window.now in
-    with_both held c.args.name.now at first
-    (λ all (s : StandsAt at first all) t. fields_told (seen_by c.args.sought.known c.args.interfaces.now) first c.as_slice.result.now (drop at all) c.args.sought.number c.args.frame c.in_ok-read_end-in-Err.field-0 c.body_of_fields.result (Err c.in-Err.refusal)
-    (λ k. grind (arith, nat_tests)) c.requires.kept c.as_slice.ensures c.body_of_fields.ensures.says c.in-Err.is s.start t)
-    (with_begins held c.args.name.now at first) c.in_ok-read_end-in-Err.ensures.told
+    with_fields (g.F.Files.outside c.args.files.now).held c.args.name.now (seen_by c.args.sought.known c.args.interfaces.now) c.args.window.now c.as_slice.result.now c.args.sought.number c.args.frame
+    c.in_ok-read_end-in-Err.field-0 c.body_of_fields.result (Err c.in-Err.refusal) (λ k. grind (arith, nat_tests)) c.requires.kept c.as_slice.ensures c.body_of_fields.ensures.says c.in-Err.is c.in_ok-read_end-in-Err.ensures.told
 
 pub returns-in_err-read_end-in-Err-clause-refused : goal.returns-in_err-read_end-in-Err-clause-refused
 returns-in_err-read_end-in-Err-clause-refused g c =

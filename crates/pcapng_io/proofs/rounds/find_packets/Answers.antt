@@ -1,17 +1,17 @@
 -- What was taken ends the search, or it goes on with more bytes.
-use Rattle.std.proofs.Common.{◌≡◌, ◌+◌, [], true, length, Some, refl, sym, subst, ◌∙◌, ap, arith}
+use Rattle.std.proofs.Common.{◌≡◌, ◌+◌, true, length, Some, refl, sym, subst, ◌∙◌, ap, arith}
 use Rattle.aftr_base.specs.Outside.{Outside}
 use Rattle.aftr_base.proofs.OutsideLemmas.{read_well, reads_then}
 use Rattle.capture_io.specs.declared.rounds.Ending.TheVariants as end
-use Rattle.pcapng_io.specs.declared.pieces.Taken.{Taken}
-use Rattle.pcapng_io.specs.Seen.{seen_by}
-use Rattle.pcapng_io.proofs.WindowLemmas.{closer, failed_found, failed_inside, failed_reads, found_of, goes_on, IsTaken, passed, search_begins, taken_of, unsaid_rest}
-use Rattle.std.proofs.lemmas.List.{length-drop}
 use Rattle.capture_io.specs.Rounds.{is_cut}
 use Rattle.pcapng_io.specs.declared.long_packets.Long.{Long}
 use Rattle.pcapng_io.specs.declared.long_packets.Long.TheVariants as long
+use Rattle.pcapng_io.specs.declared.pieces.Taken.{Taken}
 use Rattle.pcapng_io.specs.Pieces.{EndsLong}
+use Rattle.pcapng_io.specs.Seen.{seen_by}
 use Rattle.pcapng_io.proofs.LongRoundLemmas.{found_then, long_is, long_read, next_then, search_then}
+use Rattle.pcapng_io.proofs.WindowLemmas.{closer, cut_inside, failed_found, failed_reads, found_of, search_begins, search_more, taken_of, unfound}
+use Rattle.std.proofs.lemmas.List.{length-drop}
 use Rattle.pcapng_io.proofs.rounds.find_packets.Goals as goal
 
 pub reads-init : goal.reads-init
@@ -36,170 +36,111 @@ returns-then-is_done-clause-told g c =
 pub reads-preserved : goal.reads-preserved
 reads-preserved g c =
     let old = seen_by c.args.search.from.known c.args.interfaces.now.items in
-    let now = seen_by c.reads.here c.reads.interfaces.items in
-    let taken = c.in_ok-taken.taken in
-    let later = seen_by taken.known c.take_blocks.new.interfaces.items in
-    let places = c.take_blocks.new.places.items in
+    let later = seen_by c.in_ok-taken.taken.known c.take_blocks.new.interfaces.items in
     let held = (g.F.Files.outside c.args.files.now).held in
-    let none : places ≡ [] = sym c.deref.ensures.value ∙ (c.is_done.ensures.unsaid c.if-is_done.false).1 in
-    let t : IsTaken now later c.reads.window c.args.search.from.number c.args.search.most_bytes places taken =
-    taken_of now later c.reads.window c.args.search.from.number c.args.search.most_bytes places taken c.as_slice.result.now c.is_last.result c.as_slice.ensures c.is_last.ensures
-    c.in_ok-taken.ensures.taken c.in_ok-taken.ensures.ended c.in_ok-taken.ensures.unsaid c.in_ok-taken.ensures.within in
+    let after = (g.F.Files.outside c.reads.files).held in
+    let same = ap (λ (o : Outside). o.held) c.reads.invariant.outside in
+    let u = unfound c.take_blocks.new.places.items c.in_ok-taken.taken c.pass.new.self c.reads.invariant.search c.as_slice.ensures c.is_last.ensures
+    c.in_ok-taken.ensures.taken c.in_ok-taken.ensures.ended c.in_ok-taken.ensures.unsaid c.in_ok-taken.ensures.within
+    c.deref.ensures.value (c.is_done.ensures.unsaid c.if-is_done.false) c.pass.ensures.bytes c.pass.ensures.last in
     record {
       outside = read_well c.args.name.now _ _ _ c.in-Ok.ensures.reads ∙ c.reads.invariant.outside;
-      search = goes_on held (g.F.Files.outside c.reads.files).held c.args.name.now old now later c.args.window.now.bytes c.reads.window c.pass.new.self c.read_more.new.self c.args.search.from.number c.args.search.most_bytes places taken
-          (ap (λ (o : Outside). o.held) c.reads.invariant.outside) c.reads.invariant.search t none c.pass.ensures.bytes c.pass.ensures.last c.in-Ok.ensures.told;
-      none = none;
+      search = search_more held after c.args.name.now old later c.args.window.now.bytes c.pass.new.self c.read_more.new.self c.args.search.from.number same u.search c.in-Ok.ensures.told;
+      none = u.none;
       room = c.in_ok-taken.ensures.room;
     }
 
 pub returns-in-Err-Failed-clause-told : goal.returns-in-Err-Failed-clause-told
 returns-in-Err-Failed-clause-told g c =
     let old = seen_by c.args.search.from.known c.args.interfaces.now.items in
-    let now = seen_by c.reads.here c.reads.interfaces.items in
-    let taken = c.in_ok-taken.taken in
-    let later = seen_by taken.known c.take_blocks.new.interfaces.items in
-    let places = c.take_blocks.new.places.items in
+    let later = seen_by c.in_ok-taken.taken.known c.take_blocks.new.interfaces.items in
     let held = (g.F.Files.outside c.args.files.now).held in
-    let none : places ≡ [] = sym c.deref.ensures.value ∙ (c.is_done.ensures.unsaid c.if-is_done.false).1 in
-    let t : IsTaken now later c.reads.window c.args.search.from.number c.args.search.most_bytes places taken =
-    taken_of now later c.reads.window c.args.search.from.number c.args.search.most_bytes places taken c.as_slice.result.now c.is_last.result c.as_slice.ensures c.is_last.ensures
-    c.in_ok-taken.ensures.taken c.in_ok-taken.ensures.ended c.in_ok-taken.ensures.unsaid c.in_ok-taken.ensures.within in
-    let cut : Taken = record { used = 0; known = taken.known; number = c.args.search.from.number; ending = Some end.ReadFault } in
-    failed_found held c.args.name.now old now later c.args.window.now.bytes c.reads.window c.pass.new.self c.args.search.from.number c.args.search.most_bytes places taken cut
-    c.reads.invariant.search t none c.pass.ensures.bytes c.pass.ensures.last c.read_more.new.self (c.in-Err-Failed.ensures.kept refl) refl refl refl
+    let u = unfound c.take_blocks.new.places.items c.in_ok-taken.taken c.pass.new.self c.reads.invariant.search c.as_slice.ensures c.is_last.ensures
+    c.in_ok-taken.ensures.taken c.in_ok-taken.ensures.ended c.in_ok-taken.ensures.unsaid c.in_ok-taken.ensures.within
+    c.deref.ensures.value (c.is_done.ensures.unsaid c.if-is_done.false) c.pass.ensures.bytes c.pass.ensures.last in
+    let cut : Taken = record { used = 0; known = c.in_ok-taken.taken.known; number = c.args.search.from.number; ending = Some end.ReadFault } in
+    failed_found held c.args.name.now old later c.args.window.now.bytes c.pass.new.self c.read_more.new.self c.args.search.from.number c.take_blocks.new.places.items cut u.none u.search
+    (c.in-Err-Failed.ensures.kept refl) refl refl refl
 
 pub returns-in-Err-Failed-clause-reads : goal.returns-in-Err-Failed-clause-reads
 returns-in-Err-Failed-clause-reads g c =
     let old = seen_by c.args.search.from.known c.args.interfaces.now.items in
-    let now = seen_by c.reads.here c.reads.interfaces.items in
-    let taken = c.in_ok-taken.taken in
-    let later = seen_by taken.known c.take_blocks.new.interfaces.items in
-    let places = c.take_blocks.new.places.items in
+    let later = seen_by c.in_ok-taken.taken.known c.take_blocks.new.interfaces.items in
     let held = (g.F.Files.outside c.args.files.now).held in
-    let none : places ≡ [] = sym c.deref.ensures.value ∙ (c.is_done.ensures.unsaid c.if-is_done.false).1 in
-    let t : IsTaken now later c.reads.window c.args.search.from.number c.args.search.most_bytes places taken =
-    taken_of now later c.reads.window c.args.search.from.number c.args.search.most_bytes places taken c.as_slice.result.now c.is_last.result c.as_slice.ensures c.is_last.ensures
-    c.in_ok-taken.ensures.taken c.in_ok-taken.ensures.ended c.in_ok-taken.ensures.unsaid c.in_ok-taken.ensures.within in
+    let u = unfound c.take_blocks.new.places.items c.in_ok-taken.taken c.pass.new.self c.reads.invariant.search c.as_slice.ensures c.is_last.ensures
+    c.in_ok-taken.ensures.taken c.in_ok-taken.ensures.ended c.in_ok-taken.ensures.unsaid c.in_ok-taken.ensures.within
+    c.deref.ensures.value (c.is_done.ensures.unsaid c.if-is_done.false) c.pass.ensures.bytes c.pass.ensures.last in
     reads_then true c.args.name.now _ _ (g.F.Files.outside c.args.files.now) (g.F.Files.outside c.reads.files) (g.F.Files.outside c.read_more.new.files) c.reads.invariant.outside
-    (λ place is. failed_inside held c.args.name.now old now later c.args.window.now.bytes c.reads.window c.pass.new.self c.args.search.from.number c.args.search.most_bytes places taken taken
-    c.reads.invariant.search t none c.pass.ensures.bytes c.pass.ensures.last place (c.is_done.ensures.unsaid c.if-is_done.false).0 is)
-    (failed_reads (Unit {0}) c.args.name.now (λ place. place ≡ taken.known.at + length c.pass.new.self.bytes) c.in-Err-Failed.field-0 (g.F.Files.outside c.reads.files) (g.F.Files.outside c.read_more.new.files) c.in-Err-Failed.field-0-is c.in-Err-Failed.ensures.reads)
+    (λ place is. cut_inside held c.args.name.now old later c.args.window.now.bytes c.pass.new.self c.args.search.from.number place u.search u.is_open is)
+    (failed_reads (Unit {0}) c.args.name.now (λ place. place ≡ later.known.at + length c.pass.new.self.bytes) c.in-Err-Failed.field-0 (g.F.Files.outside c.reads.files) (g.F.Files.outside c.read_more.new.files) c.in-Err-Failed.field-0-is c.in-Err-Failed.ensures.reads)
 
 pub take_long-requires-clause-is_open : goal.take_long-requires-clause-is_open
 take_long-requires-clause-is_open g c =
-    let old = seen_by c.args.search.from.known c.args.interfaces.now.items in
-    let now = seen_by c.reads.here c.reads.interfaces.items in
-    let taken = c.in_ok-taken.taken in
-    let later = seen_by taken.known c.take_blocks.new.interfaces.items in
-    let places = c.take_blocks.new.places.items in
-    let held = (g.F.Files.outside c.args.files.now).held in
-    let name = c.args.name.now in
-    let ahead = c.args.window.now.bytes in
-    let rest = c.pass.new.self in
-    let none : places ≡ [] = sym c.deref.ensures.value ∙ (c.is_done.ensures.unsaid c.if-is_done.false).1 in
-    let t : IsTaken now later c.reads.window c.args.search.from.number c.args.search.most_bytes places taken =
-    taken_of now later c.reads.window c.args.search.from.number c.args.search.most_bytes places taken c.as_slice.result.now c.is_last.result c.as_slice.ensures c.is_last.ensures
-    c.in_ok-taken.ensures.taken c.in_ok-taken.ensures.ended c.in_ok-taken.ensures.unsaid c.in_ok-taken.ensures.within in
-    let is_open = unsaid_rest held name old now later ahead c.reads.window rest c.args.search.from.number c.args.search.most_bytes places taken taken c.reads.invariant.search t none c.pass.ensures.bytes c.pass.ensures.last
-    (c.is_done.ensures.unsaid c.if-is_done.false).0 in
-    is_open.said
+    let u = unfound c.take_blocks.new.places.items c.in_ok-taken.taken c.pass.new.self c.reads.invariant.search c.as_slice.ensures c.is_last.ensures
+    c.in_ok-taken.ensures.taken c.in_ok-taken.ensures.ended c.in_ok-taken.ensures.unsaid c.in_ok-taken.ensures.within
+    c.deref.ensures.value (c.is_done.ensures.unsaid c.if-is_done.false) c.pass.ensures.bytes c.pass.ensures.last in
+    u.is_open.said
 
 pub returns-in-Taken-clause-told : goal.returns-in-Taken-clause-told
 returns-in-Taken-clause-told g c =
     let old = seen_by c.args.search.from.known c.args.interfaces.now.items in
-    let now = seen_by c.reads.here c.reads.interfaces.items in
-    let taken = c.in_ok-taken.taken in
-    let later = seen_by taken.known c.take_blocks.new.interfaces.items in
-    let places = c.take_blocks.new.places.items in
+    let later = seen_by c.in_ok-taken.taken.known c.take_blocks.new.interfaces.items in
     let held = (g.F.Files.outside c.args.files.now).held in
-    let name = c.args.name.now in
-    let ahead = c.args.window.now.bytes in
-    let rest = c.pass.new.self in
-    let none : places ≡ [] = sym c.deref.ensures.value ∙ (c.is_done.ensures.unsaid c.if-is_done.false).1 in
-    let t : IsTaken now later c.reads.window c.args.search.from.number c.args.search.most_bytes places taken =
-    taken_of now later c.reads.window c.args.search.from.number c.args.search.most_bytes places taken c.as_slice.result.now c.is_last.result c.as_slice.ensures c.is_last.ensures
-    c.in_ok-taken.ensures.taken c.in_ok-taken.ensures.ended c.in_ok-taken.ensures.unsaid c.in_ok-taken.ensures.within in
-    let search = (passed held name old now later ahead c.reads.window rest c.args.search.from.number c.args.search.most_bytes places taken taken c.reads.invariant.search t none c.pass.ensures.bytes c.pass.ensures.last).1 in
-    let same = ap (λ (o : Outside). o.held) c.reads.invariant.outside in
     let after = (g.F.Files.outside c.reads.files).held in
+    let same = ap (λ (o : Outside). o.held) c.reads.invariant.outside in
     let interfaces = c.take_long.new.interfaces.items in
-    let found = long_is after name later interfaces rest.bytes c.take_long.new.window c.take_long.new.places.items c.args.search.from.number c.args.search.most_bytes c.in_ok-taken-2.field-0 (long.Taken c.in-Taken.taken) c.in-Taken.is c.in_ok-taken-2.ensures.taken in
-    found_then held after name old later (seen_by c.in-Taken.taken.known interfaces) ahead rest c.args.search.from.number same search c.take_long.new.window.bytes c.take_long.new.places.items c.in-Taken.taken found.0
+    let u = unfound c.take_blocks.new.places.items c.in_ok-taken.taken c.pass.new.self c.reads.invariant.search c.as_slice.ensures c.is_last.ensures
+    c.in_ok-taken.ensures.taken c.in_ok-taken.ensures.ended c.in_ok-taken.ensures.unsaid c.in_ok-taken.ensures.within
+    c.deref.ensures.value (c.is_done.ensures.unsaid c.if-is_done.false) c.pass.ensures.bytes c.pass.ensures.last in
+    let found = long_is after c.args.name.now later interfaces c.pass.new.self.bytes c.take_long.new.window c.take_long.new.places.items c.args.search.from.number c.args.search.most_bytes c.in_ok-taken-2.field-0 (long.Taken c.in-Taken.taken) c.in-Taken.is c.in_ok-taken-2.ensures.taken in
+    found_then held after c.args.name.now old later (seen_by c.in-Taken.taken.known interfaces) c.args.window.now.bytes c.pass.new.self c.args.search.from.number same u.search c.take_long.new.window.bytes c.take_long.new.places.items c.in-Taken.taken found.0
 
 pub returns-in-Taken-clause-reads : goal.returns-in-Taken-clause-reads
 returns-in-Taken-clause-reads g c =
     let old = seen_by c.args.search.from.known c.args.interfaces.now.items in
-    let now = seen_by c.reads.here c.reads.interfaces.items in
-    let taken = c.in_ok-taken.taken in
-    let later = seen_by taken.known c.take_blocks.new.interfaces.items in
-    let places = c.take_blocks.new.places.items in
+    let later = seen_by c.in_ok-taken.taken.known c.take_blocks.new.interfaces.items in
     let held = (g.F.Files.outside c.args.files.now).held in
-    let name = c.args.name.now in
-    let ahead = c.args.window.now.bytes in
-    let rest = c.pass.new.self in
-    let none : places ≡ [] = sym c.deref.ensures.value ∙ (c.is_done.ensures.unsaid c.if-is_done.false).1 in
-    let t : IsTaken now later c.reads.window c.args.search.from.number c.args.search.most_bytes places taken =
-    taken_of now later c.reads.window c.args.search.from.number c.args.search.most_bytes places taken c.as_slice.result.now c.is_last.result c.as_slice.ensures c.is_last.ensures
-    c.in_ok-taken.ensures.taken c.in_ok-taken.ensures.ended c.in_ok-taken.ensures.unsaid c.in_ok-taken.ensures.within in
-    let search = (passed held name old now later ahead c.reads.window rest c.args.search.from.number c.args.search.most_bytes places taken taken c.reads.invariant.search t none c.pass.ensures.bytes c.pass.ensures.last).1 in
-    let same = ap (λ (o : Outside). o.held) c.reads.invariant.outside in
     let after = (g.F.Files.outside c.reads.files).held in
+    let same = ap (λ (o : Outside). o.held) c.reads.invariant.outside in
     let interfaces = c.take_long.new.interfaces.items in
-    let reads = long_read name later interfaces rest.bytes (g.F.Files.outside c.reads.files) (g.F.Files.outside c.take_long.new.files) c.in_ok-taken-2.field-0 (long.Taken c.in-Taken.taken) c.in-Taken.is c.in_ok-taken-2.ensures.reads in
+    let u = unfound c.take_blocks.new.places.items c.in_ok-taken.taken c.pass.new.self c.reads.invariant.search c.as_slice.ensures c.is_last.ensures
+    c.in_ok-taken.ensures.taken c.in_ok-taken.ensures.ended c.in_ok-taken.ensures.unsaid c.in_ok-taken.ensures.within
+    c.deref.ensures.value (c.is_done.ensures.unsaid c.if-is_done.false) c.pass.ensures.bytes c.pass.ensures.last in
+    let reads = long_read c.args.name.now later interfaces c.pass.new.self.bytes (g.F.Files.outside c.reads.files) (g.F.Files.outside c.take_long.new.files) c.in_ok-taken-2.field-0 (long.Taken c.in-Taken.taken) c.in-Taken.is c.in_ok-taken-2.ensures.reads in
     let final = seen_by c.in-Taken.taken.known interfaces in
-    reads_then (is_cut c.in-Taken.taken.ending) name _ _ (g.F.Files.outside c.args.files.now) (g.F.Files.outside c.reads.files) (g.F.Files.outside c.take_long.new.files) c.reads.invariant.outside
-    (λ place. next_then held after name old later final ahead rest c.args.search.from.number same search final c.in-Taken.taken.number place) reads
+    reads_then (is_cut c.in-Taken.taken.ending) c.args.name.now _ _ (g.F.Files.outside c.args.files.now) (g.F.Files.outside c.reads.files) (g.F.Files.outside c.take_long.new.files) c.reads.invariant.outside
+    (λ place. next_then held after c.args.name.now old later final c.args.window.now.bytes c.pass.new.self c.args.search.from.number same u.search final c.in-Taken.taken.number place) reads
 
 pub reads-preserved-then-as_slice-ge-MOST_KEPT : goal.reads-preserved-then-as_slice-ge-MOST_KEPT
 reads-preserved-then-as_slice-ge-MOST_KEPT g c =
     let old = seen_by c.args.search.from.known c.args.interfaces.now.items in
-    let now = seen_by c.reads.here c.reads.interfaces.items in
-    let taken = c.in_ok-taken.taken in
-    let later = seen_by taken.known c.take_blocks.new.interfaces.items in
-    let places = c.take_blocks.new.places.items in
+    let later = seen_by c.in_ok-taken.taken.known c.take_blocks.new.interfaces.items in
     let held = (g.F.Files.outside c.args.files.now).held in
-    let name = c.args.name.now in
-    let ahead = c.args.window.now.bytes in
-    let rest = c.pass.new.self in
-    let none : places ≡ [] = sym c.deref.ensures.value ∙ (c.is_done.ensures.unsaid c.if-is_done.false).1 in
-    let t : IsTaken now later c.reads.window c.args.search.from.number c.args.search.most_bytes places taken =
-    taken_of now later c.reads.window c.args.search.from.number c.args.search.most_bytes places taken c.as_slice.result.now c.is_last.result c.as_slice.ensures c.is_last.ensures
-    c.in_ok-taken.ensures.taken c.in_ok-taken.ensures.ended c.in_ok-taken.ensures.unsaid c.in_ok-taken.ensures.within in
-    let search = (passed held name old now later ahead c.reads.window rest c.args.search.from.number c.args.search.most_bytes places taken taken c.reads.invariant.search t none c.pass.ensures.bytes c.pass.ensures.last).1 in
-    let same = ap (λ (o : Outside). o.held) c.reads.invariant.outside in
     let after = (g.F.Files.outside c.reads.files).held in
+    let same = ap (λ (o : Outside). o.held) c.reads.invariant.outside in
     let interfaces = c.take_long.new.interfaces.items in
-    let found = long_is after name later interfaces rest.bytes c.take_long.new.window c.take_long.new.places.items c.args.search.from.number c.args.search.most_bytes c.in_ok-taken-2.field-0 (long.Passed c.in-Passed.known) c.in-Passed.is c.in_ok-taken-2.ensures.taken in
-    let reads = long_read name later interfaces rest.bytes (g.F.Files.outside c.reads.files) (g.F.Files.outside c.take_long.new.files) c.in_ok-taken-2.field-0 (long.Passed c.in-Passed.known) c.in-Passed.is c.in_ok-taken-2.ensures.reads in
+    let u = unfound c.take_blocks.new.places.items c.in_ok-taken.taken c.pass.new.self c.reads.invariant.search c.as_slice.ensures c.is_last.ensures
+    c.in_ok-taken.ensures.taken c.in_ok-taken.ensures.ended c.in_ok-taken.ensures.unsaid c.in_ok-taken.ensures.within
+    c.deref.ensures.value (c.is_done.ensures.unsaid c.if-is_done.false) c.pass.ensures.bytes c.pass.ensures.last in
+    let found = long_is after c.args.name.now later interfaces c.pass.new.self.bytes c.take_long.new.window c.take_long.new.places.items c.args.search.from.number c.args.search.most_bytes c.in_ok-taken-2.field-0 (long.Passed c.in-Passed.known) c.in-Passed.is c.in_ok-taken-2.ensures.taken in
+    let reads = long_read c.args.name.now later interfaces c.pass.new.self.bytes (g.F.Files.outside c.reads.files) (g.F.Files.outside c.take_long.new.files) c.in_ok-taken-2.field-0 (long.Passed c.in-Passed.known) c.in-Passed.is c.in_ok-taken-2.ensures.reads in
     record {
-      outside = read_well name _ _ _ reads ∙ c.reads.invariant.outside;
-      search = search_then held after name old later (seen_by c.in-Passed.known interfaces) ahead rest c.args.search.from.number same search c.take_long.new.window found.0;
+      outside = read_well c.args.name.now _ _ _ reads ∙ c.reads.invariant.outside;
+      search = search_then held after c.args.name.now old later (seen_by c.in-Passed.known interfaces) c.args.window.now.bytes c.pass.new.self c.args.search.from.number same u.search c.take_long.new.window found.0;
       none = found.1;
       room = c.in_ok-taken-2.ensures.room;
     }
 
 pub reads-smaller : goal.reads-smaller
 reads-smaller g c =
-    let old = seen_by c.args.search.from.known c.args.interfaces.now.items in
-    let now = seen_by c.reads.here c.reads.interfaces.items in
-    let taken = c.in_ok-taken.taken in
-    let later = seen_by taken.known c.take_blocks.new.interfaces.items in
-    let places = c.take_blocks.new.places.items in
-    let held = (g.F.Files.outside c.args.files.now).held in
-    let name = c.args.name.now in
-    let ahead = c.args.window.now.bytes in
-    let rest = c.pass.new.self in
-    let none : places ≡ [] = sym c.deref.ensures.value ∙ (c.is_done.ensures.unsaid c.if-is_done.false).1 in
-    let t : IsTaken now later c.reads.window c.args.search.from.number c.args.search.most_bytes places taken =
-    taken_of now later c.reads.window c.args.search.from.number c.args.search.most_bytes places taken c.as_slice.result.now c.is_last.result c.as_slice.ensures c.is_last.ensures
-    c.in_ok-taken.ensures.taken c.in_ok-taken.ensures.ended c.in_ok-taken.ensures.unsaid c.in_ok-taken.ensures.within in
-    let is_open = unsaid_rest held name old now later ahead c.reads.window rest c.args.search.from.number c.args.search.most_bytes places taken taken c.reads.invariant.search t none c.pass.ensures.bytes c.pass.ensures.last
-    (c.is_done.ensures.unsaid c.if-is_done.false).0 in
-    closer taken.known.at c.reads.here.at taken.used (length c.reads.window.bytes) (length c.read_more.new.self.bytes) c.reads.window.last c.read_more.new.self.last t.are.at (omega (arith, t.are.inside)) t.are.inside
-    (omega (arith, t.are.at, t.are.inside, is_open.near, is_open.short, ap length c.pass.ensures.bytes, length-drop taken.used c.reads.window.bytes)) (sym c.pass.ensures.last ∙ is_open.more)
-    (omega (arith, c.in-Ok.ensures.least, ap length c.pass.ensures.bytes, length-drop taken.used c.reads.window.bytes))
-    (λ e. omega (arith, c.in-Ok.ensures.longer e, ap length c.pass.ensures.bytes, length-drop taken.used c.reads.window.bytes))
+    let used = c.in_ok-taken.taken.used in
+    let u = unfound c.take_blocks.new.places.items c.in_ok-taken.taken c.pass.new.self c.reads.invariant.search c.as_slice.ensures c.is_last.ensures
+    c.in_ok-taken.ensures.taken c.in_ok-taken.ensures.ended c.in_ok-taken.ensures.unsaid c.in_ok-taken.ensures.within
+    c.deref.ensures.value (c.is_done.ensures.unsaid c.if-is_done.false) c.pass.ensures.bytes c.pass.ensures.last in
+    closer c.in_ok-taken.taken.known.at c.reads.here.at used (length c.reads.window.bytes) (length c.read_more.new.self.bytes) c.reads.window.last c.read_more.new.self.last u.at (omega (arith, u.inside)) u.inside
+    (omega (arith, u.at, u.inside, u.is_open.near, u.is_open.short, ap length c.pass.ensures.bytes, length-drop used c.reads.window.bytes)) (sym c.pass.ensures.last ∙ u.is_open.more)
+    (omega (arith, c.in-Ok.ensures.least, ap length c.pass.ensures.bytes, length-drop used c.reads.window.bytes))
+    (λ e. omega (arith, c.in-Ok.ensures.longer e, ap length c.pass.ensures.bytes, length-drop used c.reads.window.bytes))
 
 pub returns-in-Taken-clause-in_records : goal.returns-in-Taken-clause-in_records
 returns-in-Taken-clause-in_records g c = let E : Long → Type 0 = EndsLong in subst E c.in-Taken.is c.in_ok-taken-2.ensures.in_records
