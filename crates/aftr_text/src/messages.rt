@@ -117,14 +117,8 @@ fn stray_line(alloc: Global, word: &str, place: usize) -> Result<Text, OutOfMemo
     ensures { IfOk result (λ line. line ≡
         codes "  word " ++ decimal (place + 2) ++ codes ", `" ++ word.now ++ codes "`, is not an option (after `--` it would be an argument)\n") }
 {
-    let number = place_text(alloc, place, 2)?;
-    let mut line = String::new(alloc);
-    line.push_str("  word ")?;
-    line.push_str(number.as_str())?;
-    line.push_str(", `")?;
-    line.push_str(word)?;
-    line.push_str("`, is not an option (after `--` it would be an argument)\n")?;
-    Ok(Text::of(line))
+    let wrong = "`, is not an option (after `--` it would be an argument)\n";
+    placed_line(alloc, "  word ", place, 2, word, wrong)
 }
 
 fn unvalued_line(alloc: Global, slot: Slot) -> Result<Text, OutOfMemory>
@@ -217,27 +211,36 @@ fn load_line(alloc: Global, word: &str, load: usize) -> Result<Text, OutOfMemory
     ensures { IfOk result (λ line. line ≡ codes "  load " ++ decimal (load + 1) ++ codes ", `" ++ word.now
         ++ codes "`, is not EARLIEST-LATEST:TABLE with EARLIEST <= LATEST <= 2147483648\n") }
 {
-    let number = place_text(alloc, load, 1)?;
-    let mut line = String::new(alloc);
-    line.push_str("  load ")?;
-    line.push_str(number.as_str())?;
-    line.push_str(", `")?;
-    line.push_str(word)?;
-    line.push_str("`, is not EARLIEST-LATEST:TABLE with EARLIEST <= LATEST <= 2147483648\n")?;
-    Ok(Text::of(line))
+    let wrong = "`, is not EARLIEST-LATEST:TABLE with EARLIEST <= LATEST <= 2147483648\n";
+    placed_line(alloc, "  load ", load, 1, word, wrong)
 }
 
 fn fall_line(alloc: Global, word: &str, load: usize) -> Result<Text, OutOfMemory>
     ensures { IfOk result (λ line. line ≡ codes "  load " ++ decimal (load + 1) ++ codes ", `" ++ word.now
         ++ codes "`: its window begins or ends earlier than that of the load before it\n") }
 {
-    let number = place_text(alloc, load, 1)?;
+    let wrong = "`: its window begins or ends earlier than that of the load before it\n";
+    placed_line(alloc, "  load ", load, 1, word, wrong)
+}
+
+// What is wrong with the word at a place. Both texts bring their blanks and marks.
+fn placed_line(
+    alloc: Global,
+    kind: &str,
+    place: usize,
+    first: u8,
+    word: &str,
+    wrong: &str,
+) -> Result<Text, OutOfMemory>
+    ensures { IfOk result (λ line. line ≡ kind.now ++ decimal (place + first) ++ codes ", `" ++ word.now ++ wrong.now) }
+{
+    let number = place_text(alloc, place, first)?;
     let mut line = String::new(alloc);
-    line.push_str("  load ")?;
+    line.push_str(kind)?;
     line.push_str(number.as_str())?;
     line.push_str(", `")?;
     line.push_str(word)?;
-    line.push_str("`: its window begins or ends earlier than that of the load before it\n")?;
+    line.push_str(wrong)?;
     Ok(Text::of(line))
 }
 
