@@ -8,6 +8,8 @@ use Rattle.aftr_text.specs.Jobs.{HasNoOptions, IsLoad, StandsOnce, load_text, lo
 use Rattle.aftr_text.specs.Parts.{Parts, kind_of, parts_of, unknown, wants}
 use Rattle.aftr_text.specs.declared.faults.Fault.{Fault}
 use Rattle.aftr_text.specs.declared.faults.Fault.TheVariants as fault
+use Rattle.aftr_text.specs.declared.faults.JobError.{JobError}
+use Rattle.aftr_text.specs.declared.faults.JobError.TheVariants as error
 use Rattle.aftr_text.specs.declared.jobs.LoadWords.{LoadWords}
 use Rattle.aftr_text.specs.declared.jobs.RunJob.{RunJob}
 use Rattle.aftr_text.specs.declared.parts.Slot.{Slot}
@@ -125,6 +127,10 @@ IsFaultOf command p (fault.Load at) = (command ≡ codes "run") × IsBadLoad (dr
 IsFaultOf command p fault.SameTable = (command ≡ codes "migrate") × ((name : List ℕ) × (p.arguments ≡ name ∷ name ∷ []))
 IsFaultOf command p (fault.Same at) = (command ≡ codes "run") × ((run : RunJob) × IsNamed p run × IsShared run at)
 IsFaultOf command p (fault.Falls at) = (command ≡ codes "run") × ((run : RunJob) × IsNamed p run × HasFallen run.loads at)
+
+-- the cause that is told, if one is, is true of them
+abbrev pub HasCause : List ℕ → Parts → JobError → Type 0
+HasCause command p e = (f : Fault) → e ≡ error.Refused f → IsFaultOf command p f
 
 -- what a cause says of the words behind a command
 abbrev pub IsFaultBehind : List ℕ → List (List ℕ) → Fault → Type 0

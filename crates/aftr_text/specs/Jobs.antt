@@ -121,6 +121,10 @@ AsksFor command p (job.Who name v4 port) = (command ≡ codes "who") × AsksWho 
 AsksFor command p (job.Demo seed count workers) = (command ≡ codes "demo") × AsksDemo p seed count workers
 AsksFor command p (job.Migrate input output) = (command ≡ codes "migrate") × AsksMigrate p input output
 
+-- it asks for no job
+abbrev pub AsksForNone : List ℕ → Parts → Type 0
+AsksForNone command p = (j : Job) → AsksFor command p j → ⊥
+
 -- the words ask for the job
 abbrev pub Asks : List (List ℕ) → Job → Type 0
 Asks [] j = ⊥

@@ -1,14 +1,14 @@
 // The command words.
 ghost use Rattle.std.specs.Prelude.{◌≡◌, ◌≢◌, ◌↔◌, ◌≤◌, decimal, ◌+◌, ◌∷◌, [], cond, Option, ℕ, List, All, IfOk, IfErr};
 ghost use Rattle.std.specs.Prelude.{IsTrue, Some, codes, bytes_eq, ◌<◌, ◌⊎◌, IfSome, IfNone, length, slice_get};
-ghost use Rattle.aftr_text.specs.Jobs.{AreApart, AreNames, AreWorkers, Asks, AskNothing, AsksFor, IsLimit};
+ghost use Rattle.aftr_text.specs.Jobs.{AreApart, AreNames, AreWorkers, Asks, AskNothing, AsksFor, AsksForNone, IsLimit};
 ghost use Rattle.aftr_text.specs.Jobs.{IsLoad, IsName, StandsOnce, how_many, load_texts, names_of};
 ghost use Rattle.addr_text.specs.Ipv4.{IsV4Text};
 ghost use Rattle.aftr_text.specs.Commands.{found_in, word_of, words_of};
 ghost use Rattle.aftr_text.specs.declared.jobs.LoadWords.{LoadWords as SpecLoad};
 ghost use Rattle.aftr_text.specs.Parts.{texts};
 ghost use Rattle.aftr_text.specs.declared.jobs.Job.{Job as SpecJob};
-ghost use Rattle.aftr_text.specs.Faults.{IsBadLoad, IsBadValue, IsFault, IsFaultOf, IsShared, arguments_of};
+ghost use Rattle.aftr_text.specs.Faults.{HasCause, IsBadLoad, IsBadValue, IsFault, IsShared, arguments_of};
 ghost use Rattle.aftr_text.specs.declared.faults.Fault.{Fault as SpecFault};
 ghost use Rattle.aftr_text.specs.declared.faults.Fault.TheVariants as fault;
 ghost use Rattle.aftr_text.specs.declared.faults.JobError.TheVariants as error_is;
@@ -76,8 +76,8 @@ pub fn read_words(alloc: Global, words: &[&str]) -> Result<Job, UsageError>
 
 fn read_command(alloc: Global, command: &str, parts: &Parts<'_>) -> Result<Job, JobError>
     ensures job { IfOk result (AsksFor command.now parts.now) }
-    ensures usage { IfErr result (λ e. e ≢ error_is.OutOfMemory → (job : SpecJob) → AsksFor command.now parts.now job → ⊥) }
-    ensures cause { IfErr result (λ e. (f : SpecFault) → e ≡ error_is.Refused f → IsFaultOf command.now parts.now f) }
+    ensures usage { IfErr result (λ e. e ≢ error_is.OutOfMemory → AsksForNone command.now parts.now) }
+    ensures cause { IfErr result (HasCause command.now parts.now) }
 {
     if command == "run" {
         read_run(alloc, parts)
@@ -96,8 +96,8 @@ fn read_command(alloc: Global, command: &str, parts: &Parts<'_>) -> Result<Job, 
 
 fn read_run(alloc: Global, parts: &Parts<'_>) -> Result<Job, JobError>
     ensures job { IfOk result (AsksFor (codes "run") parts.now) }
-    ensures usage { IfErr result (λ e. e ≢ error_is.OutOfMemory → (job : SpecJob) → AsksFor (codes "run") parts.now job → ⊥) }
-    ensures cause { IfErr result (λ e. (f : SpecFault) → e ≡ error_is.Refused f → IsFaultOf (codes "run") parts.now f) }
+    ensures usage { IfErr result (λ e. e ≢ error_is.OutOfMemory → AsksForNone (codes "run") parts.now) }
+    ensures cause { IfErr result (HasCause (codes "run") parts.now) }
 {
     let line = parts.line(alloc, "run")?;
     let matches = parse(run_command(alloc)?, line.as_slice())?;
@@ -133,8 +133,8 @@ fn read_run(alloc: Global, parts: &Parts<'_>) -> Result<Job, JobError>
 
 fn read_check(alloc: Global, parts: &Parts<'_>) -> Result<Job, JobError>
     ensures job { IfOk result (AsksFor (codes "check") parts.now) }
-    ensures usage { IfErr result (λ e. e ≢ error_is.OutOfMemory → (job : SpecJob) → AsksFor (codes "check") parts.now job → ⊥) }
-    ensures cause { IfErr result (λ e. (f : SpecFault) → e ≡ error_is.Refused f → IsFaultOf (codes "check") parts.now f) }
+    ensures usage { IfErr result (λ e. e ≢ error_is.OutOfMemory → AsksForNone (codes "check") parts.now) }
+    ensures cause { IfErr result (HasCause (codes "check") parts.now) }
 {
     if parts.has_options() {
         return Err(JobError::Refused(Fault::OptionOfRun));
@@ -147,8 +147,8 @@ fn read_check(alloc: Global, parts: &Parts<'_>) -> Result<Job, JobError>
 
 fn read_who(alloc: Global, parts: &Parts<'_>) -> Result<Job, JobError>
     ensures job { IfOk result (AsksFor (codes "who") parts.now) }
-    ensures usage { IfErr result (λ e. e ≢ error_is.OutOfMemory → (job : SpecJob) → AsksFor (codes "who") parts.now job → ⊥) }
-    ensures cause { IfErr result (λ e. (f : SpecFault) → e ≡ error_is.Refused f → IsFaultOf (codes "who") parts.now f) }
+    ensures usage { IfErr result (λ e. e ≢ error_is.OutOfMemory → AsksForNone (codes "who") parts.now) }
+    ensures cause { IfErr result (HasCause (codes "who") parts.now) }
 {
     if parts.has_options() {
         return Err(JobError::Refused(Fault::OptionOfRun));
@@ -167,8 +167,8 @@ fn read_who(alloc: Global, parts: &Parts<'_>) -> Result<Job, JobError>
 
 fn read_demo(alloc: Global, parts: &Parts<'_>) -> Result<Job, JobError>
     ensures job { IfOk result (AsksFor (codes "demo") parts.now) }
-    ensures usage { IfErr result (λ e. e ≢ error_is.OutOfMemory → (job : SpecJob) → AsksFor (codes "demo") parts.now job → ⊥) }
-    ensures cause { IfErr result (λ e. (f : SpecFault) → e ≡ error_is.Refused f → IsFaultOf (codes "demo") parts.now f) }
+    ensures usage { IfErr result (λ e. e ≢ error_is.OutOfMemory → AsksForNone (codes "demo") parts.now) }
+    ensures cause { IfErr result (HasCause (codes "demo") parts.now) }
 {
     if parts.has_options() {
         return Err(JobError::Refused(Fault::OptionOfRun));
@@ -187,8 +187,8 @@ fn read_demo(alloc: Global, parts: &Parts<'_>) -> Result<Job, JobError>
 
 fn read_migrate(alloc: Global, parts: &Parts<'_>) -> Result<Job, JobError>
     ensures job { IfOk result (AsksFor (codes "migrate") parts.now) }
-    ensures usage { IfErr result (λ e. e ≢ error_is.OutOfMemory → (job : SpecJob) → AsksFor (codes "migrate") parts.now job → ⊥) }
-    ensures cause { IfErr result (λ e. (f : SpecFault) → e ≡ error_is.Refused f → IsFaultOf (codes "migrate") parts.now f) }
+    ensures usage { IfErr result (λ e. e ≢ error_is.OutOfMemory → AsksForNone (codes "migrate") parts.now) }
+    ensures cause { IfErr result (HasCause (codes "migrate") parts.now) }
 {
     if parts.has_options() {
         return Err(JobError::Refused(Fault::OptionOfRun));
