@@ -8,7 +8,8 @@ ghost use Rattle.item_stage.specs.Heads.{CanBeJoined, EachLane, HaveHeaders};
 ghost use Rattle.item_stage.specs.Marks.{entry_by, outcome_item, marked, turning};
 ghost use Rattle.item_stage.specs.Ordered.{ascending};
 ghost use Rattle.item_stage.specs.Shown.{shown, shown_inside};
-ghost use Rattle.item_stage.specs.Turns.{arriving, down_fed, down_item, inner_fed, inside_turn, outer_fed, outer_turn, cut_turn, rule_of, turn_of, up_item, with_inner};
+ghost use Rattle.item_stage.specs.Turns.{arriving, down_fed, down_item, inner_fed, outer_fed, rule_of, up_item, with_inner};
+ghost use Rattle.item_stage.specs.Turns.{cut_turn, inside_turn, outer_turn, turn_of};
 ghost use Rattle.item_stage.specs.Waiting.{row_fed, row_turn};
 ghost use Rattle.item_stage.specs.declared.rows.Rows.{Rows as AllRows};
 ghost use Rattle.reassembly_lane.specs.Lanes.{arrival};
@@ -42,7 +43,8 @@ pub(crate) fn take(
 ) -> Result<Option<Mark>, OutOfMemory>
     requires { HaveHeaders rows.old }
     ensures headers { IfOk result (λ _. HaveHeaders rows.new) }
-    ensures turn { IfOk result (λ mark. turning rows.new (entry_by (item_alone (shown alone.now)) mark) ≡ turn_of rows.old at.time at.number (shown alone.now)) }
+    ensures turn { IfOk result (λ mark. turning rows.new (entry_by (item_alone (shown alone.now)) mark)
+        ≡ turn_of rows.old at.time at.number (shown alone.now)) }
 {
     match alone {
         Alone::Ready(_) => Ok(None),
@@ -71,9 +73,12 @@ fn take_down(
 ) -> Result<Mark, OutOfMemory>
     requires { EachLane row.old }
     ensures headers { IfOk result (λ _. EachLane row.new) }
-    ensures row { IfOk result (λ _. row.new ≡ (down_fed row.old at.time at.number (down_key (packet4 packet.now.view)) (part_of4 (packet4 packet.now.view))).row) }
-    ensures ended { IfOk result (λ mark. mark.ended ≡ (down_fed row.old at.time at.number (down_key (packet4 packet.now.view)) (part_of4 (packet4 packet.now.view))).ended) }
-    ensures outcome { IfOk result (λ mark. outcome_item mark.outcome ≡ down_item (down_fed row.old at.time at.number (down_key (packet4 packet.now.view)) (part_of4 (packet4 packet.now.view))).answer) }
+    ensures row { IfOk result (λ _. row.new
+        ≡ (down_fed row.old at.time at.number (down_key (packet4 packet.now.view)) (part_of4 (packet4 packet.now.view))).row) }
+    ensures ended { IfOk result (λ mark. mark.ended
+        ≡ (down_fed row.old at.time at.number (down_key (packet4 packet.now.view)) (part_of4 (packet4 packet.now.view))).ended) }
+    ensures outcome { IfOk result (λ mark. outcome_item mark.outcome
+        ≡ down_item (down_fed row.old at.time at.number (down_key (packet4 packet.now.view)) (part_of4 (packet4 packet.now.view))).answer) }
 {
     let key = DownKey::of(&packet.view);
     let said = feed4(alloc, row, lane_of(u32::from(key.id)), key, at, packet)?;
@@ -103,7 +108,9 @@ fn take_carried(
 ) -> Result<Option<Mark>, OutOfMemory>
     requires { EachLane row.old }
     ensures headers { IfOk result (λ _. EachLane row.new) }
-    ensures turn { IfOk result (λ mark. (rows : AllRows) → rows.inner ≡ row.old → turning (with_inner rows row.new) (entry_by (item_inside (shown_inside inside.now)) mark) ≡ inside_turn rows at.time at.number [] (shown_inside inside.now)) }
+    ensures turn { IfOk result (λ mark. (rows : AllRows) → rows.inner ≡ row.old
+        → turning (with_inner rows row.new) (entry_by (item_inside (shown_inside inside.now)) mark)
+        ≡ inside_turn rows at.time at.number [] (shown_inside inside.now)) }
 {
     match inside {
         Inside::Settled(_) => Ok(None),
@@ -125,9 +132,12 @@ fn take_inside(
 ) -> Result<Mark, OutOfMemory>
     requires { EachLane row.old }
     ensures headers { IfOk result (λ _. EachLane row.new) }
-    ensures row { IfOk result (λ _. row.new ≡ (inner_fed row.old at.time at.number (inner_key outer (packet4 packet.now.view)) (part_of4 (packet4 packet.now.view))).row) }
-    ensures ended { IfOk result (λ mark. mark.ended ≡ ascending (ended ++ (inner_fed row.old at.time at.number (inner_key outer (packet4 packet.now.view)) (part_of4 (packet4 packet.now.view))).ended)) }
-    ensures outcome { IfOk result (λ mark. outcome_item mark.outcome ≡ up_item outer (inner_fed row.old at.time at.number (inner_key outer (packet4 packet.now.view)) (part_of4 (packet4 packet.now.view))).answer) }
+    ensures row { IfOk result (λ _. row.new
+        ≡ (inner_fed row.old at.time at.number (inner_key outer (packet4 packet.now.view)) (part_of4 (packet4 packet.now.view))).row) }
+    ensures ended { IfOk result (λ mark. mark.ended
+        ≡ ascending (ended ++ (inner_fed row.old at.time at.number (inner_key outer (packet4 packet.now.view)) (part_of4 (packet4 packet.now.view))).ended)) }
+    ensures outcome { IfOk result (λ mark. outcome_item mark.outcome
+        ≡ up_item outer (inner_fed row.old at.time at.number (inner_key outer (packet4 packet.now.view)) (part_of4 (packet4 packet.now.view))).answer) }
 {
     let key = InnerKey::of(&outer, &packet.view);
     let said = feed4(alloc, row, lane_of(u32::from(key.id)), key, at, packet)?;
@@ -155,7 +165,9 @@ fn up_outcome(alloc: Global, outer: Outer, answer: Answer) -> Result<Outcome, Ou
 fn take_cut(alloc: Global, rows: &mut Rows, at: Moment, cut: &Cut<'_>) -> Result<Mark, OutOfMemory>
     requires { HaveHeaders rows.old }
     ensures headers { IfOk result (λ _. HaveHeaders rows.new) }
-    ensures turn { IfOk result (λ mark. turning rows.new (marked mark) ≡ cut_turn rows.old at.time at.number cut.now.outer (outer_fed rows.old.outer at.time at.number (outer_key cut.now.outer cut.now.id) (part_of6 cut.now.offset cut.now.more cut.now.next cut.now.body.now))) }
+    ensures turn { IfOk result (λ mark. turning rows.new (marked mark)
+        ≡ cut_turn rows.old at.time at.number cut.now.outer (outer_fed rows.old.outer at.time at.number
+        (outer_key cut.now.outer cut.now.id) (part_of6 cut.now.offset cut.now.more cut.now.next cut.now.body.now))) }
 {
     let head = [cut.next];
     let piece = Piece {
@@ -182,7 +194,8 @@ fn go_on(
 ) -> Result<Mark, OutOfMemory>
     requires { EachLane row.old }
     ensures headers { IfOk result (λ _. EachLane row.new) }
-    ensures turn { IfOk result (λ mark. (rows : AllRows) → rows.inner ≡ row.old → turning (with_inner rows row.new) (marked mark) ≡ outer_turn rows at.time at.number said.ended outer said.answer) }
+    ensures turn { IfOk result (λ mark. (rows : AllRows) → rows.inner ≡ row.old
+        → turning (with_inner rows row.new) (marked mark) ≡ outer_turn rows at.time at.number said.ended outer said.answer) }
 {
     let Fed { ended, answer } = said;
     match answer {
@@ -213,7 +226,8 @@ fn take_whole(
 ) -> Result<Mark, OutOfMemory>
     requires { EachLane row.old }
     ensures headers { IfOk result (λ _. EachLane row.new) }
-    ensures turn { IfOk result (λ mark. (rows : AllRows) → rows.inner ≡ row.old → turning (with_inner rows row.new) (marked mark) ≡ inside_turn rows at.time at.number ended (behind_fragment outer next body)) }
+    ensures turn { IfOk result (λ mark. (rows : AllRows) → rows.inner ≡ row.old
+        → turning (with_inner rows row.new) (marked mark) ≡ inside_turn rows at.time at.number ended (behind_fragment outer next body)) }
 {
     match behind_fragment(outer, next, body.as_slice()) {
         Inside::Fragment { outer, packet } => {
@@ -238,7 +252,8 @@ fn feed4<K: Ord + Copy + Drop>(
 ) -> Result<Fed, OutOfMemory>
     requires lane { lane < lane_count }
     requires headers { EachLane row.old }
-    ensures fed { IfOk result (λ said. row_turn said row.new ≡ row_fed K.cmp row.old lane (arriving key at.time at.number (part_of4 (packet4 packet.now.view)))) }
+    ensures fed { IfOk result (λ said. row_turn said row.new
+        ≡ row_fed K.cmp row.old lane (arriving key at.time at.number (part_of4 (packet4 packet.now.view)))) }
     ensures headers { IfOk result (λ _. EachLane row.new) }
     ensures joined { IfOk result (λ said. CanBeJoined said.answer) }
 {
