@@ -97,7 +97,8 @@ abbrev pub Remembers : {K : Type 0} → (K → K → Ordering) → List (Arrival
 Remembers cmp history contexts = AllZip SameContext (waiting cmp history) contexts
 
 -- What one piece more does, by the history before it.
-pub record Follows {K : Type 0} (cmp : K → K → Ordering) (history : List (Arrival K)) (piece : Arrival K) (said : Answer) (ended : List ℕ) (contexts : List (K × Partial)) : Type 0 where
+pub record Follows {K : Type 0} (cmp : K → K → Ordering) (history : List (Arrival K)) (piece : Arrival K) (said : Answer) (ended : List ℕ)
+    (contexts : List (K × Partial)) : Type 0 where
   pub remembers : Remembers cmp (history ++ piece ∷ []) contexts
   pub answers : said ≡ (past_among cmp (waiting cmp history) piece).answer
   pub ends : IsAscending (past_late_numbers piece.time (waiting cmp history)) ended

@@ -23,4 +23,5 @@ HistoriesJoin {K} cmp = (front back : List (Arrival K)) →
 -- pieces that are whole and do not clash: the datagram is as long as its end says, and has each piece's bytes at 8 times its
 -- offset
 abbrev pub DatagramsHoldTheirPieces : Type 0
-DatagramsHoldTheirPieces = (pieces : List Part) (end : ℕ) → clash_within pieces ≡ false → whole_end pieces ≡ Some end → IsDatagram pieces end (datagram pieces end)
+DatagramsHoldTheirPieces = (pieces : List Part) (end : ℕ) → clash_within pieces ≡ false → whole_end pieces ≡ Some end →
+    IsDatagram pieces end (datagram pieces end)

@@ -1,5 +1,6 @@
 -- The parts of one datagram, each with the place of its first byte (RFC 791, section 3.2; RFC 8200, section 4.5).
-use Rattle.std.specs.Prelude.{ℕ, zero, suc, ◌+◌, ◌-◌, ◌*◌, ◌==◌, Bool, true, false, not, ◌&&◌, ◌||◌, if◌then◌else◌, nat_lt, nat_le, List, [], ◌∷◌, map, length, get_or, Option, Some, None, bytes_eq, find, unwrap_or}
+use Rattle.std.specs.Prelude.{ℕ, zero, suc, ◌+◌, ◌-◌, ◌*◌, ◌==◌, Bool, true, false, not, ◌&&◌, ◌||◌, if◌then◌else◌, nat_lt, nat_le}
+use Rattle.std.specs.Prelude.{List, [], ◌∷◌, map, length, get_or, Option, Some, None, bytes_eq, find, unwrap_or}
 use Rattle.std.specs.List.{list_any, range_with_len}
 use Rattle.reassembly_lane.specs.declared.answer.Answer.{Answer}
 use Rattle.reassembly_lane.specs.declared.answer.Answer.TheVariants as answer

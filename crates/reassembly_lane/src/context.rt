@@ -137,7 +137,8 @@ impl Context {
         requires part { IsSoundPart (part_of fragment) }
         requires place { IsPlace self.old.parts fragment.offset place }
         requires apart { list_any (clash (part_of fragment)) self.old.parts ≡ false }
-        ensures turn { IfOk result (λ turn. outcome turn self.new ≡ staying (record self.old { parts = insert self.old.parts place (part_of fragment.entry) }) Held) }
+        ensures turn { IfOk result (λ turn. outcome turn self.new
+            ≡ staying (record self.old { parts = insert self.old.parts place (part_of fragment.entry) }) Held) }
         ensures err { OnErr result (self.new ≡ self.old) }
     {
         let part = new_part(alloc, fragment)?;

@@ -50,7 +50,8 @@ impl<K: Ord> Lane<K> {
     /// The first piece's number of each datagram that waits, ascending.
     pub fn unfinished(&self, alloc: Global) -> Result<Numbers, OutOfMemory>
         ensures numbers { IfOk result (λ numbers. IsAscending (first_numbers self.now) numbers) }
-        ensures history { IfOk result (λ numbers. (history : List (Arrival K)) → Remembers K.cmp history self.now → IsAscending (past_first_numbers (waiting K.cmp history)) numbers) }
+        ensures history { IfOk result (λ numbers. (history : List (Arrival K)) → Remembers K.cmp history self.now
+            → IsAscending (past_first_numbers (waiting K.cmp history)) numbers) }
     {
         Ok(ascending(all_numbers(alloc, &self.contexts)?))
     }
@@ -64,7 +65,8 @@ impl<K: Ord + Copy + Drop> Lane<K> {
     pub fn feed(&mut self, alloc: Global, piece: Piece<'_, K>) -> Result<Fed, OutOfMemory>
         ensures ended { IfOk result (λ said. IsAscending (late_numbers piece.entry.time self.old) said.ended) }
         ensures answer { IfOk result (λ said. answering said.answer self.new ≡ fed K.cmp self.old (arrival piece.entry)) }
-        ensures history { IfOk result (λ said. (history : List (Arrival K)) → Remembers K.cmp history self.old → Follows K.cmp history (arrival piece.entry) said.answer said.ended self.new) }
+        ensures history { IfOk result (λ said. (history : List (Arrival K)) → Remembers K.cmp history self.old
+            → Follows K.cmp history (arrival piece.entry) said.answer said.ended self.new) }
         ensures err { OnErr result (self.new ≡ self.old) }
     {
         self.take(alloc, piece)
