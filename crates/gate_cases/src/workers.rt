@@ -89,8 +89,10 @@ fn serve_by_two<R: Threads + Wait + Sync, S: RoundItems + Sync, G: Gate + Sync>(
     join_mut(
         rt,
         &mut ||
-            requires { CanServe areas.now 0 end one.now × (IsIdle one.now.seat.known × (All AreCompiled areas.now.plan.tables × (end ≤ length (S.items items.now)))) }
-            ensures { CanServe areas.entry.now 0 end one.exit.now × (IsIdle one.exit.now.seat.known × (one.exit.now.seat.known.share ≡ one.entry.now.seat.known.share)) }
+            requires { CanServe areas.now 0 end one.now × (IsIdle one.now.seat.known
+                × (All AreCompiled areas.now.plan.tables × (end ≤ length (S.items items.now)))) }
+            ensures { CanServe areas.entry.now 0 end one.exit.now × (IsIdle one.exit.now.seat.known
+                × (one.exit.now.seat.known.share ≡ one.entry.now.seat.known.share)) }
         {
             let work = Work {
                 items,
@@ -101,8 +103,10 @@ fn serve_by_two<R: Threads + Wait + Sync, S: RoundItems + Sync, G: Gate + Sync>(
             serve(rt, one, areas, &work, 1);
         },
         &mut ||
-            requires { CanServe areas.now 0 end two.now × (IsIdle two.now.seat.known × (All AreCompiled areas.now.plan.tables × (end ≤ length (S.items items.now)))) }
-            ensures { CanServe areas.entry.now 0 end two.exit.now × (IsIdle two.exit.now.seat.known × (two.exit.now.seat.known.share ≡ two.entry.now.seat.known.share)) }
+            requires { CanServe areas.now 0 end two.now × (IsIdle two.now.seat.known
+                × (All AreCompiled areas.now.plan.tables × (end ≤ length (S.items items.now)))) }
+            ensures { CanServe areas.entry.now 0 end two.exit.now × (IsIdle two.exit.now.seat.known
+                × (two.exit.now.seat.known.share ≡ two.entry.now.seat.known.share)) }
         {
             let work = Work {
                 items,
