@@ -1,7 +1,7 @@
 // The callers that the READMEs of port_set, binding_rules, binding_file and table_words show, and what they answer.
 ghost use Rattle.std.specs.Prelude.{◌≡◌, ◌^◌, ◌<◌, vec_len};
 
-use crate::lookups::table;
+use crate::rows::{bindings_of, rows_of, table};
 use aftr_base::{OutOfMemory, V4, V6};
 use binding_file::{FileError, read_table};
 use binding_rules::{Binding, Edition, Refused, Softwire, Table, TableError, Want, find, table_of};
@@ -68,78 +68,57 @@ fn destination<L: Ledger>(
     Ok(destination_of(&mut reader, v4, Want::Port(port), &mut steps))
 }
 
-// The ports that begin this list, and how many there are.
-fn first_ports(port: u16) -> Result<Option<([Option<u16>; 5], usize)>, BadShape> {
+// The first five ports of this list, and how many there are.
+fn first_ports(port: u16) -> Result<Option<([u16; 5], usize)>, BadShape> {
     let Some(mut ports) = ports_beside(port)? else {
         return Ok(None);
     };
     let len = ports.len();
-    let first = [
-        ports.next(),
-        ports.next(),
-        ports.next(),
-        ports.next(),
-        ports.next(),
-    ];
+    let mut first = [0; 5];
+    for place in &mut first {
+        *place = ports.next().unwrap_or(0);
+    }
     Ok(Some((first, len)))
 }
 
 // RFC 7597, appendix A, example 1.
 #[test]
 fn the_ports_beside_a_port_are_told(rt: HostRuntime) {
-    let first = [Some(1232), Some(1233), Some(1234), Some(1235), Some(2256)];
-    assert_eq!(rt; first_ports(1232), Ok(Some((first, 252))));
-    assert_eq!(rt; first_ports(2256), Ok(Some((first, 252))));
-    assert!(rt; first_ports(1023) == Ok(None));
+    let first = Ok(Some(([1232, 1233, 1234, 1235, 2256], 252)));
+    assert_eq!(rt; first_ports(1232), first);
+    assert_eq!(rt; first_ports(2256), first);
+    assert_eq!(rt; first_ports(1023), Ok(None));
 }
 
-// The tunnel's end of who has this port, by two bindings with these identifiers.
-fn owner_by(alloc: Global, psids: [u16; 2], port: u16) -> Result<Option<V6>, TableError> {
-    let mut bindings = Vec::new(alloc);
-    for psid in psids {
-        let binding = Binding {
-            b4: subscriber(u32::from(psid)),
-            v4: SHARED,
-            offset: 6,
-            length: 8,
-            psid,
-        };
-        if bindings.push(binding).is_err() {
-            return Err(TableError::OutOfMemory);
-        }
-    }
+// The tunnel's end of who has this port of the address that two rows share, or why they are no table.
+fn owner_by(alloc: Global, rows: &str, port: u16) -> Result<Result<Option<V6>, TableError>, Fail> {
+    let bindings = bindings_of(alloc, &rows_of(alloc, rows)?)?;
     if bindings.len() > 2 {
-        return Err(TableError::OutOfMemory);
+        return Err("two rows".into());
     }
-    end_of_owner(alloc, SETTINGS, bindings, SHARED, port)
+    Ok(end_of_owner(alloc, SETTINGS, bindings, SHARED, port))
 }
 
 #[test]
-fn the_owner_of_a_port_is_found(rt: HostRuntime) {
+fn the_owner_of_a_port_is_found(rt: HostRuntime) -> Result<(), Fail> {
     let alloc = rt.alloc();
-    assert_eq!(rt; owner_by(alloc, [52, 53], 1236), Ok(Some(subscriber(53))));
-    assert_eq!(rt; owner_by(alloc, [52, 53], 1240), Ok(None));
-    let twice = Refused::Twice {
-        first: 0,
-        second: 1,
-    };
-    assert_eq!(rt;
-        owner_by(alloc, [52, 52], 1232),
-        Err(TableError::Refused(twice))
-    );
+    let (first, second) = (0, 1);
+    let twice = TableError::Refused(Refused::Twice { first, second });
+    let owners = [
+        owner_by(alloc, "6 8 52, 6 8 53", 1236)?,
+        owner_by(alloc, "6 8 52, 6 8 53", 1240)?,
+        owner_by(alloc, "6 8 52, 6 8 52", 1232)?,
+    ];
+    assert_eq!(rt; owners, [Ok(Some(subscriber(2))), Ok(None), Err(twice)]);
+    Ok(())
 }
 
 #[test]
 fn an_operator_is_told_of_a_file(rt: HostRuntime) -> Result<(), Fail> {
-    let alloc = rt.alloc();
-    assert_eq!(rt;
-        report(alloc, PORT_SET_TABLE.as_bytes())?.as_str(),
-        "1 bindings"
-    );
-    assert_eq!(rt;
-        report(alloc, b"version = 1\n[softwire]\n")?.as_str(),
-        "missing softwire aftr"
-    );
+    let table = report(rt.alloc(), PORT_SET_TABLE.as_bytes())?;
+    assert_eq!(rt; table.as_str(), "1 bindings");
+    let refused = report(rt.alloc(), b"version = 1\n[softwire]\n")?;
+    assert_eq!(rt; refused.as_str(), "missing softwire aftr");
     Ok(())
 }
 
@@ -149,15 +128,17 @@ fn found(alloc: Global, table: &Table, v4: V4, port: u16) -> Result<Destination,
 
 #[test]
 fn the_words_tell_a_destination(rt: HostRuntime) -> Result<(), Fail> {
-    let alloc = rt.alloc();
-    let table = table(alloc, Edition::One, &[(SHARED.0, 6, 8, 52)])?;
-    let cases = [
-        (SHARED, 1232, Destination::Owned(SUBSCRIBER)),
-        (SHARED, 1240, Destination::Unowned),
-        (V4(SHARED.0 + 1), 1232, Destination::Unbound),
+    let table = table(rt.alloc(), "one", "6 8 52")?;
+    let destinations = [
+        found(rt.alloc(), &table, SHARED, 1232)?,
+        found(rt.alloc(), &table, SHARED, 1240)?,
+        found(rt.alloc(), &table, V4(SHARED.0 + 1), 1232)?,
     ];
-    for (v4, port, answer) in cases {
-        assert_eq!(rt; found(alloc, &table, v4, port)?, answer, "{port}");
-    }
+    let wanted = [
+        Destination::Owned(SUBSCRIBER),
+        Destination::Unowned,
+        Destination::Unbound,
+    ];
+    assert_eq!(rt; destinations, wanted);
     Ok(())
 }

@@ -153,18 +153,6 @@ version = 1|[softwire]|aftr = \"::1\"|own = \"1.2.3.4\"|[[binding]] ~ missing bi
 version = 1|[softwire]|aftr = \"::1\"|own = \"1.2.3.4\"|[bindings] ~ unknown-key
 ";
 
-// The lines of a piece of a file.
-fn lines_of(alloc: Global, piece: &str, end: &str) -> Result<String, Fail> {
-    let mut text = String::new(alloc);
-    for (at, line) in piece.split('|').enumerate() {
-        if at > 0 {
-            text.push_str(end)?;
-        }
-        text.push_str(line)?;
-    }
-    Ok(text)
-}
-
 // What reading says of a file, as a text.
 pub(crate) fn answer(alloc: Global, file: &[u8]) -> Result<String, Fail> {
     Ok(match read_table(alloc, file) {
@@ -176,42 +164,84 @@ pub(crate) fn answer(alloc: Global, file: &[u8]) -> Result<String, Fail> {
     })
 }
 
+// Puts a text so many times behind another one, as `x 97` says; by the thousand, since that takes fewer steps.
+fn put_run(alloc: Global, text: &mut String, run: &str) -> Result<(), Fail> {
+    let (piece, count) = run.rsplit_once(' ').ok_or("a number")?;
+    let count = count.parse::<usize>()?;
+    let thousand = piece.repeat(alloc, count.min(1_000))?;
+    for _ in 0..count / 1_000 {
+        text.push_str(thousand.as_str())?;
+    }
+    let rest = piece.repeat(alloc, count % 1_000)?;
+    text.push_str(rest.as_str())?;
+    Ok(())
+}
+
+/// The text that a line spells: `|` is a line feed, and between two backquotes stands a piece, and how many times it comes.
+pub(crate) fn spelled(alloc: Global, line: &str) -> Result<String, Fail> {
+    let line = line.replace(alloc, "|", "\n")?;
+    let mut text = String::new(alloc);
+    for (at, part) in line.split('`').enumerate() {
+        if at % 2 == 0 {
+            text.push_str(part)?;
+        } else {
+            put_run(alloc, &mut text, part)?;
+        }
+    }
+    Ok(text)
+}
+
+/// Whether the file that a line spells has its answer.
+pub(crate) fn has_answer(alloc: Global, line: &str, wanted: &str) -> Result<bool, Fail> {
+    let file = spelled(alloc, line)?;
+    Ok(answer(alloc, file.as_bytes())?.as_str() == wanted)
+}
+
+// The sound file with another piece in place of one.
+fn edited(alloc: Global, from: &str, to: &str) -> Result<String, Fail> {
+    let old = spelled(alloc, from)?;
+    let new = spelled(alloc, to)?;
+    let (before, after) = SOUND.split_once(old.as_str()).ok_or("a piece of the file")?;
+    Ok(format!(in alloc; "{before}{new}{after}")?)
+}
+
+fn is_answered(alloc: Global, line: &str) -> Result<bool, Fail> {
+    let (from, rest) = line.split_once(" ~ ").ok_or("an edit")?;
+    let (to, wanted) = rest.split_once(" ~ ").ok_or("an answer")?;
+    let file = edited(alloc, from, to)?;
+    Ok(answer(alloc, file.as_bytes())?.as_str() == wanted)
+}
+
 #[test]
 fn names_the_first_thing_that_is_wrong(rt: HostRuntime) -> Result<(), Fail> {
-    let alloc = rt.alloc();
     for line in EDITS.lines() {
-        let (from, rest) = line.split_once(" ~ ").ok_or("an edit")?;
-        let (to, wanted) = rest.split_once(" ~ ").ok_or("an answer")?;
-        let old = lines_of(alloc, from, "\n")?;
-        let new = lines_of(alloc, to, "\n")?;
-        let (before, after) = SOUND.split_once(old.as_str()).ok_or("a piece of the file")?;
-        let file = format!(in alloc; "{before}{new}{after}")?;
-        let said = answer(alloc, file.as_bytes())?;
-        assert!(rt; said.as_str() == wanted, "{line}");
+        assert!(rt; is_answered(rt.alloc(), line)?, "{line}");
     }
     for line in FILES.lines() {
         let (file, wanted) = line.split_once(" ~ ").ok_or("an answer")?;
-        let file = lines_of(alloc, file, "\n")?;
-        let said = answer(alloc, file.as_bytes())?;
-        assert!(rt; said.as_str() == wanted, "{line}");
+        assert!(rt; has_answer(rt.alloc(), file, wanted)?, "{line}");
     }
     Ok(())
+}
+
+// Whether bytes have their answer.
+pub(crate) fn are(alloc: Global, bytes: &[u8], wanted: &str) -> Result<bool, Fail> {
+    Ok(answer(alloc, bytes)?.as_str() == wanted)
 }
 
 #[test]
 fn reads_other_line_ends_and_no_other_coding(rt: HostRuntime) -> Result<(), Fail> {
     let alloc = rt.alloc();
-    let mut file = String::new(alloc);
-    for line in SOUND.lines() {
-        file.push_str(line)?;
-        file.push_str("\r\n")?;
-    }
-    assert!(rt; answer(alloc, file.as_bytes())?.as_str() == "valid 2");
-    assert!(rt; answer(alloc, SOUND.trim_end().as_bytes())?.as_str() == "valid 2");
-    assert!(rt; answer(alloc, &[0xef, 0xbb, 0xbf])?.as_str() == "missing version");
-    assert!(rt; answer(alloc, &[0xff])?.as_str() == "not-toml");
-    assert!(rt; answer(alloc, &[b'#', 0xc3])?.as_str() == "not-toml");
-    assert!(rt; answer(alloc, &[0])?.as_str() == "not-toml");
+    let ends = SOUND.replace(alloc, "\n", "\r\n")?;
+    let answers = [
+        are(alloc, ends.as_bytes(), "valid 2")?,
+        are(alloc, SOUND.trim_end().as_bytes(), "valid 2")?,
+        are(alloc, &[0xef, 0xbb, 0xbf], "missing version")?,
+        are(alloc, &[0xff], "not-toml")?,
+        are(alloc, &[b'#', 0xc3], "not-toml")?,
+        are(alloc, &[0], "not-toml")?,
+    ];
+    assert_eq!(rt; answers, [true; 6]);
     Ok(())
 }
 
@@ -219,8 +249,8 @@ fn reads_other_line_ends_and_no_other_coding(rt: HostRuntime) -> Result<(), Fail
 fn the_greatest_file_has_16_777_216_bytes(rt: HostRuntime) -> Result<(), Fail> {
     let alloc = rt.alloc();
     let file = vec![in alloc; b'\n'; 16_777_217]?;
-    assert!(rt; answer(alloc, &file)?.as_str() == "too-big");
-    assert!(rt; answer(alloc, &file[1..])?.as_str() == "missing version");
+    assert!(rt; are(alloc, &file, "too-big")?);
+    assert!(rt; are(alloc, &file[1..], "missing version")?);
     Ok(())
 }
 
@@ -238,98 +268,112 @@ fn same(x: &Table, y: &Table) -> bool {
     x.edition() == y.edition() && x.softwire() == y.softwire() && x.bindings() == y.bindings()
 }
 
+const UNUSUAL: Softwire = Softwire {
+    mtu6: 65535,
+    mtu4: 576,
+    hop_limit: 1,
+    hairpin: false,
+    icmp_in: false,
+    errors_up: true,
+    errors_down: true,
+    ..SETTINGS
+};
+
+// Whether a table that is written reads as the same.
+fn is_kept(alloc: Global, table: &Table) -> Result<bool, Fail> {
+    let text = write_table(alloc, table)?;
+    Ok(same(&read_table(alloc, text.as_slice())?, table))
+}
+
 #[test]
 fn a_table_that_is_written_reads_as_the_same(rt: HostRuntime) -> Result<(), Fail> {
     let alloc = rt.alloc();
-    let unusual = Softwire {
-        mtu6: 65535,
-        mtu4: 576,
-        hop_limit: 1,
-        hairpin: false,
-        icmp_in: false,
-        errors_up: true,
-        errors_down: true,
-        ..SETTINGS
-    };
     let one = binding(SUBSCRIBER, SHARED, 6, 8, 52);
     let two = binding(subscriber(2), SHARED, 0, 16, 80);
     let whole = binding(V6(0), V4(0xcb00_7102), 0, 0, 0);
-    let tables = [
-        table_of(alloc, Edition::One, SETTINGS, vec![in alloc; one]?)?,
-        table_of(alloc, Edition::One, unusual, Vec::new(alloc))?,
-        table_of(
-            alloc,
-            Edition::Two,
-            unusual,
-            vec![in alloc; one, two, whole]?,
-        )?,
-    ];
-    for table in &tables {
-        let text = write_table(alloc, table)?;
-        let back = read_table(alloc, text.as_slice())?;
-        assert!(rt; same(&back, table), "{text}", text = text.as_str());
-    }
-    let sound = read_table(alloc, SOUND.as_bytes())?;
-    let other = binding(subscriber(2), V4(0xcb00_7102), 0, 0, 0);
-    assert!(rt; sound.bindings() == [one, other].as_slice());
-    assert!(rt;
-        sound.softwire()
-            == Softwire {
-                mtu4: 1400,
-                icmp_in: false,
-                errors_up: true,
-                ..SETTINGS
-            }
-    );
+    let list = vec![in alloc; one]?;
+    assert!(rt; is_kept(alloc, &table_of(alloc, Edition::One, SETTINGS, list)?)?);
+    let list = Vec::new(alloc);
+    assert!(rt; is_kept(alloc, &table_of(alloc, Edition::One, UNUSUAL, list)?)?);
+    let list = vec![in alloc; one, two, whole]?;
+    assert!(rt; is_kept(alloc, &table_of(alloc, Edition::Two, UNUSUAL, list)?)?);
     Ok(())
 }
 
 #[test]
-fn refusals_have_texts_and_numbers(rt: HostRuntime) -> Result<(), Fail> {
-    let alloc = rt.alloc();
-    let place = Place::Binding {
-        at: 3,
-        name: Name::Psid,
+fn the_sound_file_has_its_table(rt: HostRuntime) -> Result<(), Fail> {
+    let sound = read_table(rt.alloc(), SOUND.as_bytes())?;
+    let one = binding(SUBSCRIBER, SHARED, 6, 8, 52);
+    let other = binding(subscriber(2), V4(0xcb00_7102), 0, 0, 0);
+    assert!(rt; sound.bindings() == [one, other].as_slice());
+    let settings = Softwire {
+        mtu4: 1400,
+        icmp_in: false,
+        errors_up: true,
+        ..SETTINGS
     };
-    let refusals = [
-        (FileRefused::TooBig, "too-big"),
-        (FileRefused::NotToml, "not-toml"),
-        (
-            FileRefused::Missing(Place::Softwire(Name::Aftr)),
-            "missing softwire aftr",
-        ),
-        (FileRefused::Kind(Place::Top(Name::Version)), "kind version"),
-        (FileRefused::UnknownKey, "unknown-key"),
-        (
-            FileRefused::Address(Place::Softwire(Name::Own)),
-            "address softwire own",
-        ),
-        (FileRefused::Range(place), "range binding 3 psid"),
-        (
-            FileRefused::Rules(Refused::TooMany { count: 65537 }),
-            "rules too-many 65537",
-        ),
-        (FileRefused::Version, "version"),
-    ];
-    for (at, (refused, wanted)) in refusals.iter().enumerate() {
-        assert!(rt; usize::from(refused.number()) == at + 1, "{wanted}");
+    assert!(rt; sound.softwire() == settings);
+    Ok(())
+}
+
+const LAST_IDENTIFIER: Place = Place::Binding {
+    at: 3,
+    name: Name::Psid,
+};
+
+// The refusals, with their texts, by their numbers from 1 on.
+const REFUSALS: [(FileRefused, &str); 9] = [
+    (FileRefused::TooBig, "too-big"),
+    (FileRefused::NotToml, "not-toml"),
+    (
+        FileRefused::Missing(Place::Softwire(Name::Aftr)),
+        "missing softwire aftr",
+    ),
+    (FileRefused::Kind(Place::Top(Name::Version)), "kind version"),
+    (FileRefused::UnknownKey, "unknown-key"),
+    (
+        FileRefused::Address(Place::Softwire(Name::Own)),
+        "address softwire own",
+    ),
+    (FileRefused::Range(LAST_IDENTIFIER), "range binding 3 psid"),
+    (
+        FileRefused::Rules(Refused::TooMany { count: 65537 }),
+        "rules too-many 65537",
+    ),
+    (FileRefused::Version, "version"),
+];
+
+// Whether a refusal has this number and this text.
+fn is_refusal(
+    alloc: Global,
+    refused: FileRefused,
+    number: usize,
+    wanted: &str,
+) -> Result<bool, Fail> {
+    let text = format!(in alloc; "{refused}")?;
+    Ok(usize::from(refused.number()) == number && text.as_str() == wanted)
+}
+
+#[test]
+fn refusals_have_texts_and_numbers(rt: HostRuntime) -> Result<(), Fail> {
+    for (at, (refused, wanted)) in REFUSALS.iter().enumerate() {
         assert!(rt;
-            format!(in alloc; "{refused}")?.as_str() == *wanted,
+            is_refusal(rt.alloc(), *refused, at + 1, wanted)?,
             "{wanted}"
         );
     }
-    let rule = RuleText(Refused::MixedShape {
-        first: 0,
-        second: 64,
-    });
-    assert!(rt; format!(in alloc; "{rule}")?.as_str() == "mixed-shape 0 64");
-    let load = LoadText(FileRefused::Rules(Refused::Twice {
-        first: 0,
-        second: 64,
-    }));
-    assert!(rt; format!(in alloc; "{load}")?.as_str() == "twice 0 64");
-    let load = LoadText(FileRefused::Range(place));
-    assert!(rt; format!(in alloc; "{load}")?.as_str() == "range binding 3 psid");
-    assert!(rt; format!(in alloc; "{}", FileError::OutOfMemory)?.as_str() == "out of memory");
+    Ok(())
+}
+
+#[test]
+fn rules_loads_and_errors_have_texts(rt: HostRuntime) -> Result<(), Fail> {
+    let (first, second) = (0, 64);
+    let mixed = RuleText(Refused::MixedShape { first, second });
+    let twice = LoadText(FileRefused::Rules(Refused::Twice { first, second }));
+    let range = LoadText(FileRefused::Range(LAST_IDENTIFIER));
+    let none = FileError::OutOfMemory;
+    let texts = format!(in rt.alloc(); "{mixed}, {twice}, {range}, {none}")?;
+    let wanted = "mixed-shape 0 64, twice 0 64, range binding 3 psid, out of memory";
+    assert_eq!(rt; texts.as_str(), wanted);
     Ok(())
 }

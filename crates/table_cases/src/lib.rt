@@ -19,4 +19,6 @@ mod lookups;
 #[cfg(test)]
 mod port_sets;
 #[cfg(test)]
+mod rows;
+#[cfg(test)]
 mod rules;

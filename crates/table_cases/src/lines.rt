@@ -1,6 +1,7 @@
 // The lines that the refusals of files are about.
+use crate::files::spelled;
 use aftr_base::OutOfMemory;
-use binding_file::{FileError, FileRefused, Lines, is_held_back, line_of, read_table};
+use binding_file::{FileError, FileRefused, Lines, line_of, read_table};
 use std::alloc::Global;
 use std::test::Fail;
 
@@ -47,7 +48,7 @@ S|mtu6 = 1279 ~ rules mtu ~ none
 Shop_limit = 0 ~ rules hop ~ none
 ";
 
-const SETTINGS: &str = "version = 1\n[softwire]\naftr = \"::1\"\nown = \"1.2.3.4\"\n";
+const SETTINGS: &str = "version = 1|[softwire]|aftr = \"::1\"|own = \"1.2.3.4\"|";
 
 // The refusal of a file.
 fn refusal(alloc: Global, file: &[u8]) -> Result<FileRefused, Fail> {
@@ -73,105 +74,99 @@ fn lines_text(alloc: Global, lines: Option<Lines>) -> Result<String, OutOfMemory
     })
 }
 
-// The file of a row: `S` at its begin stands for the settings.
-fn file_of(alloc: Global, row: &str, end: &str) -> Result<String, Fail> {
-    let text = match row.strip_prefix("S") {
-        Some(rest) => format!(in alloc; "{SETTINGS}{rest}")?,
-        None => format!(in alloc; "{row}")?,
-    };
-    let lines = text.replace(alloc, "|", "\n")?;
-    Ok(lines.replace(alloc, "\n", end)?)
+// The file of a row, as `files` spells it: `S` at its begin stands for the settings.
+fn file_of(alloc: Global, row: &str) -> Result<String, Fail> {
+    match row.strip_prefix("S") {
+        Some(rest) => {
+            let text = format!(in alloc; "{SETTINGS}{rest}")?;
+            spelled(alloc, text.as_str())
+        }
+        None => spelled(alloc, row),
+    }
+}
+
+// Whether the refusal of a row's file and its lines are told, also where a carriage return stands before each line feed.
+fn is_told(alloc: Global, line: &str) -> Result<bool, Fail> {
+    let (row, wanted) = line.split_once(" ~ ").ok_or("an answer")?;
+    let file = file_of(alloc, row)?;
+    let ends = file.replace(alloc, "\n", "\r\n")?;
+    Ok(
+        told(alloc, file.as_bytes())?.as_str() == wanted
+            && told(alloc, ends.as_bytes())?.as_str() == wanted,
+    )
 }
 
 #[test]
 fn tells_the_lines_of_a_refusal(rt: HostRuntime) -> Result<(), Fail> {
-    let alloc = rt.alloc();
     for line in FILES.lines() {
-        let (row, wanted) = line.split_once(" ~ ").ok_or("an answer")?;
-        let file = file_of(alloc, row, "\n")?;
-        let said = told(alloc, file.as_bytes())?;
-        assert!(rt; said.as_str() == wanted, "{line}: {said}");
-        let file = file_of(alloc, row, "\r\n")?;
-        let said = told(alloc, file.as_bytes())?;
-        assert!(rt; said.as_str() == wanted, "CRLF: {line}: {said}");
+        assert!(rt; is_told(rt.alloc(), line)?, "{line}");
     }
     Ok(())
+}
+
+fn are_told(alloc: Global, bytes: &[u8], wanted: &str) -> Result<bool, Fail> {
+    Ok(told(alloc, bytes)?.as_str() == wanted)
 }
 
 #[test]
 fn tells_the_line_of_the_first_byte_that_is_no_text(rt: HostRuntime) -> Result<(), Fail> {
     let alloc = rt.alloc();
-    assert!(rt;
-        told(alloc, b"version = 1\n# \xc3\xa4\n# \xc3\n# \xff\n")?.as_str() == "not-toml ~ line 3"
-    );
-    assert!(rt; told(alloc, b"\n\n\xff")?.as_str() == "not-toml ~ line 3");
-    assert!(rt; told(alloc, b"# \xe2\x82")?.as_str() == "not-toml ~ line 1");
+    let lines = [
+        are_told(
+            alloc,
+            b"version = 1\n# \xc3\xa4\n# \xc3\n# \xff\n",
+            "not-toml ~ line 3",
+        )?,
+        are_told(alloc, b"\n\n\xff", "not-toml ~ line 3")?,
+        are_told(alloc, b"# \xe2\x82", "not-toml ~ line 1")?,
+    ];
+    assert_eq!(rt; lines, [true; 3]);
     Ok(())
+}
+
+// What a file was changed to.
+const CHANGED: &str = "\
+S[[binding]]|b4 = \"::2\"|ipv4 = \"1.2.3.5\"|[[binding]]|b4 = 1
+S[[binding]]|b4 = 1|[[binding]]|b4 = 1
+S
+S[[binding]
+S[[binding]]|b4 = \"::2\"|ipv4 = \"1.2.3.5\"";
+
+// Whether no line is told of a changed file: neither of the refusal that it had, nor of TOML where it is TOML.
+fn is_untold(alloc: Global, row: &str, refused: &FileRefused) -> Result<bool, Fail> {
+    let file = file_of(alloc, row)?;
+    let bytes = file.as_bytes();
+    Ok(
+        line_of(alloc, bytes, refused)?.is_none()
+            && (row.ends_with("[[binding]")
+                || line_of(alloc, bytes, &FileRefused::NotToml)?.is_none()),
+    )
 }
 
 #[test]
 fn tells_nothing_of_a_file_that_was_changed(rt: HostRuntime) -> Result<(), Fail> {
     let alloc = rt.alloc();
-    let old = file_of(alloc, "S[[binding]]|b4 = \"::2\"|[[binding]]|b4 = 1", "\n")?;
+    let old = file_of(alloc, "S[[binding]]|b4 = \"::2\"|[[binding]]|b4 = 1")?;
     let refused = refusal(alloc, old.as_bytes())?;
-    for row in [
-        "S[[binding]]|b4 = \"::2\"|ipv4 = \"1.2.3.5\"|[[binding]]|b4 = 1",
-        "S[[binding]]|b4 = 1|[[binding]]|b4 = 1",
-        "S",
-        "S[[binding]",
-        "S[[binding]]|b4 = \"::2\"|ipv4 = \"1.2.3.5\"",
-    ] {
-        let new = file_of(alloc, row, "\n")?;
-        assert!(rt;
-            line_of(alloc, new.as_bytes(), &refused)?.is_none(),
-            "{row}"
-        );
-        if !row.ends_with("[[binding]") {
-            assert!(rt;
-                line_of(alloc, new.as_bytes(), &FileRefused::NotToml)?.is_none(),
-                "{row}"
-            );
-        }
+    for row in CHANGED.lines() {
+        assert!(rt; is_untold(alloc, row, &refused)?, "{row}");
     }
     Ok(())
 }
 
-// What is told of a file whose second line is wrong, and that has so many marks.
-fn told_of_marks(alloc: Global, marks: usize) -> Result<String, Fail> {
-    let run = ".".repeat(alloc, marks.saturating_sub(2))?;
-    let file = format!(in alloc; "a = 1\n= 2\n{run}")?;
-    told(alloc, file.as_bytes())
-}
+// Files of many marks, of which some are read once more, and one that is not, since that would take long.
+const MARKS: &str = "\
+a = 1|= 2|`. 130998` ~ not-toml ~ line 2
+a = 1|= 2|`. 524286` ~ not-toml ~ line 2
+a = 1|= 2|`. 524287` ~ not-toml ~ none
+S[[binding]]|b4 = 1 #`.[={ 131073` ~ kind binding 0 b4 ~ line 5";
 
 #[test]
 fn tells_no_line_where_reading_once_more_would_take_long(rt: HostRuntime) -> Result<(), Fail> {
-    let alloc = rt.alloc();
-    assert!(rt; told_of_marks(alloc, 131_000)?.as_str() == "not-toml ~ line 2");
-    assert!(rt; told_of_marks(alloc, 524_288)?.as_str() == "not-toml ~ line 2");
-    assert!(rt; told_of_marks(alloc, 524_289)?.as_str() == "not-toml ~ none");
-    let row = file_of(alloc, "S[[binding]]|b4 = 1 #", "\n")?;
-    let run = ".[={".repeat(alloc, 131_073)?;
-    let file = format!(in alloc; "{row}{run}")?;
-    assert!(rt; told(alloc, file.as_bytes())?.as_str() == "kind binding 0 b4 ~ line 5");
-    Ok(())
-}
-
-#[test]
-fn says_which_texts_are_held_back(rt: HostRuntime) -> Result<(), Fail> {
-    let alloc = rt.alloc();
-    let blanks = "\n".repeat(alloc, 131_072)?;
-    let heavy = "x".repeat(alloc, 97)?;
-    for (file, held) in [("[xHEAVY]", true), ("# [xHEAVY]", false), ("a = 1", false)] {
-        let file = file.replace(alloc, "xHEAVY", heavy.as_str())?;
-        assert!(rt; !is_held_back(file.as_bytes()));
-        let file = format!(in alloc; "{file}{blanks}")?;
-        assert!(rt; is_held_back(file.as_bytes()) == held);
-        assert!(rt;
-            held == matches!(
-                read_table(alloc, file.as_bytes()),
-                Err(FileError::OutOfMemory)
-            )
-        );
+    for line in MARKS.lines() {
+        let (row, wanted) = line.split_once(" ~ ").ok_or("an answer")?;
+        let file = file_of(rt.alloc(), row)?;
+        assert!(rt; are_told(rt.alloc(), file.as_bytes(), wanted)?, "{line}");
     }
     Ok(())
 }
