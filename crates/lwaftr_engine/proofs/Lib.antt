@@ -3,6 +3,7 @@ mod Alike
 mod Apart
 mod Asking
 mod Begun
+mod Besides
 mod Capturing
 mod Closing
 mod Courses

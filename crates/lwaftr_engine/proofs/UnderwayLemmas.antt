@@ -125,7 +125,7 @@ in_rounds laws x far first here w before a m under =
     record { laws = laws; x = x; far = far; first = first; here = here; w = w; before = before; a = a; m = m; under = under }
 
 -- the workers and the desk behind it
-module _ (r : InRounds) (now : Router) (duty : StaysOnDuty r.before.shift now.shift r.w.round.number) where
+module _ (r : InRounds) (now : Router) (made : Pending) (duty : StaysOnDuty r.before.shift now.shift r.w.round.number) where
   abbrev u : List Step
   u = steps_of r.w.pending
 
@@ -139,7 +139,7 @@ module _ (r : InRounds) (now : Router) (duty : StaysOnDuty r.before.shift now.sh
   Between = StandsBetween r.x (state_of r.before) u r.first r.here r.w.round r.m.last
 
   abbrev Well : Type 0
-  Well = WentWell r.x r.before now r.w.round
+  Well = WentWell r.x r.before now r.w.round made
 
   planned : {c : Course} → Suits now.shift.areas.plan now.shift.seat.known.actor.draws c →
       Suits r.before.shift.areas.plan now.shift.seat.known.actor.draws c
@@ -153,20 +153,20 @@ module _ (r : InRounds) (now : Router) (duty : StaysOnDuty r.before.shift now.sh
 
   -- the round was judged behind these records, which were put
   pending_more : {opened m n : Contents} {records : List Rec} → IsPending r.x (state_of r.before) u opened m records → Did r.x.run u m n →
-      Well → IsPending r.x (state_of now) (steps_of now.made) opened n (records ++ r.w.round.records)
+      Well → IsPending r.x (state_of now) (steps_of made) opened n (records ++ r.w.round.records)
   pending_more {opened} {m} {n} {records} pending did well = record {
     input = input_kept r.far m n did.others ∙ pending.input;
     whole = λ next done c suits. written_more (under_course c suits) next (wrote r.x.run vs ps ls n next done);
     part = λ next front. by_front next (wrote_front r.x.run vs ps ls n next front);
   } where
     vs : List ℕ
-    vs = string_bytes now.made.versions
+    vs = string_bytes made.versions
 
     ps : List ℕ
-    ps = packets_in now.made.rendered
+    ps = packets_in made.rendered
 
     ls : List ℕ
-    ls = lines_in now.made.rendered
+    ls = lines_in made.rendered
 
     under_course : (c : Course) → Suits now.shift.areas.plan now.shift.seat.known.actor.draws c → RoundUnder
     under_course c suits = record {
@@ -175,7 +175,7 @@ module _ (r : InRounds) (now : Router) (duty : StaysOnDuty r.before.shift now.sh
       p = state_of r.before;
       q = state_of now;
       records = r.w.round.records;
-      made = now.made;
+      made = made;
       judged = well.judged;
       c = c;
       suits = planned suits;
@@ -247,7 +247,7 @@ module _ (r : InRounds) (now : Router) (duty : StaysOnDuty r.before.shift now.sh
   -- the round was judged, the one before it put, and the next one read
   pub steps_on : (b : Outside) (there : Spot) {next : Round} → Well → HasRead r.x r.here there r.w.round.number b.held b.last next →
       Moves r.m.held b.held (Did r.x.run u) →
-      Moves r.a.held b.held (StandsBetween r.x (state_of now) (steps_of now.made) r.first there next b.last)
+      Moves r.a.held b.held (StandsBetween r.x (state_of now) (steps_of made) r.first there next b.last)
   steps_on b there {next} well read did =
       moves_told r.a.held r.m.held b.held Between (Did r.x.run u) _ _
       (λ a m n way done told stood.
@@ -261,9 +261,9 @@ module _ (r : InRounds) (now : Router) (duty : StaysOnDuty r.before.shift now.sh
 
   -- the last round was judged, and all is put
   pub ends_well : (b : Outside) {stop : Option Ending} → Well → r.w.round.ending ≡ stop → b.last ≡ r.m.last →
-      Moves r.m.held b.held (DidBoth r.x.run u (steps_of now.made)) → Moves r.a.held b.held (Goes r.x (state_of now) r.first r.here stop b.last)
+      Moves r.m.held b.held (DidBoth r.x.run u (steps_of made)) → Moves r.a.held b.held (Goes r.x (state_of now) r.first r.here stop b.last)
   ends_well b {stop} well stop_is last_is did =
-      moves_join r.a.held r.m.held b.held Between (DidBoth r.x.run u (steps_of now.made)) _
+      moves_join r.a.held r.m.held b.held Between (DidBoth r.x.run u (steps_of made)) _
       (λ a m n way both stood.
       let w : Under a m = way stood in
       let rs = w.records ++ r.w.round.records in
@@ -306,7 +306,7 @@ module _ (r : InRounds) (now : Router) (duty : StaysOnDuty r.before.shift now.sh
 
   -- the last round is judged or not, and what it writes is put in part
   pub last_broken : (b : Outside) → SomeLeft r.here.left → b.last ≡ r.m.last → Rises (is_cut r.w.round.ending) r.a.lost b.lost →
-      Moves r.m.held b.held (BreaksLast r.x.run u Well (steps_of now.made)) → Moves r.a.held b.held (Breaks r.x (state_of now) r.first r.a b)
+      Moves r.m.held b.held (BreaksLast r.x.run u Well (steps_of made)) → Moves r.a.held b.held (Breaks r.x (state_of now) r.first r.a b)
   last_broken b some last_is rises broke =
       moves_join r.a.held r.m.held b.held Between _ _ (λ a m n way part stood. by_part a m n (way stood) part) r.under broke where
         takes : {a m : Contents} (w : Under a m) →
@@ -316,7 +316,7 @@ module _ (r : InRounds) (now : Router) (duty : StaysOnDuty r.before.shift now.sh
             let taken : HasTaken r.x.run.input r.first r.here (content a r.x.run.input) rs r.w.round.number r.w.round.ending b.last = rw last_is w.taken in
             takes_of r.w.round.ending r.a b some taken rises
 
-        by_part : (a m n : Contents) → Under a m → BreaksLast r.x.run u Well (steps_of now.made) m n →
+        by_part : (a m n : Contents) → Under a m → BreaksLast r.x.run u Well (steps_of made) m n →
             IsBrokenFrom r.x (state_of now) r.first r.a b a n
         by_part a m n w (inl front) = part_broken b w (takes w) front
         by_part a m n w (inr (well, (between, did, front))) =

@@ -1,5 +1,5 @@
 -- The promises of the program's calls stand in Promises, Questions, Migrations, Demos and Prompt, over Causes, Endings, Fronts, Inputs,
--- Runs, Statuses, Tables and Worlds. What stands in Answered, Broken, Finishing, Loads, Planned, Progress, RunLaws, Shows, Underway and
+-- Runs, Statuses, Tables and Worlds. What stands in Answered, Beside, Broken, Finishing, Loads, Planned, Progress, RunLaws, Shows, Underway and
 -- Writing is for the parts of the engine alone. Words has the names that all of them take from elsewhere.
 pub mod Causes
 pub mod Demos
@@ -15,6 +15,7 @@ pub mod Statuses
 pub mod Tables
 pub mod Worlds
 pub mod Answered
+pub mod Beside
 pub mod Loads
 pub mod Progress
 pub mod RunLaws

@@ -143,8 +143,8 @@ pub record IsSettledAt (x : Setup) (r : Router) : Type 0 where
   pub settled : IsSettled r.shift.seat.known r.shift.desk.known
 
 -- a round went well
-pub record WentWell (x : Setup) (before now : Router) (round : Round) : Type 0 where
-  pub judged : HasJudged x (state_of before) (state_of now) round.records now.made
+pub record WentWell (x : Setup) (before now : Router) (round : Round) (made : Pending) : Type 0 where
+  pub judged : HasJudged x (state_of before) (state_of now) round.records made
   pub after : IsSettledAt x now
   pub number : now.progress.number ≡ round.number
 

@@ -3,6 +3,7 @@
 #![tactic(auto)]
 
 mod at_once;
+mod beside;
 mod demo;
 mod finishing;
 mod jobs;

@@ -1,12 +1,12 @@
 // The records of a capture, taken in rounds: while one is judged, what the one before it writes is put into the outputs, and then
 // the next one is read.
 ghost use Rattle.std.specs.Prelude.{◌≡◌, ◌≤◌, ◌^◌, IfErr, IfOk, None, OnOk, Some};
-ghost use Rattle.std.specs.Thread.{IsSync};
 ghost use Rattle.aftr_base.specs.Contents.{Moves};
 ghost use Rattle.aftr_base.specs.Outside.{OnlyWrites, Rises, has_failed};
 ghost use Rattle.aftr_text.specs.Jobs.{AreApart};
 ghost use Rattle.capture_io.specs.Refusals.{EndsInRecords};
 ghost use Rattle.capture_io.specs.Rounds.{is_cut};
+ghost use Rattle.hand_over.specs.Lines.{IsNewLine};
 ghost use Rattle.lwaftr_engine.specs.Broken.{Breaks};
 ghost use Rattle.lwaftr_engine.specs.Progress.{Goes, IsOnDuty, KeepsRest, ReadsOf, setup_of, spot, state_of};
 ghost use Rattle.lwaftr_engine.specs.Runs.{OthersKept};
@@ -14,6 +14,7 @@ ghost use Rattle.lwaftr_engine.specs.Underway.{CanJudge, HasRead, IsAtStart, IsN
 ghost use Rattle.lwaftr_engine.specs.Underway.{PutsAndReads, StaysOnDuty, WentWell, steps_of};
 ghost use Rattle.lwaftr_engine.specs.Writing.{BreaksLast, Did, DidBoth, DidFront};
 
+use crate::beside::{Sides, rounds_beside};
 use crate::known::run_laws;
 use crate::outputs::write_round;
 use crate::shift::{Shift, judge_round};
@@ -27,14 +28,13 @@ use run_output::{Rendered, RoundRecords, push_new_versions, render_round};
 use std::alloc::Global;
 use std::mem;
 use std::sync::Wait;
-use std::thread::{Threads, join_mut};
+use std::thread::Threads;
 use worker_gate::Gate;
 
-/// A round ends with the record that brings its captured bytes to so many, or more: where one thread does all its steps, and where
-/// some are done beside others.
-const ENOUGH_ALONE: usize = 262_144;
+/// A round ends with the record that brings its captured bytes to so many, or more: with one worker, and with more.
+const ENOUGH_FOR_ONE: usize = 262_144;
 
-const ENOUGH_BESIDE: usize = 1_048_576;
+const ENOUGH_FOR_MORE: usize = 1_048_576;
 
 /// How far a run has come.
 #[derive(Drop)]
@@ -63,36 +63,45 @@ pub struct Pending {
 pub struct Router {
     pub shift: Shift,
     pub progress: Progress,
-    /// What the round writes that was judged last.
-    pub made: Pending,
 }
 
-/// The lists of the first rounds. They change places from round to round, so that memory is taken in these alone.
+/// The lists of the first rounds, and what goes over between two sides. Lists change places from round to round, so that memory is
+/// taken in these alone.
 #[derive(Drop)]
-pub struct Room {
+pub struct Room<'a> {
     pub records: Records,
-    pub spare: Records,
     pub pending: Pending,
+    pub sides: Sides<'a>,
+}
+
+/// Lists that are free.
+#[derive(Drop)]
+pub struct Free {
+    /// For the records of the next round.
+    pub records: Option<Records>,
+    /// For what the next round writes.
+    pub made: Pending,
 }
 
 /// A round under way.
 #[derive(Drop)]
-struct UnderWay {
+pub struct UnderWay {
     /// It was read, and is not judged yet.
-    round: Round,
+    pub round: Round,
     /// What the round before it writes, which is not in the outputs yet.
-    pending: Pending,
+    pub pending: Pending,
 }
 
 // Judges a round, and renders what it writes.
-fn judge<R: Threads + Wait + Sync, G: Gate + Sync>(
+pub fn judge<R: Threads + Wait + Sync, G: Gate + Sync>(
     means: &Means<'_, R, G>,
     task: Task<'_>,
     router: &mut Router,
     round: &Round,
+    made: &mut Pending,
 ) -> Result<(), OutOfMemory>
     requires can { CanJudge (setup_of task) router.old round.now }
-    ensures well { IfOk result (λ _. WentWell (setup_of task.entry) router.old router.new round.now) }
+    ensures well { IfOk result (λ _. WentWell (setup_of task.entry) router.old router.new round.now made.new) }
     ensures duty { StaysOnDuty router.old.shift router.new.shift round.now.number }
 {
     let rt = means.rt;
@@ -123,13 +132,13 @@ fn judge<R: Threads + Wait + Sync, G: Gate + Sync>(
         &judged,
         &mut router.progress.limit,
         &mut router.progress.totals,
-        &mut router.made.rendered,
+        &mut made.rendered,
     )?;
     router.progress.stage.take_back(items);
-    router.made.versions.clear();
+    made.versions.clear();
     let printed = push_new_versions(
         alloc,
-        &mut router.made.versions,
+        &mut made.versions,
         task.job.loads.as_slice(),
         task.slots,
         router.shift.desk.points(),
@@ -177,9 +186,9 @@ fn enough_bytes(workers: u32) -> usize
     ensures most { result ≤ 67108864 }
 {
     if workers == 1 {
-        ENOUGH_ALONE
+        ENOUGH_FOR_ONE
     } else {
-        ENOUGH_BESIDE
+        ENOUGH_FOR_MORE
     }
 }
 
@@ -211,7 +220,7 @@ fn read_next<F: Files, C: CaptureReader>(
 }
 
 // Puts what a round wrote into the outputs, and then reads the next round.
-fn put_and_read<F: Files, C: CaptureReader>(
+pub fn put_and_read<F: Files, C: CaptureReader>(
     alloc: Global,
     files: &mut F,
     task: Task<'_>,
@@ -233,26 +242,7 @@ fn put_and_read<F: Files, C: CaptureReader>(
     Ok(round)
 }
 
-// Calls both: the first in a new thread beside the second, or behind it where one thread is enough.
-fn call_both<R: Threads, F: FnMut() -> A + Send, G: FnMut() -> B, A: Send, B>(
-    rt: &R,
-    beside: bool,
-    first: &mut F,
-    second: &mut G,
-) -> (A, B)
-    requires { F.pre first.old × G.pre second.old }
-    ensures { F.step first.old result.0 first.new × G.step second.old result.1 second.new }
-{
-    if beside {
-        return join_mut(rt, first, second);
-    }
-    let b = second();
-    let a = first();
-    (a, b)
-}
-
-// Judges a round beside putting what the round before it wrote into the outputs and reading the next one: in a new thread, or, of
-// one worker, behind that.
+// Puts what the round before wrote into the outputs, reads the next one, and then judges the one between them.
 fn step<R: Threads + Wait + Sync, F: Files, C: CaptureReader, G: Gate + Sync>(
     means: &Means<'_, R, G>,
     files: &mut F,
@@ -260,12 +250,12 @@ fn step<R: Threads + Wait + Sync, F: Files, C: CaptureReader, G: Gate + Sync>(
     reader: &mut C,
     router: &mut Router,
     under_way: &UnderWay,
-    spare: &mut Option<Records>,
+    free: &mut Free,
 ) -> Result<Round, Fault>
     requires apart { AreApart (setup_of task).run }
     requires can { CanJudge (setup_of task) router.old under_way.now.round }
     requires ready { C.ready reader.old under_way.now.round.number }
-    ensures well { IfOk result (λ _. WentWell (setup_of task.entry) router.old router.new under_way.now.round) }
+    ensures well { IfOk result (λ _. WentWell (setup_of task.entry) router.old router.new under_way.now.round free.new.made) }
     ensures duty { StaysOnDuty router.old.shift router.new.shift under_way.now.round.number }
     ensures outside { PutsAndReads (setup_of task.entry) (steps_of under_way.now.pending) under_way.now.round.number
         (spot (C.stands reader.old) (C.left reader.old) (C.at reader.old)) (spot (C.stands reader.new) (C.left reader.new) (C.at reader.new))
@@ -274,21 +264,16 @@ fn step<R: Threads + Wait + Sync, F: Files, C: CaptureReader, G: Gate + Sync>(
     let alloc = means.alloc;
     let round = &under_way.round;
     let pending = &under_way.pending;
-    let number = round.number;
-    let mut judging = ||
-        requires { IsSync R.row × (IsSync G.row × CanJudge (setup_of task) router.now round.now) }
-        ensures { IfOk result (λ _. WentWell (setup_of task.entry) router.entry.now router.exit.now round.entry.now)
-            × StaysOnDuty router.entry.now.shift router.exit.now.shift round.entry.now.number }
-    { judge(means, task, router, round) };
-    let mut outside = ||
-        requires { AreApart (setup_of task).run × ((number ≤ 2 ^ 31) × C.ready reader.now number) }
-        ensures { PutsAndReads (setup_of task.entry) (steps_of pending.entry.now) number
-            (spot (C.stands reader.entry.now) (C.left reader.entry.now) (C.at reader.entry.now))
-            (spot (C.stands reader.exit.now) (C.left reader.exit.now) (C.at reader.exit.now))
-            (λ n. C.ready reader.exit.now n) (F.outside files.entry.now) (F.outside files.exit.now) result }
-    { put_and_read(alloc, files, task, reader, pending, number, spare) };
-    let beside = task.job.workers > 1;
-    let (judged, next) = call_both(means.rt, beside, &mut judging, &mut outside);
+    let next = put_and_read(
+        alloc,
+        files,
+        task,
+        reader,
+        pending,
+        round.number,
+        &mut free.records,
+    );
+    let judged = judge(means, task, router, round, &mut free.made);
     let next = next?;
     judged?;
     Ok(next)
@@ -301,22 +286,23 @@ fn last_steps<R: Threads + Wait + Sync, F: Files, G: Gate + Sync>(
     task: Task<'_>,
     router: &mut Router,
     under_way: &UnderWay,
+    made: &mut Pending,
 ) -> Result<(), Fault>
     requires apart { AreApart (setup_of task).run }
     requires can { CanJudge (setup_of task) router.old under_way.now.round }
-    ensures well { IfOk result (λ _. WentWell (setup_of task.entry) router.old router.new under_way.now.round) }
+    ensures well { IfOk result (λ _. WentWell (setup_of task.entry) router.old router.new under_way.now.round made.new) }
     ensures duty { StaysOnDuty router.old.shift router.new.shift under_way.now.round.number }
     ensures wrote { IfOk result (λ _. Moves (F.outside files.old).held (F.outside files.new).held
-        (DidBoth (setup_of task.entry).run (steps_of under_way.now.pending) (steps_of router.new.made))) }
+        (DidBoth (setup_of task.entry).run (steps_of under_way.now.pending) (steps_of made.new))) }
     ensures begun { IfErr result (λ _. Moves (F.outside files.old).held (F.outside files.new).held
         (BreaksLast (setup_of task.entry).run (steps_of under_way.now.pending)
-        (WentWell (setup_of task.entry) router.old router.new under_way.now.round) (steps_of router.new.made))) }
+        (WentWell (setup_of task.entry) router.old router.new under_way.now.round made.new) (steps_of made.new))) }
     ensures others { Moves (F.outside files.old).held (F.outside files.new).held (OthersKept (setup_of task.entry).run) }
     ensures writes { OnlyWrites (has_failed result) (F.outside files.old) (F.outside files.new) }
 {
     put(means.alloc, files, task, &under_way.pending)?;
-    judge(means, task, router, &under_way.round)?;
-    put(means.alloc, files, task, &router.made)
+    judge(means, task, router, &under_way.round, made)?;
+    put(means.alloc, files, task, made)
 }
 
 /// Takes all records in rounds, and answers how they ended. A fault is one of writing.
@@ -326,13 +312,14 @@ pub fn run_records<R: Threads + Wait + Sync, F: Files, C: CaptureReader, G: Gate
     task: Task<'_>,
     reader: &mut C,
     router: &mut Router,
-    room: Room,
+    room: Room<'_>,
 ) -> Result<Ending, Fault>
     requires apart { AreApart (setup_of task).run }
     requires workers { (1 ≤ (setup_of task).run.workers) × ((setup_of task).run.workers ≤ 16) }
     requires start { IsAtStart (setup_of task) router.old }
     requires ready { C.ready reader.old router.old.progress.number }
     requires nothing { IsNothing room.pending }
+    requires line { IsNewLine room.sides.asker room.sides.answerer }
 
     // Where all went well.
     ensures went { IfOk result (λ ending. Moves (F.outside files.old).held (F.outside files.new).held
@@ -358,21 +345,21 @@ pub fn run_records<R: Threads + Wait + Sync, F: Files, C: CaptureReader, G: Gate
     run_laws();
     let Room {
         records,
-        spare,
         pending,
+        sides,
     } = room;
-    let mut spare = Some(spare);
     let number = router.progress.number;
     let round = read_next(means.alloc, files, task, reader, number, records)?;
     let mut under_way = UnderWay { round, pending };
+    let mut free = rounds_beside(means, files, task, reader, router, &mut under_way, sides)?;
     'rounds: loop {
         if let Some(ending) = under_way.round.ending {
-            last_steps(means, files, task, router, &under_way)?;
+            last_steps(means, files, task, router, &under_way, &mut free.made)?;
             return Ok(ending);
         }
-        let next = step(means, files, task, reader, router, &under_way, &mut spare)?;
-        mem::swap(&mut under_way.pending, &mut router.made);
+        let next = step(means, files, task, reader, router, &under_way, &mut free)?;
+        mem::swap(&mut under_way.pending, &mut free.made);
         let Round { records, .. } = mem::replace(&mut under_way.round, next);
-        spare = Some(records);
+        free.records = Some(records);
     }
 }

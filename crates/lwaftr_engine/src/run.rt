@@ -5,6 +5,7 @@ ghost use Rattle.aftr_base.specs.Outside.{has_failed};
 ghost use Rattle.aftr_text.specs.Jobs.{AreApart, IsRate, IsWorkers};
 ghost use Rattle.capture_io.specs.Refusals.{EndsInRecords};
 ghost use Rattle.capture_io.specs.Rounds.{is_cut};
+ghost use Rattle.hand_over.specs.Lines.{IsNewLine};
 ghost use Rattle.lwaftr_engine.specs.Finishing.{HasHistoryBy};
 ghost use Rattle.lwaftr_engine.specs.Planned.{LeavesOpened};
 ghost use Rattle.lwaftr_engine.specs.Progress.{KeepsRest, OneRises, ReadsOf, setup_of, spot};
@@ -12,16 +13,18 @@ ghost use Rattle.lwaftr_engine.specs.Underway.{IsAtStart, IsFirst, IsNothing};
 ghost use Rattle.lwaftr_engine.specs.Worlds.{world};
 ghost use Rattle.table_words.specs.Layout.{AreCompiled};
 
+use crate::beside::Sides;
 use crate::finishing::finish;
 use crate::known::run_laws;
 use crate::outputs::open_outputs;
-use crate::rounds::{Pending, Progress, Room, Router, run_records};
+use crate::rounds::{Free, Pending, Progress, Room, Router, run_records};
 use crate::shift::{begin_shift, end_shift};
 use crate::tasks::{Means, Task};
 use aftr_base::{Fault, Files, OutOfMemory, Sink};
 use aftr_text::Totals;
 use area_swap::History;
 use capture_io::{CaptureReader, Ending, Form, Records};
+use hand_over::{Bells, line};
 use item_stage::Stage;
 use run_output::{Rendered, new_limit};
 use std::alloc::Global;
@@ -69,20 +72,29 @@ fn router_of(alloc: Global, task: Task<'_>, plan: Plan) -> Result<Router, OutOfM
     Ok(Router {
         shift: begin_shift(alloc, plan, task.job.workers)?,
         progress: at_first(alloc, task.form, task.job.errors)?,
-        made: no_pending(alloc, task.job.workers)?,
     })
 }
 
-// The lists of the first rounds.
-fn first_room(alloc: Global, workers: u32) -> Result<Room, OutOfMemory>
+// The lists of the first rounds, and the line between two sides.
+fn first_room<'a>(alloc: Global, workers: u32, bells: &'a Bells) -> Result<Room<'a>, OutOfMemory>
     requires some_one { 1 ≤ workers }
     requires few { workers ≤ 16 }
-    ensures { IfOk result (λ room. IsNothing room.pending) }
+    ensures nothing { IfOk result (λ room. IsNothing room.pending) }
+    ensures line { IfOk result (λ room. IsNewLine room.sides.asker room.sides.answerer) }
 {
+    let (asker, answerer) = line(alloc, bells)?;
+    let free = Free {
+        records: None,
+        made: no_pending(alloc, workers)?,
+    };
     Ok(Room {
         records: Records::new(alloc),
-        spare: Records::new(alloc),
         pending: no_pending(alloc, workers)?,
+        sides: Sides {
+            free,
+            asker,
+            answerer,
+        },
     })
 }
 
@@ -132,7 +144,8 @@ pub fn run_capture<R: Threads + Wait + Sync, F: Files, O: Sink, C: CaptureReader
     plan.len();
     let alloc = means.alloc;
     let mut router = router_of(alloc, task, plan)?;
-    let room = first_room(alloc, task.job.workers)?;
+    let bells = Bells::new();
+    let room = first_room(alloc, task.job.workers, &bells)?;
     open_outputs(alloc, files, task.job, task.written)?;
     let taken = run_records(means, files, task, reader, &mut router, room);
     let Router {

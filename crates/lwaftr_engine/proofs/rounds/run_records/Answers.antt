@@ -1,10 +1,12 @@
-use Rattle.lwaftr_engine.proofs.Words.{Ending, EndsInRecords, Option, ReadsOf, inl, is_cut, refl, setup_of, spot, subst, sym, ◌∙◌}
-use Rattle.lwaftr_engine.proofs.UnderwayLemmas.{begin_rounds, breaks_off, ends_well, in_rounds, last_broken, not_begun, steps_on}
+use Rattle.lwaftr_engine.proofs.Words.{Ending, EndsInRecords, Err, Option, ReadsOf, Round, ap, err_from_is_err_and, inl, is_cut, setup_of, spot, subst, ◌∙◌}
+use Rattle.lwaftr_engine.specs.Beside.{standing}
+use Rattle.lwaftr_engine.proofs.UnderwayLemmas.{breaks_off, ends_well, in_rounds, last_broken, not_begun}
 use Rattle.lwaftr_engine.proofs.Apart.{apart}
-use Rattle.lwaftr_engine.proofs.Adding.{can_begin, goes_on, others_more, others_same, reads_on}
+use Rattle.lwaftr_engine.proofs.Adding.{others_same, reads_on}
+use Rattle.lwaftr_engine.proofs.Besides.{at_first, break_off, fails_as, go, goes}
 use Rattle.lwaftr_engine.proofs.ReadLemmas.{rest_after, rest_before, rest_read}
 use Rattle.lwaftr_engine.proofs.Exits.{if_err}
-use Rattle.lwaftr_engine.proofs.RoundLemmas.{reads_after, reads_before}
+use Rattle.lwaftr_engine.proofs.RoundLemmas.{reads_before}
 use Rattle.lwaftr_engine.proofs.rounds.run_records.Goals as goal
 
 pub returns-in_err-round-clause-broken : goal.returns-in_err-round-clause-broken
@@ -32,20 +34,111 @@ rounds-init g c =
     let r = g.C.CaptureReader in
     let x = setup_of c.args.task in
     let a = f.outside c.args.files.now in
-    let b = f.outside c.read_next.new.files in
-    let first = spot (r.stands c.args.reader.now) (r.left c.args.reader.now) (r.at c.args.reader.now) in
-    let here = spot (r.stands c.read_next.new.reader) (r.left c.read_next.new.reader) (r.at c.read_next.new.reader) in
     let read = c.in_ok-round.ensures in
-    record {
-      went = begin_rounds x c.requires.start first here c.in_ok-round.round c.args.room.pending c.requires.nothing a b read.held read.read;
-      can = can_begin c.args.router.now c.requires.start;
-      ready = read.ready;
-      in_hand = read.read.in_hand;
-      same_areas = refl;
-      others = others_same x.run a.held b.held read.held;
-      reads = read.reads;
-      spoiled = read.spoiled;
-    }
+    let first = spot (r.stands c.args.reader.now) (r.left c.args.reader.now) (r.at c.args.reader.now) in
+    let start = standing (f.outside c.read_next.new.files) c.read_next.new.reader c.in_ok-round.round c.args.room.pending in
+    let known = at_first x (λ v. spot (r.stands v) (r.left v) (r.at v)) (λ v n. r.ready v n)
+    first a c.args.router.now c.requires.start start c.requires.nothing
+    read.held read.read read.ready read.reads read.spoiled in
+    let gone = c.in_ok-free.ensures.well in
+    go x (λ v. spot (r.stands v) (r.left v) (r.at v)) (λ v n. r.ready v n) first a c.args.router.now c.run_laws.ensures
+    (apart x.run c.requires.apart) gone.exchanges start _ _ known gone.fetched gone.judged
+
+pub returns-in_err-free-clause-broken : goal.returns-in_err-free-clause-broken
+returns-in_err-free-clause-broken g c =
+    let f = g.F.Files in
+    let r = g.C.CaptureReader in
+    let x = setup_of c.args.task in
+    let a = f.outside c.args.files.now in
+    let read = c.in_ok-round.ensures in
+    let first = spot (r.stands c.args.reader.now) (r.left c.args.reader.now) (r.at c.args.reader.now) in
+    let start = standing (f.outside c.read_next.new.files) c.read_next.new.reader c.in_ok-round.round c.args.room.pending in
+    let known = at_first x (λ v. spot (r.stands v) (r.left v) (r.at v)) (λ v n. r.ready v n)
+    first a c.args.router.now c.requires.start start c.requires.nothing
+    read.held read.read read.ready read.reads read.spoiled in
+    let stopped = c.in_err-free.ensures.broken in
+    let broke = break_off x (λ v. spot (r.stands v) (r.left v) (r.at v)) (λ v n. r.ready v n)
+    first a c.args.router.now c.run_laws.ensures (apart x.run c.requires.apart) stopped.exchanges
+    start (f.outside c.rounds_beside.new.files) c.rounds_beside.new.reader c.in_err-free.field-0.0 c.rounds_beside.new.router known
+    (λ v bytes number. c.some_left.ensures v bytes number) stopped.broken stopped.judged in
+    if_err _ c.from_residual-in_err-free.result broke.broken
+
+pub returns-in_err-free-clause-rest : goal.returns-in_err-free-clause-rest
+returns-in_err-free-clause-rest g c =
+    let f = g.F.Files in
+    let r = g.C.CaptureReader in
+    let x = setup_of c.args.task in
+    let a = f.outside c.args.files.now in
+    let read = c.in_ok-round.ensures in
+    let first = spot (r.stands c.args.reader.now) (r.left c.args.reader.now) (r.at c.args.reader.now) in
+    let start = standing (f.outside c.read_next.new.files) c.read_next.new.reader c.in_ok-round.round c.args.room.pending in
+    let known = at_first x (λ v. spot (r.stands v) (r.left v) (r.at v)) (λ v n. r.ready v n)
+    first a c.args.router.now c.requires.start start c.requires.nothing
+    read.held read.read read.ready read.reads read.spoiled in
+    let stopped = c.in_err-free.ensures.broken in
+    let broke = break_off x (λ v. spot (r.stands v) (r.left v) (r.at v)) (λ v n. r.ready v n)
+    first a c.args.router.now c.run_laws.ensures (apart x.run c.requires.apart) stopped.exchanges
+    start (f.outside c.rounds_beside.new.files) c.rounds_beside.new.reader c.in_err-free.field-0.0 c.rounds_beside.new.router known
+    (λ v bytes number. c.some_left.ensures v bytes number) stopped.broken stopped.judged in
+    broke.rest
+
+pub returns-in_err-free-clause-areas : goal.returns-in_err-free-clause-areas
+returns-in_err-free-clause-areas g c =
+    let f = g.F.Files in
+    let r = g.C.CaptureReader in
+    let x = setup_of c.args.task in
+    let a = f.outside c.args.files.now in
+    let read = c.in_ok-round.ensures in
+    let first = spot (r.stands c.args.reader.now) (r.left c.args.reader.now) (r.at c.args.reader.now) in
+    let start = standing (f.outside c.read_next.new.files) c.read_next.new.reader c.in_ok-round.round c.args.room.pending in
+    let known = at_first x (λ v. spot (r.stands v) (r.left v) (r.at v)) (λ v n. r.ready v n)
+    first a c.args.router.now c.requires.start start c.requires.nothing
+    read.held read.read read.ready read.reads read.spoiled in
+    let stopped = c.in_err-free.ensures.broken in
+    let broke = break_off x (λ v. spot (r.stands v) (r.left v) (r.at v)) (λ v n. r.ready v n)
+    first a c.args.router.now c.run_laws.ensures (apart x.run c.requires.apart) stopped.exchanges
+    start (f.outside c.rounds_beside.new.files) c.rounds_beside.new.reader c.in_err-free.field-0.0 c.rounds_beside.new.router known
+    (λ v bytes number. c.some_left.ensures v bytes number) stopped.broken stopped.judged in
+    broke.areas
+
+pub returns-in_err-free-clause-duty : goal.returns-in_err-free-clause-duty
+returns-in_err-free-clause-duty g c =
+    let f = g.F.Files in
+    let r = g.C.CaptureReader in
+    let x = setup_of c.args.task in
+    let a = f.outside c.args.files.now in
+    let read = c.in_ok-round.ensures in
+    let first = spot (r.stands c.args.reader.now) (r.left c.args.reader.now) (r.at c.args.reader.now) in
+    let start = standing (f.outside c.read_next.new.files) c.read_next.new.reader c.in_ok-round.round c.args.room.pending in
+    let known = at_first x (λ v. spot (r.stands v) (r.left v) (r.at v)) (λ v n. r.ready v n)
+    first a c.args.router.now c.requires.start start c.requires.nothing
+    read.held read.read read.ready read.reads read.spoiled in
+    let stopped = c.in_err-free.ensures.broken in
+    let broke = break_off x (λ v. spot (r.stands v) (r.left v) (r.at v)) (λ v n. r.ready v n)
+    first a c.args.router.now c.run_laws.ensures (apart x.run c.requires.apart) stopped.exchanges
+    start (f.outside c.rounds_beside.new.files) c.rounds_beside.new.reader c.in_err-free.field-0.0 c.rounds_beside.new.router known
+    (λ v bytes number. c.some_left.ensures v bytes number) stopped.broken stopped.judged in
+    broke.duty
+
+pub returns-in_err-free-clause-spoiled : goal.returns-in_err-free-clause-spoiled
+returns-in_err-free-clause-spoiled g c =
+    let f = g.F.Files in
+    let r = g.C.CaptureReader in
+    let x = setup_of c.args.task in
+    let a = f.outside c.args.files.now in
+    let read = c.in_ok-round.ensures in
+    let first = spot (r.stands c.args.reader.now) (r.left c.args.reader.now) (r.at c.args.reader.now) in
+    let start = standing (f.outside c.read_next.new.files) c.read_next.new.reader c.in_ok-round.round c.args.room.pending in
+    let known = at_first x (λ v. spot (r.stands v) (r.left v) (r.at v)) (λ v n. r.ready v n)
+    first a c.args.router.now c.requires.start start c.requires.nothing
+    read.held read.read read.ready read.reads read.spoiled in
+    let stopped = c.in_err-free.ensures.broken in
+    let broke = break_off x (λ v. spot (r.stands v) (r.left v) (r.at v)) (λ v n. r.ready v n)
+    first a c.args.router.now c.run_laws.ensures (apart x.run c.requires.apart) stopped.exchanges
+    start (f.outside c.rounds_beside.new.files) c.rounds_beside.new.reader c.in_err-free.field-0.0 c.rounds_beside.new.router known
+    (λ v bytes number. c.some_left.ensures v bytes number) stopped.broken stopped.judged in
+    let from = err_from_is_err_and c.from_residual-in_err-free.result c.from_residual-in_err-free.ensures.1 in
+    rw (from.1 ∙ ap Err from.2) (fails_as Round Ending a.spoiled (f.outside c.rounds_beside.new.files).spoiled c.in_err-free.field-0.0 broke.spoiled)
 
 pub returns-in_err-next-clause-broken : goal.returns-in_err-next-clause-broken
 returns-in_err-next-clause-broken g c =
@@ -61,7 +154,8 @@ returns-in_err-next-clause-broken g c =
     let did = c.in_err-next.ensures.outside in
     let before = reads_on c.rounds.under_way.round.ending c.in_default.is x.run.input a m known.reads in
     let way = in_rounds c.run_laws.ensures x (apart x.run c.requires.apart) first here c.rounds.under_way c.rounds.router a m known.went in
-    if_err _ c.from_residual-in_err-next.result (breaks_off way c.step.new.router c.in_err-next.ensures.duty (f.outside c.step.new.files) there
+    if_err _ c.from_residual-in_err-next.result
+    (breaks_off way c.step.new.router c.step.new.free.made c.in_err-next.ensures.duty (f.outside c.step.new.files) there
     (λ bytes number. c.some_left.ensures c.rounds.reader bytes number) (λ bytes number. c.some_left.ensures c.step.new.reader bytes number)
     (rw before.1 at did.past) did.part)
 
@@ -87,7 +181,8 @@ returns-in_err-last_steps-clause-broken g c =
     let known = c.rounds.invariant in
     let last = c.in_err-last_steps.ensures in
     let way = in_rounds c.run_laws.ensures x (apart x.run c.requires.apart) first here c.rounds.under_way c.rounds.router a m known.went in
-    if_err _ c.from_residual-in_err-last_steps.result (last_broken way c.last_steps.new.router last.duty (f.outside c.last_steps.new.files)
+    if_err _ c.from_residual-in_err-last_steps.result
+    (last_broken way c.last_steps.new.router c.last_steps.new.made last.duty (f.outside c.last_steps.new.files)
     (λ bytes number. c.some_left.ensures c.rounds.reader bytes number) last.writes.last (rw last.writes.lost known.reads.lost) last.begun)
 
 pub returns-in_err-last_steps-clause-rest : goal.returns-in_err-last_steps-clause-rest
@@ -119,7 +214,7 @@ returns-in-Some g c =
     let R : Option Ending → Type 0 = λ e. ReadsOf (is_cut e) x.run.input a b in
     let E : Option Ending → Type 0 = λ e. EndsInRecords e in
     record {
-      went = ends_well way c.last_steps.new.router last.duty b last.well c.in-Some.is last.writes.last last.wrote;
+      went = ends_well way c.last_steps.new.router c.last_steps.new.made last.duty b last.well c.in-Some.is last.writes.last last.wrote;
       after = last.well.after;
       reads = subst R c.in-Some.is (reads_before cut x.run.input a m b known.reads last.writes);
       in_records = subst E c.in-Some.is known.in_hand.in_records;
@@ -135,27 +230,23 @@ rounds-preserved g c =
     let f = g.F.Files in
     let r = g.C.CaptureReader in
     let x = setup_of c.args.task in
-    let a = f.outside c.args.files.now in
-    let m = f.outside c.rounds.files in
-    let b = f.outside c.step.new.files in
-    let first = spot (r.stands c.args.reader.now) (r.left c.args.reader.now) (r.at c.args.reader.now) in
-    let here = spot (r.stands c.rounds.reader) (r.left c.rounds.reader) (r.at c.rounds.reader) in
-    let there = spot (r.stands c.step.new.reader) (r.left c.step.new.reader) (r.at c.step.new.reader) in
-    let known = c.rounds.invariant in
+    let before = standing (f.outside c.rounds.files) c.rounds.reader c.rounds.under_way.round c.rounds.under_way.pending in
+    let next = standing (f.outside c.step.new.files) c.step.new.reader c.in_ok-next.next c.step.new.free.made in
     let done = c.in_ok-next.ensures in
-    let did = done.outside in
-    let next = c.in_ok-next.next in
-    let before = reads_on c.rounds.under_way.round.ending c.in_default.is x.run.input a m known.reads in
-    let is = sym c.replace-records.ensures.after in
-    let way = in_rounds c.run_laws.ensures x (apart x.run c.requires.apart) first here c.rounds.under_way c.rounds.router a m known.went in
-    record {
-      went = rw (← is) (rw c.swap.ensures.x_after (steps_on way c.step.new.router done.duty b there done.well did.well.read did.well.wrote));
-      can = goes_on c.rounds.router.shift c.step.new.router done.duty known.can done.well.after;
-      ready = rw (← is) did.well.ready;
-      in_hand = rw (← is) (rw done.well.number did.well.read.in_hand);
-      same_areas = done.duty.areas ∙ known.same_areas;
-      others = others_more x.run a.held m.held b.held known.others did.rest.others;
-      reads = rw (← is) (reads_after (is_cut next.ending) x.run.input a m b
-          (record { faults = before.0; lost = before.1; spoiled = known.spoiled; last = before.2 }) did.well.reads);
-      spoiled = did.spoiled ∙ known.spoiled;
-    }
+    rw (c.replace-records.ensures.after, c.swap.ensures.x_after)
+    (goes x (λ v. spot (r.stands v) (r.left v) (r.at v)) (λ v n. r.ready v n)
+    (spot (r.stands c.args.reader.now) (r.left c.args.reader.now) (r.at c.args.reader.now)) (f.outside c.args.files.now) c.args.router.now c.run_laws.ensures
+    (apart x.run c.requires.apart) before next c.rounds.router c.step.new.router c.rounds.invariant c.in_default.is done.duty done.well done.outside)
+
+pub rounds-preserved-in_ok-next : goal.rounds-preserved-in_ok-next
+rounds-preserved-in_ok-next g c =
+    let f = g.F.Files in
+    let r = g.C.CaptureReader in
+    let x = setup_of c.args.task in
+    let before = standing (f.outside c.rounds.files) c.rounds.reader c.rounds.under_way.round c.rounds.under_way.pending in
+    let next = standing (f.outside c.step.new.files) c.step.new.reader c.in_ok-next.next c.step.new.free.made in
+    let done = c.in_ok-next.ensures in
+    rw (c.replace-records.ensures.after, c.swap.ensures.x_after)
+    (goes x (λ v. spot (r.stands v) (r.left v) (r.at v)) (λ v n. r.ready v n)
+    (spot (r.stands c.args.reader.now) (r.left c.args.reader.now) (r.at c.args.reader.now)) (f.outside c.args.files.now) c.args.router.now c.run_laws.ensures
+    (apart x.run c.requires.apart) before next c.rounds.router c.step.new.router c.rounds.invariant c.in_default.is done.duty done.well done.outside)

@@ -90,6 +90,11 @@ returns-in_err-room-clause-left g c =
     let e = err_from_is_err_and c.from_residual-in_err-room.result c.from_residual-in_err-room.ensures.1 in
     none_done (setup_of c.args.task) c.args.plan first c.from_residual-in_err-room.result e.0 w c.args.history.now e.1 e.2 c.requires.none
 
+pub returns-in_err-open_outputs-clause-writing : goal.returns-in_err-open_outputs-clause-writing
+returns-in_err-open_outputs-clause-writing g c =
+    let e = err_from_is_err_and c.from_residual-in_err-open_outputs.result c.from_residual-in_err-open_outputs.ensures.1 in
+    rw (e.1 ∙ ap Err e.2) (one_rises c.in_err-open_outputs.field-0.0 _ _ _ c.in_err-open_outputs.ensures.writes.spoiled)
+
 pub returns-in_err-ending-clause-writing : goal.returns-in_err-ending-clause-writing
 returns-in_err-ending-clause-writing g c =
     let opening = c.in_ok-open_outputs.ensures in

@@ -1,0 +1,114 @@
+-- Rounds of which each is judged by one side, while the other one writes what the round before wrote and reads the next one. Ours.
+use Rattle.std.specs.Prelude.{Err, IfErr, IfOk, IsOk, List, None, Ok, Result, ℕ, [], ◌++◌, ◌∷◌, ◌≡◌}
+use Rattle.lwaftr_engine.specs.Words.{Fault, Outside, Pending, Round, Router}
+use Rattle.lwaftr_engine.specs.declared.beside.Assignment.{Assignment}
+use Rattle.lwaftr_engine.specs.declared.beside.Report.{Report}
+use Rattle.lwaftr_engine.specs.Progress.{Setup, Spot}
+use Rattle.lwaftr_engine.specs.Underway.{PutsAndReads, StaysOnDuty, WentWell, steps_of}
+
+-- a round that went over to be judged, and what came back
+pub record Exchange : Type 0 where
+  pub assignment : Assignment
+  pub report : Report
+
+-- what went over, oldest first, of exchanges of which the latest is the first
+abbrev pub assignments : List Exchange → List Assignment
+assignments [] = []
+assignments (e ∷ es) = assignments es ++ e.assignment ∷ []
+
+abbrev pub reports : List Exchange → List Report
+reports [] = []
+reports (e ∷ es) = reports es ++ e.report ∷ []
+
+-- the number behind the last of these rounds
+abbrev pub reached_from : ℕ → List Assignment → ℕ
+reached_from number [] = number
+reached_from number (a ∷ later) = reached_from a.round.number later
+
+abbrev pub reached : List Assignment → ℕ
+reached all = reached_from 0 all
+
+-- what the side that judges makes of a round
+pub record Judges (x : Setup) (before now : Router) (e : Exchange) : Type 0 where
+  pub duty : StaysOnDuty before.shift now.shift e.assignment.round.number
+  pub well : IfOk e.report.judged (λ _. WentWell x before now e.assignment.round e.report.made)
+
+abbrev pub HaveJudged : Setup → Router → List Exchange → Router → Type 0
+HaveJudged x start [] now = now ≡ start
+HaveJudged x start (e ∷ es) now = (before : Router) × HaveJudged x start es before × Judges x before now e
+
+-- what that side took and gave
+pub record HaveTaken (x : Setup) (start now : Router) (took : List Assignment) (gave : List Report) : Type 0 where
+  pub exchanges : List Exchange
+  pub took_are : took ≡ assignments exchanges
+  pub gave_are : gave ≡ reports exchanges
+  pub judged : HaveJudged x start exchanges now
+
+-- Where the side of the files stands: what it wrote, the reader, the round that is not judged yet, and what is not written yet.
+pub record Standing (C : Type 0) : Type 0 where
+  pub files : Outside
+  pub reader : C
+  pub round : Round
+  pub pending : Pending
+
+abbrev pub standing : {C : Type 0} → Outside → C → Round → Pending → Standing C
+standing files reader round pending = record { files = files; reader = reader; round = round; pending = pending }
+
+module _ {C : Type 0} (x : Setup) (place : C → Spot) (Ready : C → ℕ → Type 0) where
+  -- what it makes of an exchange that went well
+  pub record Fetches (before now : Standing C) (e : Exchange) : Type 0 where
+    pub asked : e.assignment.round ≡ before.round
+    pub going : before.round.ending ≡ None
+    pub judged : IsOk e.report.judged
+    pub made : now.pending ≡ e.report.made
+    pub outside : PutsAndReads x (steps_of before.pending) before.round.number (place before.reader) (place now.reader) (Ready now.reader)
+        before.files now.files (Ok now.round)
+
+  abbrev pub HaveFetched : Standing C → List Exchange → Standing C → Type 0
+  HaveFetched start [] now = now ≡ start
+  HaveFetched start (e ∷ es) now = (before : Standing C) × HaveFetched start es before × Fetches before now e
+
+  -- the last exchange did not go well
+  pub record HaveBroken (start : Standing C) (es : List Exchange) (files : Outside) (reader : C) (fault : Fault) : Type 0 where
+    pub last : Exchange
+    pub earlier : List Exchange
+    pub all : es ≡ last ∷ earlier
+    pub before : Standing C
+    pub fetched : HaveFetched start earlier before
+    pub asked : last.assignment.round ≡ before.round
+    pub going : before.round.ending ≡ None
+    pub outside : PutsAndReads x (steps_of before.pending) before.round.number (place before.reader) (place reader) (Ready reader)
+        before.files files (Err fault)
+
+  -- what that side asked and heard
+  pub record HaveAsked (start now : Standing C) (asked : List Assignment) (heard : List Report) : Type 0 where
+    pub exchanges : List Exchange
+    pub asked_are : asked ≡ assignments exchanges
+    pub heard_are : heard ≡ reports exchanges
+    pub fetched : HaveFetched start exchanges now
+
+  pub record HaveAskedInVain (start : Standing C) (files : Outside) (reader : C) (fault : Fault) (asked : List Assignment) (heard : List Report) : Type 0 where
+    pub exchanges : List Exchange
+    pub asked_are : asked ≡ assignments exchanges
+    pub heard_are : heard ≡ reports exchanges
+    pub broken : HaveBroken start exchanges files reader fault
+
+  -- what that side asked and heard, however it ended
+  pub record Asks {T : Type 0} (start now : Standing C) (asked : List Assignment) (heard : List Report) (r : Result T Fault) : Type 0 where
+    pub well : IfOk r (λ _. HaveAsked start now asked heard)
+    pub broken : IfErr r (λ fault. HaveAskedInVain start now.files now.reader fault asked heard)
+
+  -- what both sides did
+  pub record HaveGone (start now : Standing C) (began router : Router) : Type 0 where
+    pub exchanges : List Exchange
+    pub fetched : HaveFetched start exchanges now
+    pub judged : HaveJudged x began exchanges router
+
+  pub record HaveStopped (start : Standing C) (files : Outside) (reader : C) (fault : Fault) (began router : Router) : Type 0 where
+    pub exchanges : List Exchange
+    pub broken : HaveBroken start exchanges files reader fault
+    pub judged : HaveJudged x began exchanges router
+
+  pub record Go {T : Type 0} (start now : Standing C) (began router : Router) (r : Result T Fault) : Type 0 where
+    pub well : IfOk r (λ _. HaveGone start now began router)
+    pub broken : IfErr r (λ fault. HaveStopped start now.files now.reader fault began router)
