@@ -1,12 +1,16 @@
-// The callers that the READMEs of swap_core and area_swap show, and what they answer.
+// The callers that the READMEs of swap_core, area_swap and hand_over show, and what they answer.
+ghost use Rattle.std.specs.Thread.{IsSync};
 ghost use Rattle.area_swap.specs.Values.{IsIdle, IsOf};
 ghost use Rattle.swap_core.specs.Plans.{IsTableSize};
 
 use crate::words::table;
 use aftr_base::{OutOfMemory, WordList};
 use area_swap::{Areas, Claim, DrawRun, WorkerSeat, prepare};
-use std::alloc::Global;
+use hand_over::{Answerer, Asker, Protocol};
+use std::alloc::{AllocError, Global};
+use std::sync::Wait;
 use std::test::Fail;
+use std::thread::{Threads, join_mut};
 use swap_core::{Core, Plan, Step, Took, Window};
 
 /// What the first draw gives of a machine of four actors and two tables, of which the second comes into force behind 100 records at
@@ -48,6 +52,63 @@ fn draw_some(areas: &Areas, seat: &mut WorkerSeat, end: u32) -> Option<(u32, u32
         DrawRun::Taken { number, count } => Some((number, count, word)),
         _ => None,
     }
+}
+
+// Any number may be asked.
+pub(crate) struct AnyNumber;
+
+impl Protocol<u32> for AnyNumber {
+    ghost allows = { λ _ _. Unit {0} };
+}
+
+// Asks for the square of each number.
+pub(crate) fn ask_all<R: Wait>(
+    rt: &R,
+    alloc: Global,
+    numbers: &[u32],
+    asker: &mut Asker<'_, u32, u64, AnyNumber>,
+) -> Result<Vec<u64>, AllocError> {
+    let mut squares = Vec::new(alloc);
+    if asker.wait_for_answerer(rt) {
+        'numbers: for number in numbers {
+            asker.ask(rt, *number);
+            squares.push(asker.hear(rt))?;
+        }
+    }
+    Ok(squares)
+}
+
+// Gives the square of each number, until nothing more is asked.
+pub(crate) fn answer_all<R: Wait>(rt: &R, answerer: &mut Answerer<'_, u32, u64, AnyNumber>) {
+    if !answerer.begin() {
+        return;
+    }
+    'answers: for _ in rt.forever() {
+        let Some(number) = answerer.take(rt) else {
+            return;
+        };
+        answerer.answer(rt, u64::from(number) * u64::from(number));
+    }
+}
+
+/// The squares of some numbers, by two threads. There are none where no thread can be made.
+pub(crate) fn squares<R: Threads + Wait + Sync>(
+    rt: &R,
+    alloc: Global,
+    numbers: &[u32],
+    asker: &mut Asker<'_, u32, u64, AnyNumber>,
+    answerer: &mut Answerer<'_, u32, u64, AnyNumber>,
+) -> Result<Vec<u64>, AllocError> {
+    let mut answering = ||
+        requires { IsSync R.row }
+    { answer_all(rt, answerer) };
+    let mut asking = || -> Result<Vec<u64>, AllocError> {
+        let asked = ask_all(rt, alloc, numbers, asker);
+        asker.end();
+        asked
+    };
+    let (_, squares) = join_mut(rt, &mut answering, &mut asking);
+    squares
 }
 
 #[test]
