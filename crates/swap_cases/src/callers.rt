@@ -6,7 +6,7 @@ ghost use Rattle.swap_core.specs.Plans.{IsTableSize};
 use crate::words::table;
 use aftr_base::{OutOfMemory, WordList};
 use area_swap::{Areas, Claim, DrawRun, WorkerSeat, prepare};
-use hand_over::{Answerer, Asker, Protocol};
+use hand_over::{Answerer, Asker, Bells, Protocol, line};
 use std::alloc::{AllocError, Global};
 use std::sync::Wait;
 use std::test::Fail;
@@ -92,7 +92,7 @@ pub(crate) fn answer_all<R: Wait>(rt: &R, answerer: &mut Answerer<'_, u32, u64, 
 }
 
 /// The squares of some numbers, by two threads. There are none where no thread can be made.
-pub(crate) fn squares<R: Threads + Wait + Sync>(
+fn squares<R: Threads + Wait + Sync>(
     rt: &R,
     alloc: Global,
     numbers: &[u32],
@@ -124,5 +124,21 @@ fn numbers_are_drawn_under_a_table(rt: HostRuntime) -> Result<(), Fail> {
     let plan = Plan::of(rt.alloc(), table(rt.alloc(), 1, 7)?)?;
     let (areas, mut seat, _) = prepare(rt.alloc(), plan)?;
     assert_eq!(rt; draw_some(&areas, &mut seat, 100), Some((0, 64, 7)));
+    Ok(())
+}
+
+#[test]
+fn each_question_has_its_answer_in_order(rt: HostRuntime) -> Result<(), Fail> {
+    let alloc = rt.alloc();
+    let mut numbers = Vec::new(alloc);
+    let mut due = Vec::new(alloc);
+    for number in 0..2000u32 {
+        numbers.push(number)?;
+        due.push(u64::from(number) * u64::from(number))?;
+    }
+    let bells = Bells::new();
+    let (mut asker, mut answerer) = line(alloc, &bells)?;
+    let got = squares(&rt, alloc, numbers.as_slice(), &mut asker, &mut answerer)?;
+    assert_eq!(rt; got.as_slice(), due.as_slice());
     Ok(())
 }

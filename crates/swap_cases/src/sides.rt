@@ -1,23 +1,7 @@
 // Two threads that hand values to one another (hand_over).
-use crate::callers::{AnyNumber, answer_all, ask_all, squares};
+use crate::callers::{AnyNumber, answer_all, ask_all};
 use hand_over::{Bells, line};
 use std::test::Fail;
-
-#[test]
-fn each_question_has_its_answer_in_order(rt: HostRuntime) -> Result<(), Fail> {
-    let alloc = rt.alloc();
-    let mut numbers = Vec::new(alloc);
-    let mut due = Vec::new(alloc);
-    for number in 0..2000u32 {
-        numbers.push(number)?;
-        due.push(u64::from(number) * u64::from(number))?;
-    }
-    let bells = Bells::new();
-    let (mut asker, mut answerer) = line(alloc, &bells)?;
-    let got = squares(&rt, alloc, numbers.as_slice(), &mut asker, &mut answerer)?;
-    assert_eq!(rt; got.as_slice(), due.as_slice());
-    Ok(())
-}
 
 // As where no thread can be made: nobody is there by the time that nothing more is asked, and who comes then is told so.
 #[test]
