@@ -141,3 +141,38 @@ impl Gate for Slow {
         }
     }
 }
+
+/// Has no thread made for a worker, and notes whether two of them were in it at once.
+#[derive(Drop)]
+pub struct Alone {
+    inside: AtomicUsize,
+    met: AtomicUsize,
+}
+
+impl Alone {
+    pub fn new() -> Alone {
+        Alone {
+            inside: AtomicUsize::new(0),
+            met: AtomicUsize::new(0),
+        }
+    }
+
+    /// Whether one came while another was inside.
+    pub fn has_met_two(&self) -> bool {
+        self.met.load(SeqCst) != 0
+    }
+}
+
+impl Gate for Alone {
+    fn pass(&self, _number: u32, _version: u32) {
+        if self.inside.fetch_add(1, SeqCst) != 0 {
+            self.met.store(1, SeqCst);
+        }
+        yield_now();
+        self.inside.fetch_sub(1, SeqCst);
+    }
+
+    fn threads_from(&self) -> u32 {
+        u32::MAX
+    }
+}

@@ -1,7 +1,7 @@
 // Rounds of a crew, beside a desk that puts tables into force.
 ghost use Rattle.std.specs.Prelude.{◌≡◌, ◌+◌, ◌<◌, ◌≤◌, length};
 
-use crate::gates::{Adding, Behind, Slow, UntilTheNext};
+use crate::gates::{Adding, Alone, Behind, Slow, UntilTheNext};
 use crate::items::{Alike, OUTER, is_judged};
 use crate::plans::{behind, four_tables, three_tables, two_tables};
 use area_swap::prepare;
@@ -15,7 +15,7 @@ use std::sync::atomic::Ordering::SeqCst;
 use std::test::Fail;
 use std::thread::Threads;
 use swap_core::Window;
-use worker_gate::{Crew, OpenGate, Outcomes, Work, round};
+use worker_gate::{Crew, Gate, OpenGate, Outcomes, SparingGate, Work, round};
 
 // Whether these are the outcomes of the numbers from `start` on, in order.
 fn are_judged(outcomes: &Outcomes<'_>, start: u32, second: u32) -> bool {
@@ -112,9 +112,12 @@ fn four_records_run_beside_one_another(rt: HostRuntime) -> Result<(), Fail> {
     Ok(())
 }
 
-#[test]
-fn sixteen_workers_serve_under_two_tables(rt: HostRuntime) -> Result<(), Fail> {
-    let alloc = rt.alloc();
+// Whether sixteen workers draw each of a thousand records once, under two tables of which the second comes inside its window.
+fn sixteen_serve<R: Threads + Wait + Sync, G: Gate + Sync>(
+    rt: &R,
+    alloc: Global,
+    gate: &G,
+) -> Result<bool, Fail> {
     let window = Window {
         earliest: 100,
         latest: 900,
@@ -129,13 +132,27 @@ fn sixteen_workers_serve_under_two_tables(rt: HostRuntime) -> Result<(), Fail> {
         items: &items,
         start: 0,
         end: 1_000,
-        gate: &OpenGate,
+        gate,
     };
-    round(&rt, &areas, &mut seat, &mut desk, &mut crew, &work);
-    assert_eq!(rt; crew.outcomes().len(), 1_000);
-    assert!(rt; are_in_order(&crew.outcomes()));
-    assert_eq!(rt; areas.tally(&mut seat), 1_000);
-    assert_eq!(rt; desk.points().len(), 1);
+    round(rt, &areas, &mut seat, &mut desk, &mut crew, &work);
+    Ok(crew.outcomes().len() == 1_000
+        && are_in_order(&crew.outcomes())
+        && areas.tally(&mut seat) == 1_000
+        && desk.points().len() == 1)
+}
+
+#[test]
+fn sixteen_workers_serve_under_two_tables(rt: HostRuntime) -> Result<(), Fail> {
+    assert!(rt; sixteen_serve(&rt, rt.alloc(), &OpenGate)?);
+    Ok(())
+}
+
+#[test]
+fn workers_of_few_records_serve_one_behind_the_other(rt: HostRuntime) -> Result<(), Fail> {
+    assert!(rt; sixteen_serve(&rt, rt.alloc(), &SparingGate)?);
+    let gate = Alone::new();
+    assert!(rt; sixteen_serve(&rt, rt.alloc(), &gate)?);
+    assert!(rt; !gate.has_met_two());
     Ok(())
 }
 

@@ -12,7 +12,7 @@ use std::io::ErrorKind;
 use std::rt::{Env, Files};
 use std::sync::Wait;
 use std::thread::Threads;
-use worker_gate::OpenGate;
+use worker_gate::SparingGate;
 
 /// Does the job that the words behind the program's name ask for, and answers the exit code. A word that is no UTF-8 asks for none.
 /// Unless all was done, the status line goes to standard error, and where that was written, the lines below it.
@@ -60,7 +60,7 @@ fn do_job<
         words,
         &mut files,
         &mut out,
-        &OpenGate,
+        &SparingGate,
         &mut history,
     );
     let said = Said {

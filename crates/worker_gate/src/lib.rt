@@ -18,7 +18,7 @@ mod task;
 mod worker;
 
 pub use crew::{Crew, Outcomes};
-pub use gate::{Gate, OpenGate};
+pub use gate::{Gate, OpenGate, SparingGate};
 pub use judging::HeldArea;
 pub use laws::outcomes_are_in_force;
 pub use outcomes::{Outcome, Stop};

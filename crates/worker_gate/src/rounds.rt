@@ -75,8 +75,8 @@ fn serve_beside<R: Threads + Wait + Sync, S: RoundItems + Sync, G: Gate + Sync>(
     join_mut(rt, &mut one, &mut rest);
 }
 
-// All workers serve, each in a thread of its own. One thread makes all the others: what a thread makes that was just made itself
-// begins late.
+// All workers serve: each in a thread of its own where that pays, and else one behind the other. One thread makes all the others: what a
+// thread makes that was just made itself begins late.
 #[cycle(beside)]
 fn serve_all<R: Threads + Wait + Sync, S: RoundItems + Sync, G: Gate + Sync>(
     rt: &R,
@@ -90,10 +90,11 @@ fn serve_all<R: Threads + Wait + Sync, S: RoundItems + Sync, G: Gate + Sync>(
     let Some((first, others)) = workers.split_first_mut() else {
         return;
     };
-    if others.is_empty() {
-        serve_one(rt, task, first);
-    } else {
+    if task.apart && !others.is_empty() {
         serve_beside(rt, task, first, others);
+    } else {
+        serve_one(rt, task, first);
+        serve_all(rt, task, others);
     }
 }
 
@@ -249,12 +250,14 @@ pub fn round<R: Threads + Wait + Sync, S: RoundItems + Sync, G: Gate + Sync>(
     ensures settled { IsSettled seat.new.known desk.new.known }
     ensures versions { All (λ o. o.version ≤ length desk.new.known.points) crew.new.outcomes }
 {
+    let count = work.end - work.start;
     let task = Task {
         areas,
         items: work.items,
         start: work.start,
         end: work.end,
-        most: draw_size(work.end - work.start, crew.sheets.len()),
+        most: draw_size(count, crew.sheets.len()),
+        apart: count >= work.gate.threads_from(),
         gate: work.gate,
     };
     run(

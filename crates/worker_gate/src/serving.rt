@@ -223,6 +223,7 @@ pub fn serve<R: Wait, S: RoundItems, G: Gate>(
         start: work.start,
         end: work.end,
         most,
+        apart: false,
         gate: work.gate,
     };
     serve_in::<R, S, G, Brand>(rt, &task, worker, Blank::new(1))

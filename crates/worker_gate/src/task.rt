@@ -24,6 +24,8 @@ pub(crate) struct Task<'a, S: RoundItems, G: Gate> {
     pub(crate) start: u32,
     pub(crate) end: u32,
     pub(crate) most: u32,
+    /// Each worker has a thread of its own.
+    pub(crate) apart: bool,
     pub(crate) gate: &'a G,
     pub(crate) ghost inside: { end ≤ start + length (S.items items.now) },
     pub(crate) ghost some_one: { 1 ≤ most },

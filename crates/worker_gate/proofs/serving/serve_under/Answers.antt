@@ -1,4 +1,3 @@
-use Rattle.std.proofs.Common.{◌+◌}
 use Rattle.worker_gate.proofs.Served.{nothing_served, nothing_work, run_on, run_work, served_none, served_on}
 use Rattle.worker_gate.proofs.serving.serve_under.Goals as goal
 
