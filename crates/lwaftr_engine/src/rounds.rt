@@ -31,10 +31,14 @@ use std::sync::Wait;
 use std::thread::Threads;
 use worker_gate::Gate;
 
-/// A round ends with the record that brings its captured bytes to so many, or more: with one worker, and with more.
-const ENOUGH_FOR_ONE: usize = 262_144;
+/// A round ends with the record that brings its captured bytes to so many, or more.
+const ENOUGH: usize = 262_144;
 
-const ENOUGH_FOR_MORE: usize = 1_048_576;
+/// The same with more than one worker, where records are so small that threads pay in such a round.
+const ENOUGH_OF_SMALL: usize = 1_048_576;
+
+/// Records are small where a round had so many.
+const MANY_RECORDS: usize = 2_560;
 
 /// How far a run has come.
 #[derive(Drop)]
@@ -180,15 +184,15 @@ fn room_of(alloc: Global, spare: &mut Option<Records>) -> Records {
     }
 }
 
-// How many captured bytes end a round of so many workers.
-fn enough_bytes(workers: u32) -> usize
+// How many captured bytes end a round of so many workers, where an earlier one had so many records.
+fn enough_bytes(workers: u32, records: usize) -> usize
     ensures some { 1 ≤ result }
     ensures most { result ≤ 67108864 }
 {
-    if workers == 1 {
-        ENOUGH_FOR_ONE
+    if workers > 1 && records >= MANY_RECORDS {
+        ENOUGH_OF_SMALL
     } else {
-        ENOUGH_FOR_MORE
+        ENOUGH
     }
 }
 
@@ -214,7 +218,7 @@ fn read_next<F: Files, C: CaptureReader>(
     ensures reads { IfOk result (λ round. ReadsOf (is_cut round.ending) (setup_of task.entry).run.input (F.outside files.old) (F.outside files.new)) }
 {
     let name = task.job.input.as_str();
-    let enough = enough_bytes(task.job.workers);
+    let enough = enough_bytes(task.job.workers, room.len());
     let round = reader.read_round(alloc, files, name, number, enough, room)?;
     Ok(round)
 }
