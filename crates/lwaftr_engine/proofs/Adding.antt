@@ -1,6 +1,6 @@
 -- What rounds add, one after another.
-use Rattle.lwaftr_engine.proofs.Words.{◌≡◌, ℕ, arith, inl, length, List, [], Option, None, refl, sym, ◌∙◌, ap, append-nil, subst, Contents, Moves}
-use Rattle.lwaftr_engine.proofs.Words.{Outside, RunJob, is_cut, Ending, AddsTo, ReadsOf, Router, Setup, OthersKept, CanGoOn, IsSettledAt, StaysOnDuty, Progress}
+use Rattle.lwaftr_engine.proofs.Words.{◌≡◌, ℕ, arith, inl, length, List, [], Option, None, refl, sym, ◌∙◌, ap, append-nil, subst, Contents, Moves, Outside}
+use Rattle.lwaftr_engine.proofs.Words.{RunJob, is_cut, Ending, AddsTo, ReadsOf, Router, Setup, OthersKept, CanGoOn, IsSettledAt, StaysOnDuty, Progress}
 use Rattle.lwaftr_engine.proofs.Words.{CanJudge, IsAtStart, Round, Shift}
 use Rattle.lwaftr_engine.proofs.Moving.{moves_join, moves_none}
 

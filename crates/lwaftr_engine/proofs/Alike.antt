@@ -1,8 +1,8 @@
 -- Two courses that agree on the first records, and what these records write by both.
-use Rattle.lwaftr_engine.proofs.Words.{◌≡◌, ℕ, zero, suc, ◌+◌, ◌<◌, ◌≤◌, Bool, true, false, not, List, [], ◌∷◌, ◌++◌, length, flat_map, Option, Some, slice_get}
-use Rattle.lwaftr_engine.proofs.Words.{refl, sym, ◌∙◌, ap, arith, ended_text, packet_bytes, nanoseconds, Form, Rec, Written, Item, entries_of, items_in}
-use Rattle.lwaftr_engine.proofs.Words.{rows_of, entries_from, no_rows, rows_after, turn, Entry, Rows, IsLimited, passed_in, tells, told_from, told_if, Course}
-use Rattle.lwaftr_engine.proofs.Words.{lines_from, packets_from, record_text, sent_unless, verdict_at, verdict_of}
+use Rattle.lwaftr_engine.proofs.Words.{◌≡◌, ℕ, zero, suc, ◌+◌, ◌<◌, ◌≤◌, Bool, true, false, not, List, [], ◌∷◌, ◌++◌, length, flat_map, Option, Some}
+use Rattle.lwaftr_engine.proofs.Words.{slice_get, refl, sym, ◌∙◌, ap, arith, ended_text, packet_bytes, nanoseconds, Form, Rec, Written, Item, entries_of}
+use Rattle.lwaftr_engine.proofs.Words.{items_in, rows_of, entries_from, no_rows, rows_after, turn, Entry, Rows, IsLimited, passed_in, tells, told_from}
+use Rattle.lwaftr_engine.proofs.Words.{told_if, Course, lines_from, packets_from, record_text, sent_unless, verdict_at, verdict_of}
 use Rattle.run_output.specs.Limiting.{Told}
 
 -- the entries of records do not depend on what comes behind them

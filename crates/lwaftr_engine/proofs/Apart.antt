@@ -1,5 +1,5 @@
 -- The outputs of a run are files of their own.
-use Rattle.lwaftr_engine.proofs.Words.{◌≡◌, ◌≢◌, ℕ, ◌+◌, Bool, true, false, List, [], ◌∷◌, refl, sym, ◌∙◌, ap, arith, map, cond, bytes_eq, sum_by, sum_by-cons}
+use Rattle.lwaftr_engine.proofs.Words.{◌≡◌, ◌≢◌, ℕ, ◌+◌, Bool, true, false, List, [], ◌∷◌, refl, sym, ◌∙◌, arith, map, cond, bytes_eq, sum_by, sum_by-cons}
 use Rattle.lwaftr_engine.proofs.Words.{bytes_eq-Decides, AreApart, StandsOnce, names_of, LoadWords, RunJob, Contents, OthersKept, content}
 use Rattle.aftr_text.specs.Jobs.{how_many}
 
@@ -36,12 +36,7 @@ same_one x y e = same_by x y (bytes_eq x y) refl e
 -- how often a name stands among the five and the loads
 five : (name a b c d e : List ℕ) (rest : List (List ℕ)) →
     times name (a ∷ b ∷ c ∷ d ∷ e ∷ rest) ≡ is_same name a + (is_same name b + (is_same name c + (is_same name d + (is_same name e + times name rest))))
-five name a b c d e rest =
-    sum_by-cons (is_same name) a (b ∷ c ∷ d ∷ e ∷ rest)
-    ∙ ap (λ (n : ℕ). is_same name a + n) (sum_by-cons (is_same name) b (c ∷ d ∷ e ∷ rest)
-    ∙ ap (λ (n : ℕ). is_same name b + n) (sum_by-cons (is_same name) c (d ∷ e ∷ rest)
-    ∙ ap (λ (n : ℕ). is_same name c + n) (sum_by-cons (is_same name) d (e ∷ rest)
-    ∙ ap (λ (n : ℕ). is_same name d + n) (sum_by-cons (is_same name) e rest))))
+five name a b c d e rest = simp sum_by-cons
 
 module _ (run : RunJob) where
   abbrev total : List ℕ → ℕ

@@ -1,8 +1,8 @@
 -- Each record of a round has a draw of its own, so as many draws as items ask the table, or more.
-use Rattle.lwaftr_engine.proofs.Words.{◌≡◌, ◌≢◌, ℕ, zero, suc, ◌+◌, ◌-◌, ◌<◌, ◌≤◌, ◌==◌, Bool, true, false, List, [], ◌∷◌, ◌++◌, length, take, get_or, Option}
-use Rattle.lwaftr_engine.proofs.Words.{Some, ◌⊎◌, inl, inr, refl, sym, ◌∙◌, ap, arith, cond, Contains, slice_get, sum_by, take-suc, eqb_tells, length-map}
-use Rattle.lwaftr_engine.proofs.Words.{take_all, length-range_with_len, sum_by-append, sum_by-cons, sum_by-le-sum_by, slice_get-get_or, Item, items_in, Entry}
-use Rattle.lwaftr_engine.proofs.Words.{View, all_asking, no_outcome, asking, asks, draw_of, IsRound, Outcome}
+use Rattle.lwaftr_engine.proofs.Words.{◌≡◌, ◌≢◌, ℕ, zero, suc, ◌+◌, ◌-◌, ◌<◌, ◌≤◌, ◌==◌, Bool, true, false, List, [], ◌∷◌, length, take, get_or, Option, Some}
+use Rattle.lwaftr_engine.proofs.Words.{◌⊎◌, inl, inr, refl, sym, ◌∙◌, ap, arith, cond, Contains, slice_get, sum_by, take-suc, eqb_tells, length-map, take_all}
+use Rattle.lwaftr_engine.proofs.Words.{length-range_with_len, sum_by-append, sum_by-cons, sum_by-le-sum_by, slice_get-get_or, Item, items_in, Entry, View}
+use Rattle.lwaftr_engine.proofs.Words.{all_asking, no_outcome, asking, asks, draw_of, IsRound, Outcome}
 use Rattle.lwaftr_engine.proofs.Elements.{number_at}
 use Rattle.ip_codec.specs.declared.items.Item.TheVariants as item
 
@@ -68,8 +68,7 @@ module _ (items : List Item) (start : ℕ) where
   firsts_drawn news zero drawn = omega arith
   firsts_drawn news (suc n) drawn =
       let one = drawn n (omega arith) in
-      let more : sum_by (part n) news + worth n ≤ sum_by (part (suc n)) news =
-      gains (part n) (part (suc n)) (worth n) news one.2.0 one.0 (λ d. omega arith) (one_gain n one.0 one.1) one.2.1 one.2.2 in
+      let more = gains (part n) (part (suc n)) (worth n) news one.2.0 one.0 (λ d. omega arith) (one_gain n one.0 one.1) one.2.1 one.2.2 in
       omega (arith, more, firsts_drawn news n (λ k inside. drawn k (omega (arith, inside))))
 
   firsts_all : (n : ℕ) → n ≤ length items → firsts n ≡ all_asking (take n items)
@@ -78,7 +77,7 @@ module _ (items : List Item) (start : ℕ) where
       let i : Item = get_or items n item.Held in
       let here : worth n ≡ cond (asks (Some (get_or items n item.Held))) 1 0 =
       ap (λ (o : Option Item). let k : ℕ = cond (asks o) 1 0 in k) (slice_get-get_or items n item.Held (omega (arith, few))) in
-      let next : take (suc n) items ≡ take n items ++ get_or items n item.Held ∷ [] = take-suc items n item.Held (omega (arith, few)) in
+      let next = take-suc items n item.Held (omega (arith, few)) in
       omega (
         arith,
         firsts_all n (omega (arith, few)),

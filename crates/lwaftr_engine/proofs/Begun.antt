@@ -1,11 +1,11 @@
 -- What the outputs hold where a round could not be written to its end.
-use Rattle.lwaftr_engine.proofs.Words.{Contents, Course, HasBegun, HasWritten, IsFrontOf, Rec, Setup, State, Wrote, [], ap}
-use Rattle.lwaftr_engine.proofs.Words.{append-nil, drop, entries_of, flat_map-append, lines_from, lines_in, load_lines, loads_of, packets_from}
-use Rattle.lwaftr_engine.proofs.Words.{packets_in, refl, slot_text, string_bytes, sym, take, take-append-drop, ◌++◌, ◌∙◌, ◌≡◌, List, NamedSlot, ℕ}
+use Rattle.lwaftr_engine.proofs.Words.{Contents, Course, HasBegun, HasWritten, IsFrontOf, Rec, Setup, State, Wrote, [], ap, append-nil, drop, entries_of}
+use Rattle.lwaftr_engine.proofs.Words.{flat_map-append, lines_from, lines_in, load_lines, loads_of, packets_from, packets_in, refl, slot_text, string_bytes}
+use Rattle.lwaftr_engine.proofs.Words.{sym, take, take-append-drop, ◌++◌, ◌∙◌, ◌≡◌, List, NamedSlot, ℕ}
 use Rattle.lwaftr_engine.proofs.Parts.{all_alone, front_at_end, front_in}
 use Rattle.lwaftr_engine.proofs.Writing.{did_none, wrote}
-use Rattle.lwaftr_engine.proofs.Going.{RoundUnder, every, every_entry, limited_before, lines_are, old_lines, old_packets, packets_are, points_are, spoken_more}
-use Rattle.lwaftr_engine.proofs.Going.{versions_are, wrote_more, wrote_same}
+use Rattle.lwaftr_engine.proofs.Going.{RoundUnder, every, every_entry, limited_before, lines_are, old_lines, old_packets, packets_are, points_are}
+use Rattle.lwaftr_engine.proofs.Going.{spoken_more, versions_are, wrote_more, wrote_same}
 
 pub lines_split : (points : List ℕ) (k : ℕ) (loads : List NamedSlot) →
     load_lines points (take k loads) ++ load_lines points (drop k loads) ≡ load_lines points loads

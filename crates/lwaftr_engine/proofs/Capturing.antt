@@ -1,16 +1,16 @@
 -- What a run leaves from the opening of its outputs on.
 use Rattle.lwaftr_engine.proofs.Words.{AreAllPoints, AreBefore, AreSlotsOf, AreTaken, AreWritten, BindingTable, Bool, Breaks, CaptureBad, Contents, Did}
-use Rattle.lwaftr_engine.proofs.Words.{DidFront, Ending, Err, Fault, Finishes, FinishesPart, Goes, HistoryValue, IfSome, IsAtFirst, IsBroken, IsClosed, IsFront}
-use Rattle.lwaftr_engine.proofs.Words.{IsInput, IsPlan, IsPlanOf, IsRate, IsRun, IsWhole, LeavesBy, LeavesOpened, List, Moves, None, Ok, Option, Outside, Rec}
-use Rattle.lwaftr_engine.proofs.Words.{Result}
-use Rattle.lwaftr_engine.proofs.Words.{Rises, RunLaws, Setup, Some, Spot, State, Stop, Tables, Takes, Window, World, ap, arith, content, ended_status, is_cut}
-use Rattle.lwaftr_engine.proofs.Words.{is_failure, length, opening_steps, refl, some_slot_refused, stop_by, ℕ, ◌++◌, ◌∙◌, ◌≡◌, false, inl, inr, true}
-use Rattle.lwaftr_engine.proofs.Words.{has_failed, subst, sym}
+use Rattle.lwaftr_engine.proofs.Words.{DidFront, Ending, Err, Fault, Finishes, FinishesPart, Goes, HistoryValue, IfSome, IsAtFirst, IsBroken, IsClosed}
+use Rattle.lwaftr_engine.proofs.Words.{IsFront, IsInput, IsPlan, IsPlanOf, IsRate, IsRun, IsWhole, LeavesBy, LeavesOpened, List, Moves, None, Ok, Option}
+use Rattle.lwaftr_engine.proofs.Words.{Outside, Rec, Result, Rises, RunLaws, Setup, Some, Spot, State, Stop, Tables, Takes, Window, World, ap, arith, content}
+use Rattle.lwaftr_engine.proofs.Words.{ended_status, is_cut, is_failure, length, opening_steps, refl, some_slot_refused, stop_by, ℕ, ◌++◌, ◌∙◌, ◌≡◌, false}
+use Rattle.lwaftr_engine.proofs.Words.{inl, inr, true, has_failed, subst, sym}
+use Rattle.lwaftr_engine.specs.Fronts.{NothingPut}
 use Rattle.lwaftr_engine.specs.Progress.{OneRises}
 use Rattle.lwaftr_engine.proofs.Apart.{AreFilesApart, input_kept}
 use Rattle.lwaftr_engine.proofs.Closing.{ClosedRun, suits_bare, is_run}
 use Rattle.lwaftr_engine.proofs.EndLemmas.{EndsAt, SomeLeft, ends_at, takes_by}
-use Rattle.lwaftr_engine.proofs.Writing.{IsOpening, opening_front, opened}
+use Rattle.lwaftr_engine.proofs.Writing.{opening_front, opened}
 use Rattle.lwaftr_engine.proofs.Fronting.{at_finish, at_opening, at_rounds, first_points}
 use Rattle.lwaftr_engine.proofs.Courses.{bare}
 use Rattle.lwaftr_engine.proofs.Moving.{moves_by, moves_join, moves_none, moves_three}
@@ -110,10 +110,6 @@ pub one_rises : (why : Fault) (spoiled now puts : ℕ) → Rises (has_failed {T 
 one_rises fault.Failed spoiled now puts rises = inl rises
 one_rises fault.OutOfMemory spoiled now puts same = (same, refl)
 
--- no call of a put failed, and what was put is what was
-abbrev NothingPut : Stop → Type 0
-NothingPut stop = Rises stop.failed stop.before.files.spoiled stop.after.files.spoiled × (stop.after.said ≡ stop.before.said)
-
 pub opening_broken : (laws : RunLaws) (x : Setup) (plan : Tables) → IsPlan plan → IfSome x.run.errors IsRate → (reader : Spot) → SomeLeft reader.left →
     (stop : Stop) → NothingPut stop → stop.after.files.lost ≡ stop.before.files.lost →
     Moves stop.before.files.held stop.after.files.held (DidFront x.run (opening_steps x.run x.written)) →
@@ -122,7 +118,7 @@ opening_broken laws x plan planned rate reader some stop nothing same step =
     moves_by stop.before.files.held stop.after.files.held _ _
     (λ m n front at_first tables windows of slots_of.
     let rest = some (content m x.run.input) 0 in
-    let half : IsOpening x.run x.written m n = opening_front x.run x.written m n front in
+    let half = opening_front x.run x.written m n front in
     broken x m at_first half.made stop (inl (same, (rest.1, at_first.all rest.0 rest.1 rest.2)))
     (at_opening laws x rate rest.0 (first_points planned of rest.0) stop nothing half)) step
 
@@ -167,6 +163,13 @@ opened_run laws x far rate plan first before middle opening =
 
 abbrev pub captured : (opened : Opened) (s : State) → s.plan ≡ opened.plan → (h : HistoryValue) → IsClosed s h → (now : World) → Captured
 captured opened s its_plan h closed now = record { opened = opened; s = s; its_plan = its_plan; h = h; closed = closed; now = now }
+
+abbrev pub at_end : (run : Captured) (reader : Spot) → SomeLeft reader.left → (stop : Ending) (end : Outside) → run.now.files.last ≡ end.last →
+    Rises (is_cut (Some stop)) run.opened.before.files.lost run.now.files.lost → length run.s.draws ≡ run.s.progress.number →
+    AreAllPoints run.s.plan.windows run.s.points run.s.progress.number →
+    Moves run.opened.middle.held end.held (Goes run.opened.x run.s run.opened.first reader (Some stop) end.last) → AtEnd
+at_end run reader some stop end last_is lost count placed going =
+    record { run = run; reader = reader; some = some; stop = stop; end = end; last_is = last_is; lost = lost; count = count; placed = placed; going = going }
 
 module _ (r : Captured) where
   abbrev o : Opened

@@ -1,11 +1,11 @@
 -- A run whose areas are closed: which course it had, and what its files are by that.
 use Rattle.lwaftr_engine.proofs.Words.{AreAllPoints, AreInWindows, AreWritten, BindingTable, Contents, Course, Finishes, HasWritten, HistoryValue, IfSome}
-use Rattle.lwaftr_engine.proofs.Words.{IsClosed, IsCourse, IsFinished, IsFirst, IsHistoryOf, IsLawful, IsLimitedRun, IsPlan, IsPlanOf, IsRate, IsRun, IsSameBut}
-use Rattle.lwaftr_engine.proofs.Words.{IsUnder, IsWritten, NoneIsDue, Option, Rec, RunLaws, Setup, Slot, Some, State, Suits, Tables, Window, Wrote, all_asking}
-use Rattle.lwaftr_engine.proofs.Words.{ap, append-nil, arith, content, count_by-le-length, ended_text, entries_of, false, flat_map, items_in, last_lines}
-use Rattle.lwaftr_engine.proofs.Words.{last_versions, length, lines_from, load_lines, loads_of, nat_le, no_totals, option_map, packets_from, refl, summary_text}
-use Rattle.lwaftr_engine.proofs.Words.{sym, take, totals_from, totals_of, unfinished_of, with_version, ◌++◌, ◌<◌, ◌∙◌, ◌∷◌, ◌≡◌, ◌≤◌, Form, List, Totals, [], ℕ}
-use Rattle.lwaftr_engine.proofs.Courses.{HasUnder, bare, some_course}
+use Rattle.lwaftr_engine.proofs.Words.{IsClosed, IsCourse, IsFinished, IsFirst, IsHistoryOf, IsLawful, IsLimitedRun, IsPlan, IsPlanOf, IsRate, IsRun}
+use Rattle.lwaftr_engine.proofs.Words.{IsSameBut, IsUnder, IsWritten, NoneIsDue, Option, Rec, RunLaws, Setup, Slot, Some, State, Suits, Tables, Window, Wrote}
+use Rattle.lwaftr_engine.proofs.Words.{all_asking, ap, append-nil, arith, content, count_by-le-length, entries_of, items_in, last_lines, last_versions}
+use Rattle.lwaftr_engine.proofs.Words.{length, load_lines, loads_of, nat_le, no_totals, option_map, packets_from, refl, summary_text, sym, take, totals_from}
+use Rattle.lwaftr_engine.proofs.Words.{totals_of, with_version, ◌++◌, ◌<◌, ◌∙◌, ◌∷◌, ◌≡◌, ◌≤◌, List, Totals, [], ℕ}
+use Rattle.lwaftr_engine.proofs.Courses.{bare, some_course}
 use Rattle.lwaftr_engine.proofs.Writing.{IsOpened, wrote}
 use Rattle.lwaftr_engine.proofs.Begun.{lines_split}
 use Rattle.lwaftr_engine.proofs.Going.{wrote_more}
@@ -111,14 +111,12 @@ module _ (r : ClosedRun) {rs : List Rec} where
       IsWritten r.x.run r.x.slots has.course r.s.points r.x.form r.x.written rs r.old e said took
   is_written {now} {e} {said} has done =
       let P = packets_from has.course r.x.written 0 rs (entries_of r.x.form rs) in
-      let L = lines_from has.course 0 (entries_of r.x.form rs) in
       let more = last_versions r.x r.s.progress r.s.points in
       let versions = content r.opened r.x.run.versions in
       let all = wrote_more (has.written.files [] has.limited) (wrote r.x.run more [] (last_lines r.s.progress rs) now e done.did) in
       record {
-        output = all.output ∙ (ap (λ (l : List ℕ). content r.opened r.x.run.output ++ l) (append-nil P) ∙ ap (λ (l : List ℕ). l ++ P) r.opening.output);
-        verdicts = all.verdicts ∙ (ap (λ (l : List ℕ). l ++ (L ++ last_lines r.s.progress rs)) r.opening.verdicts
-            ∙ ap (λ (f : Form). L ++ flat_map (ended_text false) (unfinished_of f rs)) has.written.stage_form);
+        output = cc (all.output, append-nil P, r.opening.output);
+        verdicts = cc (all.verdicts, r.opening.verdicts, has.written.stage_form);
         versions = all.versions_is
             ∙ (ap (λ (l : List ℕ). versions ++ (load_lines l (take r.s.progress.printed (loads_of r.x)) ++ more)) (append-nil r.s.points)
             ∙ (ap (λ (l : List ℕ). versions ++ l) (lines_split r.s.points r.s.progress.printed (loads_of r.x))
@@ -144,8 +142,8 @@ module _ (r : ClosedRun) {rs : List Rec} where
       Finishes r.x r.s.progress r.s.points said took now e →
       IsRun r.x.run r.tables r.windows r.x.slots r.x.form r.x.written rs r.old e said took (Some r.h)
   is_run {now} placed are count done =
-      let some : HasUnder r.tables r.s.points r.x.run.errors r.x.form rs = some_course r.laws.limits r.tables r.s.points r.x.run.errors r.x.form rs r.rate in
-      let has : HasCourse r now rs = course_with placed are some.course some.under in
+      let some = some_course r.laws.limits r.tables r.s.points r.x.run.errors r.x.form rs r.rate in
+      let has = course_with placed are some.course some.under in
       record {
         points = r.s.points;
         course = has.course;

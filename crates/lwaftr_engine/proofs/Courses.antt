@@ -1,11 +1,11 @@
 -- The course of all records of a run by the points whose lines are whole, and that of the first records by all points: what these
 -- records write is a front of what all of them write.
-use Rattle.lwaftr_engine.proofs.Words.{subst, ◌≡◌, ℕ, ◌+◌, ◌<◌, ◌≤◌, false, List, ◌++◌, length, flat_map, Option, refl, sym, ◌∙◌, ap, arith, append_assoc}
-use Rattle.lwaftr_engine.proofs.Words.{IfSome, IsRate, ended_text, BindingTable, file_head, Form, Rec, Setup, entries_of, unfinished_of, Entry, no_rows}
-use Rattle.lwaftr_engine.proofs.Words.{AreJoined, IsLimitedAs, LimitsAreSome, IsLimited, rate_of, Course, lines_from, output_of, packets_from, verdicts_of}
-use Rattle.lwaftr_engine.proofs.Words.{in_force, RunLaws, IsFrontOf, IsUnder, []}
+use Rattle.lwaftr_engine.proofs.Words.{subst, ◌≡◌, ℕ, ◌+◌, ◌<◌, false, List, ◌++◌, length, flat_map, Option, refl, sym, ◌∙◌, ap, arith, append_assoc, IfSome}
+use Rattle.lwaftr_engine.proofs.Words.{IsRate, ended_text, BindingTable, file_head, Form, Rec, Setup, entries_of, unfinished_of, Entry, no_rows, AreJoined}
+use Rattle.lwaftr_engine.proofs.Words.{LimitsAreSome, IsLimited, Course, lines_from, output_of, packets_from, verdicts_of, in_force, RunLaws, IsFrontOf}
+use Rattle.lwaftr_engine.proofs.Words.{IsUnder, []}
 use Rattle.lwaftr_engine.proofs.Alike.{AreAlike, entries_are, entries_behind, entries_count, limited_same, lines_same, packets_same}
-use Rattle.lwaftr_engine.proofs.Marked.{IsAskedFor, limits_exist}
+use Rattle.lwaftr_engine.proofs.Marked.{limits_exist}
 use Rattle.lwaftr_engine.proofs.Parts.{front_in}
 
 pub record HasUnder (tables : ℕ → BindingTable) (points : List ℕ) (errors : Option ℕ) (form : Form) (rs : List Rec) : Type 0 where
@@ -22,9 +22,8 @@ pub some_course : LimitsAreSome → (tables : ℕ → BindingTable) (points : Li
 some_course law tables points errors form rs rate =
     let es = entries_of form rs in
     let b = bare tables points in
-    let asked : IsAskedFor errors form rs (entries_of form rs) (bare tables points) = limits_exist errors rate form rs es b in
-    let some : IsLimitedAs (rate_of asked.limit) form rs (entries_of form rs) (bare tables points) =
-    law form rs es b asked.limit (entries_count form no_rows 0 rs) asked.asked in
+    let asked = limits_exist errors rate form rs es b in
+    let some = law form rs es b asked.limit (entries_count form no_rows 0 rs) asked.asked in
     let R : Option ℕ → Type 0 = λ r. IsLimited r form rs (entries_of form rs) some.course in
     record {
       course = some.course;
@@ -81,20 +80,13 @@ module _ (laws : RunLaws) {x : Setup} {tables : ℕ → BindingTable} {points : 
   packets_first : packets_from c x.written 0 (taken ++ rest) (entries_of x.form (taken ++ rest))
       ≡ packets_from d x.written 0 taken old ++ packets_from c x.written (0 + length taken) rest more
   packets_first =
-      let less : 0 + length taken ≤ length taken = omega arith in
-      let same = packets_same c d (length taken) alike x.written 0 taken old less in
-      ap (λ (es : List Entry). packets_from c x.written 0 (taken ++ rest) es) (entries_are x.form taken rest)
-      ∙ (joined.packets ∙ ap (λ (l : List ℕ). l ++ packets_from c x.written (0 + length taken) rest more) (sym same))
+      cc (entries_are x.form taken rest, joined.packets, packets_same c d (length taken) alike x.written 0 taken old (omega arith))
 
   old_lines_same : lines_from d 0 old ≡ lines_from c 0 old
-  old_lines_same =
-      let less : 0 + length (entries_of x.form taken) ≤ length taken = omega (arith, count) in
-      lines_same c d (length taken) alike 0 old less
+  old_lines_same = lines_same c d (length taken) alike 0 old (omega (arith, count))
 
   lines_first : lines_from c 0 (entries_of x.form (taken ++ rest)) ≡ lines_from d 0 old ++ lines_from c (0 + length taken) more
-  lines_first =
-      ap (λ (es : List Entry). lines_from c 0 es) (entries_are x.form taken rest)
-      ∙ (joined.lines ∙ ap (λ (l : List ℕ). l ++ lines_from c (0 + length taken) more) (sym old_lines_same))
+  lines_first = cc (entries_are x.form taken rest, joined.lines, old_lines_same)
 
   pub output_front : {part : List ℕ} → IsFrontOf (packets_from d x.written 0 taken old) part →
       IsFrontOf (output_of c x.written x.form (taken ++ rest)) (file_head x.written ++ part)

@@ -1,8 +1,8 @@
 -- The status that is due, and the one that comes.
 use Rattle.lwaftr_engine.proofs.Words.{◌≡◌, ℕ, Bool, true, false, List, [], ◌∷◌, drop, Option, Some, None, Result, Ok, Err, ◌⊎◌, inl, inr, refl, sym, ◌∙◌, ap}
-use Rattle.lwaftr_engine.proofs.Words.{Contents, content, Moves, Told, LoadWords, RunJob, HistoryValue, TableOf, FileRefused, BindingTable, CaptureBad, Form}
-use Rattle.lwaftr_engine.proofs.Words.{Rec, IsFault, IsWholeRun, Header, IsInput, IsInputBy, header_by, header_of, in_blocks, in_classic, AsksDone, IsAskedFor}
-use Rattle.lwaftr_engine.proofs.Words.{Leaves, Answer, AreAnswers, some_refused, Status, Seen, World}
+use Rattle.lwaftr_engine.proofs.Words.{Contents, content, Moves, Told, LoadWords, RunJob, HistoryValue, TableOf, FileRefused, BindingTable, CaptureBad, Rec}
+use Rattle.lwaftr_engine.proofs.Words.{IsFault, IsWholeRun, Header, IsInput, IsInputBy, header_by, header_of, in_blocks, in_classic, AsksDone, IsAskedFor}
+use Rattle.lwaftr_engine.proofs.Words.{Leaves, Answer, AreAnswers, Status, Seen, World}
 use Rattle.lwaftr_engine.proofs.Laws.{OneAnswer, OneReading}
 use Rattle.lwaftr_engine.specs.declared.status.Status.TheVariants as status
 use Rattle.pcapng_io.specs.Captures as blocks
@@ -25,7 +25,7 @@ same_seen x f g a b = cc (a, b)
 end_by : AreSingle → (kind : Bool) (bytes : List ℕ) (h g : Header) (rs ss : List Rec) (e f : Option CaptureBad) → IsInputBy kind bytes h rs e →
     IsInputBy kind bytes g ss f → e ≡ f
 end_by one true bytes h g rs ss e f p q =
-    let same : q.0 ≡ p.0 = same_seen (blocks.header_in bytes) q.0 p.0 q.2.0 p.2.0 in
+    let same = same_seen (blocks.header_in bytes) q.0 p.0 q.2.0 p.2.0 in
     (one.blocks_left p.0 bytes 0 rs ss e f p.2.1 (rw (← same) q.2.1)).1
 end_by one false bytes h g rs ss e f p q =
     let same : q.0 ≡ p.0 = cc (p.2.0, q.2.0) in
@@ -51,7 +51,7 @@ same_answers one m [] (x ∷ xs) b p q = absurd p
 same_answers one m (load ∷ loads) [] b p q = absurd p
 same_answers one m (load ∷ loads) (x ∷ xs) [] p q = absurd q
 same_answers one m (load ∷ loads) (x ∷ xs) (y ∷ ys) p q =
-    ap (λ (z : Answer). z ∷ xs) (one (content m load.name) x y p.0 q.0) ∙ ap (λ (l : List Answer). y ∷ l) (same_answers one m loads xs ys p.1 q.1)
+    λ i. one (content m load.name) x y p.0 q.0 i ∷ same_answers one m loads xs ys p.1 q.1 i
 
 -- the status by how the capture ends, and whether a load is refused
 abbrev pub by_end : Option CaptureBad → Bool → Status
@@ -72,11 +72,9 @@ module _ (one : AreSingle) (run : RunJob) (m : Contents) where
       (w : IsWholeRun run m new said now history e refused) (some : Bool) →
       AsksDone run m some → by_end e refused ≡ by_end None some
   due_done {e} {refused} w some asked =
-      ap (λ (x : Option CaptureBad). by_end x refused)
-      (one_end one (content m run.input) w.whole.header asked.header w.whole.records asked.records e None w.whole.capture asked.capture)
-      ∙ ap (λ (b : Bool). by_end None b)
-      (sym w.some_load_refused ∙ (ap (λ (l : List Answer). some_refused l)
-      (same_answers one.table m run.loads w.answers asked.answers w.tables.loads asked.tables.loads) ∙ asked.some_is))
+      let ending = one_end one (content m run.input) w.whole.header asked.header w.whole.records asked.records e None w.whole.capture asked.capture in
+      let answers = same_answers one.table m run.loads w.answers asked.answers w.tables.loads asked.tables.loads in
+      cc (ending, answers, w.some_load_refused, asked.some_is)
 
   due_whole : {new : Contents} {said now : Option (List ℕ)} {history : Option HistoryValue} {e : Option CaptureBad} {refused : Bool}
       (w : IsWholeRun run m new said now history e refused) (s : Status) →

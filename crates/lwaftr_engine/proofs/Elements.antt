@@ -25,7 +25,7 @@ all_before P front back all k d inside =
 pub number_at : {A : Type 0} (f : A → ℕ) (xs : List A) (start count k : ℕ) (x : A) → map f xs ≡ range_with_len start count → slice_get xs k ≡ Some x →
     f x ≡ start + k
 number_at {A} f xs start count k x numbers is =
-    let here : get_or (map f xs) k 0 ≡ f x = get_or_from_slice_get (map f xs) k (f x) 0 (slice_get-map f xs k ∙ ap (λ (o : Option A). option_map f o) is) in
-    let long : length xs ≡ count = sym (length-map xs f) ∙ (ap (λ (l : List ℕ). length l) numbers ∙ length-range_with_len start count) in
+    let here = get_or_from_slice_get (map f xs) k (f x) 0 (slice_get-map f xs k ∙ ap (λ (o : Option A). option_map f o) is) in
+    let long = sym (length-map xs f) ∙ (ap (λ (l : List ℕ). length l) numbers ∙ length-range_with_len start count) in
     let inside : k < count = omega (arith, long, slice_get_within xs k x is) in
     sym here ∙ (ap (λ (l : List ℕ). get_or l k 0) numbers ∙ get_or-range_with_len start count k 0 inside)

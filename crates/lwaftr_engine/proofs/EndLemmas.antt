@@ -1,8 +1,7 @@
 -- How the records of a run ended.
 use Rattle.lwaftr_engine.proofs.Words.{AreAllPoints, AreBefore, AreInWindows, CaptureBad, Ending, HasTaken, HistoryValue, IsBehind, IsClosed, IsOnDuty}
 use Rattle.lwaftr_engine.proofs.Words.{IsSettledAt, Left, List, None, Option, Outside, Rec, Rises, Router, SettledPointsAreAll, Setup, Some, Spot, Takes}
-use Rattle.lwaftr_engine.proofs.Words.{append-nil, arith, inl, inr, is_cut, state_of, sym, ℕ, ◌<◌, ◌∙◌, ◌∷◌, ◌≡◌, []}
-use Rattle.lwaftr_engine.proofs.Words.{length, window, ◌+◌, ◌≤◌, ◌⊎◌}
+use Rattle.lwaftr_engine.proofs.Words.{append-nil, arith, inl, inr, is_cut, state_of, sym, ℕ, ◌<◌, ◌∙◌, ◌∷◌, [], length, window, ◌+◌, ◌≤◌, ◌⊎◌}
 use Rattle.lwaftr_engine.proofs.Closing.{few_points, its_planned}
 use Rattle.lwaftr_engine.proofs.Steps.{none_waits}
 use Rattle.capture_io.specs.declared.rounds.Ending.TheVariants as ending
@@ -20,10 +19,10 @@ points_at_end law {r = r} {h = h} closed at_end duty =
     let plan = u.areas.plan in
     let points = u.desk.known.points in
     let seat = u.seat.known in
-    let records : h.records ≡ r.progress.number = sym closed.drawn.all ∙ at_end.drawn in
+    let records = sym closed.drawn.all ∙ at_end.drawn in
     let inside : AreInWindows r.shift.areas.plan.windows r.shift.desk.known.points r.progress.number =
     rw (← closed.same_plan) (rw (← closed.points) (rw (← records) closed.history.placed)) in
-    let seen : r.shift.seat.known.seen.records ≡ r.progress.number = sym (at_end.settled.all_drawn duty.whole) ∙ at_end.drawn in
+    let seen = sym (at_end.settled.all_drawn duty.whole) ∙ at_end.drawn in
     let due : (length plan.tables ≤ length points + 1) ⊎ (r.progress.number < (window plan (length points + 1)).earliest) =
     rw (← seen) (none_waits plan u.desk.known seat.seen.records duty.desk_areas.same_plan at_end.settled.none_due) in
     law plan points q.number (its_planned closed) (few_points closed) inside due

@@ -1,7 +1,6 @@
 -- Calls that were ended by a fault.
 use Rattle.lwaftr_engine.proofs.Words.{ℕ, ◌≤◌, List, ◌++◌, length, take, Option, Result, Ok, Err, IfErr, IfOk, IsErr, Contents, content, Moves, Writes}
-use Rattle.lwaftr_engine.proofs.Words.{AppendedAll}
-use Rattle.lwaftr_engine.proofs.Words.{Fault}
+use Rattle.lwaftr_engine.proofs.Words.{AppendedAll, Fault}
 
 pub if_err : {T : Type 0} (A : Type 0) (r : Result T Fault) → A → IfErr r (λ _. A)
 if_err A (Ok x) a = tt

@@ -1,8 +1,8 @@
 -- The points that came so far, and those that come by the last record: each table whose window opens by then gets its point.
-use Rattle.lwaftr_engine.proofs.Words.{◌≡◌, ℕ, Bool, false, cond, nat_le, zero, suc, ◌+◌, ◌-◌, ◌<◌, ◌≤◌, ◌⊎◌, List, [], ◌∷◌, ◌++◌, length, get_or, slice_index}
-use Rattle.lwaftr_engine.proofs.Words.{refl, ◌∙◌, ap, arith, inl, inr, append-nil, append_assoc, length-append, min, cases_lt, lt-leb, get_or_append_left}
-use Rattle.lwaftr_engine.proofs.Words.{sum_by-cons, All-get_or, IsNotBefore, IsPlan, IsWindow, Tables, always, window, AreAllPoints, AreInWindows, in_force}
-use Rattle.lwaftr_engine.proofs.Words.{Window, window_at, settled_points}
+use Rattle.lwaftr_engine.proofs.Words.{◌≡◌, ℕ, zero, suc, ◌+◌, ◌-◌, ◌<◌, ◌≤◌, ◌⊎◌, List, [], ◌∷◌, ◌++◌, length, get_or, slice_index, refl, ◌∙◌, ap, arith}
+use Rattle.lwaftr_engine.proofs.Words.{inl, inr, append-nil, append_assoc, length-append, min, cases_lt, get_or_append_left, All-get_or, IsNotBefore, IsPlan}
+use Rattle.lwaftr_engine.proofs.Words.{IsWindow, Tables, always, window, AreAllPoints, AreInWindows, in_force, Window, window_at, settled_points}
+use Rattle.lwaftr_engine.proofs.Telling.{in_force_cons, is_none}
 
 last_got : (points : List ℕ) (x : ℕ) → slice_index (points ++ x ∷ []) (length points) ≡ x
 last_got [] x = refl
@@ -43,8 +43,8 @@ pushed windows points records total x h more in_all above opens closes = record 
     | inl less ↦ (omega (arith, (h.inside k less).0, before k less), omega (arith, (h.inside k less).1, before k less))
     | inr more ↦
         let is : k ≡ length points = omega (arith, more, l, count) in
-        let e : (get_or windows k always).earliest ≡ (get_or windows (length points) always).earliest = ap (λ (n : ℕ). (get_or windows n always).earliest) is in
-        let f : (get_or windows k always).latest ≡ (get_or windows (length points) always).latest = ap (λ (n : ℕ). (get_or windows n always).latest) is in
+        let e = ap (λ (n : ℕ). (get_or windows n always).earliest) is in
+        let f = ap (λ (n : ℕ). (get_or windows n always).latest) is in
         (omega (arith, opens, at_end k is, e), omega (arith, closes, at_end k is, f))
   ]
 
@@ -63,16 +63,14 @@ pub in_force_before : (points later : List ℕ) (drawn number : ℕ) → AreBehi
     in_force (points ++ later) number ≡ in_force points number
 in_force_before [] [] drawn number behind less = refl
 in_force_before [] (x ∷ later) drawn number behind less =
-    let late : nat_le x number ≡ false = lt-leb x number (omega (arith, behind.0, less)) in
-    let none : (let k : ℕ = cond (nat_le x number) 1 0 in k) ≡ 0 = ap (λ (t : Bool). let k : ℕ = cond t 1 0 in k) late in
-    omega (arith, sum_by-cons (λ (q : ℕ). cond (nat_le q number) 1 0) x later, none, in_force_before [] later drawn number behind.1 less)
-in_force_before (p ∷ points) later drawn number behind less =
     omega (
       arith,
-      sum_by-cons (λ (q : ℕ). cond (nat_le q number) 1 0) p (points ++ later),
-      sum_by-cons (λ (q : ℕ). cond (nat_le q number) 1 0) p points,
-      in_force_before points later drawn number behind less,
+      in_force_cons x later number,
+      is_none x number (omega (arith, behind.0, less)),
+      in_force_before [] later drawn number behind.1 less,
     )
+in_force_before (p ∷ points) later drawn number behind less =
+    omega (arith, in_force_cons p (points ++ later) number, in_force_cons p points number, in_force_before points later drawn number behind less)
 
 -- the points that come yet
 pub record AreExtended (windows : List Window) (points : List ℕ) (drawn total : ℕ) : Type 0 where
@@ -102,25 +100,23 @@ module _ (p : Tables) (planned : IsPlan p) (drawn total : ℕ) (more : drawn ≤
       all = rw (append-nil points) (settled_points p planned points total (omega (arith, room)) placed (inr late));
     }
     | inr opens ↦
-        let same : (window p (length points + 1)).earliest ≡ (due points).earliest = ap (λ (v : Window). v.earliest) (window_at p (length points)) in
-        let is : IsWindow (due points) = All-get_or IsWindow p.windows (length points) always (omega (arith, room, planned.paired)) planned.each_window in
+        let same = ap (λ (v : Window). v.earliest) (window_at p (length points)) in
+        let is = All-get_or IsWindow p.windows (length points) always (omega (arith, room, planned.paired)) planned.each_window in
         let above : (k : ℕ) → k + 1 ≡ length points → slice_index points k ≤ next_point points = λ k at.
         let next : IsNotBefore (get_or p.windows (k + 1) always) (get_or p.windows k always) = planned.rising k (omega (arith, at, room, planned.paired)) in
         let here : (get_or p.windows (k + 1) always).latest ≡ (due points).latest = ap (λ (n : ℕ). (get_or p.windows n always).latest) at in
         omega (arith, next.1, here, (placed.inside k (omega (arith, at))).1, placed.reached k (omega (arith, at))) in
-        let one_more : AreInWindows p.windows (points ++ next_point points ∷ []) total =
-        pushed p.windows points total total (next_point points) placed (omega arith) (omega arith) above (omega (arith, opens, same, is.0)) (omega arith) in
-        let count : length (points ++ next_point points ∷ []) ≡ length points + 1 = length-append points (next_point points ∷ []) in
+        let one_more = pushed p.windows points total total (next_point points) placed (omega arith) (omega arith) above
+        (omega (arith, opens, same, is.0)) (omega arith) in
+        let count = length-append points (next_point points ∷ []) in
         let here : drawn ≤ (due points).latest = ready (omega (arith, room, planned.paired)) in
         let still : length (points ++ next_point points ∷ []) < length p.windows → drawn ≤
         (get_or p.windows (length (points ++ next_point points ∷ [])) always).latest =
         λ inside.
         let next : IsNotBefore (get_or p.windows (length points + 1) always) (due points) = planned.rising (length points) (omega (arith, inside, count)) in
-        let there : (get_or p.windows (length (points ++ next_point points ∷ [])) always).latest ≡ (get_or p.windows (length points + 1) always).latest =
-        ap (λ (n : ℕ). (get_or p.windows n always).latest) count in
+        let there = ap (λ (n : ℕ). (get_or p.windows n always).latest) count in
         omega (arith, here, next.1, there) in
-        let rest : AreExtended p.windows (points ++ next_point points ∷ []) drawn total =
-        extended left (points ++ next_point points ∷ []) (omega (arith, room, count)) one_more still in
+        let rest = extended left (points ++ next_point points ∷ []) (omega (arith, room, count)) one_more still in
         record {
           later = next_point points ∷ rest.later;
           behind = (omega (arith, here, more), rest.behind);
@@ -134,8 +130,8 @@ module _ (p : Tables) (planned : IsPlan p) (drawn total : ℕ) (more : drawn ≤
   ready_by points (inl none) inside = omega (arith, none)
   ready_by points (inr (inl all)) inside = absurd (omega (arith, all, inside, planned.paired))
   ready_by points (inr (inr waits)) inside =
-      let same : (window p (length points + 1)).earliest ≡ (due points).earliest = ap (λ (v : Window). v.earliest) (window_at p (length points)) in
-      let is : IsWindow (due points) = All-get_or IsWindow p.windows (length points) always inside planned.each_window in
+      let same = ap (λ (v : Window). v.earliest) (window_at p (length points)) in
+      let is = All-get_or IsWindow p.windows (length points) always inside planned.each_window in
       omega (arith, waits, same, is.0)
 
   pub points_extend : (points : List ℕ) → length points < length p.tables → AreInWindows p.windows points drawn →

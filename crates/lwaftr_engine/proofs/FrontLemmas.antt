@@ -1,7 +1,8 @@
 -- The front of a file, joined from pieces; and that the front of a table file says what the file says.
 use Rattle.lwaftr_engine.proofs.Words.{◌≡◌, ℕ, ◌+◌, ◌<◌, nat_lt, Bool, true, if◌then◌else◌, List, ◌++◌, length, length-take, take, drop, Option, Some, None}
-use Rattle.lwaftr_engine.proofs.Words.{Result, Ok, Err, sym, ◌∙◌, ap, inl, inr, subst, arith, length-append, take-add, cases_lt, nat_tests, take_all, FileError}
-use Rattle.lwaftr_engine.proofs.Words.{IsFileCause, TableOf, TextOf, fits, most_bytes, Then, FileRefused, BindingTable, Contents, content, Told}
+use Rattle.lwaftr_engine.proofs.Words.{Result, Ok, Err, sym, ◌∙◌, ap, inl, inr, subst, arith, length-append, take-add, cases_lt, nat_tests, take_all}
+use Rattle.lwaftr_engine.proofs.Words.{FileError, IsFileCause, TableOf, TextOf, fits, most_bytes, Then, FileRefused, BindingTable, Contents, content, Told}
+use Rattle.lwaftr_engine.proofs.Moving.{told_by}
 use Rattle.binding_file.specs.declared.refusals.FileError.TheVariants as file_error
 use Rattle.binding_file.specs.declared.refusals.FileRefused.TheVariants as refused
 
@@ -34,8 +35,8 @@ table_of_front bytes r says = elim (cases_lt 16777216 (length bytes)) [
 
 pub table_told : (h : Option Contents) (name bytes text : List ℕ) (r : Result BindingTable FileRefused) → text ≡ bytes
     → Told h (λ m. bytes ≡ take 16777217 (content m name)) → TableOf text r → Told h (λ m. TableOf (content m name) r)
-table_told None name bytes text r is front says = tt
-table_told (Some m) name bytes text r is front says = table_of_front (content m name) r (subst (λ b. TableOf b r) (is ∙ front) says)
+table_told h name bytes text r is front says =
+    told_by h _ _ (λ m at_front. table_of_front (content m name) r (subst (λ b. TableOf b r) (is ∙ at_front) says)) front
 
 pub refusal_told : (h : Option Contents) (name bytes text : List ℕ) (error : FileError) (refusal : FileRefused) → text ≡ bytes →
     error ≡ file_error.Refused refusal

@@ -1,21 +1,22 @@
 -- Outputs that hold fronts of what is due.
 use Rattle.lwaftr_engine.proofs.Words.{◌≡◌, ◌==◌, ℕ, zero, suc, ◌+◌, ◌-◌, ◌<◌, ◌≤◌, nat_le, nat_lt, cond, Bool, true, false, List, [], ◌∷◌, ◌++◌, count_by}
 use Rattle.lwaftr_engine.proofs.Words.{get_or, length, take, drop, flat_map, Option, ◌⊎◌, inl, inr, refl, sym, ◌∙◌, ap, arith, le-ltb, append-nil}
-use Rattle.lwaftr_engine.proofs.Words.{length-append, subst, IfSome, option_map, take-nil, cases_lt, eq-eqb, count_by-le-length, sum_by-cons, Contents, content}
-use Rattle.lwaftr_engine.proofs.Words.{Rises, Fault, IsRate, ended_text, initial_text, summary_text, Totals, AreDrawn, HistoryValue, BindingTable, file_head}
-use Rattle.lwaftr_engine.proofs.Words.{Form, Rec, entries_of, unfinished_of, HasBegun, IsBrokenFrom, AreSlotsOf, IsHalfFinished, last_line, last_lines}
-use Rattle.lwaftr_engine.proofs.Words.{last_steps, last_versions, HoldsFront, IsAtSummary, IsFront, IsFrontOf, IsUnder, Stop, is_table, shown_points, stop_by}
-use Rattle.lwaftr_engine.proofs.Words.{whole_lines, HasWritten, Setup, Spot, Suits, loads_of, RunLaws, IsPlanOf, Did, DidFront, Course, lines_from}
-use Rattle.lwaftr_engine.proofs.Words.{packets_from, verdicts_of, NoneIsDue, load_lines, named, IsPlan, Tables, AreAllPoints, AreInWindows, in_force, Window}
-use Rattle.lwaftr_engine.proofs.Words.{AreWritten, Outside, State, World, is_failure}
+use Rattle.lwaftr_engine.proofs.Words.{length-append, subst, IfSome, option_map, take-nil, cases_lt, eq-eqb, count_by-le-length, sum_by-cons, Contents}
+use Rattle.lwaftr_engine.proofs.Words.{content, Fault, IsRate, ended_text, initial_text, summary_text, Totals, AreDrawn, HistoryValue, BindingTable}
+use Rattle.lwaftr_engine.proofs.Words.{file_head, Form, Rec, entries_of, unfinished_of, HasBegun, IsBrokenFrom, AreSlotsOf, IsHalfFinished, last_line}
+use Rattle.lwaftr_engine.proofs.Words.{last_lines, last_steps, last_versions, HoldsFront, IsAtSummary, IsFront, IsFrontOf, IsUnder, Stop, is_table}
+use Rattle.lwaftr_engine.proofs.Words.{shown_points, stop_by, whole_lines, HasWritten, Setup, Spot, Suits, loads_of, RunLaws, IsPlanOf, Did, DidFront, Course}
+use Rattle.lwaftr_engine.proofs.Words.{lines_from, packets_from, verdicts_of, NoneIsDue, load_lines, named, IsPlan, Tables, AreAllPoints, AreInWindows}
+use Rattle.lwaftr_engine.proofs.Words.{in_force, Window, AreWritten, Outside, State, World, is_failure}
 use Rattle.lwaftr_engine.specs.Finishing.{TookFront}
+use Rattle.lwaftr_engine.specs.Fronts.{NothingPut}
 use Rattle.lwaftr_engine.proofs.Begun.{TakenUnder, begun_by, lines_in_front}
-use Rattle.lwaftr_engine.proofs.Closing.{HasCourse, course_with, is_written, suits_bare, totals_are, ClosedRun, few_points, its_planned, points_placed}
-use Rattle.lwaftr_engine.proofs.Courses.{ShownCourse, bare, limited_first, output_front, some_course, verdicts_front, verdicts_same, with_points}
-use Rattle.lwaftr_engine.proofs.Extending.{AreExtended, in_force_before, points_extend}
+use Rattle.lwaftr_engine.proofs.Closing.{course_with, is_written, suits_bare, totals_are, ClosedRun, few_points, its_planned, points_placed}
+use Rattle.lwaftr_engine.proofs.Courses.{ShownCourse, limited_first, output_front, some_course, verdicts_front, verdicts_same, with_points}
+use Rattle.lwaftr_engine.proofs.Extending.{in_force_before, points_extend}
 use Rattle.lwaftr_engine.proofs.Going.{wrote_same}
 use Rattle.lwaftr_engine.proofs.Parts.{front_part, all_of, front_at_end, front_in}
-use Rattle.lwaftr_engine.proofs.Telling.{IsRising, in_force_first, lines_fit, printed_few}
+use Rattle.lwaftr_engine.proofs.Telling.{IsRising, in_force_first, lines_fit, one, printed_few}
 use Rattle.lwaftr_engine.proofs.Writing.{IsOpening, WroteFront, front_of_all, in_others, in_tables, wrote_front}
 
 -- a front of the first list is one of it and what follows
@@ -35,14 +36,13 @@ pub first_points : {tables : ℕ → BindingTable} {windows : List Window} {plan
     (points : List ℕ) × AreAllPoints windows points (length rs)
 first_points {plan = plan} planned of rs =
     let few : 0 < length plan.tables = omega (arith, planned.paired) in
-    let more : AreExtended plan.windows [] 0 (length rs) =
-    points_extend plan planned 0 (length rs) (omega arith) [] few (no_points plan.windows) (inl refl) in
+    let more = points_extend plan planned 0 (length rs) (omega arith) [] few (no_points plan.windows) (inl refl) in
     (more.later, rw (← of.same_windows) more.all)
 
 -- the outputs are being made
 pub at_opening : RunLaws → (x : Setup) {tables : ℕ → BindingTable} {windows : List Window} → IfSome x.run.errors IsRate → (rs : List Rec)
     (points : (points : List ℕ) × AreAllPoints windows points (length rs)) {a d : Contents} (stop : Stop) →
-    Rises stop.failed stop.before.files.spoiled stop.after.files.spoiled × (stop.after.said ≡ stop.before.said) → (half : IsOpening x.run x.written a d) →
+    NothingPut stop → (half : IsOpening x.run x.written a d) →
     IsFront x.run tables windows x.slots x.form x.written rs half.made a d stop
 at_opening laws x {tables} rate rs (points, placed) {a} {d} stop nothing half =
     let told = shown_points (nat_lt 2 half.made) x.run x.slots points (content d x.run.versions) in
@@ -67,8 +67,7 @@ at_opening laws x {tables} rate rs (points, placed) {a} {d} stop nothing half =
 counted : (draws : List (ℕ × ℕ)) (k : ℕ) (d : ℕ × ℕ) → k < length draws → 1 ≤ count_by (λ (e : ℕ × ℕ). e.0 == (get_or draws k d).0) draws
 counted [] k d inside = absurd (omega (arith, inside))
 counted (x ∷ draws) zero d inside =
-    let here : (let n : ℕ = cond (x.0 == x.0) 1 0 in n) ≡ 1 = ap (λ (t : Bool). let n : ℕ = cond t 1 0 in n) (eq-eqb x.0 x.0 refl) in
-    omega (arith, here, sum_by-cons (λ (e : ℕ × ℕ). cond (e.0 == x.0) 1 0) x draws)
+    omega (arith, ap one (eq-eqb x.0 x.0 refl), sum_by-cons (λ (e : ℕ × ℕ). cond (e.0 == x.0) 1 0) x draws)
 counted (x ∷ draws) (suc k) d inside =
     omega (arith, counted draws k d (omega (arith, inside)), sum_by-cons (λ (e : ℕ × ℕ). cond (e.0 == (get_or draws k d).0) 1 0) x draws)
 
@@ -77,8 +76,7 @@ drawn_below : (draws : List (ℕ × ℕ)) (h : HistoryValue) → AreDrawn h draw
 drawn_below draws h drawn k d inside = elim (cases_lt (get_or draws k d).0 (length draws)) [
   | inl less ↦ less
   | inr more ↦
-      let late : nat_lt (get_or draws k d).0 h.records ≡ false = le-ltb (get_or draws k d).0 h.records (omega (arith, more, drawn.all)) in
-      let none : (let n : ℕ = cond (nat_lt (get_or draws k d).0 h.records) 1 0 in n) ≡ 0 = ap (λ (t : Bool). let n : ℕ = cond t 1 0 in n) late in
+      let none = ap one (le-ltb (get_or draws k d).0 h.records (omega (arith, more, drawn.all))) in
       absurd (omega (arith, counted draws k d inside, drawn.each_once (get_or draws k d).0, none))
 ]
 
@@ -122,8 +120,7 @@ finish_begun {x} {c} {s} {b} {d} {e} {rs} h front =
 
 -- what is put last: nothing, or all outputs are whole, and a front of the summary
 abbrev EndsWith : ClosedRun → List ℕ → List Rec → Contents → Stop → Course → Type 0
-EndsWith r points rs e stop c = (Rises stop.failed stop.before.files.spoiled stop.after.files.spoiled × (stop.after.said ≡ stop.before.said))
-    ⊎ ((stop.after.files.spoiled ≡ stop.before.files.spoiled)
+EndsWith r points rs e stop c = NothingPut stop ⊎ ((stop.after.files.spoiled ≡ stop.before.files.spoiled)
     × IsAtSummary r.x.run r.x.slots c points r.x.form r.x.written rs e stop.before.said stop.after.said)
 
 -- all lines are written, and a part of the summary is put
@@ -132,7 +129,7 @@ at_summary : (r : ClosedRun) {d e : Contents} {said now : Option (List ℕ)} {rs
     Did r.x.run (last_steps r.x r.s.progress r.s.points rs) d e → TookFront (last_line r.s.progress r.s.points) said now →
     IsAtSummary r.x.run r.x.slots c r.s.points r.x.form r.x.written rs e said now
 at_summary r {d} {said = said} {rs = rs} placed are c under did took =
-    let has : HasCourse r d rs = course_with r placed are c under in
+    let has = course_with r placed are c under in
     let whole = is_written r {said = said} has (record { did = did; took = refl }) in
     record {
       output = whole.output;
@@ -147,7 +144,7 @@ module _ (r : ClosedRun) (slots_of : AreSlotsOf r.x.run r.windows r.x.slots) whe
   suits_if : (c : Course) → c.tables ≡ r.tables → ((number : ℕ) → number < length r.s.draws → c.version number ≡ in_force r.s.points number) →
       Suits r.s.plan r.s.draws c
   suits_if c tables_are version_are =
-      let suits : Suits r.s.plan r.s.draws (bare r.tables r.s.points) = suits_bare r.of r.closed in
+      let suits = suits_bare r.of r.closed in
       record {
         tables = rw tables_are suits.tables;
         versions = λ k d inside.
@@ -161,11 +158,9 @@ module _ (r : ClosedRun) (slots_of : AreSlotsOf r.x.run r.windows r.x.slots) whe
   told_same points printed loads text rising short none held number few =
       let slots = r.x.slots in
       let size = length text - length (initial_text r.x.run.table) in
-      let first : length printed ≤ 0 + count_by is_table (take loads r.x.slots) = printed_few 0 slots loads printed slots_of.numbered none short in
+      let first = printed_few 0 slots loads printed slots_of.numbered none short in
       let enough : length (load_lines points (take loads (loads_of r.x))) ≤ length text - length (initial_text r.x.run.table) = omega (arith, held) in
-      let more : count_by is_table (take loads r.x.slots)
-      ≤ count_by is_table (take (whole_lines points (length text - length (initial_text r.x.run.table)) (named r.x.run.loads r.x.slots)) r.x.slots) =
-      lines_fit points size r.x.run.loads slots loads slots_of.loads_are enough in
+      let more = lines_fit points size r.x.run.loads slots loads slots_of.loads_are enough in
       let count = count_by is_table (take (whole_lines points size (named r.x.run.loads slots)) slots) in
       in_force_first points count number rising (omega (arith, few, first, more))
 
@@ -235,15 +230,15 @@ module _ (r : ClosedRun) (slots_of : AreSlotsOf r.x.run r.windows r.x.slots) whe
       }
 
   -- rounds were ended by a fault
-  pub at_rounds : (stop : Stop) → Rises stop.failed stop.before.files.spoiled stop.after.files.spoiled × (stop.after.said ≡ stop.before.said) →
+  pub at_rounds : (stop : Stop) → NothingPut stop →
       {first : Spot} {a b : Outside} {d : Contents} (broken : IsBrokenFrom r.x r.s first a b r.opened d) →
       IsFront r.x.run r.tables r.windows r.x.slots r.x.form r.x.written broken.records 3 r.old d stop
   at_rounds stop nothing {d = d} broken =
       let cut = broken.part in
       let drawn = length r.s.draws in
       let total = length broken.records in
-      let more : AreExtended r.s.plan.windows r.s.points (length r.s.draws) (length broken.records) =
-      points_extend r.s.plan (its_planned r.closed) drawn total broken.drawn r.s.points (few_points r.closed) (points_placed r.closed) broken.up_to_date in
+      let more = points_extend r.s.plan (its_planned r.closed) drawn total broken.drawn r.s.points (few_points r.closed) (points_placed r.closed)
+      broken.up_to_date in
       let points = r.s.points ++ more.later in
       let A : List Window → Type 0 = λ w. AreAllPoints w (r.s.points ++ more.later) (length broken.records) in
       let L : List Rec → Type 0 = λ rs. AreAllPoints r.windows (r.s.points ++ more.later) (length rs) in

@@ -1,30 +1,24 @@
 -- A round: what was read, judged and written, put together.
 use Rattle.lwaftr_engine.proofs.Words.{◌≡◌, ℕ, ◌+◌, ◌-◌, ◌<◌, ◌≤◌, List, ◌++◌, length, get_or, take, Some, inl, inr, sym, ◌∙◌, ap, arith, append_assoc}
-use Rattle.lwaftr_engine.proofs.Words.{length-append, slice_get, cases_lt, slice_get-get_or, Contents, content, RunJob, Totals, Rec, Entry, entries_of}
-use Rattle.lwaftr_engine.proofs.Words.{items_in, Item, HasWritten, IsLimitedRun, Setup, Wrote, loads_of, RunLaws, all_asking, HasJudged}
-use Rattle.lwaftr_engine.proofs.Words.{Pending, no_totals, totals_from, AreJoined, HasAsked, IsLimited, lines_from, packets_from, HasOutcomes}
-use Rattle.lwaftr_engine.proofs.Words.{IsCourseOf, IsRendered, lines_in, packets_in, load_lines, Outcome, no_outcome, asks, cond, string_bytes, map-append}
-use Rattle.lwaftr_engine.proofs.Words.{sum_by-append, Course, State, Suits}
+use Rattle.lwaftr_engine.proofs.Words.{length-append, slice_get, cases_lt, slice_get-get_or, Contents, content, RunJob, Rec, Entry, entries_of, items_in}
+use Rattle.lwaftr_engine.proofs.Words.{Item, HasWritten, IsLimitedRun, Setup, Wrote, loads_of, RunLaws, all_asking, HasJudged, Pending, no_totals}
+use Rattle.lwaftr_engine.proofs.Words.{totals_from, AreJoined, HasAsked, IsLimited, lines_from, packets_from, IsCourseOf, IsRendered, lines_in, packets_in}
+use Rattle.lwaftr_engine.proofs.Words.{load_lines, Outcome, no_outcome, asks, cond, string_bytes, map-append, sum_by-append, Course, State, Suits}
 use Rattle.lwaftr_engine.proofs.Elements.{all_at}
 
 -- behind what was written, more is
 pub wrote_more : {run : RunJob} {a b d : Contents} {v p l more_v more_p more_l : List ℕ} → Wrote run v p l a b → Wrote run more_v more_p more_l b d →
     Wrote run (v ++ more_v) (p ++ more_p) (l ++ more_l) a d
 wrote_more {run} {a} {v} {p} {l} {more_v} {more_p} {more_l} first second = record {
-  versions_is = second.versions_is ∙ (ap (λ (u : List ℕ). u ++ more_v) first.versions_is ∙ append_assoc (content a run.versions) v more_v);
-  output = second.output ∙ (ap (λ (u : List ℕ). u ++ more_p) first.output ∙ append_assoc (content a run.output) p more_p);
-  verdicts = second.verdicts ∙ (ap (λ (u : List ℕ). u ++ more_l) first.verdicts ∙ append_assoc (content a run.verdicts) l more_l);
+  versions_is = cc (append_assoc (content a run.versions) v more_v);
+  output = cc (append_assoc (content a run.output) p more_p);
+  verdicts = cc (append_assoc (content a run.verdicts) l more_l);
   others = λ name u v w. second.others name u v w ∙ first.others name u v w;
 }
 
 -- the same lists, written otherwise
 pub wrote_same : {run : RunJob} {a b : Contents} {v w p q l k : List ℕ} → (v ≡ w) × (p ≡ q) × (l ≡ k) → Wrote run v p l a b → Wrote run w q k a b
-wrote_same {run} {a} same wrote = record {
-  versions_is = wrote.versions_is ∙ ap (λ (u : List ℕ). content a run.versions ++ u) same.0;
-  output = wrote.output ∙ ap (λ (u : List ℕ). content a run.output ++ u) same.1;
-  verdicts = wrote.verdicts ∙ ap (λ (u : List ℕ). content a run.verdicts ++ u) same.2;
-  others = wrote.others;
-}
+wrote_same same wrote = rw (← same.0, ← same.1, ← same.2) wrote
 
 asking_append : (es more : List Entry) → all_asking (items_in (es ++ more)) ≡ all_asking (items_in es) + all_asking (items_in more)
 asking_append es more =
@@ -93,14 +87,10 @@ module _ (r : RoundUnder) where
   old_lines = lines_from r.c 0 (entries_of r.x.form r.taken)
 
   pub packets_are : IsLimitedRun r.x r.c every → old_packets ++ packets_in r.made.rendered ≡ packets_from r.c r.x.written 0 every every_entry
-  packets_are limited =
-      ap (λ (l : List ℕ). old_packets ++ l) ((rendered limited).packets ∙ ap (λ (n : ℕ). packets_from r.c r.x.written n r.records es) (sym start))
-      ∙ (sym joined.packets ∙ ap (λ (l : List Entry). packets_from r.c r.x.written 0 every l) (sym more))
+  packets_are limited = cc ((rendered limited).packets, joined.packets, more, start)
 
   pub lines_are : IsLimitedRun r.x r.c every → old_lines ++ lines_in r.made.rendered ≡ lines_from r.c 0 every_entry
-  lines_are limited =
-      ap (λ (l : List ℕ). old_lines ++ l) ((rendered limited).lines ∙ ap (λ (n : ℕ). lines_from r.c n es) (sym start))
-      ∙ (sym joined.lines ∙ ap (λ (l : List Entry). lines_from r.c 0 l) (sym more))
+  lines_are limited = cc ((rendered limited).lines, joined.lines, more, start)
 
   -- the points of the round, and those that come later
   pub points_are : (later : List ℕ) → r.p.points ++ (r.judged.news ++ later) ≡ r.q.points ++ later
@@ -117,11 +107,7 @@ module _ (r : RoundUnder) where
       ∙ r.laws.lines (r.q.points ++ later) loads first r.q.progress.printed r.judged.new_lines.forward)
 
   totals_more : IsLimitedRun r.x r.c every → r.q.progress.totals ≡ totals_from r.c no_totals 0 every_entry
-  totals_more limited =
-      (rendered limited).totals
-      ∙ (ap (λ (t : Totals). totals_from r.c t r.p.progress.number es) (r.h.totals (limited_before limited))
-      ∙ (ap (λ (n : ℕ). totals_from r.c (totals_from r.c no_totals 0 old) n es) (sym start)
-      ∙ (sym (joined.totals no_totals) ∙ ap (λ (l : List Entry). totals_from r.c no_totals 0 l) (sym more))))
+  totals_more limited = cc ((rendered limited).totals, r.h.totals (limited_before limited), joined.totals no_totals, more, start)
 
   entries_count : length every_entry ≡ length every
   entries_count =
@@ -147,7 +133,7 @@ module _ (r : RoundUnder) where
         let at : slice_get r.judged.outcomes k ≡ Some (get_or r.judged.outcomes k no_outcome) = slice_get-get_or r.judged.outcomes k no_outcome within in
         let few : (get_or r.judged.outcomes k no_outcome).version ≤ length r.q.points =
         all_at (λ (y : Outcome). y.version ≤ length r.q.points) r.judged.outcomes k o r.judged.versions at in
-        let have : HasOutcomes r.c r.p.progress.number r.judged.entries r.judged.outcomes = r.judged.have r.c r.suits in
+        let have = r.judged.have r.c r.suits in
         let version : (get_or r.judged.outcomes k no_outcome).version ≡ r.c.version (get_or r.judged.outcomes k no_outcome).number = have.versions k o at in
         let same : (get_or r.judged.outcomes k no_outcome).number ≡ number = have.numbers k o at ∙ sym is in
         rw (← (version ∙ ap (λ (n : ℕ). r.c.version n) same)) few

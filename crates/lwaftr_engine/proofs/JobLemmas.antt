@@ -1,12 +1,12 @@
 -- What a run leaves, in the words of the whole files.
 use Rattle.lwaftr_engine.proofs.Words.{subst, ◌≡◌, ℕ, ◌<◌, nat_lt, Bool, true, false, not, List, [], ◌∷◌, length, Option, Some, None, Result, Ok, Err, refl}
-use Rattle.lwaftr_engine.proofs.Words.{sym, ◌∙◌, ap, arith, Contents, content, Moves, Told, FailsAt, Outside, IfOk, EndsInRecords, IsOfRecord, is_cut, FailsIn}
-use Rattle.lwaftr_engine.proofs.Words.{HasHistoryBy, GoesWithRead, GoesWithRefusal, HasHistory, HasSummary, Fault, HistoryValue, left_of, stands_in}
+use Rattle.lwaftr_engine.proofs.Words.{sym, ◌∙◌, ap, arith, Contents, content, Moves, Told, FailsAt, Outside, IfOk, EndsInRecords, IsOfRecord, is_cut}
+use Rattle.lwaftr_engine.proofs.Words.{FailsIn, HasHistoryBy, GoesWithRead, GoesWithRefusal, HasHistory, HasSummary, Fault, HistoryValue, left_of, stands_in}
 use Rattle.lwaftr_engine.proofs.Words.{ClassicReader, CaptureBad, Form, Ending, Header, blocks_of, classic_of, header_by, in_blocks, in_classic, IsAtFirst}
 use Rattle.lwaftr_engine.proofs.Words.{IsEarly, LeavesMade, ended_status, some_slot_refused, ReadsOf, Setup, Spot, spot, Status, EndsBehind, IsInHeader, Seen}
 use Rattle.lwaftr_engine.proofs.Words.{Standing, Interface, Tables, LeavesOpened, World}
 use Rattle.capture_io.specs.Classic.{IsOpened}
-use Rattle.lwaftr_engine.proofs.Moving.{told_then}
+use Rattle.lwaftr_engine.proofs.Moving.{told_moves}
 use Rattle.aftr_base.specs.declared.outside.Fault.TheVariants as fault
 use Rattle.capture_io.specs.Header as classic_header
 use Rattle.capture_io.specs.declared.rounds.Ending.TheVariants as ending
@@ -91,17 +91,13 @@ pub opened_leaves : (x : Setup) (plan : Tables) (reader : Spot) (ended : Result 
     Moves before.files.held now.files.held (LeavesOpened x plan reader ended before now history) →
     Moves before.files.held now.files.held (LeavesMade x.run plan x.slots result before now history)
 opened_leaves x plan reader ended result before now history is first ran =
-    told_then before.files.held before.files.held now.files.held (λ m. IsAtFirst reader x.form x.written (content m x.run.input))
+    told_moves before.files.held now.files.held (λ m. IsAtFirst reader x.form x.written (content m x.run.input))
     (LeavesOpened x plan reader ended before now history) _
-    (λ m n at_first leaves tables windows of. rw is (leaves at_first tables windows of)) refl first ran
+    (λ m n at_first leaves tables windows of. rw is (leaves at_first tables windows of)) first ran
 
 -- a read that failed before the first record
-abbrev place_in : Option (List ℕ × ℕ) → ℕ
-place_in None = 0
-place_in (Some x) = x.1
-
-same_place : (name : List ℕ) (a b : ℕ) (last : Option (List ℕ × ℕ)) → last ≡ Some (name, a) → last ≡ Some (name, b) → a ≡ b
-same_place name a b last e f = ap place_in (sym e ∙ f)
+pub same_last : {a b : List ℕ × ℕ} {last : Option (List ℕ × ℕ)} → last ≡ Some a → last ≡ Some b → a ≡ b
+same_last e f = cc
 
 classic_end : (header : Header) (read : Result Form CaptureBad) → in_classic read ≡ Ok header → header.ends_at ≡ 24
 classic_end header (Ok form) e = cc e
@@ -111,8 +107,8 @@ pub early_classic : (name bytes : List ℕ) (old last : Option (List ℕ × ℕ)
     IsEarly name bytes last
 early_classic name bytes old last kind failed = λ header place sound last_is has_end behind.
     let H : Bool → Type 0 = λ b. header_by b bytes ≡ Ok header in
-    let end : header.ends_at ≡ 24 = classic_end header (classic_header.header_in bytes) (subst H (sym kind) sound) in
-    absurd (omega (arith, failed.1, behind, end, same_place name failed.0 place last failed.2 last_is))
+    let end = classic_end header (classic_header.header_in bytes) (subst H (sym kind) sound) in
+    absurd (omega (arith, failed.1, behind, end, ap (λ (read : List ℕ × ℕ). read.1) (same_last failed.2 last_is)))
 
 blocks_header : (header : Header) (read : Result Seen CaptureBad) → in_blocks read ≡ Ok header → (seen : Seen) × (read ≡ Ok seen) × (header ≡ blocks_of seen)
 blocks_header header (Ok seen) e = (seen, refl, cc e)
@@ -127,6 +123,5 @@ pub early_blocks : (m : Contents) (name : List ℕ) (old last : Option (List ℕ
 early_blocks m name old last kind failed = λ header place sound last_is has_end behind.
     let H : Bool → Type 0 = λ b. header_by b (content m name) ≡ Ok header in
     let found = blocks_header header (blocks.header_in (content m name)) (subst H (sym kind) sound) in
-    let inside : failed.0 < found.0.known.at =
-    ends_behind failed.0 found.0.known.at found.0.interfaces (sym (ap (λ (h : Header). h.has_end) found.2) ∙ has_end) (failed.1 found.0 found.1) in
-    absurd (omega (arith, inside, behind, ap (λ (h : Header). h.ends_at) found.2, same_place name failed.0 place last failed.2 last_is))
+    let inside = ends_behind failed.0 found.0.known.at found.0.interfaces (sym (ap (λ (h : Header). h.has_end) found.2) ∙ has_end) (failed.1 found.0 found.1) in
+    absurd (omega (arith, inside, behind, ap (λ (h : Header). h.ends_at) found.2, ap (λ (read : List ℕ × ℕ). read.1) (same_last failed.2 last_is)))

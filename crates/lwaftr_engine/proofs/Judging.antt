@@ -1,8 +1,8 @@
 -- What a round's outcomes are under a course of the run.
-use Rattle.lwaftr_engine.proofs.Words.{◌≡◌, ℕ, ◌+◌, ◌-◌, ◌<◌, ◌≤◌, List, [], All, length, get_or, Some, sym, subst, ◌∙◌, ap, arith, length-map, range_with_len}
-use Rattle.lwaftr_engine.proofs.Words.{slice_get, length-range_with_len, slice_get-get_or, slice_get_within, View, BindingTable, IsLawful, Item}
-use Rattle.lwaftr_engine.proofs.Words.{items_in, Entry, Suits, Course, AreFitting, HasOutcomes, Tables, table, AreCompiled, IsCompiled, Fits, HasRoom}
-use Rattle.lwaftr_engine.proofs.Words.{verdict_of, draw_of, IsRound, Outcome}
+use Rattle.lwaftr_engine.proofs.Words.{◌≡◌, ℕ, ◌+◌, ◌-◌, ◌<◌, ◌≤◌, List, [], All, length, get_or, Some, sym, subst, ◌∙◌, ap, arith, length-map, slice_get}
+use Rattle.lwaftr_engine.proofs.Words.{length-range_with_len, slice_get-get_or, slice_get_within, View, BindingTable, IsLawful, Item, items_in, Entry, Suits}
+use Rattle.lwaftr_engine.proofs.Words.{Course, AreFitting, HasOutcomes, Tables, table, AreCompiled, IsCompiled, Fits, HasRoom, verdict_of, draw_of, IsRound}
+use Rattle.lwaftr_engine.proofs.Words.{Outcome}
 use Rattle.lwaftr_engine.proofs.Elements.{all_among, all_at, all_behind, number_at}
 use Rattle.ip_codec.specs.declared.items.Item.TheVariants as item
 
@@ -30,8 +30,7 @@ pub record AllFit : Type 0 where
 module _ (h : JudgedRound) where
   long : length h.all ≡ length h.entries
   long =
-      let same : length h.all ≡ length (range_with_len h.start (h.end - h.start)) =
-      sym (length-map h.all (λ (o : Outcome). o.number)) ∙ ap (λ (l : List ℕ). length l) h.round.numbers in
+      let same = sym (length-map h.all (λ (o : Outcome). o.number)) ∙ ap (λ (l : List ℕ). length l) h.round.numbers in
       omega (arith, same, length-range_with_len h.start (h.end - h.start), h.counted)
 
   items_count : length (items_in h.entries) ≡ length h.entries
@@ -42,7 +41,7 @@ module _ (h : JudgedRound) where
 
   inside : (k : ℕ) (o : Outcome) → slice_get h.all k ≡ Some o → o.version < length h.plan.tables
   inside k o at =
-      let few : o.version ≤ length h.points = all_at (λ (x : Outcome). x.version ≤ length h.points) h.all k o h.versions at in
+      let few = all_at (λ (x : Outcome). x.version ≤ length h.points) h.all k o h.versions at in
       omega (arith, few, h.there)
 
   same_verdict : (k : ℕ) (o : Outcome) (i : Item) (t : BindingTable) → slice_get h.all k ≡ Some o → slice_get (items_in h.entries) k ≡ Some i →

@@ -1,25 +1,20 @@
 -- What a run leaves by its table files, and the status that is due.
 use Rattle.lwaftr_engine.proofs.Words.{◌≡◌, ℕ, suc, List, [], ◌∷◌, ◌++◌, Option, Some, None, Ok, inl, inr, refl, sym, ◌∙◌, ap, arith, Contains, map}
-use Rattle.lwaftr_engine.proofs.Words.{Contains-append_left, Contains-append_right, Contents, content, Told, LoadWords, RunJob, HistoryValue, TableOf}
-use Rattle.lwaftr_engine.proofs.Words.{BindingTable, FailsIn, IsReadOf, AreSlotsOf, AreTables, IsBehindTable, IsUnread, table_names, AreFitFor, AreLoadsOf}
-use Rattle.lwaftr_engine.proofs.Words.{IsMade, LeavesBy, LeavesMade, some_slot_refused, Leaves, IsPlanOf, Answer, slots_in, some_refused, table_by, windows_in}
-use Rattle.lwaftr_engine.proofs.Words.{Status, Load, Made, Slot, Window, Bool, CaptureBad, IsBrokenRun, IsStopped, IsWhole, IsWholeRun, Stop, World, AreAnswers}
+use Rattle.lwaftr_engine.proofs.Words.{Contains-append_right, Contents, content, LoadWords, RunJob, HistoryValue, TableOf, BindingTable, FailsIn, IsReadOf}
+use Rattle.lwaftr_engine.proofs.Words.{AreSlotsOf, AreTables, IsBehindTable, IsUnread, table_names, AreFitFor, AreLoadsOf, IsMade, LeavesBy, LeavesMade}
+use Rattle.lwaftr_engine.proofs.Words.{some_slot_refused, Leaves, IsPlanOf, Answer, slots_in, some_refused, table_by, windows_in, Status, Load, Made, Slot}
+use Rattle.lwaftr_engine.proofs.Words.{Window, Bool, CaptureBad, IsBrokenRun, IsStopped, IsWhole, IsWholeRun, Stop, World, AreAnswers}
+use Rattle.lwaftr_engine.proofs.JobLemmas.{same_last}
 use Rattle.lwaftr_engine.proofs.PlanLemmas.{answers_of, plan_is, refused_are, slots_are, slots_of_run, AreLoadedAs}
+use Rattle.lwaftr_engine.proofs.ReadLemmas.{read_among}
 use Rattle.lwaftr_engine.specs.declared.status.Status.TheVariants as status
-
-abbrev name_in : Option (List ℕ × ℕ) → List ℕ
-name_in None = []
-name_in (Some x) = x.0
-
-same_read : (name other : List ℕ) (a b : ℕ) (last : Option (List ℕ × ℕ)) → last ≡ Some (name, a) → last ≡ Some (other, b) → name ≡ other
-same_read name other a b last e f = ap name_in (sym e ∙ f)
 
 -- a read of a table file that failed
 pub unread_tables : (run : RunJob) (m : Contents) (said now : Option (List ℕ)) (last : Option (List ℕ × ℕ)) → now ≡ said → IsReadOf (table_names run) last →
     IsBehindTable run m last → IsUnread run m m said now None last
 unread_tables run m said now last same failed accepted =
     let among : (place : ℕ) → last ≡ Some (run.input, place) → Contains (table_names run) run.input = λ place last_is.
-    rw (← (same_read failed.name run.input failed.place place last failed.last_is last_is)) failed.among in
+    rw (← (ap (λ (read : List ℕ × ℕ). read.0) (same_last failed.last_is last_is))) failed.among in
     record {
       kept = record { files = refl; sink = same; none = refl };
       early = λ in_records. in_records.apart (among in_records.place in_records.last_is);
@@ -30,12 +25,6 @@ unread_tables run m said now last same failed accepted =
 pub record AreRead (run : RunJob) (t : BindingTable) (ls : List Load) (m : Contents) : Type 0 where
   pub table : TableOf (content m run.table) (Ok t)
   pub loads : AreLoadsOf m run.loads ls
-
-pub are_read : (run : RunJob) (t : BindingTable) (ls : List Load) (h : Option Contents) → Told h (λ m. TableOf (content m run.table) (Ok t)) →
-    Told h (λ m. AreLoadsOf m run.loads ls) →
-    Told h (λ m. AreRead run t ls m)
-are_read run t ls None table loads = tt
-are_read run t ls (Some m) table loads = record { table = table; loads = loads }
 
 -- a run that is made of tables that were read
 pub record ReadRun : Type 0 where
@@ -111,29 +100,14 @@ module _ (r : ReadRun) where
 -- reads of the capture are among those of all files
 pub among_all : (run : RunJob) (result : Status) (old new : Option (List ℕ × ℕ)) → FailsIn (run.input ∷ []) result old new →
     FailsIn (table_names run ++ run.input ∷ []) result old new
-among_all run status.ReadFault old new failed = record {
-  name = failed.name;
-  place = failed.place;
-  among = Contains-append_right (table_names run) (run.input ∷ []) failed.name failed.among;
-  last_is = failed.last_is;
-}
+among_all run status.ReadFault old new failed = read_among (Contains-append_right (table_names run) (run.input ∷ [])) failed
 among_all run status.WriteFault old new failed = tt
 among_all run status.OutOfMemory old new failed = tt
 among_all run _ old new failed = failed
 
--- a read of one of the table files
-pub table_read : (run : RunJob) (last : Option (List ℕ × ℕ)) → IsReadOf (table_names run) last → IsReadOf (table_names run ++ run.input ∷ []) last
-table_read run last failed = record {
-  name = failed.name;
-  place = failed.place;
-  among = Contains-append_left (table_names run) (run.input ∷ []) failed.name failed.among;
-  last_is = failed.last_is;
-}
+behind_first : (first : List ℕ) (names : List (List ℕ)) (name : List ℕ) → Contains names name → Contains (first ∷ names) name
+behind_first first names name among = (suc among.0, omega (arith, among.1), among.2)
 
+-- the file of a load is one of the table files
 pub load_read : (run : RunJob) (last : Option (List ℕ × ℕ)) → IsReadOf (map (λ (load : LoadWords). load.name) run.loads) last → IsReadOf (table_names run) last
-load_read run last failed = record {
-  name = failed.name;
-  place = failed.place;
-  among = (suc failed.among.0, omega (arith, failed.among.1), failed.among.2);
-  last_is = failed.last_is;
-}
+load_read run last failed = read_among (behind_first run.table (map (λ (load : LoadWords). load.name) run.loads)) failed

@@ -1,10 +1,12 @@
 -- Loads that are read in batches.
-use Rattle.lwaftr_engine.proofs.Words.{◌≡◌, ℕ, suc, ◌+◌, Bool, false, true, List, [], ◌∷◌, ◌++◌, take, drop, get_or, Option, Some, None, Ok, Err, sym, ◌∙◌, ap}
-use Rattle.lwaftr_engine.proofs.Words.{arith, subst, AllZip, Contains, slice_get, map, take-add, take-suc, map-append, take-append-drop, Contains-append_left}
+use Rattle.lwaftr_engine.proofs.Words.{◌≡◌, ℕ, suc, ◌+◌, Bool, false, true, List, [], ◌∷◌, ◌++◌, take, drop, Option, Some, Ok, Err, sym, ◌∙◌, ap, arith}
+use Rattle.lwaftr_engine.proofs.Words.{subst, AllZip, Contains, slice_get, map, take-add, take-suc, map-append, take-append-drop, Contains-append_left}
 use Rattle.lwaftr_engine.proofs.Words.{Contains-append_right, get_or_from_slice_get, slice_get_within, all_zipped_more, Contents, Told, content, Outside}
-use Rattle.lwaftr_engine.proofs.Words.{LoadWords, AreFitFor, AreLoadsOf, FailsAmong, HasWindowOf, IsFileOf, IsFitFor, IsLoadOf, OnlyReadsAmong, Answer, IsSound}
-use Rattle.lwaftr_engine.proofs.Words.{IsLoadOfFile, IsLoadedAs, Load, Loaded, LoadFile, TableOf, read_well}
+use Rattle.lwaftr_engine.proofs.Words.{LoadWords, AreFitFor, AreLoadsOf, FailsAmong, HasWindowOf, IsFileOf, IsFitFor, IsLoadOf, OnlyReadsAmong, Answer}
+use Rattle.lwaftr_engine.proofs.Words.{IsSound, IsLoadOfFile, IsLoadedAs, Load, Loaded, LoadFile, TableOf, read_well}
 use Rattle.lwaftr_engine.proofs.FrontLemmas.{table_of_front}
+use Rattle.lwaftr_engine.proofs.Moving.{told_by}
+use Rattle.lwaftr_engine.proofs.ReadLemmas.{read_among}
 use Rattle.reload_plan.specs.declared.loads.Loaded.TheVariants as loaded
 
 abbrev pub names_of : List LoadWords → List (List ℕ)
@@ -12,8 +14,8 @@ names_of words = map (λ (load : LoadWords). load.name) words
 
 one_more : {A : Type 0} (xs : List A) (at : ℕ) (x : A) → slice_get xs at ≡ Some x → take at xs ++ x ∷ [] ≡ take (at + 1) xs
 one_more {A} xs at x is =
-    let next : take (suc at) xs ≡ take at xs ++ get_or xs at x ∷ [] = take-suc xs at x (slice_get_within xs at x is) in
-    let here : get_or xs at x ≡ x = get_or_from_slice_get xs at x x is in
+    let next = take-suc xs at x (slice_get_within xs at x is) in
+    let here = get_or_from_slice_get xs at x x is in
     let place : suc at ≡ at + 1 = omega arith in
     ap (λ (y : A). take at xs ++ y ∷ []) (sym here) ∙ (sym next ∙ ap (λ (n : ℕ). take n xs) place)
 
@@ -43,18 +45,6 @@ pub zipped_on : {A B : Type 0} (R : A → B → Type 0) (xs : List A) (ys zs : L
 zipped_on {A} {B} R xs ys zs at count before next =
     rw (take-add at count xs) (joined R (take at xs) (take count (drop at xs)) ys zs before next)
 
-pub told_more : {A B : Type 0} (R : Contents → A → B → Type 0) (h : Option Contents) (xs : List A) (ys : List B) (at : ℕ) (x : A) (y : B) →
-    slice_get xs at ≡ Some x → Told h (λ m. AllZip (R m) (take at xs) ys) → Told h (λ m. R m x y) →
-    Told h (λ m. AllZip (R m) (take (at + 1) xs) (ys ++ y ∷ []))
-told_more R None xs ys at x y is told one = tt
-told_more R (Some m) xs ys at x y is told one = zipped_more (R m) xs ys at x y is told one
-
-pub told_on : {A B : Type 0} (R : Contents → A → B → Type 0) (h : Option Contents) (xs : List A) (ys zs : List B) (at count : ℕ) →
-    Told h (λ m. AllZip (R m) (take at xs) ys) → Told h (λ m. AllZip (R m) (take count (drop at xs)) zs) →
-    Told h (λ m. AllZip (R m) (take (at + count) xs) (ys ++ zs))
-told_on R None xs ys zs at count told next = tt
-told_on R (Some m) xs ys zs at count told next = zipped_on (R m) xs ys zs at count told next
-
 said : (m : Contents) (w : LoadWords) (f : LoadFile) (l : Load) → IsFileOf m w f → IsLoadOfFile f l → IsLoadOf m w l
 said m w f l file load = record {
   answer = load.said.answer;
@@ -65,8 +55,7 @@ said m w f l file load = record {
 -- the loads of files are those of the words that the files were read for
 pub loads_told : (h : Option Contents) (ws : List LoadWords) (fs : List LoadFile) (ls : List Load) → Told h (λ m. AllZip (IsFileOf m) ws fs) →
     AllZip IsLoadOfFile fs ls → Told h (λ m. AreLoadsOf m ws ls)
-loads_told None ws fs ls read loads = tt
-loads_told (Some m) ws fs ls read loads = through (IsFileOf m) IsLoadOfFile (IsLoadOf m) (said m) ws fs ls read loads
+loads_told h ws fs ls read loads = told_by h _ _ (λ m files. through (IsFileOf m) IsLoadOfFile (IsLoadOf m) (said m) ws fs ls files loads) read
 
 sound_by : (answer : Answer) (l : Loaded) → IsLoadedAs answer l → IsSound l
 sound_by (Ok t) (loaded.Words words) is = record { table = t; of_table = is }
@@ -94,12 +83,7 @@ among_all_names ws at count name among =
 fails_among : (failed : Bool) (ws : List LoadWords) (at count : ℕ) (before now : Option (List ℕ × ℕ)) →
     FailsAmong failed (names_of (take count (drop at ws))) before now → FailsAmong failed (names_of ws) before now
 fails_among false ws at count before now same = same
-fails_among true ws at count before now failed = record {
-  name = failed.name;
-  place = failed.place;
-  among = among_all_names ws at count failed.name failed.among;
-  last_is = failed.last_is;
-}
+fails_among true ws at count before now failed = read_among (among_all_names ws at count) failed
 
 -- what reads the files of some of the words reads among those of all
 pub reads_within : (failed : Bool) (ws : List LoadWords) (at count : ℕ) (a b d : Outside) → b ≡ a →

@@ -47,5 +47,5 @@ pub record IsAskedFor (rate : Option ℕ) (form : Form) (rs : List Rec) (es : Li
 pub limits_exist : (rate : Option ℕ) → IfSome rate IsRate → (form : Form) (rs : List Rec) (es : List Entry) (c : Course) → IsAskedFor rate form rs es c
 limits_exist None is form rs es c = record { limit = None; rate_is = refl; asked = (replicate (length (times_of (told_from c form 0 rs es))) true, refl) }
 limits_exist (Some rate) is form rs es c =
-    let found : AreMarked rate (times_of (told_from c form 0 rs es)) = marks_exist rate (times_of (told_from c form 0 rs es)) is.0 in
+    let found = marks_exist rate (times_of (told_from c form 0 rs es)) is.0 in
     record { limit = Some found.bucket; rate_is = ap (λ (n : ℕ). let o : Option ℕ = Some n in o) found.rate_is; asked = (found.marks, found.stands) }

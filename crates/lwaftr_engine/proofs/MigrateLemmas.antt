@@ -3,7 +3,7 @@ use Rattle.lwaftr_engine.proofs.Words.{◌≡◌, ℕ, List, [], ◌++◌, lengt
 use Rattle.lwaftr_engine.proofs.Words.{Contents, content, Moves, Told, Writes, migrated_text, TableOf, TextOf, BindingTable, Puts, HoldsText, IsMigratedLine}
 use Rattle.lwaftr_engine.proofs.Words.{LeavesMigrated, in_edition_two, World, Status}
 use Rattle.lwaftr_engine.specs.Questions.{TookFront}
-use Rattle.lwaftr_engine.proofs.Moving.{moves_join, told_then}
+use Rattle.lwaftr_engine.proofs.Moving.{moves_join, told_moves}
 use Rattle.lwaftr_engine.specs.declared.status.Status.TheVariants as status
 
 nothing_more : (line : List ℕ) (said : Option (List ℕ)) → said ≡ option_map (λ taken. taken ++ take 0 line) said
@@ -36,8 +36,8 @@ pub migrated : (input output : List ℕ) (t : BindingTable) (text : List ℕ) (s
     Moves before.files.held after.files.held (λ m n. Writes m n output text) →
     Moves before.files.held after.files.held (LeavesMigrated input output s before after)
 migrated input output t text s before after spelled put table writes =
-    told_then before.files.held before.files.held after.files.held _ _ _
+    told_moves before.files.held after.files.held _ _ _
     (λ m n is whole.
     let holds : HoldsText input output t m n = record { text = text; is_new = record { table = is; spelled = spelled }; writes = whole } in
     leaves_by input output t m n before after holds s put)
-    refl table writes
+    table writes

@@ -32,18 +32,33 @@ moves_by None (Some n) P R each step = step
 moves_by (Some m) None P R each step = step
 moves_by (Some m) (Some n) P R each step = each m n step
 
-told_moves : (a c : Option Contents) (P : Contents → Type 0) (Q R : Contents → Contents → Type 0) → ((m o : Contents) → P m → Q m o → R m o) → Told a P →
+-- a step behind what is told of its first state
+pub told_moves : (a c : Option Contents) (P : Contents → Type 0) (Q R : Contents → Contents → Type 0) → ((m o : Contents) → P m → Q m o → R m o) → Told a P →
     Moves a c Q → Moves a c R
 told_moves None None P Q R both told step = tt
 told_moves None (Some o) P Q R both told step = step
 told_moves (Some m) None P Q R both told step = step
 told_moves (Some m) (Some o) P Q R both told step = both m o told step
 
--- a step that begins with what is told already
-pub told_then : (a b c : Option Contents) (P : Contents → Type 0) (Q R : Contents → Contents → Type 0) → ((m o : Contents) → P m → Q m o → R m o) → b ≡ a →
-    Told a P → Moves b c Q → Moves a c R
-told_then a b c P Q R both same told step =
-    told_moves a c P Q R both told (rw (← same) step)
+-- what is told, in other words
+pub told_by : (h : Option Contents) (P Q : Contents → Type 0) → ((m : Contents) → P m → Q m) → Told h P → Told h Q
+told_by None P Q each told = tt
+told_by (Some m) P Q each told = each m told
+
+-- two things that are told
+pub told_both : (h : Option Contents) (P Q R : Contents → Type 0) → ((m : Contents) → P m → Q m → R m) → Told h P → Told h Q → Told h R
+told_both None P Q R both first second = tt
+told_both (Some m) P Q R both first second = both m first second
+
+-- what holds of all contents
+pub told_all : (h : Option Contents) (P : Contents → Type 0) → ((m : Contents) → P m) → Told h P
+told_all None P all = tt
+told_all (Some m) P all = all m
+
+-- what is told of a state, as a step that does nothing
+pub told_still : (h : Option Contents) (P : Contents → Type 0) (R : Contents → Contents → Type 0) → ((m : Contents) → P m → R m m) → Told h P → Moves h h R
+told_still None P R each told = tt
+told_still (Some m) P R each told = each m told
 
 -- a step, whose last state is told of once more
 pub moves_told : (a b c : Option Contents) (P Q : Contents → Contents → Type 0) (T : Contents → Type 0) (R : Contents → Contents → Type 0) →

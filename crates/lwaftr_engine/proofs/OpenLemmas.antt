@@ -1,6 +1,7 @@
 -- A capture that is opened, by the names and values that the calls had.
-use Rattle.lwaftr_engine.proofs.Words.{◌≡◌, ℕ, List, Option, Some, None, Ok, refl, Contents, content, Told, IsAtFirst, Spot, spot, IsFresh}
-use Rattle.lwaftr_engine.proofs.Words.{OpensEither, form_either, left_either, place_either, stands_either, written_as, Reader}
+use Rattle.lwaftr_engine.proofs.Words.{ℕ, List, Option, Ok, refl, Contents, content, Told, IsAtFirst, Spot, spot, IsFresh, OpensEither, form_either}
+use Rattle.lwaftr_engine.proofs.Words.{left_either, place_either, stands_either, written_as, Reader}
+use Rattle.lwaftr_engine.proofs.Moving.{told_by}
 use Rattle.lwaftr_engine.proofs.JobLemmas.{blocks_first, classic_first}
 use Rattle.pcapng_io.specs.Captures as blocks
 use Rattle.pcapng_io.specs.declared.either.Reader.TheVariants as reader
@@ -14,5 +15,4 @@ opened_by (reader.Blocks s) bytes fresh opened = blocks_first s (blocks.form_of 
 
 pub opened_first : (r : Reader) (name : List ℕ) (h : Option Contents) → IsFresh r → Told h (λ m. OpensEither (Ok r) (content m name))
     → Told h (λ m. IsAtFirst (spot_of r) (form_either r) (written_as r) (content m name))
-opened_first r name None fresh opened = tt
-opened_first r name (Some m) fresh opened = opened_by r (content m name) fresh opened
+opened_first r name h fresh opened = told_by h _ _ (λ m it. opened_by r (content m name) fresh it) opened

@@ -16,10 +16,8 @@ front_part {A} whole first rest count is =
 pub front_more : (whole part next rest : List ℕ) (count : ℕ) → whole ≡ (part ++ next) ++ rest →
     part ++ take count next ≡ take (length (part ++ take count next)) whole
 front_more whole part next rest count is =
-    let cut : part ++ next ≡ (part ++ take count next) ++ drop count next =
-    ap (λ (l : List ℕ). part ++ l) (sym (take-append-drop count next)) ∙ sym (append_assoc part (take count next) (drop count next)) in
     front_of whole (part ++ take count next) (drop count next ++ rest)
-    (is ∙ (ap (λ (l : List ℕ). l ++ rest) cut ∙ append_assoc (part ++ take count next) (drop count next) rest))
+    (is ∙ (ap (λ (l : List ℕ). (part ++ l) ++ rest) (sym (take-append-drop count next)) ∙ simp append_assoc))
 
 -- a list is a front of itself
 pub all_of : (list : List ℕ) → IsFrontOf list list

@@ -1,9 +1,9 @@
 -- The plan of the loads that were read, in the words of what their files say.
-use Rattle.lwaftr_engine.proofs.Words.{◌≡◌, ℕ, cond, count_by, zero, suc, ◌+◌, ◌<◌, List, [], ◌∷◌, ◌++◌, length, get_or, Ok, Err, refl, ◌∙◌, ap, arith}
-use Rattle.lwaftr_engine.proofs.Words.{slice_index_or, Contents, LoadWords, FileRefused, BindingTable, sum_by-cons, RunJob, AreNumbered, AreSlotsOf, is_table}
-use Rattle.lwaftr_engine.proofs.Words.{AreFitFor, AreLoadsOf, some_slot_refused, IsPlanOf, Answer, AreAnswers, slots_in, some_refused, table_by, tables_in}
-use Rattle.lwaftr_engine.proofs.Words.{windows_in, accepted, slot_of, slots_from, window_in, windows_read, words_in, words_read, IsLoadedAs, Load, Loaded, Slot}
-use Rattle.lwaftr_engine.proofs.Words.{Tables, Window, IsCompiled}
+use Rattle.lwaftr_engine.proofs.Words.{◌≡◌, ℕ, cond, count_by, zero, suc, ◌+◌, ◌<◌, List, [], ◌∷◌, ◌++◌, length, get_or, Ok, Err, refl, ap, arith}
+use Rattle.lwaftr_engine.proofs.Words.{slice_index_or, Contents, LoadWords, BindingTable, sum_by-cons, RunJob, AreNumbered, AreSlotsOf, is_table, AreFitFor}
+use Rattle.lwaftr_engine.proofs.Words.{AreLoadsOf, some_slot_refused, IsPlanOf, Answer, AreAnswers, slots_in, some_refused, table_by, tables_in, windows_in}
+use Rattle.lwaftr_engine.proofs.Words.{accepted, slot_of, slots_from, window_in, windows_read, words_in, words_read, IsLoadedAs, Load, Loaded, Slot, Tables}
+use Rattle.lwaftr_engine.proofs.Words.{Window, IsCompiled}
 use Rattle.reload_plan.specs.declared.loads.Loaded.TheVariants as loaded
 use Rattle.reload_plan.specs.declared.loads.Slot.TheVariants as slot
 
@@ -28,8 +28,7 @@ slot_step : (before : ℕ) (a : Answer) (x : Loaded) (rest : List Load) (answers
 slot_step before (Ok t) (loaded.Words words) rest answers is later = ap (λ (l : List Slot). slot.Version (before + 1) ∷ l) (later (before + 1))
 slot_step before (Err refusal) (loaded.Refused cause) rest answers is later =
     let none : before + 0 ≡ before = omega arith in
-    ap (λ (n : ℕ). slot.Refused cause ∷ slots_from n rest) none
-    ∙ (ap (λ (l : List Slot). slot.Refused cause ∷ l) (later before) ∙ ap (λ (c : FileRefused). slot.Refused c ∷ slots_in before answers) is)
+    cc (none, later before, is)
 slot_step before _ _ rest answers is later = absurd is
 
 pub slots_are : (answers : List Answer) (ls : List Load) → AreLoadedAs answers ls → (before : ℕ) → slots_from before ls ≡ slots_in before answers
@@ -40,8 +39,7 @@ slots_are _ _ h before = absurd h
 window_step : (a : Answer) (x : Loaded) (w : LoadWords) (window : Window) (rest : List Window) (ws : List LoadWords) (answers : List Answer) → IsLoadedAs a x →
     window ≡ w.window →
     rest ≡ windows_in ws answers → window_in window x ++ rest ≡ windows_in (w ∷ ws) (a ∷ answers)
-window_step (Ok t) (loaded.Words words) w window rest ws answers is same later =
-    ap (λ (v : Window). v ∷ rest) same ∙ ap (λ (l : List Window). w.window ∷ l) later
+window_step (Ok t) (loaded.Words words) w window rest ws answers is same later = λ i. same i ∷ later i
 window_step (Err refusal) (loaded.Refused cause) w window rest ws answers is same later = later
 window_step _ _ w window rest ws answers is same later = absurd is
 
@@ -87,7 +85,7 @@ pub plan_is : (first : BindingTable) (words : List ℕ) (answers : List Answer) 
     p ≡ accepted words ls →
     AreFitFor ws ls → AreLoadedAs answers ls → IsPlanOf (table_by first answers) (windows_in ws answers) p
 plan_is first words answers ws ls p compiled is fit h =
-    let windows : windows_read ls ≡ windows_in ws answers = windows_are answers ws ls fit h in
+    let windows = windows_are answers ws ls fit h in
     rw is (record {
       same_windows = windows;
       count = omega (arith, counts ls, ap (λ (l : List Window). length l) windows);

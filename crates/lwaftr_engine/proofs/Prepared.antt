@@ -1,8 +1,8 @@
 -- What the run of the demonstration is told.
 use Rattle.lwaftr_engine.proofs.Words.{◌≡◌, true, ℕ, ◌≤◌, List, [], ◌∷◌, cond, unwrap_or, codes, Some, None, refl, ◌∙◌, ap, arith, All-cons, All-nil}
-use Rattle.lwaftr_engine.proofs.Words.{eq_by_cmp_equiv, nat_cmp, eq_by_cmp, slice_cmp, nat_list_cmp_total, get, get-insert, insert, Contents, content, AreApart}
-use Rattle.lwaftr_engine.proofs.Words.{IsLoad, StandsOnce, names_of, RunJob, IsDemoJob, IsDemoMade, IsShow, Made}
-use Rattle.lwaftr_engine.proofs.Words.{Window, capture_of, table_from, half_way}
+use Rattle.lwaftr_engine.proofs.Words.{eq_by_cmp_equiv, nat_cmp, eq_by_cmp, slice_cmp, nat_list_cmp_total, get, get-insert, insert, Contents, content}
+use Rattle.lwaftr_engine.proofs.Words.{AreApart, IsLoad, StandsOnce, names_of, RunJob, IsDemoJob, IsDemoMade, IsShow, Made, Window, capture_of, table_from}
+use Rattle.lwaftr_engine.proofs.Words.{half_way}
 use Rattle.aftr_text.specs.Jobs.{how_many}
 
 -- the names of the run are apart
@@ -46,11 +46,5 @@ content_here m name bytes =
 
 pub is_show : (seed count : ℕ) (old : Contents) (job : RunJob) (made : Made) → IsDemoJob count job → IsDemoMade count (table_from 0) (table_from 64) made →
     IsShow seed count (record { files = insert old job.input (capture_of seed count); job = job; made = made })
-is_show seed count old job made is_job is_made = record {
-  job = is_job;
-  holds = content_here old job.input (capture_of seed count);
-  plan = is_made.plan;
-  compiled = is_made.compiled;
-  one_slot = is_made.one_slot;
-  accepted = is_made.accepted;
-}
+is_show seed count old job made is_job is_made =
+    record { job = is_job; holds = content_here old job.input (capture_of seed count); made = is_made }

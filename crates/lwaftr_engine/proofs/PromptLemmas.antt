@@ -1,7 +1,8 @@
 -- What command words come to where nobody is waited for.
-use Rattle.lwaftr_engine.proofs.Words.{◌≡◌, ◌⊎◌, ℕ, List, Option, Some, None, inl, inr, refl, sym, ◌∙◌, Contents, Moves, Told, Outside, RunJob, HistoryValue}
-use Rattle.lwaftr_engine.proofs.Words.{HasCause, HasOneCause, IsFault, KeepsDemo, IsAskedFor, KeepsRun, Leaves, IsLeft, World, world, Status}
+use Rattle.lwaftr_engine.proofs.Words.{◌≡◌, ◌⊎◌, ℕ, List, Option, None, inl, inr, refl, sym, ◌∙◌, Outside, RunJob, HistoryValue, HasCause, HasOneCause}
+use Rattle.lwaftr_engine.proofs.Words.{KeepsDemo, KeepsRun, Leaves, IsLeft, World, world, Status}
 use Rattle.lwaftr_engine.proofs.Adding.{others_same}
+use Rattle.lwaftr_engine.proofs.Moving.{moves_none, told_all}
 use Rattle.lwaftr_engine.specs.declared.at_once.AtOnce.TheVariants as at_once
 use Rattle.lwaftr_engine.specs.declared.status.Status.TheVariants as status
 
@@ -34,22 +35,14 @@ demo_not_run (inr short) = absurd (cc short)
 pub same_world : {a b : Outside} {said was : Option (List ℕ)} {puts before : ℕ} → a ≡ b → said ≡ was → puts ≡ before → world a said puts ≡ world b was before
 same_world files took failed = λ i. record { files = files i; said = took i; puts = failed i }
 
-untouched : (run : RunJob) (h : Option Contents) (w : World) → Moves h h (Leaves run status.OutOfMemory w w None)
-untouched run None w = tt
-untouched run (Some m) w = inl (record { files = refl; sink = refl; none = refl }, record { lost = refl; spoiled = refl; faults = refl; last = refl })
-
--- want of memory answers whatever is asked for
-answered_so : (run : RunJob) (h : Option Contents) → Told h (λ m. (s : Status) → IsAskedFor run m s → (status.OutOfMemory ≡ s) ⊎ IsFault status.OutOfMemory)
-answered_so run None = tt
-answered_so run (Some m) = λ s asked. inr tt
-
 -- memory was short before anything was done
 pub no_run : (run : RunJob) (s : Status) (w : World) (history : Option HistoryValue) → s ≡ status.OutOfMemory → history ≡ None → KeepsRun run s w w history
 no_run run s w history short none =
     rw short (rw none (record {
-      files = untouched run w.files.held w;
+      files = moves_none w.files.held w.files.held (Leaves run status.OutOfMemory w w None)
+          (λ m. inl (record { files = refl; sink = refl; none = refl }, record { lost = refl; spoiled = refl; faults = refl; last = refl })) refl;
       others = others_same run w.files.held w.files.held refl;
-      due = answered_so run w.files.held;
+      due = told_all w.files.held _ (λ m s asked. inr tt);
       cause = record { spoiled = refl; puts = refl };
       failed_read = tt;
       capture_read = inl (refl, refl);

@@ -1,8 +1,9 @@
 -- What a question about a table file leaves.
-use Rattle.lwaftr_engine.proofs.Words.{◌≡◌, inl, inr, ℕ, ◌≤◌, List, [], ◌∷◌, length, Option, Some, None, Result, Ok, Err, ap, arith, subst, Contents}
-use Rattle.lwaftr_engine.proofs.Words.{content, Told, V4, V6, TableOf, FileRefused, bound, BindingTable, Binding, IsNoTable, IsOwnerText, Puts, Answers}
-use Rattle.lwaftr_engine.proofs.Words.{IsLineOf, IsOwnerLine, NamesOwner, RefusesAs, NoTable, Status, first_b4, IsCompiled}
+use Rattle.lwaftr_engine.proofs.Words.{◌≡◌, inl, inr, ℕ, ◌≤◌, List, [], ◌∷◌, length, Option, Result, Ok, Err, ap, arith, subst, Contents, content, Told, V4}
+use Rattle.lwaftr_engine.proofs.Words.{V6, TableOf, FileRefused, bound, BindingTable, Binding, IsNoTable, IsOwnerText, Puts, Answers, IsLineOf, IsOwnerLine}
+use Rattle.lwaftr_engine.proofs.Words.{NamesOwner, RefusesAs, NoTable, Status, first_b4, IsCompiled}
 use Rattle.lwaftr_engine.proofs.Laws.{OneAnswer}
+use Rattle.lwaftr_engine.proofs.Moving.{told_by}
 use Rattle.binding_rules.specs.declared.binding.Want.TheVariants as want
 use Rattle.lwaftr_engine.specs.declared.table_file.NoTable.TheVariants as none
 use Rattle.lwaftr_engine.specs.declared.status.Status.TheVariants as status
@@ -22,8 +23,8 @@ refuses one bytes x is y = (
 
 pub refuses_told : OneAnswer → (h : Option Contents) (name : List ℕ) (x : FileRefused) (why : NoTable) → why ≡ none.Refused x
     → Told h (λ m. IsNoTable (content m name) why) → Told h (λ m. RefusesAs (content m name) (status.BadTable x))
-refuses_told one None name x why because is = tt
-refuses_told one (Some m) name x why because is = refuses one (content m name) x (subst (λ w. IsNoTable (content m name) w) because is)
+refuses_told one h name x why because is =
+    told_by h _ _ (λ m no. refuses one (content m name) x (subst (λ w. IsNoTable (content m name) w) because no)) is
 
 -- the text of the first of at most one owner names that owner
 named : (bs : List Binding) (owner : Option V6) (line : List ℕ) → length bs ≤ 1 → owner ≡ first_b4 bs → IsOwnerText owner line → NamesOwner bs line

@@ -1,7 +1,6 @@
 -- Which reads failed: none, or one of the capture.
 use Rattle.lwaftr_engine.proofs.Words.{◌≡◌, ℕ, Bool, true, false, List, inl, inr, refl, ◌∙◌, FailsAt, Moves, OnlyReads, Outside, Rises, CaptureError}
-use Rattle.lwaftr_engine.proofs.Words.{FailsBehind, MayFailIn}
-use Rattle.lwaftr_engine.proofs.Words.{KeepsRest, OthersKept, ReadsOf, RunJob, Status}
+use Rattle.lwaftr_engine.proofs.Words.{Contains, FailsBehind, IsReadOf, MayFailIn, Option, KeepsRest, OthersKept, ReadsOf, RunJob, Status}
 use Rattle.lwaftr_engine.proofs.Adding.{others_more, others_same}
 use Rattle.lwaftr_engine.proofs.UnopenedLemmas.{failed_as}
 use Rattle.lwaftr_engine.specs.declared.status.Status.TheVariants as status
@@ -50,6 +49,11 @@ module _ (run : RunJob) where
     others = others_same run a.held b.held only.held;
     capture_read = rw (← named) (failed_by (failed_as T error) k Inside a b only.lost only.last);
   }
+
+-- a read of one of some files is one of more
+pub read_among : {names more : List (List ℕ)} {last : Option (List ℕ × ℕ)} → ((name : List ℕ) → Contains names name → Contains more name) →
+    IsReadOf names last → IsReadOf more last
+read_among wider failed = record { name = failed.name; place = failed.place; among = wider failed.name failed.among; last_is = failed.last_is }
 
 pub fails_behind : (input : List ℕ) (s : Status) (a b : Outside) → MayFailIn input a b → FailsBehind input s a b
 fails_behind input status.WriteFault a b may = may

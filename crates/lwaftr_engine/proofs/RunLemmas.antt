@@ -1,13 +1,13 @@
 -- What a run leaves once its tables are read, or a read of them failed.
-use Rattle.lwaftr_engine.proofs.Words.{◌≡◌, ℕ, List, [], ◌∷◌, Option, Some, None, Ok, inr, refl, true, map, Contents, content, Moves, Told, Outside, LoadWords}
-use Rattle.lwaftr_engine.proofs.Words.{RunJob, HistoryValue, TableOf, BindingTable, FailsIn, HasCause, IsReadOf, IsBehindTable, table_names}
-use Rattle.lwaftr_engine.proofs.Words.{AreFitFor, AreLoadsOf, OnlyReadsAmong, IsMade, LeavesMade, HasHistory, KeepsRest, KeepsRun, Leaves, world, Status, Load}
-use Rattle.lwaftr_engine.proofs.Words.{Made, World}
+use Rattle.lwaftr_engine.proofs.Words.{◌≡◌, Contains-append_left, ℕ, List, [], ◌∷◌, Option, None, Ok, inr, refl, true, map, content, Moves, Told, Outside}
+use Rattle.lwaftr_engine.proofs.Words.{LoadWords, RunJob, HistoryValue, TableOf, BindingTable, FailsIn, HasCause, IsReadOf, table_names, AreFitFor}
+use Rattle.lwaftr_engine.proofs.Words.{AreLoadsOf, OnlyReadsAmong, IsMade, LeavesMade, HasHistory, KeepsRest, KeepsRun, Leaves, world, Status, Load, Made}
+use Rattle.lwaftr_engine.proofs.Words.{World}
 use Rattle.lwaftr_engine.proofs.DueLemmas.{AreSingle, due_told}
-use Rattle.lwaftr_engine.proofs.LeaveLemmas.{among_all, load_read, table_read, unread_tables, AreRead, ReadRun, are_read, leaves}
-use Rattle.lwaftr_engine.proofs.ReadLemmas.{fails_behind}
+use Rattle.lwaftr_engine.proofs.LeaveLemmas.{among_all, load_read, unread_tables, AreRead, ReadRun, leaves}
+use Rattle.lwaftr_engine.proofs.ReadLemmas.{fails_behind, read_among}
 use Rattle.lwaftr_engine.proofs.Adding.{others_same}
-use Rattle.lwaftr_engine.proofs.Moving.{told_then}
+use Rattle.lwaftr_engine.proofs.Moving.{told_all, told_both, told_moves, told_still}
 use Rattle.lwaftr_engine.specs.declared.status.Status.TheVariants as status
 
 -- the tables were read, and the run is made of them
@@ -35,11 +35,11 @@ keeps_run r d result history all left rest cause failed has =
     let before = world r.a r.said r.puts in
     let Left = LeavesMade r.run r.made.plan r.made.slots result before r.now history in
     let files : Moves r.a.held r.now.files.held (Leaves r.run result before r.now history) =
-    told_then r.a.held r.a.held r.now.files.held (λ m. AreRead r.run r.t r.ls m) Left (Leaves r.run result before r.now history)
+    told_moves r.a.held r.now.files.held (AreRead r.run r.t r.ls) Left (Leaves r.run result before r.now history)
     (λ m n read step.
     let tables : ReadRun = record { run = r.run; t = r.t; ls = r.ls; made = r.made; of = r.of; fit = r.fit; old = m; read = read } in
     leaves tables result before r.now history n step)
-    refl (are_read r.run r.t r.ls r.a.held r.table r.loads) (rw (← all) left) in
+    (told_both r.a.held _ _ (AreRead r.run r.t r.ls) (λ m table loads. record { table = table; loads = loads }) r.table r.loads) (rw (← all) left) in
     record {
       files = files;
       others = rw (← all) rest.others;
@@ -50,21 +50,6 @@ keeps_run r d result history all left rest cause failed has =
       has_history = has;
     }
 
-unread_by : (run : RunJob) (h : Option Contents) (before now : World) → now.said ≡ before.said → IsReadOf (table_names run) now.files.last →
-    Told h (λ m. IsBehindTable run m now.files.last) →
-    Moves h h (Leaves run status.ReadFault before now None)
-unread_by run None before now same failed accepted = tt
-unread_by run (Some m) before now same failed accepted = inr (unread_tables run m before.said now.said now.files.last same failed accepted)
-
-accepted_by : (run : RunJob) (h : Option Contents) (t : BindingTable) (last : Option (List ℕ × ℕ)) →
-    Told h (λ m. TableOf (content m run.table) (Ok t)) → Told h (λ m. IsBehindTable run m last)
-accepted_by run None t last told = tt
-accepted_by run (Some m) t last told = λ name place last_is apart. (t, told)
-
-no_due : (P : Contents → Type 0) (h : Option Contents) → ((m : Contents) → P m) → Told h P
-no_due P None all = tt
-no_due P (Some m) all = all m
-
 -- a read of a load's file failed
 pub keeps_unread : (run : RunJob) (t : BindingTable) (a d : Outside) (said : Option (List ℕ)) (puts : ℕ) (history : Option HistoryValue) → history ≡ None →
     OnlyReadsAmong true (map (λ (load : LoadWords). load.name) run.loads) a d → Told a.held (λ m. TableOf (content m run.table) (Ok t)) →
@@ -72,11 +57,12 @@ pub keeps_unread : (run : RunJob) (t : BindingTable) (a d : Outside) (said : Opt
 keeps_unread run t a d said puts history none only table =
     let failed : IsReadOf (table_names run) d.last = load_read run d.last only.last in
     rw none (record {
-      files = rw only.held (unread_by run a.held (world a said puts) (world d said puts) refl failed (accepted_by run a.held t d.last table));
+      files = rw only.held (told_still a.held _ (Leaves run status.ReadFault (world a said puts) (world d said puts) None)
+          (λ m told. inr (unread_tables run m said said d.last refl failed (λ name place last_is apart. (t, told)))) table);
       others = others_same run a.held d.held only.held;
-      due = no_due _ a.held (λ m s asked. inr tt);
+      due = told_all a.held _ (λ m s asked. inr tt);
       cause = record { lost = only.lost; spoiled = only.spoiled; puts = refl };
-      failed_read = table_read run d.last failed;
+      failed_read = read_among (Contains-append_left (table_names run) (run.input ∷ [])) failed;
       capture_read = tt;
       has_history = refl;
     })

@@ -1,7 +1,6 @@
 -- The run of the demonstration.
-use Rattle.lwaftr_engine.proofs.Words.{◌≡◌, ℕ, List, [], ◌∷◌, length, All, Result, Ok, Err, refl, ap, IfOk, OutOfMemory, LoadWords}
-use Rattle.lwaftr_engine.proofs.Words.{BindingTable, half_way, some_slot_refused, IsDemoMade, accepted, slots_from, Load, Made, Slot}
-use Rattle.lwaftr_engine.proofs.Words.{Window, AreCompiled, IsCompiled, IsFitFor}
+use Rattle.lwaftr_engine.proofs.Words.{◌≡◌, ℕ, List, [], ◌∷◌, length, All, Result, Ok, Err, refl, ap, IfOk, OutOfMemory, LoadWords, BindingTable, half_way}
+use Rattle.lwaftr_engine.proofs.Words.{some_slot_refused, IsDemoMade, accepted, slots_from, Load, Made, Slot, Window, AreCompiled, IsCompiled, IsFitFor}
 use Rattle.lwaftr_engine.proofs.PlanLemmas.{plan_is}
 use Rattle.reload_plan.specs.declared.loads.Loaded.TheVariants as loaded
 

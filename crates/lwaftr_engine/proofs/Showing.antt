@@ -1,14 +1,13 @@
 -- The run over the generated capture is the demonstration's.
 use Rattle.lwaftr_engine.proofs.Words.{◌≡◌, ℕ, zero, suc, ◌+◌, ◌<◌, ◌≤◌, ◌%◌, ◌^◌, nat_le, cond, Bool, true, false, List, [], ◌∷◌, length, map, All, drop}
-use Rattle.lwaftr_engine.proofs.Words.{Option, Some, None, Result, Ok, ◌⊎◌, inl, inr, refl, sym, ◌∙◌, ap, subst, arith, le-leb, ◌&&◌, nat_lt, IsNone, IsSome}
-use Rattle.lwaftr_engine.proofs.Words.{count_by, range_with_len, All-cons, All-nil, length-map-range_with_len, sum_by-cons, Contents}
-use Rattle.lwaftr_engine.proofs.Words.{HistoryValue, IsCapture, IsRecordable, TimedPacket, capture_bytes, timed, written_form, CaptureBad, Form, Rec, bytes6}
-use Rattle.lwaftr_engine.proofs.Words.{Puts, HasDemoHistory, IsDemo, IsDemoLine, demo_tables, middle, middle_window, IsWhole, Header, IsInput, IsInputBy}
-use Rattle.lwaftr_engine.proofs.Words.{IsCourse, IsHistoryOf, IsShow, Show, Status, is_pcapng, AreAllPoints, Window, drawn, state_after, capture_of}
-use Rattle.lwaftr_engine.proofs.Words.{generated, packet4_of, packet_by, tunnel_head, way_of, Draw, Kind, Way, HasSummary, BindingTable, IsPlanOf}
-use Rattle.lwaftr_engine.proofs.Words.{some_slot_refused}
+use Rattle.lwaftr_engine.proofs.Words.{Option, Some, None, Ok, ◌⊎◌, inl, inr, refl, sym, ◌∙◌, ap, subst, arith, ◌&&◌, nat_lt, count_by, range_with_len}
+use Rattle.lwaftr_engine.proofs.Words.{All-cons, All-nil, length-map-range_with_len, sum_by-cons, Contents, HistoryValue, IsCapture, IsRecordable}
+use Rattle.lwaftr_engine.proofs.Words.{TimedPacket, capture_bytes, timed, written_form, Form, Rec, bytes6, Puts, HasDemoHistory, IsDemo, demo_tables, middle}
+use Rattle.lwaftr_engine.proofs.Words.{middle_window, IsWhole, Header, IsInput, IsInputBy, IsCourse, IsHistoryOf, IsShow, Show, Status, is_pcapng}
+use Rattle.lwaftr_engine.proofs.Words.{AreAllPoints, Window, drawn, state_after, capture_of, generated, packet4_of, packet_by, tunnel_head, way_of, Draw}
+use Rattle.lwaftr_engine.proofs.Words.{Kind, Way, BindingTable, IsPlanOf, some_slot_refused}
 use Rattle.lwaftr_engine.proofs.Laws.{OneReading}
-use Rattle.lwaftr_engine.proofs.SummaryLemmas.{some_summed}
+use Rattle.lwaftr_engine.proofs.Telling.{is_one}
 use Rattle.capture_io.specs.Capture as classic
 use Rattle.lwaftr_engine.specs.declared.status.Status.TheVariants as status
 use Rattle.traffic_gen.specs.declared.generator.Kind.TheVariants as kind
@@ -26,9 +25,7 @@ outer_size sender p = omega arith
 
 size_by : (k : Kind) (sender : ℕ) (p : List ℕ) → length p ≡ 32 → length (packet_by k sender p) ≤ 262144
 size_by kind.Inward sender p size = omega (arith, size)
-size_by kind.Outward sender p size = omega (arith, size, outer_size sender p)
-size_by kind.Between sender p size = omega (arith, size, outer_size sender p)
-size_by kind.Foreign sender p size = omega (arith, size, outer_size sender p)
+size_by _ sender p size = omega (arith, size, outer_size sender p)
 
 can_record : (seed number : ℕ) → number < 1000000 → IsRecordable (generated seed number)
 can_record seed number few =
@@ -71,17 +68,15 @@ count_is : OneReading → WrittenIsRead → (seed count : ℕ) → count ≤ 100
     IsInput (capture_of seed count) header rs None → length rs ≡ count
 count_is one written seed count few header rs input =
     let packets : List TimedPacket = map (generated seed) (range_with_len 0 count) in
-    let size : length packets ≡ count = length-map-range_with_len (generated seed) 0 count in
+    let size = length-map-range_with_len (generated seed) 0 count in
     let read = written false packets (can_record_all seed 0 count (omega (arith, few))) (omega (arith, size, few)) in
     let I : Bool → Type 0 = λ b. IsInputBy b (capture_bytes false packets) header rs None in
     counted one packets read.0 read.1 read.2 header rs (subst I (is_classic packets) input) ∙ size
 
 is_open : (count : ℕ) → count_by (λ (w : Window). nat_le w.earliest count) (middle_window count) ≡ 1
 is_open count =
-    let opens : nat_le (middle count) count ≡ true = le-leb (middle count) count (omega arith) in
-    let one : (let k : ℕ = cond (nat_le (middle count) count) 1 0 in k) ≡ 1 = ap (λ (t : Bool). let k : ℕ = cond t 1 0 in k) opens in
     let w : Window = record { earliest = middle count; latest = middle count } in
-    omega (arith, one, sum_by-cons (λ (v : Window). cond (nat_le v.earliest count) 1 0) w [])
+    omega (arith, is_one (middle count) count (omega arith), sum_by-cons (λ (v : Window). cond (nat_le v.earliest count) 1 0) w [])
 
 -- the one point of the run
 at_middle : (count : ℕ) (points : List ℕ) → AreAllPoints (middle_window count) points count → points ≡ middle count ∷ []
@@ -92,66 +87,39 @@ at_middle count (p ∷ []) are =
     ap (λ (n : ℕ). n ∷ []) same
 at_middle count (p ∷ q ∷ points) are = absurd (omega (arith, are.each, is_open count))
 
--- what the run leaves at `Done` is the demonstration's summary and history
-shows : OneReading → WrittenIsRead → {seed count : ℕ} → count ≤ 1000000 → (show : Show) → IsShow seed count show → {new : Contents} {line : List ℕ}
-    {history : Option HistoryValue} →
-    IsWhole show.job demo_tables (middle_window count) show.made.slots show.files new (Some []) (Some line) history None → IsDemo seed count line history
-shows one written {seed} {count} few show is {history = history} whole =
+-- what the run leaves at `Done`, with a sink in memory that had nothing, is the demonstration's summary and history
+pub is_demo : OneReading × WrittenIsRead → {seed count : ℕ} → count ≤ 1000000 → {show : Show} → IsShow seed count show →
+    {new : Contents} {before line : List ℕ} {history : Option HistoryValue} → before ≡ [] →
+    ((tables : ℕ → BindingTable) (windows : List Window) → IsPlanOf tables windows show.made.plan →
+    IsWhole show.job tables windows show.made.slots show.files new (Some before) (Some line) history None × (some_slot_refused show.made.slots ≡ false)) →
+    IsDemo seed count line history
+is_demo laws {seed} {count} few {show} is {new} {before} {line} {history} none leaves =
     let windows = middle_window count in
+    let W : List ℕ → Type 0 = λ said.
+    IsWhole show.job demo_tables (middle_window count) show.made.slots show.files new (Some said) (Some line) history None in
+    let whole = subst W none (leaves demo_tables windows is.made.plan).0 in
     let form = whole.header.form in
     let r = whole.is_run in
     let C : List ℕ → Type 0 = λ bytes. IsInput bytes whole.header whole.records None in
     let input : IsInput (capture_of seed count) whole.header whole.records None = subst C is.holds whole.capture in
-    let many : length whole.records ≡ count = count_is one written seed count few whole.header whole.records input in
+    let many = count_is laws.0 laws.1 seed count few whole.header whole.records input in
     let A : ℕ → Type 0 = λ n. AreAllPoints (middle_window count) r.points n in
-    let points_are : r.points ≡ middle count ∷ [] = at_middle count r.points (subst A many r.is_course.placed) in
+    let points_are = at_middle count r.points (subst A many r.is_course.placed) in
     let E : Option ℕ → Type 0 = λ e. IsCourse demo_tables windows e r.points form whole.records r.course in
     let P : List ℕ → Type 0 = λ ps. IsCourse demo_tables windows None ps form whole.records r.course in
     let H : List ℕ → Type 0 = λ ps. IsHistoryOf demo_tables windows ps form whole.records history in
     record {
-      header = whole.header;
-      records = whole.records;
-      capture = input;
-      counted = many;
-      course = r.course;
-      is_course = subst P points_are (subst E is.job.no_limit r.is_course);
-      line_is = cc r.outputs.summary;
-      is_history = inr (subst H points_are r.is_history);
+      shown = record {
+        header = whole.header;
+        records = whole.records;
+        capture = input;
+        counted = many;
+        course = r.course;
+        is_course = subst P points_are (subst E is.job.no_limit r.is_course);
+        line_is = cc r.outputs.summary;
+      };
+      is_history = subst H points_are r.is_history;
     }
-
--- the same of a sink in memory that had nothing
-pub is_demo : OneReading × WrittenIsRead → (seed count : ℕ) → count ≤ 1000000 → (show : Show) → IsShow seed count show →
-    (new : Contents) (before line : List ℕ) →
-    before ≡ [] → (history : Option HistoryValue) →
-    ((tables : ℕ → BindingTable) (windows : List Window) → IsPlanOf tables windows show.made.plan →
-    IsWhole show.job tables windows show.made.slots show.files new (Some before) (Some line) history None × (some_slot_refused show.made.slots ≡ false)) →
-    IsDemo seed count line history
-is_demo laws seed count few show is new before line none history leaves =
-    let W : List ℕ → Type 0 = λ said.
-    IsWhole show.job demo_tables (middle_window count) show.made.slots show.files new (Some said) (Some line) history None in
-    shows laws.0 laws.1 few show is (subst W none (leaves demo_tables (middle_window count) is.plan).0)
-
--- the line says nothing of the history
-pub line_alone : (seed count : ℕ) (line : List ℕ) (history : Option HistoryValue) → IsDemo seed count line history → IsDemoLine seed count line
-line_alone seed count line history is = record {
-  header = is.header;
-  records = is.records;
-  capture = is.capture;
-  counted = is.counted;
-  course = is.course;
-  is_course = is.is_course;
-  line_is = is.line_is;
-  is_history = inl refl;
-}
-
-some_not_none : (history : Option HistoryValue) → IsSome history → IsNone history → ⊥
-some_not_none (Some value) some none = absurd (cc none)
-some_not_none None some none = absurd (cc some)
-
--- the history that is handed out with the line
-pub shown_history : (seed count : ℕ) (line : List ℕ) (said now : Option (List ℕ)) (history : Option HistoryValue) → IsDemo seed count line history →
-    HasSummary said now history → HasDemoHistory seed count status.Done history
-shown_history seed count line said now history is summed = (line, is, some_not_none history (some_summed said now history summed))
 
 -- a line that cannot be put
 pub no_history : (seed count : ℕ) (s : Status) (line : List ℕ) (said now : Option (List ℕ)) (history : Option HistoryValue) → Puts s line said now →

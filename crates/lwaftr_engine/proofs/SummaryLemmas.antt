@@ -1,6 +1,6 @@
 -- What the sink took of a summary, and the history that goes with it.
-use Rattle.lwaftr_engine.proofs.Words.{◌≡◌, ℕ, List, ◌++◌, length, Option, Some, None, refl, sym, ◌∙◌, ap, option_map, IsSome, AreDrawn, HistoryValue}
-use Rattle.lwaftr_engine.proofs.Words.{IsHistory, last_line, HasSummary, IsSummedUp, Progress, IsWithin, with_version}
+use Rattle.lwaftr_engine.proofs.Words.{◌≡◌, ℕ, List, ◌++◌, length, Option, sym, ◌∙◌, ap, option_map, AreDrawn, HistoryValue, IsHistory, last_line, IsSummedUp}
+use Rattle.lwaftr_engine.proofs.Words.{Progress, IsWithin, with_version}
 
 -- the areas that were closed, and the line of the whole run
 pub summed_up : (p : Progress) (points : List ℕ) (draws : List (ℕ × ℕ)) (h : HistoryValue) (said now : Option (List ℕ)) → IsHistory h → AreDrawn h draws →
@@ -13,8 +13,3 @@ summed_up p points draws h said now closed drawn number within points_are took =
   records = within.records ∙ (sym number ∙ drawn.all);
   version = ap (λ (l : List ℕ). length l) points_are;
 }
-
--- with a summary there is a history
-pub some_summed : (said now : Option (List ℕ)) (history : Option HistoryValue) → HasSummary said now history → IsSome history
-some_summed said now (Some history) summed = refl
-some_summed said now None summed = absurd summed

@@ -1,10 +1,10 @@
 -- The points of the tables whose lines are whole: no other table was in force for a record that was written.
-use Rattle.lwaftr_engine.proofs.Words.{◌≡◌, ℕ, zero, suc, ◌+◌, ◌-◌, ◌<◌, ◌≤◌, Bool, true, if◌then◌else◌, cond, nat_le, List, [], ◌∷◌, ◌++◌, length, take, drop}
-use Rattle.lwaftr_engine.proofs.Words.{count_by, slice_index, slice_get, None, refl, sym, ◌∙◌, ap, arith, inl, inr, length-append, le-leb, lt-leb, cases_lt}
+use Rattle.lwaftr_engine.proofs.Words.{◌≡◌, ℕ, zero, suc, ◌+◌, ◌-◌, ◌<◌, ◌≤◌, Bool, if◌then◌else◌, cond, nat_le, List, [], ◌∷◌, length, take, drop, count_by}
+use Rattle.lwaftr_engine.proofs.Words.{slice_index, slice_get, None, refl, sym, ◌∙◌, ap, arith, inl, inr, length-append, le-leb, lt-leb, cases_lt}
 use Rattle.lwaftr_engine.proofs.Words.{sum_by-cons, LoadWords, Slot, NoneIsDue, load_lines, named, slot_text, in_force, AreNumbered, is_table, whole_lines}
 use Rattle.reload_plan.specs.declared.loads.Slot.TheVariants as slot
 
-abbrev one : Bool → ℕ
+abbrev pub one : Bool → ℕ
 one b = cond b 1 0
 
 count_cons : (s : Slot) (slots : List Slot) → count_by is_table (s ∷ slots) ≡ one (is_table s) + count_by is_table slots
@@ -20,11 +20,9 @@ lines_fit points size [] (s ∷ slots) (suc k) same fit = absurd (omega (arith, 
 lines_fit points size (l ∷ loads) [] (suc k) same fit = absurd (omega (arith, same))
 lines_fit points size (l ∷ loads) (s ∷ slots) (suc k) same fit =
     let line : List ℕ = slot_text points l.name s in
-    let more : length (slot_text points l.name s ++ load_lines points (take k (named loads slots))) ≡ length (slot_text points l.name s) + length
-    (load_lines points (take k (named loads slots))) =
-    length-append (slot_text points l.name s) (load_lines points (take k (named loads slots))) in
+    let more = length-append (slot_text points l.name s) (load_lines points (take k (named loads slots))) in
     let rest = lines_fit points (size - length (slot_text points l.name s)) loads slots k (omega (arith, same)) (omega (arith, fit, more)) in
-    let whole : nat_le (length (slot_text points l.name s)) size ≡ true = le-leb (length (slot_text points l.name s)) size (omega (arith, fit, more)) in
+    let whole = le-leb (length (slot_text points l.name s)) size (omega (arith, fit, more)) in
     let N : Bool → ℕ = λ b. if b then suc (whole_lines points (size - length (slot_text points l.name s)) (named loads slots)) else 0 in
     rw (ap N whole) (omega (
       arith,
@@ -75,13 +73,13 @@ rising_tail p points rising = λ k inside.
     let next : slice_index (p ∷ points) (suc k + 1) ≡ slice_index (p ∷ points) (suc (k + 1)) = ap (λ (n : ℕ). slice_index (p ∷ points) n) same in
     omega (arith, rising (suc k) (omega (arith, inside)), next)
 
-in_force_cons : (p : ℕ) (points : List ℕ) (n : ℕ) → in_force (p ∷ points) n ≡ one (nat_le p n) + in_force points n
+pub in_force_cons : (p : ℕ) (points : List ℕ) (n : ℕ) → in_force (p ∷ points) n ≡ one (nat_le p n) + in_force points n
 in_force_cons p points n = sum_by-cons (λ (q : ℕ). cond (nat_le q n) 1 0) p points
 
-is_one : (p n : ℕ) → p ≤ n → one (nat_le p n) ≡ 1
+pub is_one : (p n : ℕ) → p ≤ n → one (nat_le p n) ≡ 1
 is_one p n less = ap one (le-leb p n less)
 
-is_none : (p n : ℕ) → n < p → one (nat_le p n) ≡ 0
+pub is_none : (p n : ℕ) → n < p → one (nat_le p n) ≡ 0
 is_none p n more = ap one (lt-leb p n more)
 
 none_above : (points : List ℕ) (n : ℕ) → IsRising points → (0 < length points → n < slice_index points 0) → in_force points n ≡ 0
@@ -102,7 +100,7 @@ in_force_first [] (suc count) n rising few = refl
 in_force_first (p ∷ points) zero n rising few = omega (arith, few)
 in_force_first (p ∷ points) (suc count) n rising few = elim (cases_lt n p) [
   | inl above ↦
-      let rest : in_force points n ≡ 0 = none_above points n (rising_tail p points rising) (λ some. omega (arith, above, rising 0 (omega (arith, some)))) in
+      let rest = none_above points n (rising_tail p points rising) (λ some. omega (arith, above, rising 0 (omega (arith, some)))) in
       omega (
         arith,
         in_force_cons p points n,

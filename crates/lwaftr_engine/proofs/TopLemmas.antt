@@ -1,6 +1,6 @@
 -- The one job that the words ask for.
-use Rattle.lwaftr_engine.proofs.Words.{◌≡◌, ◌≤◌, ℕ, List, [], ◌∷◌, AreWorkers, AsksRun, Asks, IsLimit, IsRate, IsWorkers, Parts, RunJob, IsRunJob, Option, Some}
-use Rattle.lwaftr_engine.proofs.Words.{None, inl, inr, arith, IfSome}
+use Rattle.lwaftr_engine.proofs.Words.{◌≡◌, ◌≤◌, ℕ, List, [], ◌∷◌, AreWorkers, AsksRun, Asks, IsLimit, IsRate, IsWorkers, Parts, RunJob, IsRunJob, Option}
+use Rattle.lwaftr_engine.proofs.Words.{Some, None, inl, inr, arith, IfSome}
 use Rattle.aftr_text.specs.declared.jobs.Job.TheVariants as asked
 
 workers_of : (given : List (List ℕ)) (workers : ℕ) → AreWorkers given workers → IsWorkers workers

@@ -1,25 +1,22 @@
 -- Rounds of which the last one is written while the next one is judged and the one behind it is read.
-use Rattle.lwaftr_engine.proofs.Words.{All-append, Breaks, BreaksLast, Contents, Course, Did, DidBoth, DidFront, Ending, Goes, HasRead}
-use Rattle.lwaftr_engine.proofs.Words.{HasTaken, IsAtStart, IsBrokenFrom, IsCutFrom, IsNext, IsNothing, IsPending, IsPlaced, IsUnderWay}
-use Rattle.lwaftr_engine.proofs.Words.{Moves, Option, Outside, Pending, ReadsPast, Rises, Round, Router, RunLaws, Setup}
-use Rattle.lwaftr_engine.proofs.Words.{Spot, StandsBetween, State, StaysOnDuty, Suits, Takes, Told, UnderWay, WentWell, [], ap, append-nil, append_assoc, arith}
-use Rattle.lwaftr_engine.proofs.Words.{content, is_cut, length, length-append, lines_in, packets_in, refl, round_steps, state_of, steps_of}
-use Rattle.lwaftr_engine.proofs.Words.{string_bytes, subst, sym, take, take-nil, ◌++◌, ◌+◌, ◌∙◌, ◌≡◌, ◌≤◌, Areas, List, None, Rec, Some, Step, inl}
-use Rattle.lwaftr_engine.proofs.Words.{inr, ℕ}
+use Rattle.lwaftr_engine.proofs.Words.{All-append, Breaks, BreaksLast, Contents, Course, Did, DidBoth, DidFront, Ending, Goes, HasRead, HasTaken, IsAtStart}
+use Rattle.lwaftr_engine.proofs.Words.{IsBrokenFrom, IsCutFrom, IsNext, IsNothing, IsPending, IsPlaced, IsUnderWay, Moves, Option, Outside, Pending}
+use Rattle.lwaftr_engine.proofs.Words.{ReadsPast, Rises, Round, Router, RunLaws, Setup, Spot, StandsBetween, State, StaysOnDuty, Suits, Takes, Told, UnderWay}
+use Rattle.lwaftr_engine.proofs.Words.{WentWell, [], ap, append-nil, append_assoc, arith, content, is_cut, length, length-append, lines_in, packets_in, refl}
+use Rattle.lwaftr_engine.proofs.Words.{round_steps, state_of, steps_of, string_bytes, subst, sym, take, take-nil, ◌++◌, ◌+◌, ◌∙◌, ◌≡◌, ◌≤◌, Areas, List, None}
+use Rattle.lwaftr_engine.proofs.Words.{Rec, Some, Step, inl, inr, ℕ}
 use Rattle.lwaftr_engine.proofs.Apart.{AreFilesApart, input_kept}
 use Rattle.lwaftr_engine.proofs.EndLemmas.{SomeLeft, ends_at, takes_by}
 use Rattle.lwaftr_engine.proofs.Writing.{WroteFront, did_none, wrote_front, in_others, in_tables, wrote}
 use Rattle.lwaftr_engine.proofs.Begun.{TakenUnder, begun_more, begun_tables, still_begun}
 use Rattle.lwaftr_engine.proofs.Steps.{follows_more, no_further, suits_before}
-use Rattle.lwaftr_engine.proofs.Moving.{moves_join, moves_none, moves_told}
+use Rattle.lwaftr_engine.proofs.Moving.{moves_join, moves_none, moves_told, told_by, told_still}
 use Rattle.lwaftr_engine.proofs.Closing.{none_written}
 use Rattle.lwaftr_engine.proofs.Going.{RoundUnder, written_more}
 use Rattle.capture_io.specs.declared.rounds.Ending.TheVariants as ending
 
 no_steps : (p : Pending) → IsNothing p → steps_of p ≡ []
-no_steps p none =
-    ap (λ (v : List ℕ). round_steps v (packets_in p.rendered) (lines_in p.rendered)) none.versions
-    ∙ (ap (λ (q : List ℕ). round_steps [] q (lines_in p.rendered)) none.packets ∙ ap (λ (l : List ℕ). round_steps [] [] l) none.lines)
+no_steps p none = λ i. round_steps (none.versions i) (none.packets i) (none.lines i)
 
 -- before the first round is judged
 module _ (x : Setup) {r : Router} (start : IsAtStart x r) where
@@ -73,16 +70,11 @@ module _ (x : Setup) {r : Router} (start : IsAtStart x r) where
       HasRead x first now r.progress.number a.held b.last round →
       Moves a.held b.held (StandsBetween x (state_of r) (steps_of pending) first now round b.last)
   begin_rounds first now round pending none a b same read =
-      rw same (by_held a.held read.told) where
-        by_held : (h : Option Contents) →
-            Told h (λ m. first.stood (content m x.run.input) → IsNext x.run.input first now r.progress.number (content m x.run.input) round b.last) →
-            Moves h h (StandsBetween x (state_of r) (steps_of pending) first now round b.last)
-        by_held None told = tt
-        by_held (Some m) told = λ stood. record {
-          records = [];
-          pending = pending_none m (steps_of pending) (no_steps pending none);
-          taken = taken_first read.in_hand.numbered (told stood) read.placed;
-        }
+      rw same (told_still a.held _ (StandsBetween x (state_of r) (steps_of pending) first now round b.last) (λ m told stood. record {
+        records = [];
+        pending = pending_none m (steps_of pending) (no_steps pending none);
+        taken = taken_first read.in_hand.numbered (told stood) read.placed;
+      }) read.told)
 
 -- it is one of what they and more write
 cut_more : {x : Setup} {s : State} {opened n : Contents} {records : List Rec} → IsCutFrom x s opened n records → (more : List Rec) →
@@ -118,11 +110,6 @@ pub record InRounds : Type 1 where
   pub a : Outside
   pub m : Outside
   pub under : Moves a.held m.held (StandsBetween x (state_of before) (steps_of w.pending) first here w.round m.last)
-
-abbrev pub in_rounds : (laws : RunLaws) (x : Setup) → AreFilesApart x.run → (first here : Spot) (w : UnderWay) (before : Router) (a m : Outside) →
-    Moves a.held m.held (StandsBetween x (state_of before) (steps_of w.pending) first here w.round m.last) → InRounds
-in_rounds laws x far first here w before a m under =
-    record { laws = laws; x = x; far = far; first = first; here = here; w = w; before = before; a = a; m = m; under = under }
 
 -- the workers and the desk behind it
 module _ (r : InRounds) (now : Router) (made : Pending) (duty : StaysOnDuty r.before.shift now.shift r.w.round.number) where
@@ -325,20 +312,10 @@ module _ (r : InRounds) (now : Router) (made : Pending) (duty : StaysOnDuty r.be
 -- what was read behind a round, or not
 pub read_past : (x : Setup) (before now : Spot) (number : ℕ) (a b : Outside) (round : Round) → HasRead x before now number b.held b.last round →
     Rises (is_cut round.ending) a.lost b.lost → Told b.held (λ m. ReadsPast x.run.input before now number (content m x.run.input) a b)
-read_past x before now number a b round read rises = by_held b.held read.told where
-  by_ending : (m : Contents) → (before.stood (content m x.run.input) → IsNext x.run.input before now number (content m x.run.input) round b.last) →
-      (e : Option Ending) → round.ending ≡ e → Rises (is_cut e) a.lost b.lost → ReadsPast x.run.input before now number (content m x.run.input) a b
-  by_ending m told (Some ending.ReadFault) is rises =
-      inr (rises, record { round = round; cut = is; numbered = read.in_hand.numbered; placed = read.placed; next = told })
-  by_ending m told _ is rises = inl rises
-
-  by_held : (h : Option Contents) →
-      Told h (λ m. before.stood (content m x.run.input) → IsNext x.run.input before now number (content m x.run.input) round b.last) →
-      Told h (λ m. ReadsPast x.run.input before now number (content m x.run.input) a b)
-  by_held None told = tt
-  by_held (Some m) told = by_ending m told round.ending refl rises
-
-pub read_none : (name : List ℕ) (before now : Spot) (number : ℕ) (h : Option Contents) (a b : Outside) → b.lost ≡ a.lost →
-    Told h (λ m. ReadsPast name before now number (content m name) a b)
-read_none name before now number None a b same = tt
-read_none name before now number (Some m) a b same = inl same
+read_past x before now number a b round read rises =
+    told_by b.held _ _ (λ m told. by_ending m told round.ending refl rises) read.told where
+      by_ending : (m : Contents) → (before.stood (content m x.run.input) → IsNext x.run.input before now number (content m x.run.input) round b.last) →
+          (e : Option Ending) → round.ending ≡ e → Rises (is_cut e) a.lost b.lost → ReadsPast x.run.input before now number (content m x.run.input) a b
+      by_ending m told (Some ending.ReadFault) is rises =
+          inr (rises, record { round = round; cut = is; numbered = read.in_hand.numbered; placed = read.placed; next = told })
+      by_ending m told _ is rises = inl rises

@@ -1,8 +1,9 @@
 -- A capture that cannot be opened.
-use Rattle.lwaftr_engine.proofs.Words.{◌≡◌, ℕ, ◌<◌, Bool, true, false, List, Option, Some, None, Result, Err, inl, inr, refl, sym, ap, subst, Contents, content}
-use Rattle.lwaftr_engine.proofs.Words.{Moves, Told, FailsAt, OnlyReads, Outside, RunJob, Agrees, is_read_fault, RefusesHeader, CaptureError, NoneOfFilesRose}
-use Rattle.lwaftr_engine.proofs.Words.{header_by, header_of, in_blocks, in_classic, IsEarly, LeavesMade, unopened_status, HasHistory, IsInHeader}
-use Rattle.lwaftr_engine.proofs.Words.{IsInHead, IsInHeadBy, OpensEither, RefusesBy, Reader, Slot, Tables, World}
+use Rattle.lwaftr_engine.proofs.Words.{◌≡◌, ℕ, ◌<◌, Bool, true, false, List, Option, Some, None, Result, Err, inl, inr, refl, sym, ap, subst, Contents}
+use Rattle.lwaftr_engine.proofs.Words.{content, Moves, Told, FailsAt, OnlyReads, Outside, RunJob, Agrees, is_read_fault, RefusesHeader, CaptureError}
+use Rattle.lwaftr_engine.proofs.Words.{NoneOfFilesRose, header_by, header_of, in_blocks, in_classic, IsEarly, LeavesMade, unopened_status, HasHistory}
+use Rattle.lwaftr_engine.proofs.Words.{IsInHeader, IsInHead, IsInHeadBy, OpensEither, RefusesBy, Reader, Slot, Tables, World}
+use Rattle.lwaftr_engine.proofs.Moving.{told_still}
 use Rattle.lwaftr_engine.proofs.JobLemmas.{early_blocks, early_classic}
 use Rattle.capture_io.specs.Header as classic_header
 use Rattle.capture_io.specs.declared.forms.CaptureError.TheVariants as failure
@@ -53,20 +54,11 @@ by_format : (run : RunJob) (m : Contents) (error : CaptureError) (old last : Opt
 by_format run m error old last true kind refuses failed = blocks_by Reader run m error old last kind refuses failed
 by_format run m error old last false kind refuses failed = classic_by Reader run m error old last kind refuses failed
 
-by_name : (run : RunJob) (h : Option Contents) (error : CaptureError) (old last : Option (List ℕ × ℕ)) →
+pub by_name : (run : RunJob) (h : Option Contents) (error : CaptureError) (old last : Option (List ℕ × ℕ)) →
     Told h (λ m. OpensEither (Err error) (content m run.input))
     → FailsAt (failed_as Reader error) run.input (IsInHead h run.input) old last → Told h (λ m. IsUnopened run m last error)
 by_name run None error old last opened failed = tt
 by_name run (Some m) error old last opened failed = by_format run m error old last (blocks.is_pcapng (content m run.input)) refl opened failed
-
-pub either_unopened : (run : RunJob) (h : Option Contents) (k : List ℕ) → k ≡ run.input → (error : CaptureError) (old last : Option (List ℕ × ℕ))
-    → Told h (λ m. OpensEither (Err error) (content m k)) → FailsAt (failed_as Reader error) k (IsInHead h k) old last → Told h
-    (λ m. IsUnopened run m last error)
-either_unopened run h k named error old last =
-    let P : List ℕ → Type 0 =
-    λ q. Told h (λ m. OpensEither (Err error) (content m q)) → FailsAt (failed_as Reader error) q (IsInHead h q) old last → Told h
-    (λ m. IsUnopened run m last error) in
-    subst P (sym named) (by_name run h error old last)
 
 by_error : (run : RunJob) (plan : Tables) (slots : List Slot) (error : CaptureError) (m : Contents) (before now : World) → now.said ≡ before.said →
     IsShort before.files now.files error →
@@ -81,11 +73,8 @@ pub unopened_leaves : (run : RunJob) (plan : Tables) (slots : List Slot) (error 
     Moves before.files.held now.files.held (LeavesMade run plan slots (unopened_status error) before now None)
 unopened_leaves run plan slots error before now held same short why =
     let H : Option Contents → Type 0 = λ h. Moves before.files.held h (LeavesMade run plan slots (unopened_status error) before now None) in
-    subst H (sym held) (by_held before.files.held why) where
-      by_held : (h : Option Contents) → Told h (λ m. IsUnopened run m now.files.last error) →
-          Moves h h (LeavesMade run plan slots (unopened_status error) before now None)
-      by_held None why = tt
-      by_held (Some m) why = by_error run plan slots error m before now same short why
+    subst H (sym held) (told_still before.files.held _ (LeavesMade run plan slots (unopened_status error) before now None)
+    (λ m because. by_error run plan slots error m before now same short because) why)
 
 -- where the capture is not opened there is no history
 pub history_by_error : (input : List ℕ) (error : CaptureError) (last : Option (List ℕ × ℕ)) (said : Option (List ℕ)) → RefusesHeader error →

@@ -20,8 +20,8 @@ pub use Rattle.std.specs.Cmp.Lexicographic.{nat_list_cmp_total, slice_cmp}
 pub use Rattle.std.specs.FinMap.{get, get-insert, insert}
 pub use Rattle.std.specs.List.{range_with_len, sum_by}
 pub use Rattle.std.specs.Ordering.{eq_by_cmp, nat_cmp}
-pub use Rattle.std.specs.Prelude.{IfErr, IsSome, OnOk, bytes_eq, min, replicate, slice_index_or, ◌&&◌}
-pub use Rattle.std.specs.Prelude.{IfOk, IfSome, IsNone, string_bytes}
+pub use Rattle.std.specs.Prelude.{IfErr, OnOk, bytes_eq, min, replicate, slice_index_or, ◌&&◌}
+pub use Rattle.std.specs.Prelude.{IfOk, IfSome, string_bytes}
 pub use Rattle.std.specs.List.{AllZip, Contains}
 pub use Rattle.std.specs.Option.{option_map}
 pub use Rattle.aftr_base.proofs.OutsideLemmas.{read_well}
@@ -31,7 +31,6 @@ pub use Rattle.aftr_base.specs.Pieces.{AppendedAll}
 pub use Rattle.aftr_base.specs.declared.lists.OutOfMemory.{OutOfMemory}
 pub use Rattle.aftr_text.specs.Jobs.{AreWorkers, Asks, AsksRun, IsLimit, StandsOnce, names_of}
 pub use Rattle.aftr_text.specs.Parts.{Parts, texts}
-pub use Rattle.area_swap.specs.Values.{IsDesk}
 pub use Rattle.area_swap.specs.declared.areas.Areas.{Areas}
 pub use Rattle.area_swap.specs.declared.board.View.{View}
 pub use Rattle.binding_file.specs.Files.{IsFileCause, fits, most_bytes}
@@ -60,7 +59,7 @@ pub use Rattle.pcapng_io.specs.declared.either.Reader.{Reader}
 pub use Rattle.pcapng_io.specs.declared.interface.Interface.{Interface}
 pub use Rattle.reload_plan.specs.Accepted.{AreSound, slot_of, window_in, windows_read, words_in, words_read}
 pub use Rattle.reload_plan.specs.declared.loads.Loaded.{Loaded}
-pub use Rattle.run_output.specs.Laws.{AreJoined, IsLimitedAs, IsSameBut}
+pub use Rattle.run_output.specs.Laws.{AreJoined, IsSameBut}
 pub use Rattle.run_output.specs.Limiting.{passed_in, tells, times_of, told_from, told_if}
 pub use Rattle.run_output.specs.Outputs.{record_text, sent_unless}
 pub use Rattle.run_output.specs.Rendering.{AreFitting}
@@ -85,8 +84,8 @@ pub use Rattle.lwaftr_engine.specs.Words.{Contents, Course, Ending, EndsInRecord
 pub use Rattle.lwaftr_engine.specs.Words.{HasWholeShare, HistoryValue, IsCompiled, IsCourseOf, IsHistory, IsLawful, IsLimited, IsLoad, IsLoadedAs, IsOfRecord}
 pub use Rattle.lwaftr_engine.specs.Words.{IsPlaced, IsRate, IsRendered, IsSettled, IsSound, IsWithin, IsWorkers, Item, Left, LimitsAreSome, Load, LoadFile}
 pub use Rattle.lwaftr_engine.specs.Words.{LoadWords, Made, Moves, NamedSlot, NoTable, NoneIsDue, Outcome, Outside, Part, Pending, Precedes, Progress, Rec}
-pub use Rattle.lwaftr_engine.specs.Words.{Rises, Round, Router, RunJob, Seen, SettledPointsAreAll, Shift, Show, Slot, Staged, Stands, Status, TableOf, Tables}
-pub use Rattle.lwaftr_engine.specs.Words.{TextOf, Told, Totals, V4, V6, Window, Writes, Written, accepted, asks, between, bound, capture_of, content}
+pub use Rattle.lwaftr_engine.specs.Words.{Rises, Round, Router, RunJob, Seen, SettledPointsAreAll, Shift, Show, Slot, Status, TableOf, Tables}
+pub use Rattle.lwaftr_engine.specs.Words.{TextOf, Told, Totals, V4, V6, Window, Writes, Written, accepted, asks, bound, capture_of, content}
 pub use Rattle.lwaftr_engine.specs.Words.{ended_text, entries_of, file_head, has_failed, in_force, initial_text, is_cut, items_in, lines_from, lines_in}
 pub use Rattle.lwaftr_engine.specs.Words.{load_lines, migrated_text, named, no_totals, output_of, packets_from, packets_in, rate_of, slot_text, slots_from}
 pub use Rattle.lwaftr_engine.specs.Words.{summary_text, table, table_from, totals_from, totals_of, unfinished_of, verdict_at, verdict_of, verdicts_of, window}
@@ -107,16 +106,16 @@ pub use Rattle.lwaftr_engine.specs.Planned.{AreNumbered, AreSlotsOf, IsAtFirst, 
 pub use Rattle.lwaftr_engine.specs.Planned.{ended_status, some_slot_refused, unopened_status}
 pub use Rattle.lwaftr_engine.specs.Progress.{AddsTo, AreWritten, Goes, HasTaken, HasWritten, IsClosed, IsLimitedRun, IsOnDuty, IsUpToDate, KeepsRest, ReadsOf}
 pub use Rattle.lwaftr_engine.specs.Progress.{Setup}
-pub use Rattle.lwaftr_engine.specs.Progress.{Spot, State, Suits, Wrote, loads_of, setup_of, spot, state_by, state_of}
+pub use Rattle.lwaftr_engine.specs.Progress.{Spot, State, Suits, Wrote, loads_of, setup_of, spot, state_of}
 pub use Rattle.lwaftr_engine.specs.Promises.{AsksDone, GoesWithRead, GoesWithRefusal, HasHistory, HasSummary, IsAskedFor, IsSummedUp, KeepsRun, Leaves}
 pub use Rattle.lwaftr_engine.specs.Prompt.{IsLeft}
 pub use Rattle.lwaftr_engine.specs.Questions.{Answers, IsLineOf, IsOwnerLine, NamesOwner, RefusesAs}
 pub use Rattle.lwaftr_engine.specs.RunLaws.{RunLaws}
 pub use Rattle.lwaftr_engine.specs.Runs.{IsCourse, IsHistoryOf, IsPlanOf, IsRun, IsWritten, OthersKept, all_asking}
-pub use Rattle.lwaftr_engine.specs.Shows.{IsDemoJob, IsDemoMade, IsShow, two_tables}
+pub use Rattle.lwaftr_engine.specs.Shows.{IsDemoJob, IsDemoMade, IsShow}
 pub use Rattle.lwaftr_engine.specs.Tables.{Answer, AreAnswers, slots_in, some_refused, table_by, tables_in, windows_in}
 pub use Rattle.lwaftr_engine.specs.Underway.{CanGoOn, CanJudge, HasJudged, HasRead, IsAtStart, IsFirst, IsInHand, IsNext, IsNothing, IsPending, IsSettledAt}
-pub use Rattle.lwaftr_engine.specs.Underway.{IsStaged, IsUnderWay, PutsAndReads, ReadsPast, StandsBetween, StaysOnDuty, WentWell, steps_of}
+pub use Rattle.lwaftr_engine.specs.Underway.{IsUnderWay, PutsAndReads, ReadsPast, StandsBetween, StaysOnDuty, WentWell, steps_of}
 pub use Rattle.lwaftr_engine.specs.Worlds.{World, world}
 pub use Rattle.lwaftr_engine.specs.Writing.{BreaksLast, Did, DidBoth, DidFront, File, Step, add, adds, holds, make, making_steps, name_of, opening_steps}
 pub use Rattle.lwaftr_engine.specs.Writing.{out_file, round_steps, same_file, verdicts_file, versions_file}

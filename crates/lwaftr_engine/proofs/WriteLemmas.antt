@@ -1,5 +1,5 @@
 -- What is put behind a file part by part.
-use Rattle.lwaftr_engine.proofs.Words.{◌≡◌, ℕ, zero, suc, ◌+◌, ◌≤◌, List, [], ◌∷◌, ◌++◌, length, take, drop, flat_map, Option, Some, sym, ◌∙◌, ap, arith}
+use Rattle.lwaftr_engine.proofs.Words.{◌≡◌, ℕ, zero, suc, ◌+◌, ◌≤◌, List, [], ◌∷◌, ◌++◌, length, take, drop, flat_map, Option, Some, ◌∙◌, ap, arith}
 use Rattle.lwaftr_engine.proofs.Words.{append_assoc, length-append, length-take-le, slice_get, Contents, content, Moves, Writes, Part}
 use Rattle.lwaftr_engine.proofs.Moving.{moves_join}
 use Rattle.lwaftr_engine.proofs.Parts.{front_more}
@@ -11,10 +11,7 @@ split_at f (p ∷ ps) zero part e =
     let same : p ≡ part = cc e in ap (λ (q : Part). f q ++ flat_map f ps) same
 split_at f (p ∷ ps) (suc i) part e =
     let place : suc i + 1 ≡ suc (i + 1) = omega arith in
-    ap (λ (l : List ℕ). f p ++ l) (split_at f ps i part e)
-    ∙ (sym (append_assoc (f p) (flat_map f (take i ps) ++ f part) (flat_map f (drop (i + 1) ps)))
-    ∙ (ap (λ (l : List ℕ). l ++ flat_map f (drop (i + 1) ps)) (sym (append_assoc (f p) (flat_map f (take i ps)) (f part)))
-    ∙ ap (λ (n : ℕ). ((f p ++ flat_map f (take i ps)) ++ f part) ++ flat_map f (drop n (p ∷ ps))) (sym place)))
+    rw (place, split_at f ps i part e) (simp append_assoc)
 
 -- all bytes of the first parts, and then a part of those of the next one
 pub cut_parts : (f : Part → List ℕ) (name : List ℕ) (parts : List Part) (i : ℕ) (part : Part) (h0 h1 h2 : Option Contents) → slice_get parts i ≡ Some part →
@@ -26,7 +23,7 @@ cut_parts f name parts i part h0 h1 h2 at first second =
     (λ m n o u w.
     let X = flat_map f (take i parts) in
     let Y = flat_map f (drop (i + 1) parts) in
-    let whole : flat_map f parts ≡ (flat_map f (take i parts) ++ f part) ++ flat_map f (drop (i + 1) parts) = split_at f parts i part at in
+    let whole = split_at f parts i part at in
     let front : X ++ take w.0 (f part) ≡ take (length (X ++ take w.0 (f part))) (flat_map f parts) =
     front_more (flat_map f parts) X (f part) Y w.0 whole in (
       length (X ++ take w.0 (f part)),

@@ -2,9 +2,8 @@
 use Rattle.lwaftr_engine.proofs.Words.{◌≡◌, ℕ, zero, suc, ◌+◌, ◌≤◌, nat_lt, Bool, true, false, if◌then◌else◌, List, [], ◌∷◌, ◌++◌, length, take, Option, refl}
 use Rattle.lwaftr_engine.proofs.Words.{sym, ◌∙◌, ap, append-nil, append_assoc, take-append-add, take-length, Contents, content, Moves, Writes, initial_text}
 use Rattle.lwaftr_engine.proofs.Words.{RunJob, file_head, Written, HoldsFront, Wrote, OthersKept, Did, DidFront, File, Step, add, adds, holds, make}
-use Rattle.lwaftr_engine.proofs.Words.{making_steps, name_of}
-use Rattle.lwaftr_engine.proofs.Words.{opening_steps, out_file, round_steps, same_file, verdicts_file, versions_file, BreaksLast, DidBoth, Fault, IfErr, IfOk}
-use Rattle.lwaftr_engine.proofs.Words.{OnOk, Result, inl, inr, Err, Ok, arith, cases_lt, take_all, ◌-◌}
+use Rattle.lwaftr_engine.proofs.Words.{making_steps, name_of, opening_steps, out_file, round_steps, same_file, verdicts_file, versions_file, BreaksLast}
+use Rattle.lwaftr_engine.proofs.Words.{DidBoth, Fault, IfErr, IfOk, OnOk, Result, inl, inr, Err, Ok, arith, cases_lt, take_all, ◌-◌}
 use Rattle.lwaftr_engine.proofs.Apart.{AreFilesApart}
 use Rattle.lwaftr_engine.proofs.Moving.{moves_by, moves_join, moves_none}
 use Rattle.lwaftr_engine.proofs.Parts.{front_part}

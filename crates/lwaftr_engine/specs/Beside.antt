@@ -1,5 +1,5 @@
 -- Rounds of which each is judged by one side, while the other one writes what the round before wrote and reads the next one. Ours.
-use Rattle.std.specs.Prelude.{Err, IfErr, IfOk, IsOk, List, None, Ok, Result, ℕ, [], ◌++◌, ◌∷◌, ◌≡◌}
+use Rattle.std.specs.Prelude.{Err, IfOk, IsOk, List, None, Ok, Result, ℕ, [], ◌++◌, ◌∷◌, ◌≡◌}
 use Rattle.lwaftr_engine.specs.Words.{Fault, Outside, Pending, Round, Router}
 use Rattle.lwaftr_engine.specs.declared.beside.Assignment.{Assignment}
 use Rattle.lwaftr_engine.specs.declared.beside.Report.{Report}
@@ -55,60 +55,40 @@ abbrev pub standing : {C : Type 0} → Outside → C → Round → Pending → S
 standing files reader round pending = record { files = files; reader = reader; round = round; pending = pending }
 
 module _ {C : Type 0} (x : Setup) (place : C → Spot) (Ready : C → ℕ → Type 0) where
-  -- what it makes of an exchange that went well
-  pub record Fetches (before now : Standing C) (e : Exchange) : Type 0 where
+  -- what it makes of an exchange, where the files, the reader and what was read are these
+  pub record Hands (before : Standing C) (e : Exchange) (files : Outside) (reader : C) (r : Result Round Fault) : Type 0 where
     pub asked : e.assignment.round ≡ before.round
     pub going : before.round.ending ≡ None
+    pub outside : PutsAndReads x (steps_of before.pending) before.round.number (place before.reader) (place reader) (Ready reader) before.files files r
+
+  -- the exchange went well
+  pub record Fetches (before now : Standing C) (e : Exchange) : Type 0 where
+    pub handed : Hands before e now.files now.reader (Ok now.round)
     pub judged : IsOk e.report.judged
     pub made : now.pending ≡ e.report.made
-    pub outside : PutsAndReads x (steps_of before.pending) before.round.number (place before.reader) (place now.reader) (Ready now.reader)
-        before.files now.files (Ok now.round)
 
   abbrev pub HaveFetched : Standing C → List Exchange → Standing C → Type 0
   HaveFetched start [] now = now ≡ start
   HaveFetched start (e ∷ es) now = (before : Standing C) × HaveFetched start es before × Fetches before now e
 
   -- the last exchange did not go well
-  pub record HaveBroken (start : Standing C) (es : List Exchange) (files : Outside) (reader : C) (fault : Fault) : Type 0 where
-    pub last : Exchange
-    pub earlier : List Exchange
-    pub all : es ≡ last ∷ earlier
-    pub before : Standing C
-    pub fetched : HaveFetched start earlier before
-    pub asked : last.assignment.round ≡ before.round
-    pub going : before.round.ending ≡ None
-    pub outside : PutsAndReads x (steps_of before.pending) before.round.number (place before.reader) (place reader) (Ready reader)
-        before.files files (Err fault)
+  abbrev pub HaveBroken : Standing C → List Exchange → Outside → C → Fault → Type 0
+  HaveBroken start [] files reader fault = ⊥
+  HaveBroken start (e ∷ es) files reader fault = (before : Standing C) × HaveFetched start es before × Hands before e files reader (Err fault)
 
-  -- what that side asked and heard
-  pub record HaveAsked (start now : Standing C) (asked : List Assignment) (heard : List Report) : Type 0 where
-    pub exchanges : List Exchange
-    pub asked_are : asked ≡ assignments exchanges
-    pub heard_are : heard ≡ reports exchanges
-    pub fetched : HaveFetched start exchanges now
-
-  pub record HaveAskedInVain (start : Standing C) (files : Outside) (reader : C) (fault : Fault) (asked : List Assignment) (heard : List Report) : Type 0 where
-    pub exchanges : List Exchange
-    pub asked_are : asked ≡ assignments exchanges
-    pub heard_are : heard ≡ reports exchanges
-    pub broken : HaveBroken start exchanges files reader fault
+  abbrev pub HaveEnded : {T : Type 0} → Standing C → List Exchange → Standing C → Result T Fault → Type 0
+  HaveEnded start es now (Ok done) = HaveFetched start es now
+  HaveEnded start es now (Err fault) = HaveBroken start es now.files now.reader fault
 
   -- what that side asked and heard, however it ended
   pub record Asks {T : Type 0} (start now : Standing C) (asked : List Assignment) (heard : List Report) (r : Result T Fault) : Type 0 where
-    pub well : IfOk r (λ _. HaveAsked start now asked heard)
-    pub broken : IfErr r (λ fault. HaveAskedInVain start now.files now.reader fault asked heard)
+    pub exchanges : List Exchange
+    pub asked_are : asked ≡ assignments exchanges
+    pub heard_are : heard ≡ reports exchanges
+    pub ended : HaveEnded start exchanges now r
 
   -- what both sides did
-  pub record HaveGone (start now : Standing C) (began router : Router) : Type 0 where
-    pub exchanges : List Exchange
-    pub fetched : HaveFetched start exchanges now
-    pub judged : HaveJudged x began exchanges router
-
-  pub record HaveStopped (start : Standing C) (files : Outside) (reader : C) (fault : Fault) (began router : Router) : Type 0 where
-    pub exchanges : List Exchange
-    pub broken : HaveBroken start exchanges files reader fault
-    pub judged : HaveJudged x began exchanges router
-
   pub record Go {T : Type 0} (start now : Standing C) (began router : Router) (r : Result T Fault) : Type 0 where
-    pub well : IfOk r (λ _. HaveGone start now began router)
-    pub broken : IfErr r (λ fault. HaveStopped start now.files now.reader fault began router)
+    pub exchanges : List Exchange
+    pub judged : HaveJudged x began exchanges router
+    pub ended : HaveEnded start exchanges now r

@@ -1,5 +1,5 @@
 -- The demonstration: a run over generated traffic, with one change of tables in its middle.
-use Rattle.std.specs.Prelude.{IsNone, List, None, Ok, Option, length, ℕ, [], ◌/◌, ◌∷◌, ◌≡◌, ◌⊎◌}
+use Rattle.std.specs.Prelude.{List, None, Ok, Option, length, ℕ, [], ◌/◌, ◌∷◌, ◌≡◌, ◌⊎◌}
 use Rattle.lwaftr_engine.specs.Words.{BindingTable, Course, HistoryValue, Rec, Status, Window, capture_of, summary_text, table_from, totals_of}
 use Rattle.lwaftr_engine.specs.Causes.{HasOneCause}
 use Rattle.lwaftr_engine.specs.Inputs.{Header, IsInput}
@@ -23,8 +23,8 @@ middle_window count = half_way count ∷ []
 abbrev pub demo_tables : ℕ → BindingTable
 demo_tables version = table_by (table_from 0) (Ok (table_from 64) ∷ []) version
 
--- the run of the generated capture, which has so many records
-pub record IsDemo (seed count : ℕ) (line : List ℕ) (history : Option HistoryValue) : Type 0 where
+-- the line is the summary of the run of the generated capture, which has so many records
+pub record IsDemoLine (seed count : ℕ) (line : List ℕ) : Type 0 where
   pub header : Header
   pub records : List Rec
   pub capture : IsInput (capture_of seed count) header records None
@@ -32,15 +32,15 @@ pub record IsDemo (seed count : ℕ) (line : List ℕ) (history : Option History
   pub course : Course
   pub is_course : IsCourse demo_tables (middle_window count) None (middle count ∷ []) header.form records course
   pub line_is : line ≡ summary_text (totals_of course header.form records)
-  pub is_history : (history ≡ None) ⊎ IsHistoryOf demo_tables (middle_window count) (middle count ∷ []) header.form records history
 
--- the line is that run's summary
-abbrev pub IsDemoLine : ℕ → ℕ → List ℕ → Type 0
-IsDemoLine seed count line = IsDemo seed count line None
+-- and the history is that of the run
+pub record IsDemo (seed count : ℕ) (line : List ℕ) (history : Option HistoryValue) : Type 0 where
+  pub shown : IsDemoLine seed count line
+  pub is_history : IsHistoryOf demo_tables (middle_window count) (middle count ∷ []) shown.header.form shown.records history
 
 -- at `Done` the history is that of the run, and else there is none
 abbrev pub HasDemoHistory : ℕ → ℕ → Status → Option HistoryValue → Type 0
-HasDemoHistory seed count status.Done history = (line : List ℕ) × IsDemo seed count line history × (IsNone history → ⊥)
+HasDemoHistory seed count status.Done history = (line : List ℕ) × IsDemo seed count line history
 HasDemoHistory seed count _ history = history ≡ None
 
 -- What the demonstration leaves: the files as they were, and the summary. It fails only where the sink or memory does.

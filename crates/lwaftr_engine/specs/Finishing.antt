@@ -1,8 +1,8 @@
 -- What is written when the records have ended.
 use Rattle.std.specs.Prelude.{Bool, Err, List, None, Ok, Option, Result, drop, false, flat_map, length, take, ℕ, [], ◌++◌, ◌≡◌, ◌⊎◌}
 use Rattle.std.specs.Option.{option_map}
-use Rattle.lwaftr_engine.specs.Words.{Contents, Ending, Fault, HistoryValue, Progress, Rec, Rises, Stands, ended_text, load_lines, summary_text, unfinished_of}
-use Rattle.lwaftr_engine.specs.Words.{with_version}
+use Rattle.lwaftr_engine.specs.Words.{Contents, Ending, Fault, HistoryValue, Progress, Rec, Rises, Stands, ended_text, load_lines, summary_text}
+use Rattle.lwaftr_engine.specs.Words.{unfinished_of, with_version}
 use Rattle.lwaftr_engine.specs.Promises.{HasSummary}
 use Rattle.lwaftr_engine.specs.Progress.{Setup, loads_of}
 use Rattle.lwaftr_engine.specs.Writing.{Did, DidFront, Step, round_steps}

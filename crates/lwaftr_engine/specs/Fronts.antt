@@ -1,6 +1,6 @@
 -- What the outputs hold where a run was ended by a file or a sink that cannot be written, or for want of memory.
-use Rattle.std.specs.Prelude.{Bool, List, None, Ok, Option, count_by, false, if◌then◌else◌, length, nat_le, nat_lt, suc, take, true, ℕ, [], ◌++◌, ◌-◌, ◌<◌, ◌∷◌}
-use Rattle.std.specs.Prelude.{◌≡◌, ◌⊎◌}
+use Rattle.std.specs.Prelude.{Bool, List, None, Ok, Option, count_by, false, if◌then◌else◌, length, nat_le, nat_lt, suc, take, true, ℕ, [], ◌++◌, ◌-◌, ◌<◌}
+use Rattle.std.specs.Prelude.{◌∷◌, ◌≡◌, ◌⊎◌}
 use Rattle.std.specs.Option.{option_map}
 use Rattle.lwaftr_engine.specs.Words.{AreAllPoints, BindingTable, CaptureBad, Contents, Course, Fault, Form, HistoryValue, IsLimited, NamedSlot, Rec, Rises}
 use Rattle.lwaftr_engine.specs.Words.{Rose, RunJob, Slot, Window, Written, content, entries_of, in_force, initial_text, named, output_of, slot_text}
@@ -63,6 +63,10 @@ is_failure fault.OutOfMemory = false
 abbrev pub stop_by : Fault → World → World → Stop
 stop_by why before after = record { failed = is_failure why; before = before; after = after }
 
+-- where a call failed it is one of the files, and the sink took nothing
+abbrev pub NothingPut : Stop → Type 0
+NothingPut stop = Rises stop.failed stop.before.files.spoiled stop.after.files.spoiled × (stop.after.said ≡ stop.before.said)
+
 -- The outputs are whole, and the sink took a front of the summary.
 pub record IsAtSummary (run : RunJob) (slots : List Slot) (c : Course) (points : List ℕ) (form : Form) (written : Written) (rs : List Rec) (new : Contents)
     (said now : Option (List ℕ)) : Type 0 where
@@ -88,8 +92,7 @@ pub record IsFront (run : RunJob) (tables : ℕ → BindingTable) (windows : Lis
   pub verdicts : HoldsFront (nat_lt 1 made) (verdicts_of shown form rs) (content old run.verdicts) (content new run.verdicts)
   pub versions : HoldsFront (nat_lt 2 made) (versions_of run.table (named run.loads slots) points) (content old run.versions) (content new run.versions)
   pub others : OthersKept run old new
-  pub sink : (Rises stop.failed stop.before.files.spoiled stop.after.files.spoiled × (stop.after.said ≡ stop.before.said))
-      ⊎ ((stop.after.files.spoiled ≡ stop.before.files.spoiled)
+  pub sink : NothingPut stop ⊎ ((stop.after.files.spoiled ≡ stop.before.files.spoiled)
       × IsAtSummary run slots course points form written rs new stop.before.said stop.after.said)
 
 -- These are all whole records of the capture where no read failed, and those before it where one did: then all outputs were made.

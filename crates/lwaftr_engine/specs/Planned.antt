@@ -1,9 +1,9 @@
 -- What the parts of a run's job are told, and what they leave.
-use Rattle.std.specs.Prelude.{All, Bool, Err, IfSome, List, None, Ok, Option, Result, Some, count_by, false, if◌then◌else◌, length, true, ℕ, [], ◌+◌, ◌∷◌, ◌≡◌}
-use Rattle.std.specs.Prelude.{◌≤◌, ◌⊎◌}
+use Rattle.std.specs.Prelude.{All, Bool, Err, IfSome, List, None, Ok, Option, Result, Some, count_by, false, if◌then◌else◌, length, true, ℕ, [], ◌+◌, ◌∷◌}
+use Rattle.std.specs.Prelude.{◌≡◌, ◌≤◌, ◌⊎◌}
 use Rattle.lwaftr_engine.specs.Words.{AreApart, AreRising, BindingTable, CaptureBad, CaptureError, Contents, Ending, Fault, Form, HistoryValue, IsCompiled}
-use Rattle.lwaftr_engine.specs.Words.{IsLoad, IsRate, IsWorkers, Load, Made, Rec, RunJob, Slot, Status, Tables, Window, Written, accepted, content, slots_from}
-use Rattle.lwaftr_engine.specs.Words.{windows_of}
+use Rattle.lwaftr_engine.specs.Words.{IsLoad, IsRate, IsWorkers, Load, Made, Rec, RunJob, Slot, Status, Tables, Window, Written, accepted, content}
+use Rattle.lwaftr_engine.specs.Words.{slots_from, windows_of}
 use Rattle.aftr_base.specs.declared.outside.Fault.TheVariants as fault
 use Rattle.capture_io.specs.declared.forms.CaptureError.TheVariants as failure
 use Rattle.capture_io.specs.declared.rounds.Ending.TheVariants as ending

@@ -1,8 +1,8 @@
 -- The promises of the program's call on a run.
 use Rattle.std.specs.Prelude.{Bool, Err, List, None, Ok, Option, Some, false, length, true, ℕ, [], ◌++◌, ◌∷◌, ◌≡◌, ◌⊎◌}
 use Rattle.std.specs.Option.{option_map}
-use Rattle.lwaftr_engine.specs.Words.{BindingTable, CaptureBad, Contents, HistoryValue, IsHistory, IsOfHeader, IsOfRecord, Moves, Rec, RunJob, Status, TableOf}
-use Rattle.lwaftr_engine.specs.Words.{Told, Totals, content, summary_text}
+use Rattle.lwaftr_engine.specs.Words.{BindingTable, CaptureBad, Contents, HistoryValue, IsHistory, IsOfHeader, IsOfRecord, Moves, Rec, RunJob, Status}
+use Rattle.lwaftr_engine.specs.Words.{TableOf, Told, Totals, content, summary_text}
 use Rattle.aftr_base.specs.declared.outside.Fault.TheVariants as fault
 use Rattle.lwaftr_engine.specs.Causes.{FailsBehind, FailsIn, HasCause, IsFault, NoneOfFilesRose}
 use Rattle.lwaftr_engine.specs.Endings.{AreTables, IsBadHeader, IsCutRun, IsUnread, IsUntouched, IsWholeRun, table_names}

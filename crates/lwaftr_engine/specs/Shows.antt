@@ -1,7 +1,7 @@
 -- What the run of the demonstration is told.
 use Rattle.std.specs.Prelude.{All, None, Ok, false, length, ℕ, [], ◌∷◌, ◌≡◌}
-use Rattle.lwaftr_engine.specs.Words.{AreCompiled, BindingTable, Made, RunJob, Show, capture_of, content}
-use Rattle.lwaftr_engine.specs.Demos.{demo_tables, middle_window}
+use Rattle.lwaftr_engine.specs.Words.{AreCompiled, BindingTable, Made, RunJob, Show, capture_of, content, table_from}
+use Rattle.lwaftr_engine.specs.Demos.{middle_window}
 use Rattle.lwaftr_engine.specs.Planned.{IsRunJob, some_slot_refused}
 use Rattle.lwaftr_engine.specs.Runs.{IsPlanOf}
 use Rattle.lwaftr_engine.specs.Tables.{table_by}
@@ -23,7 +23,4 @@ pub record IsDemoMade (count : ℕ) (first second : BindingTable) (made : Made) 
 pub record IsShow (seed count : ℕ) (s : Show) : Type 0 where
   pub job : IsDemoJob count s.job
   pub holds : content s.files s.job.input ≡ capture_of seed count
-  pub plan : IsPlanOf demo_tables (middle_window count) s.made.plan
-  pub compiled : All AreCompiled s.made.plan.tables
-  pub one_slot : length s.made.slots ≡ 1
-  pub accepted : some_slot_refused s.made.slots ≡ false
+  pub made : IsDemoMade count (table_from 0) (table_from 64) s.made

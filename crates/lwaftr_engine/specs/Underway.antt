@@ -1,9 +1,9 @@
 -- Rounds under way: what was judged and is not written yet, and the round that was read and is not judged yet.
 use Rattle.std.specs.Prelude.{All, IfOk, List, None, Option, Result, Some, drop, length, string_bytes, ℕ, [], ◌++◌, ◌+◌, ◌<◌, ◌^◌, ◌≡◌, ◌≤◌, ◌⊎◌}
 use Rattle.lwaftr_engine.specs.Words.{AreCompiled, Bucket, Contents, Course, EndsInRecords, Entry, Fault, Form, GoesOn, HasAsked, HasOutcomes, IsCourseOf}
-use Rattle.lwaftr_engine.specs.Words.{IsLimited, IsPlaced, IsRendered, IsSettled, Moves, NoneIsDue, Outcome, Outside, Part, Pending, Progress, Rec, Rises, Rose}
-use Rattle.lwaftr_engine.specs.Words.{Round, Router, Shift, Staged, Stands, Told, Totals, between, content, entries_of, has_failed, is_cut, items_in, lines_in}
-use Rattle.lwaftr_engine.specs.Words.{load_lines, no_totals, packets_in, rate_of}
+use Rattle.lwaftr_engine.specs.Words.{IsLimited, IsPlaced, IsRendered, IsSettled, Moves, NoneIsDue, Outcome, Outside, Part, Pending, Progress, Rec, Rises}
+use Rattle.lwaftr_engine.specs.Words.{Rose, Round, Router, Shift, Staged, Stands, Told, Totals, between, content, entries_of, has_failed, is_cut, items_in}
+use Rattle.lwaftr_engine.specs.Words.{lines_in, load_lines, no_totals, packets_in, rate_of}
 use Rattle.capture_io.specs.declared.rounds.Ending.TheVariants as ending
 use Rattle.lwaftr_engine.specs.Broken.{IsCutFrom}
 use Rattle.lwaftr_engine.specs.Progress.{AddsTo, AreWritten, HasTaken, IsInRange, IsOnDuty, IsUpToDate, KeepsRest, ReadsOf, Setup, Spot, State, Stops, Suits}

@@ -1,11 +1,8 @@
 use Rattle.std.specs.Prelude.{IsOk}
-use Rattle.lwaftr_engine.proofs.Words.{List, WentWell, [], ap, rules, setup_of, sym, ◌++◌, ◌∙◌, ◌∷◌, ◌≡◌}
-use Rattle.hand_over.specs.Lines.{given, taken}
-use Rattle.lwaftr_engine.specs.Beside.{Exchange, assignments, reached, reports}
-use Rattle.lwaftr_engine.specs.declared.beside.Assignment.{Assignment}
-use Rattle.lwaftr_engine.specs.declared.beside.Report.{Report}
+use Rattle.lwaftr_engine.proofs.Words.{WentWell, rules, setup_of, sym, ◌∙◌, ◌∷◌}
+use Rattle.lwaftr_engine.specs.Beside.{Exchange}
 use Rattle.lwaftr_engine.proofs.Adding.{goes_on}
-use Rattle.lwaftr_engine.proofs.Besides.{as_many, if_ok, reached_last}
+use Rattle.lwaftr_engine.proofs.Besides.{as_many, asked_more, heard_more, if_ok, reached_more}
 use Rattle.lwaftr_engine.proofs.beside.judge_rounds.Goals as goal
 
 pub returns-then-not-went-clause-judged : goal.returns-then-not-went-clause-judged
@@ -19,8 +16,8 @@ returns-then-not-went-clause-judged g c =
     } in
     record {
       exchanges = e ∷ known.exchanges;
-      took_are = c.answer.ensures.taken ∙ (c.in-Some-take.ensures.some.0 ∙ ap (λ (l : List Assignment). l ++ e.assignment ∷ []) known.asked);
-      gave_are = c.answer.ensures.given ∙ ap (λ (l : List Report). l ++ e.report ∷ []) (c.in-Some-take.ensures.given ∙ known.told);
+      took_are = asked_more known.exchanges e known.asked (c.answer.ensures.taken ∙ c.in-Some-take.ensures.some.0);
+      gave_are = heard_more known.exchanges e (c.in-Some-take.ensures.given ∙ known.told) c.answer.ensures.given;
       judged = (c.rounds.router, known.judged, record { duty = did.ensures.duty; well = did.ensures.well });
     }
 
@@ -35,14 +32,12 @@ rounds-preserved g c =
     } in
     let is : IsOk did.result = search rules in
     let well : WentWell (setup_of c.args.task) c.rounds.router did.new.router a.round did.new.made = if_ok did.result is did.ensures.well in
-    let took : taken c.answer.new.self ≡ assignments (e ∷ known.exchanges) =
-    c.answer.ensures.taken ∙ (c.in-Some-take.ensures.some.0 ∙ ap (λ (l : List Assignment). l ++ e.assignment ∷ []) known.asked) in
-    let gave : given c.answer.new.self ≡ reports (e ∷ known.exchanges) =
-    c.answer.ensures.given ∙ ap (λ (l : List Report). l ++ e.report ∷ []) (c.in-Some-take.ensures.given ∙ known.told) in
+    let took = asked_more known.exchanges e known.asked (c.answer.ensures.taken ∙ c.in-Some-take.ensures.some.0) in
+    let gave = heard_more known.exchanges e (c.in-Some-take.ensures.given ∙ known.told) c.answer.ensures.given in
     record {
       same = search rules;
       can = goes_on c.rounds.router.shift did.new.router did.ensures.duty known.can well.after;
-      number = well.number ∙ sym (ap (λ (l : List Assignment). reached l) took ∙ reached_last 0 (assignments known.exchanges) e.assignment);
+      number = well.number ∙ sym (reached_more known.exchanges e took);
       exchanges = e ∷ known.exchanges;
       asked = took;
       told = gave;

@@ -1,11 +1,11 @@
-use Rattle.lwaftr_engine.proofs.Words.{[], refl, rules, setup_of, spot, ◌≡◌}
+use Rattle.lwaftr_engine.proofs.Words.{[], refl, rules, setup_of, spot}
 use Rattle.hand_over.specs.Lines.{asked, heard}
 use Rattle.lwaftr_engine.specs.Beside.{Asks, standing}
 use Rattle.lwaftr_engine.proofs.Besides.{both, of_same}
 use Rattle.lwaftr_engine.proofs.beside.rounds_beside.Goals as goal
 
 pub returns-then-is_some : goal.returns-then-is_some
-returns-then-is_some g c = record { well = record { exchanges = []; fetched = refl; judged = refl }; broken = tt }
+returns-then-is_some g c = record { exchanges = []; judged = refl; ended = refl }
 
 pub returns : goal.returns
 returns g c =

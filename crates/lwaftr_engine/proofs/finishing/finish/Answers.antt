@@ -1,5 +1,5 @@
-use Rattle.lwaftr_engine.proofs.Words.{Did, DidFront, Rises, ap, has_failed, inl, inr, last_round, refl, rules, setup_of}
-use Rattle.lwaftr_engine.proofs.Words.{summary_text, verdicts_file, versions_file, ◌∙◌, ◌≡◌}
+use Rattle.lwaftr_engine.proofs.Words.{Did, DidFront, Rises, ap, has_failed, inl, inr, last_round, refl, rules, setup_of, summary_text, verdicts_file}
+use Rattle.lwaftr_engine.proofs.Words.{versions_file, ◌∙◌, ◌≡◌}
 use Rattle.lwaftr_engine.proofs.Writing.{added, cut, did_none, joined, joined_front, more_front}
 use Rattle.lwaftr_engine.proofs.Apart.{apart}
 use Rattle.lwaftr_engine.proofs.Exits.{if_err}

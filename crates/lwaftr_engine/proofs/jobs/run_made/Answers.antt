@@ -1,7 +1,7 @@
 use Rattle.lwaftr_engine.proofs.Words.{IsInHead, Reader, refl, world, read_well}
 use Rattle.lwaftr_engine.proofs.OpenLemmas.{opened_first}
 use Rattle.lwaftr_engine.proofs.ReadLemmas.{rest_unopened}
-use Rattle.lwaftr_engine.proofs.UnopenedLemmas.{either_unopened, is_short, unopened_leaves, history_by_error}
+use Rattle.lwaftr_engine.proofs.UnopenedLemmas.{by_name, is_short, unopened_leaves, history_by_error}
 use Rattle.lwaftr_engine.proofs.jobs.run_made.Goals as goal
 
 pub run_opened-requires-clause-opened : goal.run_opened-requires-clause-opened
@@ -25,7 +25,7 @@ returns-in-Err-clause-left g c =
     let opened = c.in-Err.ensures in
     rw (c.unopened.ensures, c.requires.none) (unopened_leaves run c.args.made.plan c.args.made.slots error before now opened.reads.held refl
     (is_short Reader name (IsInHead a.held name) a b error opened.reads)
-    (either_unopened run a.held name c.as_str.ensures error a.last b.last opened.told opened.reads.last))
+    (by_name run a.held error a.last b.last (rw c.as_str.ensures at opened.told) (rw c.as_str.ensures at opened.reads.last)))
 
 pub returns-in-Ok-clause-left : goal.returns-in-Ok-clause-left
 returns-in-Ok-clause-left g c =

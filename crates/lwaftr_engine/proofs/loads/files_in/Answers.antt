@@ -1,5 +1,6 @@
 use Rattle.lwaftr_engine.proofs.Words.{arith, length, refl, slice_get_read, HasWindowOf, IsFileOf, read_well, ◌∙◌}
-use Rattle.lwaftr_engine.proofs.LoadLemmas.{told_more, zipped_more}
+use Rattle.lwaftr_engine.proofs.LoadLemmas.{zipped_more}
+use Rattle.lwaftr_engine.proofs.Moving.{told_both}
 use Rattle.lwaftr_engine.proofs.loads.files_in.Goals as goal
 
 pub files-preserved : goal.files-preserved
@@ -15,7 +16,8 @@ files-preserved g c =
     let text = rw c.files.invariant.outside at read.ensures.text in
     record {
       within = omega (arith, c.files-test.true);
-      texts = rw pushed (told_more IsFileOf (f.outside c.args.files.now).held ws items at words read.file there c.files.invariant.texts text);
+      texts = rw pushed (told_both (f.outside c.args.files.now).held _ _ _
+          (λ m first one. zipped_more (IsFileOf m) ws items at words read.file there first one) c.files.invariant.texts text);
       windows = rw pushed (zipped_more HasWindowOf ws items at words read.file there c.files.invariant.windows read.ensures.window);
       outside = read_well _ _ _ _ c.in_ok-file.ensures.reads ∙ c.files.invariant.outside;
     }

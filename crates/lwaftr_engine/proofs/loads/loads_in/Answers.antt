@@ -1,5 +1,6 @@
 use Rattle.lwaftr_engine.proofs.Words.{◌≡◌, ◌+◌, ◌-◌, Err, ◌∙◌, ap, arith, err_from_is_err_and, has_failed, IsFitFor, IsLoadOf}
-use Rattle.lwaftr_engine.proofs.LoadLemmas.{read_all, reads_within, told_on, zipped_on}
+use Rattle.lwaftr_engine.proofs.LoadLemmas.{read_all, reads_within, zipped_on}
+use Rattle.lwaftr_engine.proofs.Moving.{told_both}
 use Rattle.lwaftr_engine.proofs.loads.loads_in.Goals as goal
 
 pub batches-preserved : goal.batches-preserved
@@ -15,7 +16,8 @@ batches-preserved g c =
     let loads = rw (c.batches.invariant.outside, many) at batch.ensures.loads in
     record {
       within = omega (arith, c.batches.invariant.within, c.min-count.ensures);
-      loads = rw appended (told_on IsLoadOf (f.outside c.args.files.now).held ws items batch.batch.items at count c.batches.invariant.loads loads);
+      loads = rw appended (told_both (f.outside c.args.files.now).held _ _ _
+          (λ m first next. zipped_on (IsLoadOf m) ws items batch.batch.items at count first next) c.batches.invariant.loads loads);
       fit = rw appended (zipped_on IsFitFor ws items batch.batch.items at count c.batches.invariant.fit (rw many at batch.ensures.fit));
       outside = read_all c.batches.invariant.outside c.in_ok-batch.ensures.reads;
     }

@@ -4,8 +4,8 @@ use Rattle.lwaftr_engine.proofs.queries.who_owns.Goals as goal
 
 pub returns-in-Err-Refused-clause-refused : goal.returns-in-Err-Refused-clause-refused
 returns-in-Err-Refused-clause-refused g c =
-    rw c.in-Err-Refused.cause-is (refuses_told c.one_table.ensures.answer (g.F.Files.outside c.args.files.now).held c.args.name.now
-    c.in-Err-Refused.cause c.in-Err-Refused.field-0 c.in-Err-Refused.field-0-is c.in-Err-Refused.ensures.refused)
+    rw c.in-Err-Refused.cause-is (refuses_told c.one_table.ensures.answer (g.F.Files.outside c.args.files.now).held _ _ _
+    c.in-Err-Refused.field-0-is c.in-Err-Refused.ensures.refused)
 
 pub returns-in-Ok-owner_line-clause-line : goal.returns-in-Ok-owner_line-clause-line
 returns-in-Ok-owner_line-clause-line g c =

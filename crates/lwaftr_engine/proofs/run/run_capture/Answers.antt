@@ -1,5 +1,5 @@
 use Rattle.lwaftr_engine.proofs.Words.{Err, ap, err_from_is_err_and, inl, refl, setup_of, spot, state_of, stop_by, world, ◌∙◌, Areas, rules}
-use Rattle.lwaftr_engine.proofs.Capturing.{AtEnd, captured, ended_err, ends, finish_broken, none_done, one_rises, opened_run, opening_broken, rounds_broken}
+use Rattle.lwaftr_engine.proofs.Capturing.{at_end, captured, ended_err, ends, finish_broken, none_done, one_rises, opened_run, opening_broken, rounds_broken}
 use Rattle.lwaftr_engine.proofs.Apart.{apart}
 use Rattle.lwaftr_engine.proofs.ReadLemmas.{rest_after, rest_before}
 use Rattle.lwaftr_engine.proofs.EndLemmas.{points_at_end}
@@ -23,28 +23,19 @@ returns-clause-left g c =
     let its_plan = ap (λ (w : Areas). w.plan) taken.areas ∙ c.in_ok-router.ensures.plan in
     let run = opened_run c.run_laws.ensures x (apart x.run c.requires.apart) c.requires.errors c.args.plan first before
     (f.outside c.open_outputs.new.files) opening.opened in
-    let end : AtEnd = record {
-      run = captured run (state_of router) its_plan c.end_shift-closed.result closed now;
-      reader = spot (k.stands reader) (k.left reader) (k.at reader);
-      some = λ bytes number. c.some_left.ensures reader bytes number;
-      stop = c.in_ok-ending.ending;
-      end = f.outside c.run_records-taken.new.files;
-      last_is = c.in_ok-finish.ensures.last;
-      lost = rw (← opening.writes.lost) (rw c.in_ok-finish.ensures.lost taken.reads.lost);
-      count = taken.after.drawn;
-      placed = points_at_end c.run_laws.ensures.points closed taken.after taken.duty;
-      going = taken.went;
-    } in
+    let end = at_end (captured run (state_of router) its_plan c.end_shift-closed.result closed now) (spot (k.stands reader) (k.left reader) (k.at reader))
+    (λ bytes number. c.some_left.ensures reader bytes number) c.in_ok-ending.ending (f.outside c.run_records-taken.new.files)
+    c.in_ok-finish.ensures.last (rw (← opening.writes.lost) (rw c.in_ok-finish.ensures.lost taken.reads.lost)) taken.after.drawn
+    (points_at_end c.run_laws.ensures.points closed taken.after taken.duty) taken.went in
     ends end (rw (c.points.ensures.points ∙ closed.points) at c.in_ok-finish.ensures.finished)
 
 pub returns-clause-history : goal.returns-clause-history
 returns-clause-history g c =
-    let o = g.O.Sink in
     let router = c.run_records-taken.new.router in
     let after = c.in_ok-ending.ensures.after in
     let closed = c.end_shift-closed.ensures router.progress in
-    summed_up router.progress c.points.result.now router.shift.seat.known.actor.draws c.end_shift-closed.result (o.out c.args.out.now) (o.out c.finish.new.out)
-    closed.history closed.drawn after.drawn after.bounded.totals c.points.ensures.points c.in_ok-finish.ensures.summary
+    summed_up router.progress c.points.result.now _ _ _ _ closed.history closed.drawn after.drawn after.bounded.totals c.points.ensures.points
+    c.in_ok-finish.ensures.summary
 
 pub returns-in_err-open_outputs-clause-rest : goal.returns-in_err-open_outputs-clause-rest
 returns-in_err-open_outputs-clause-rest g c =
@@ -158,17 +149,9 @@ returns-in_err-finish-clause-left g c =
     let its_plan = ap (λ (w : Areas). w.plan) taken.areas ∙ c.in_ok-router.ensures.plan in
     let run = opened_run c.run_laws.ensures x (apart x.run c.requires.apart) c.requires.errors c.args.plan first before
     (f.outside c.open_outputs.new.files) opening.opened in
-    let end : AtEnd = record {
-      run = captured run (state_of router) its_plan c.end_shift-closed.result closed now;
-      reader = spot (k.stands reader) (k.left reader) (k.at reader);
-      some = λ bytes number. c.some_left.ensures reader bytes number;
-      stop = c.in_ok-ending.ending;
-      end = f.outside c.run_records-taken.new.files;
-      last_is = c.in_err-finish.ensures.last;
-      lost = rw (← opening.writes.lost) (rw c.in_err-finish.ensures.lost taken.reads.lost);
-      count = taken.after.drawn;
-      placed = points_at_end c.run_laws.ensures.points closed taken.after taken.duty;
-      going = taken.went;
-    } in
+    let end = at_end (captured run (state_of router) its_plan c.end_shift-closed.result closed now) (spot (k.stands reader) (k.left reader) (k.at reader))
+    (λ bytes number. c.some_left.ensures reader bytes number) c.in_ok-ending.ending (f.outside c.run_records-taken.new.files)
+    c.in_err-finish.ensures.last (rw (← opening.writes.lost) (rw c.in_err-finish.ensures.lost taken.reads.lost)) taken.after.drawn
+    (points_at_end c.run_laws.ensures.points closed taken.after taken.duty) taken.went in
     ended_err x c.args.plan first c.from_residual-in_err-finish.result why before now c.args.history.now (e.1 ∙ ap Err e.2) c.requires.none
     (finish_broken end why (rw (c.points.ensures.points ∙ closed.points, taken.spoiled ∙ opening.writes.spoiled) at c.in_err-finish.ensures.cut))

@@ -64,23 +64,19 @@ returns-in-Run g c =
 
 pub show_demo-requires-clause-some : goal.show_demo-requires-clause-some
 show_demo-requires-clause-some g c κs within =
-    (demo_asked (texts c.args.words.now) c.in-Demo.seed c.in-Demo.count c.in-Demo.workers
-    (c.do_at_once.ensures.left_demo c.in-Demo.seed c.in-Demo.count c.in-Demo.workers c.in-Demo.is)).0.0
+    (demo_asked (texts c.args.words.now) _ _ _ (c.do_at_once.ensures.left_demo _ _ _ c.in-Demo.is)).0.0
 
 pub show_demo-requires-clause-most : goal.show_demo-requires-clause-most
 show_demo-requires-clause-most g c κs within =
-    (demo_asked (texts c.args.words.now) c.in-Demo.seed c.in-Demo.count c.in-Demo.workers
-    (c.do_at_once.ensures.left_demo c.in-Demo.seed c.in-Demo.count c.in-Demo.workers c.in-Demo.is)).0.1
+    (demo_asked (texts c.args.words.now) _ _ _ (c.do_at_once.ensures.left_demo _ _ _ c.in-Demo.is)).0.1
 
 pub show_demo-requires-clause-some_worker : goal.show_demo-requires-clause-some_worker
 show_demo-requires-clause-some_worker g c κs within =
-    (demo_asked (texts c.args.words.now) c.in-Demo.seed c.in-Demo.count c.in-Demo.workers
-    (c.do_at_once.ensures.left_demo c.in-Demo.seed c.in-Demo.count c.in-Demo.workers c.in-Demo.is)).1.0
+    (demo_asked (texts c.args.words.now) _ _ _ (c.do_at_once.ensures.left_demo _ _ _ c.in-Demo.is)).1.0
 
 pub show_demo-requires-clause-few_workers : goal.show_demo-requires-clause-few_workers
 show_demo-requires-clause-few_workers g c κs within =
-    (demo_asked (texts c.args.words.now) c.in-Demo.seed c.in-Demo.count c.in-Demo.workers
-    (c.do_at_once.ensures.left_demo c.in-Demo.seed c.in-Demo.count c.in-Demo.workers c.in-Demo.is)).1.1
+    (demo_asked (texts c.args.words.now) _ _ _ (c.do_at_once.ensures.left_demo _ _ _ c.in-Demo.is)).1.1
 
 pub returns-in-Demo : goal.returns-in-Demo
 returns-in-Demo g c =
