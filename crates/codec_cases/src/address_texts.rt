@@ -128,6 +128,17 @@ const V4_TEXTS: &str = "0.0.0.0=0 0.0.0.0
 1. 2.3.4=
 ";
 
+// Whether a text and a canonical one are of this address.
+fn is_v6(address: V6, text: &str, canonical: &str) -> bool {
+    read_v6(text) == Ok(address)
+        && write_v6(address).as_str() == canonical
+        && read_v6(canonical) == Ok(address)
+}
+
+fn is_v4(address: V4, text: &str, canonical: &str) -> bool {
+    read_v4(text) == Ok(address) && write_v4(address).as_str() == canonical
+}
+
 // Whether a line is right.
 fn is_right_v6(line: &str) -> bool {
     let Some((text, answer)) = line.split_once('=') else {
@@ -139,10 +150,7 @@ fn is_right_v6(line: &str) -> bool {
     let Ok(bits) = u128::from_str_radix(bits, 16) else {
         return false;
     };
-    let address = V6(bits);
-    read_v6(text) == Ok(address)
-        && write_v6(address).as_str() == canonical
-        && read_v6(canonical) == Ok(address)
+    is_v6(V6(bits), text, canonical)
 }
 
 fn is_right_v4(line: &str) -> bool {
@@ -155,7 +163,7 @@ fn is_right_v4(line: &str) -> bool {
     let Ok(bits) = u32::from_str_radix(bits, 16) else {
         return false;
     };
-    read_v4(text) == Ok(V4(bits)) && write_v4(V4(bits)).as_str() == canonical
+    is_v4(V4(bits), text, canonical)
 }
 
 #[test]

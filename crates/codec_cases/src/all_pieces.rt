@@ -1,16 +1,11 @@
 // Captures in pieces of each size up to 64 bytes and whole, in rounds and one by one, with no read failing and with each in turn: they say
 // what they say whole, and where a read failed the records before its place and then the fault.
-use crate::block_rounds::ODD;
-use crate::blocks::{
-    BIG_INTERFACE, BIG_SECTION, ETHERNET, HEAD, IN_NANOS, INTERFACE, OTHER, SECTION, SIMPLE_HEAD,
-    SIMPLE_TAIL, TAIL, packets, push_next, reads_as,
-};
-use crate::captures::{BY_SCAPY, BY_TEXT2PCAP, CAPTURED, is_first};
-use crate::pipes::{Pipe, gives, joined_rounds, pipe_of, told_of};
-use crate::rounds::{MOST, SECOND, THIRD, TOO_LONG};
-use capture_io::{CaptureReader, Next, Records, next_record, read_header};
-use case_data::{CAPTURE, UP, UP_TUNNEL};
-use pcapng_io::{NgReader, Reader};
+use crate::blocks::{packets, push_next};
+use crate::outside::number;
+use crate::parts::first_bytes;
+use crate::pipes::{Pipe, pipe_of};
+use crate::rounds::{MOST, told_either};
+use capture_io::{Records, next_record, read_header};
 use std::alloc::Global;
 use std::test::Fail;
 
@@ -20,46 +15,6 @@ const FAR: u64 = 1_000_000;
 /// As many bytes as the longest of them and more.
 const WHOLE: usize = 400;
 
-/// What a capture has, by a letter: a capture of the classic format, parts of blocks, and the parts of a packet.
-pub(crate) fn part(letter: u8) -> &'static [u8] {
-    match letter {
-        b'c' => CAPTURE,
-        b'x' => &BY_TEXT2PCAP,
-        b'y' => &BY_SCAPY,
-        b'2' => &SECOND,
-        b'3' => &THIRD,
-        b'l' => &TOO_LONG,
-        b's' => SECTION,
-        b'S' => BIG_SECTION,
-        b'i' => INTERFACE,
-        b'n' => IN_NANOS,
-        b'e' => ETHERNET,
-        b'I' => BIG_INTERFACE,
-        b'N' => b"\0\0\0\x01\0\0\0\x14\0\x65\0\0\0\0\0\0\0\0\0\x14",
-        b'h' => HEAD,
-        b'H' => SIMPLE_HEAD,
-        b't' => UP_TUNNEL,
-        b'u' => UP,
-        b'8' => b"abcdefgh",
-        b'r' => TAIL,
-        b'R' => SIMPLE_TAIL,
-        b'o' => OTHER,
-        b'd' => ODD,
-        b'L' => b"\0\0\0\x03\0\0\0\x10\0\x04\0\x01\0\0\0\x10",
-        b'b' => b"\0\0\0\x03\0\0\0\x0c\0\0\0\x0c",
-        _ => b"",
-    }
-}
-
-/// The bytes of these parts, one behind the other.
-pub(crate) fn parts_of(alloc: Global, parts: &str) -> Result<Vec<u8>, Fail> {
-    let mut bytes = Vec::new(alloc);
-    'parts: for letter in parts.bytes() {
-        bytes.extend_from_slice(part(letter))?;
-    }
-    Ok(bytes)
-}
-
 // The first bytes of these parts, so many, with one byte changed.
 fn changed(
     alloc: Global,
@@ -68,8 +23,7 @@ fn changed(
     place: usize,
     byte: u8,
 ) -> Result<Vec<u8>, Fail> {
-    let mut bytes = parts_of(alloc, parts)?;
-    bytes.truncate(size);
+    let mut bytes = first_bytes(alloc, parts, size)?;
     if let Some(there) = bytes.get_mut(place) {
         *there = byte;
     }
@@ -95,7 +49,7 @@ fn classic_records(alloc: Global, pipe: &mut Pipe) -> Result<String, Fail> {
 
 // How a capture is read.
 #[derive(Clone, Copy)]
-enum Way {
+pub(crate) enum Way {
     Rounds,
     Records,
     Packets,
@@ -104,8 +58,8 @@ enum Way {
 fn told(alloc: Global, way: Way, pipe: &mut Pipe) -> Result<String, Fail> {
     match way {
         Way::Rounds => {
-            let told = told_of(alloc, pipe)?;
-            joined_rounds(alloc, &told)
+            let (told, _) = told_either(alloc, pipe, MOST, Records::new(alloc))?;
+            Ok(told.replace(alloc, "| ", "")?)
         }
         Way::Records => classic_records(alloc, pipe),
         Way::Packets => packets(alloc, pipe, 0),
@@ -163,6 +117,17 @@ fn has_failed(
     Ok((right && pipe.strays == 0).then_some(pipe.failed))
 }
 
+/// Whether this is told of a pipe that gives at most so many bytes a read, none of which fails.
+pub(crate) fn says(
+    alloc: Global,
+    way: Way,
+    bytes: &[u8],
+    most: usize,
+    text: &str,
+) -> Result<bool, Fail> {
+    Ok(has_failed(alloc, way, bytes, most, FAR, text)? == Some(false))
+}
+
 // Whether this is told where no read fails, and what is right where one does, each in turn.
 fn tells(alloc: Global, way: Way, bytes: &[u8], most: usize, text: &str) -> Result<bool, Fail> {
     'calls: for call in 0..FAR {
@@ -192,20 +157,16 @@ fn tells_in_all_pieces(alloc: Global, bytes: &[u8], text: &str) -> Result<bool, 
     Ok(true)
 }
 
-/// A number, and what stands behind it.
-pub(crate) fn number_of(line: &str) -> Result<(usize, &str), Fail> {
-    let (number, rest) = line.split_once(' ').ok_or("a number")?;
-    Ok((number.parse()?, rest))
-}
-
 // Whether a line is right: the parts of a capture, how many bytes of it, the place of the byte that is changed, what it is then, and
-// what is told of it.
+// behind `=` what is told of it.
 fn is_right(alloc: Global, line: &str) -> Result<bool, Fail> {
-    let (parts, rest) = line.split_once(' ').ok_or("parts")?;
-    let (size, rest) = number_of(rest)?;
-    let (place, rest) = number_of(rest)?;
-    let (byte, text) = rest.split_once(' ').ok_or("a byte")?;
-    let bytes = changed(alloc, parts, size, place, byte.parse()?)?;
+    let (head, text) = line.split_once('=').ok_or("an answer")?;
+    let mut words = head.split(' ');
+    let parts = words.next().unwrap_or("");
+    let size = number(words.next());
+    let place = number(words.next());
+    let byte = number(words.next()).min(255) as u8;
+    let bytes = changed(alloc, parts, size, place, byte)?;
     tells_in_all_pieces(alloc, &bytes, text)
 }
 
@@ -219,63 +180,73 @@ fn first_wrong(alloc: Global, lines: &'static str) -> Result<&'static str, Fail>
     Ok("")
 }
 
-const CLASSIC: &str = "c 112 0 212 1.0 72 112; end
-c 23 0 212 cut header at 0
-c 112 0 31 magic
-c 112 4 3 version
-c 112 20 113 link 113
-c 24 0 212 end
-c 30 0 212 cut header at 24
-c 111 0 212 cut record at 24
-c 112 34 4 too long at 24
-x 112 0 77 1795739461.1000 72 112; end
-y 90 0 161 1700000000.123456789 50 90; end
-c23 147 0 212 1.0 72 112; 2.5 3 131; 3.6 0 147; end
-cl 128 0 212 1.0 72 112; too long at 112";
+// The first datagram in its tunnel; another of 72 bytes is told to be another.
+const DATAGRAMS: &str = "c 112 0 212=1.0 72 112; end
+c 112 111 117=1.0 other 72 112; end
+sihtur 152 0 10=1.0 72 152; end
+sihtur 152 76 97=1.0 other 72 152; end";
 
-const BLOCKS: &str = "sihtur 152 0 10 1.0 72 152; end
-siohtur 164 0 10 1.0 72 164; end
-sihtur 151 0 10 ng cut 48
-siehtur 172 0 10 ng mixed-links 48
-sishtur 180 0 10 ng interface 76
-shturi 152 0 10 ng interface 28
-so 40 0 10 end
-sihturd 164 0 10 1.0 72 152; ng length 152
-sihturoSIHtu8R 308 0 10 1.0 72 152; 1.0 80 308; end
-sihturSIHtu8R 296 0 10 1.0 72 152; 1.0 80 296; end
-sihtur 152 8 78 ng order 0
-sihtur 152 4 29 ng length 0
-sihtur 152 24 32 ng length 0
-sihtur 152 12 2 ng version 0
-sihtur 152 36 113 ng link 28 113
-sihtur 152 48 2 ng old 48
-sihtur 152 48 5 end
-sihtur 152 52 100 ng length 48
-sihtur 152 53 1 ng cut 48
-sihtur 152 56 1 ng interface 48
-sihtur 152 63 255 ng time 48
-sihtur 152 68 73 ng captured 48
-sihtur 152 70 4 ng too-long 48";
+const CLASSIC: &str = "c 23 0 212=cut header at 0
+c 112 0 31=magic
+c 112 4 3=version
+c 112 20 113=link 113
+c 24 0 212=end
+c 30 0 212=cut header at 24
+c 111 0 212=cut record at 24
+c 112 34 4=too long at 24
+x 112 0 77=1795739461.1000 72 112; end
+y 90 0 161=1700000000.123456789 50 90; end
+c23 147 0 212=1.0 72 112; 2.5 3 131; 3.6 0 147; end
+cl 128 0 212=1.0 72 112; too long at 112";
+
+const BLOCKS: &str = "siohtur 164 0 10=1.0 72 164; end
+sihtur 151 0 10=ng cut 48
+siehtur 172 0 10=ng mixed-links 48
+sishtur 180 0 10=ng interface 76
+shturi 152 0 10=ng interface 28
+so 40 0 10=end
+sihturd 164 0 10=1.0 72 152; ng length 152
+sihturoSIHtu8R 308 0 10=1.0 72 152; 1.0 80 308; end
+sihturSIHtu8R 296 0 10=1.0 72 152; 1.0 80 296; end
+sihtur 152 8 78=ng order 0
+sihtur 152 4 29=ng length 0
+sihtur 152 24 32=ng length 0
+sihtur 152 12 2=ng version 0
+sihtur 152 36 113=ng link 28 113
+sihtur 152 48 2=ng old 48
+sihtur 152 48 5=end
+sihtur 152 52 100=ng length 48
+sihtur 152 53 1=ng cut 48
+sihtur 152 56 1=ng interface 48
+sihtur 152 63 255=ng time 48
+sihtur 152 68 73=ng captured 48
+sihtur 152 70 4=ng too-long 48";
 
 // Simple packets, and resolutions.
-const SIMPLE: &str = "SIHtu8R 144 43 80 0.0 80 144; end
-SIHtu8R 144 43 0 ng captured 48
-SIHtu8R 144 43 81 ng captured 48
-SIHtu8R 144 31 5 ng interface 48
-SNL 64 43 0 ng too-long 48
-SIb 60 43 80 ng length 48
-snhtur 164 48 0 1000000.0 72 164; end
-snhtur 164 48 6 1.0 72 164; end
-snhtur 164 48 9 0.1000000 72 164; end
-snhtur 164 48 19 0.0 72 164; end
-snhtur 164 48 20 ng resolution 28
-snhtur 164 48 148 0.953674316 72 164; end
-snhtur 164 48 191 0.0 72 164; end
-snhtur 164 48 192 ng resolution 28
-snhtur 164 46 2 ng options 28
-snhtur 164 46 200 ng options 28
-snhtur 164 44 8 1.0 72 164; end
-snhtur 164 44 0 1.0 72 164; end";
+const SIMPLE: &str = "SIHtu8R 144 43 80=0.0 80 144; end
+SIHtu8R 144 43 0=ng captured 48
+SIHtu8R 144 43 81=ng captured 48
+SIHtu8R 144 31 5=ng interface 48
+SNL 64 43 0=ng too-long 48
+SIb 60 43 80=ng length 48
+snhtur 164 48 0=1000000.0 72 164; end
+snhtur 164 48 6=1.0 72 164; end
+snhtur 164 48 9=0.1000000 72 164; end
+snhtur 164 48 19=0.0 72 164; end
+snhtur 164 48 20=ng resolution 28
+snhtur 164 48 148=0.953674316 72 164; end
+snhtur 164 48 191=0.0 72 164; end
+snhtur 164 48 192=ng resolution 28
+snhtur 164 46 2=ng options 28
+snhtur 164 46 200=ng options 28
+snhtur 164 44 8=1.0 72 164; end
+snhtur 164 44 0=1.0 72 164; end";
+
+#[test]
+fn records_have_their_bytes_in_pieces(rt: HostRuntime) -> Result<(), Fail> {
+    assert_eq!(rt; first_wrong(rt.alloc(), DATAGRAMS)?, "");
+    Ok(())
+}
 
 #[test]
 fn classic_captures_say_in_pieces_what_they_say_whole(rt: HostRuntime) -> Result<(), Fail> {
@@ -292,62 +263,5 @@ fn blocks_say_in_pieces_what_they_say_whole(rt: HostRuntime) -> Result<(), Fail>
 #[test]
 fn simple_packets_and_resolutions_are_so_in_pieces(rt: HostRuntime) -> Result<(), Fail> {
     assert_eq!(rt; first_wrong(rt.alloc(), SIMPLE)?, "");
-    Ok(())
-}
-
-// Whether the first record of a capture is the first datagram in its tunnel, read alone.
-fn begins_alone(alloc: Global, bytes: &[u8], most: usize) -> Result<bool, Fail> {
-    let mut pipe = pipe_of(alloc, bytes, most, FAR)?;
-    let found = if bytes.starts_with(SECTION) {
-        let mut reader = NgReader::open(alloc, &mut pipe, "in")?;
-        reader.next(alloc, &mut pipe, "in", 0)?
-    } else {
-        next_record(alloc, &mut pipe, "in", CAPTURED, 24, 0)?
-    };
-    Ok(match found {
-        Next::Rec(record) => is_first(record.bytes.as_slice()),
-        Next::End => false,
-    })
-}
-
-// The same in a round.
-fn begins_in_round(alloc: Global, bytes: &[u8], most: usize) -> Result<bool, Fail> {
-    let mut pipe = pipe_of(alloc, bytes, most, FAR)?;
-    let mut reader = Reader::open(alloc, &mut pipe, "in")?;
-    let round = reader.read_round(alloc, &mut pipe, "in", 0, MOST, Records::new(alloc))?;
-    Ok(!round.records.is_empty() && is_first(round.records.get(0).bytes))
-}
-
-fn begins_with_datagram(alloc: Global, bytes: &[u8], most: usize) -> Result<bool, Fail> {
-    Ok(begins_alone(alloc, bytes, most)? && begins_in_round(alloc, bytes, most)?)
-}
-
-#[test]
-fn records_have_their_bytes_in_pieces(rt: HostRuntime) -> Result<(), Fail> {
-    let blocks = parts_of(rt.alloc(), "sihtur")?;
-    for most in 1..=64 {
-        assert!(rt; begins_with_datagram(rt.alloc(), CAPTURE, most)?, "{most}");
-        assert!(rt; begins_with_datagram(rt.alloc(), &blocks, most)?, "{most}");
-    }
-    Ok(())
-}
-
-// Whether a section with so many interfaces and a packet is told as this, in a round and packet by packet.
-fn is_told(alloc: Global, interfaces: u32, text: &str) -> Result<bool, Fail> {
-    let mut bytes = SECTION.to_vec(alloc)?;
-    'interfaces: for _ in 0..interfaces {
-        bytes.extend_from_slice(INTERFACE)?;
-    }
-    bytes.extend_from_slice(&parts_of(alloc, "htur")?)?;
-    Ok(gives(alloc, &bytes, 5_000_000, text)? && reads_as(alloc, &bytes, text)?)
-}
-
-#[test]
-fn a_section_has_65536_interfaces_at_most(rt: HostRuntime) -> Result<(), Fail> {
-    let told = [
-        is_told(rt.alloc(), 65_536, "1.0 72 1310852; end")?,
-        is_told(rt.alloc(), 65_537, "ng interfaces 1310748")?,
-    ];
-    assert_eq!(rt; told, [true; 2]);
     Ok(())
 }

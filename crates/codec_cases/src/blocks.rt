@@ -1,6 +1,8 @@
 // Captures of blocks, packet by packet: parts of them, and what is written.
-use crate::all_pieces::parts_of;
-use aftr_base::{Files, OutOfMemory, QuietFiles};
+use crate::captures::is_first;
+use crate::parts::parts_of;
+use crate::pipes::{Pipe, pipe_of};
+use aftr_base::QuietFiles;
 use capture_io::{CaptureError, Form, Next};
 use case_data::UP_LOWERED;
 use pcapng_io::{NgReader, is_ng, put_enhanced, put_section};
@@ -30,6 +32,9 @@ pub(crate) const TAIL: &[u8; 4] = b"\x68\0\0\0";
 /// A block of a type that says nothing of packets.
 pub(crate) const OTHER: &[u8; 12] = b"\x05\0\0\0\x0c\0\0\0\x0c\0\0\0";
 
+/// A block whose length is no multiple of 4.
+pub(crate) const ODD: &[u8; 12] = b"\x05\0\0\0\x0d\0\0\0\x0d\0\0\0";
+
 pub(crate) const BIG_SECTION: &[u8; 28] =
     b"\x0a\x0d\x0d\x0a\0\0\0\x1c\x1a\x2b\x3c\x4d\0\x01\0\0\xff\xff\xff\xff\xff\xff\xff\xff\0\0\0\x1c";
 
@@ -49,10 +54,24 @@ pub(crate) fn joined(alloc: Global, parts: &[&[u8]]) -> Result<Vec<u8>, Fail> {
     Ok(bytes)
 }
 
-fn files_with(alloc: Global, bytes: &[u8]) -> Result<QuietFiles, OutOfMemory> {
-    let mut files = QuietFiles::new(alloc);
-    files.set(alloc, "in", bytes)?;
-    Ok(files)
+// A word for a record that has as many bytes as the first datagram in its tunnel, and is another.
+fn other_word(bytes: &[u8]) -> &'static str {
+    if bytes.len() == 72 && !is_first(bytes) {
+        return "other ";
+    }
+    ""
+}
+
+/// The seconds, fraction, length and end of a record. Of 72 bytes it is the first datagram in its tunnel, or told to be another.
+pub(crate) fn record_text(
+    alloc: Global,
+    seconds: u32,
+    fraction: u32,
+    bytes: &[u8],
+    next_at: u64,
+) -> Result<String, Fail> {
+    let (other, size) = (other_word(bytes), bytes.len());
+    Ok(format!(in alloc; "{seconds}.{fraction} {other}{size} {next_at}; ")?)
 }
 
 /// Tells what was found, and where the next record stands if it was one.
@@ -61,39 +80,31 @@ pub(crate) fn push_next(
     told: &mut String,
     found: Result<Next, CaptureError>,
 ) -> Result<Option<u64>, Fail> {
-    match found {
+    let text = match found {
         Ok(Next::Rec(record)) => {
-            let count = record.bytes.as_slice().len();
-            let next_at = record.next_at;
-            let text = format!(in alloc;
-                "{}.{} {count} {next_at}; ",
-                record.seconds, record.fraction
-            )?;
+            let (bytes, next_at) = (record.bytes.as_slice(), record.next_at);
+            let text = record_text(alloc, record.seconds, record.fraction, bytes, next_at)?;
             told.push_str(&text)?;
-            Ok(Some(next_at))
+            return Ok(Some(next_at));
         }
-        Ok(Next::End) => {
-            told.push_str("end")?;
-            Ok(None)
-        }
-        Err(error) => {
-            told.push_str(&format!(in alloc; "{error}")?)?;
-            Ok(None)
-        }
-    }
+        Ok(Next::End) => format!(in alloc; "end")?,
+        Err(error) => format!(in alloc; "{error}")?,
+    };
+    told.push_str(&text)?;
+    Ok(None)
 }
 
 /// What a file reads as, from the packet of this number on: each record's time, its length and where it ends, and then how they
 /// end.
-pub(crate) fn packets<F: Files>(alloc: Global, files: &mut F, first: u32) -> Result<String, Fail> {
-    let mut reader = match NgReader::open(alloc, files, "in") {
+pub(crate) fn packets(alloc: Global, pipe: &mut Pipe, first: u32) -> Result<String, Fail> {
+    let mut reader = match NgReader::open(alloc, pipe, "in") {
         Ok(reader) => reader,
         Err(error) => return Ok(format!(in alloc; "{error}")?),
     };
     let mut told = String::new(alloc);
     'packets: for turn in 0..9u32 {
         let number = first.saturating_add(turn).min(0x8000_0000);
-        let found = reader.next(alloc, files, "in", number);
+        let found = reader.next(alloc, pipe, "in", number);
         if push_next(alloc, &mut told, found)?.is_none() {
             return Ok(told);
         }
@@ -101,27 +112,25 @@ pub(crate) fn packets<F: Files>(alloc: Global, files: &mut F, first: u32) -> Res
     Ok(told)
 }
 
-/// Whether bytes read as this, from the packet of this number on.
-fn reads_from(alloc: Global, bytes: &[u8], first: u32, wanted: &str) -> Result<bool, Fail> {
-    let mut files = files_with(alloc, bytes)?;
-    Ok(packets(alloc, &mut files, first)?.as_str() == wanted)
+// Whether bytes read as this, from the packet of this number on.
+fn reads_as(alloc: Global, bytes: &[u8], first: u32, wanted: &str) -> Result<bool, Fail> {
+    let mut pipe = pipe_of(alloc, bytes, 1_000, 1_000_000)?;
+    Ok(packets(alloc, &mut pipe, first)?.as_str() == wanted)
 }
 
-/// Whether a file of these bytes reads as this, packet by packet.
-pub(crate) fn reads_as(alloc: Global, bytes: &[u8], wanted: &str) -> Result<bool, Fail> {
-    reads_from(alloc, bytes, 0, wanted)
+// The same of the bytes of these parts.
+fn parts_read_as(alloc: Global, parts: &str, first: u32, wanted: &str) -> Result<bool, Fail> {
+    let bytes = parts_of(alloc, parts)?;
+    reads_as(alloc, &bytes, first, wanted)
 }
 
 // Others stand in `all_pieces`.
 #[test]
 fn what_has_no_packet_or_too_many_is_told_so(rt: HostRuntime) -> Result<(), Fail> {
-    let alloc = rt.alloc();
-    let enhanced = parts_of(alloc, "sihtur")?;
-    let simple = parts_of(alloc, "SIHtu8R")?;
     let told = [
-        reads_as(alloc, b"", "end")?,
-        reads_from(alloc, &enhanced, 0x8000_0000, "ng too-many 48")?,
-        reads_from(alloc, &simple, 0x8000_0000, "ng too-many 48")?,
+        parts_read_as(rt.alloc(), "", 0, "end")?,
+        parts_read_as(rt.alloc(), "sihtur", 0x8000_0000, "ng too-many 48")?,
+        parts_read_as(rt.alloc(), "SIHtu8R", 0x8000_0000, "ng too-many 48")?,
     ];
     assert_eq!(rt; told, [true; 3]);
     Ok(())
@@ -144,9 +153,29 @@ fn written(alloc: Global) -> Result<Vec<u8>, Fail> {
     Ok(bytes)
 }
 
+const WRITTEN: &str = "1.0 32 124; 4294967295.999999999 3 160; end";
+
+const IN_BLOCKS: Form = Form {
+    big: false,
+    nano: true,
+    link: 101,
+};
+
+// The bytes that they have.
+fn wanted(alloc: Global) -> Result<Vec<u8>, Fail> {
+    let last = b"abc\0\x24\0\0\0";
+    joined(
+        alloc,
+        &[
+            SECTION, IN_NANOS, FIRST_HEAD, UP_LOWERED, FIRST_TAIL, LAST_HEAD, last,
+        ],
+    )
+}
+
 // Whether the file is one of blocks, and whether another is, and what packets it has.
 fn form_of(alloc: Global, bytes: &[u8]) -> Result<(bool, bool, Form), Fail> {
-    let mut files = files_with(alloc, bytes)?;
+    let mut files = QuietFiles::new(alloc);
+    files.set(alloc, "in", bytes)?;
     let is_one = is_ng(alloc, &mut files, "in")?;
     let is_other = is_ng(alloc, &mut files, "out")?;
     Ok((
@@ -158,19 +187,9 @@ fn form_of(alloc: Global, bytes: &[u8]) -> Result<(bool, bool, Form), Fail> {
 
 #[test]
 fn what_is_written_is_read_back(rt: HostRuntime) -> Result<(), Fail> {
-    let alloc = rt.alloc();
-    let bytes = written(alloc)?;
-    let last = b"abc\0\x24\0\0\0";
-    let wanted: [&[u8]; 7] = [
-        SECTION, IN_NANOS, FIRST_HEAD, UP_LOWERED, FIRST_TAIL, LAST_HEAD, last,
-    ];
-    assert!(rt; bytes == joined(alloc, &wanted)?);
-    assert!(rt; reads_as(alloc, &bytes, "1.0 32 124; 4294967295.999999999 3 160; end")?);
-    let form = Form {
-        big: false,
-        nano: true,
-        link: 101,
-    };
-    assert_eq!(rt; form_of(alloc, &bytes)?, (true, false, form));
+    let bytes = written(rt.alloc())?;
+    assert!(rt; bytes == wanted(rt.alloc())?);
+    assert!(rt; reads_as(rt.alloc(), &bytes, 0, WRITTEN)?);
+    assert_eq!(rt; form_of(rt.alloc(), &bytes)?, (true, false, IN_BLOCKS));
     Ok(())
 }

@@ -77,32 +77,34 @@ fn has_just(
     )
 }
 
+const OF_TEXT2PCAP: Form = Form {
+    big: false,
+    nano: true,
+    link: 101,
+};
+
+const OF_SCAPY: Form = Form {
+    big: true,
+    nano: true,
+    link: 1,
+};
+
 #[test]
 fn what_other_tools_wrote_is_read(rt: HostRuntime) -> Result<(), Fail> {
-    let little = Form {
-        big: false,
-        nano: true,
-        link: 101,
-    };
-    let big = Form {
-        big: true,
-        nano: true,
-        link: 1,
-    };
     let (_, datagram) = CAPTURE.split_at(40);
     let (_, behind_tag) = BY_SCAPY.split_at(58);
     let read = [
         has_just(
             rt.alloc(),
             &BY_TEXT2PCAP,
-            little,
+            OF_TEXT2PCAP,
             1_795_739_461_000_001_000,
             Frame::V6(datagram),
         )?,
         has_just(
             rt.alloc(),
             &BY_SCAPY,
-            big,
+            OF_SCAPY,
             1_700_000_000_123_456_789,
             Frame::V4(behind_tag),
         )?,
@@ -114,14 +116,11 @@ fn what_other_tools_wrote_is_read(rt: HostRuntime) -> Result<(), Fail> {
 // Others stand in `all_pieces`.
 #[test]
 fn a_capture_has_so_many_records_at_most(rt: HostRuntime) -> Result<(), Fail> {
-    let alloc = rt.alloc();
-    let mut files = files_with(alloc, CAPTURE)?;
-    let answer = next_record(alloc, &mut files, "in", CAPTURED, 111, 0x8000_0000);
-    assert_eq!(rt;
-        answer.err(),
-        Some(CaptureError::Bad(CaptureBad::TooMany { at: 111 }))
-    );
-    let answer = next_record(alloc, &mut files, "in", CAPTURED, 112, 0x8000_0000)?;
+    let mut files = files_with(rt.alloc(), CAPTURE)?;
+    let answer = next_record(rt.alloc(), &mut files, "in", CAPTURED, 111, 0x8000_0000);
+    let too_many = CaptureError::Bad(CaptureBad::TooMany { at: 111 });
+    assert_eq!(rt; answer.err(), Some(too_many));
+    let answer = next_record(rt.alloc(), &mut files, "in", CAPTURED, 112, 0x8000_0000)?;
     assert!(rt; matches!(answer, Next::End));
     Ok(())
 }

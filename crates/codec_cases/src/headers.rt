@@ -34,57 +34,74 @@ fn udp(id: u16, ttl: u8, src: V4, dst: V4) -> Head4
     }
 }
 
+const FRAGMENT: Head4 = Head4 {
+    tos: 0xb8,
+    id: 0xbeef,
+    reserved: true,
+    df: false,
+    mf: true,
+    offset: 185,
+    ttl: 7,
+    protocol: 6,
+    src: V4(0x0a00_0001),
+    dst: V4(0xffff_fffe),
+};
+
+const GREATEST_HEAD: Head4 = Head4 {
+    tos: 255,
+    id: 65535,
+    reserved: true,
+    df: true,
+    mf: true,
+    offset: 8191,
+    ttl: 255,
+    protocol: 255,
+    src: V4(0xffff_ffff),
+    dst: V4(1),
+};
+
+// Whether a packet has this header, of so many bytes, and is what is written of its parts.
+fn is_read_and_written(
+    alloc: Global,
+    bytes: &[u8],
+    want: Head4,
+    header_len: usize,
+) -> Result<bool, Fail> {
+    let Ok(view) = ip4(bytes) else {
+        return Ok(false);
+    };
+    let head = Head4 {
+        tos: view.tos,
+        id: view.id,
+        reserved: view.reserved,
+        df: view.df,
+        mf: view.mf,
+        offset: view.offset,
+        ttl: view.ttl,
+        protocol: view.protocol,
+        src: view.src,
+        dst: view.dst,
+    };
+    let written = put4(alloc, &head, &view.header[20..], view.payload)?;
+    Ok(head == want && view.header.len() == header_len && written.as_slice() == bytes)
+}
+
 #[test]
 fn ip4_packets_are_read_and_written(rt: HostRuntime) -> Result<(), Fail> {
-    let fragment = Head4 {
-        tos: 0xb8,
-        id: 0xbeef,
-        reserved: true,
-        df: false,
-        mf: true,
-        offset: 185,
-        ttl: 7,
-        protocol: 6,
-        src: V4(0x0a00_0001),
-        dst: V4(0xffff_fffe),
-    };
-    let greatest = Head4 {
-        tos: 255,
-        id: 65535,
-        reserved: true,
-        df: true,
-        mf: true,
-        offset: 8191,
-        ttl: 255,
-        protocol: 255,
-        src: V4(0xffff_ffff),
-        dst: V4(1),
-    };
     let cases: [(&[u8], Head4, usize); 5] = [
         (UP, udp(1, 64, SHARED, SERVER), 20),
         (DOWN, udp(2, 64, SERVER, SHARED), 20),
         (LAST_HOP, udp(1, 1, SHARED, SERVER), 20),
-        (OPTIONS, fragment, 28),
-        (GREATEST, greatest, 60),
+        (OPTIONS, FRAGMENT, 28),
+        (GREATEST, GREATEST_HEAD, 60),
     ];
     for (bytes, want, header_len) in cases {
-        let view = ip4(bytes).ok().ok_or("a packet")?;
-        let head = Head4 {
-            tos: view.tos,
-            id: view.id,
-            reserved: view.reserved,
-            df: view.df,
-            mf: view.mf,
-            offset: view.offset,
-            ttl: view.ttl,
-            protocol: view.protocol,
-            src: view.src,
-            dst: view.dst,
-        };
-        assert_eq!(rt; head, want);
-        assert_eq!(rt; view.header.len(), header_len);
-        let written = put4(rt.alloc(), &head, &view.header[20..], view.payload)?;
-        assert_eq!(rt; written.as_slice(), bytes);
+        assert!(rt;
+            is_read_and_written(rt.alloc(), bytes, want, header_len)?,
+            "id {}, ttl {}",
+            want.id,
+            want.ttl
+        );
     }
     Ok(())
 }
@@ -100,11 +117,19 @@ fn refusal_with(packet: &[u8], place: usize, value: u8) -> Option<Ip4Bad> {
     ip4(&bytes[..count]).err()
 }
 
+// How many bytes of the first datagram are not told to be too few for a header.
+fn first_not_short() -> Option<usize> {
+    for have in 0..20 {
+        if ip4(&UP[..have]).err() != Some(Ip4Bad::Short { have }) {
+            return Some(have);
+        }
+    }
+    None
+}
+
 #[test]
 fn faulty_ip4_packets_are_refused(rt: HostRuntime) {
-    for have in 0..20 {
-        assert_eq!(rt; ip4(&UP[..have]).err(), Some(Ip4Bad::Short { have }));
-    }
+    assert_eq!(rt; first_not_short(), None);
     let cases: [(&[u8], usize, u8, Ip4Bad); 10] = [
         (&UP[..20], 0, 0x45, Ip4Bad::TotalLength),
         (UP, 0, 0x55, Ip4Bad::Version),
@@ -118,8 +143,10 @@ fn faulty_ip4_packets_are_refused(rt: HostRuntime) {
         (OPTIONS, 27, 1, Ip4Bad::Checksum),
     ];
     for (packet, place, value, refusal) in cases {
-        let found = refusal_with(packet, place, value);
-        assert_eq!(rt; found, Some(refusal), "{value} at {place}");
+        assert!(rt;
+            refusal_with(packet, place, value) == Some(refusal),
+            "{value} at {place}"
+        );
     }
 }
 
@@ -217,6 +244,10 @@ fn headers_are_put_behind_what_is_there(rt: HostRuntime) -> Result<(), Fail> {
     Ok(())
 }
 
+fn has_name(alloc: Global, rule: Rule, name: &str) -> Result<bool, Fail> {
+    Ok(format!(in alloc; "{rule}")?.as_str() == name)
+}
+
 #[test]
 fn rules_have_names(rt: HostRuntime) -> Result<(), Fail> {
     let cases = [
@@ -232,7 +263,7 @@ fn rules_have_names(rt: HostRuntime) -> Result<(), Fail> {
         (Rule::RelayMute, "relay-mute"),
     ];
     for (rule, name) in cases {
-        assert_eq!(rt; format!(in rt.alloc(); "{rule}")?.as_str(), name);
+        assert!(rt; has_name(rt.alloc(), rule, name)?, "{name}");
     }
     Ok(())
 }

@@ -7,8 +7,6 @@ mod address_texts;
 #[cfg(test)]
 mod all_pieces;
 #[cfg(test)]
-mod block_rounds;
-#[cfg(test)]
 mod blocks;
 #[cfg(test)]
 mod callers;
@@ -16,8 +14,6 @@ mod callers;
 mod captures;
 #[cfg(test)]
 mod fast_readers;
-#[cfg(test)]
-mod full_rounds;
 #[cfg(test)]
 mod headers;
 #[cfg(test)]
@@ -28,6 +24,8 @@ mod long_blocks;
 mod numbers;
 #[cfg(test)]
 mod outside;
+#[cfg(test)]
+mod parts;
 #[cfg(test)]
 mod pipes;
 #[cfg(test)]

@@ -17,16 +17,16 @@ pub(crate) fn holds(held: Option<&[u8]>, bytes: &[u8]) -> bool {
     }
 }
 
-// A number that a word spells; 0 where it is none.
-fn number(word: Option<&str>) -> u64 {
+/// A number that a word spells; 0 where it is none.
+pub(crate) fn number(word: Option<&str>) -> usize {
     match word {
         Some(word) => word.parse().unwrap_or(0),
         None => 0,
     }
 }
 
-// Does what the words of a call ask for. What is read stands in the buffer.
-fn answer<F: Files>(
+/// Does what the words of a call ask for. What is read stands in the buffer.
+pub(crate) fn answer<F: Files>(
     alloc: Global,
     files: &mut F,
     call: &str,
@@ -38,8 +38,8 @@ fn answer<F: Files>(
 {
     let bytes = rest.unwrap_or("").as_bytes();
     match call {
-        "read" => files.read(alloc, name, number(rest), into),
-        "fill" => fill(alloc, files, name, number(rest).min(1_000), into),
+        "read" => files.read(alloc, name, number(rest) as u64, into),
+        "fill" => fill(alloc, files, name, number(rest).min(1_000) as u64, into),
         "append" => files.append(alloc, name, bytes),
         "put" => {
             append_all(alloc, files, name, bytes)?;
@@ -79,7 +79,7 @@ fn does<F: Files>(alloc: Global, files: &mut F, path: &str, line: &str) -> Resul
     let name = if name == "~" { path } else { name };
     let rest = words.next();
     let mut buffer = [0; 8];
-    let size = number(words.next()).min(8) as usize;
+    let size = number(words.next()).min(8);
     let into = &mut buffer[..size];
     let answer = answer(alloc, files, call, name, rest, into);
     Ok(is_answered(answer, size > 0, into, wanted))
@@ -115,15 +115,19 @@ read in 0 8=abcdef
 create in=0
 read in 0 8=";
 
-#[test]
-fn files_in_memory_fail_where_they_were_told(rt: HostRuntime) -> Result<(), Fail> {
-    let alloc = rt.alloc();
+fn failing_files(alloc: Global) -> Result<MemFiles, Fail> {
     let mut files = MemFiles::new(alloc);
     files.set(alloc, "in", b"abcde")?;
     for call in [1, 3, 9] {
         files.fail_at(alloc, call)?;
     }
-    assert_eq!(rt; first_other(alloc, &mut files, "", IN_MEMORY)?, "");
+    Ok(files)
+}
+
+#[test]
+fn files_in_memory_fail_where_they_were_told(rt: HostRuntime) -> Result<(), Fail> {
+    let mut files = failing_files(rt.alloc())?;
+    assert_eq!(rt; first_other(rt.alloc(), &mut files, "", IN_MEMORY)?, "");
     assert!(rt; holds(files.get("out"), b"xyz") && files.get("other").is_none());
     Ok(())
 }
@@ -160,17 +164,22 @@ fn the_loops_go_on_to_the_end_or_the_first_fault(rt: HostRuntime) -> Result<(), 
     Ok(())
 }
 
+fn puts(alloc: Global, sink: &mut MemSink) -> [Result<(), Fault>; 3] {
+    [
+        put_all(alloc, sink, b"one"),
+        put_all(alloc, sink, b"two"),
+        put_all(alloc, sink, b"three"),
+    ]
+}
+
 #[test]
 fn a_sink_takes_what_does_not_fail(rt: HostRuntime) -> Result<(), Fail> {
-    let alloc = rt.alloc();
-    let mut sink = MemSink::new(alloc);
-    sink.fail_at(alloc, 1)?;
-    let answers = [
-        put_all(alloc, &mut sink, b"one"),
-        put_all(alloc, &mut sink, b"two"),
-        put_all(alloc, &mut sink, b"three"),
-    ];
-    assert_eq!(rt; answers, [Ok(()), Err(Fault::Failed), Ok(())]);
+    let mut sink = MemSink::new(rt.alloc());
+    sink.fail_at(rt.alloc(), 1)?;
+    assert_eq!(rt;
+        puts(rt.alloc(), &mut sink),
+        [Ok(()), Err(Fault::Failed), Ok(())]
+    );
     assert!(rt; holds(Some(sink.bytes()), b"onethree"));
     Ok(())
 }

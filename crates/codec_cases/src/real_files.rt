@@ -245,14 +245,19 @@ fn in_turn<R: FileSystem + Drop>(
     first_wrong(alloc, &mut files, path)
 }
 
+fn remove_all(rt: &HostRuntime, path: &str) -> Result<(), Fail> {
+    for number in 10..30u32 {
+        let name = format!(in rt.alloc(); "{path}_{number}")?;
+        fs::remove_file(rt, name.as_str())?;
+    }
+    Ok(())
+}
+
 #[test]
 fn twenty_files_are_written_in_turn(rt: HostRuntime) -> Result<(), Fail> {
     let path = temporary(&rt, "turn")?;
     let wrong = in_turn(rt.alloc(), &rt, path.as_str())?;
-    for number in 10..30u32 {
-        let name = format!(in rt.alloc(); "{}_{number}", path.as_str())?;
-        fs::remove_file(&rt, name.as_str())?;
-    }
+    remove_all(&rt, path.as_str())?;
     assert_eq!(rt; wrong, None);
     Ok(())
 }

@@ -1,13 +1,12 @@
 // The files over a system in memory, each of whose calls fails in turn, and what is said of the last call that failed.
 ghost use Rattle.std.specs.Prelude.{◌≤◌};
 
-use crate::outside::{first_other, holds};
+use crate::outside::{answer, first_other, holds};
 use aftr_base::{
     Call, Fault, Files, LastError, MemSystem, RealFiles, SystemFiles, append_all, fill,
 };
 use std::alloc::Global;
 use std::io::ErrorKind;
-use std::process;
 use std::rt::Files as FileSystem;
 use std::test::Fail;
 
@@ -22,28 +21,37 @@ fn letter(answer: Result<usize, Fault>) -> &'static str {
     }
 }
 
-fn push_fill<F: Files>(
-    alloc: Global,
-    files: &mut F,
-    name: &str,
-    at: u64,
-    told: &mut String,
-) -> Result<(), Fail>
+fn fill_from<F: Files>(alloc: Global, files: &mut F, name: &str, at: u64) -> Result<usize, Fault>
     requires { at ≤ 20 }
 {
     let mut into = [0; 8];
-    told.push_str(letter(fill(alloc, files, name, at, &mut into)))?;
-    Ok(())
+    fill(alloc, files, name, at, &mut into)
+}
+
+// So many bytes where a call succeeds.
+fn counted(answer: Result<(), Fault>, count: usize) -> Result<usize, Fault> {
+    match answer {
+        Ok(()) => Ok(count),
+        Err(why) => Err(why),
+    }
+}
+
+fn answers_of<F: Files>(alloc: Global, files: &mut F, name: &str) -> [Result<usize, Fault>; 5] {
+    [
+        counted(files.create(alloc, name), 0),
+        counted(append_all(alloc, files, name, b"abcdefgh"), 8),
+        fill_from(alloc, files, name, 0),
+        fill_from(alloc, files, name, 20),
+        fill_from(alloc, files, name, 1),
+    ]
 }
 
 /// Makes a file, appends eight bytes, and reads eight from places 0, 20 and 1: the answers, a letter each.
 pub(crate) fn story<F: Files>(alloc: Global, files: &mut F, name: &str) -> Result<String, Fail> {
     let mut told = String::new(alloc);
-    told.push_str(letter(files.create(alloc, name).map(|()| 0)))?;
-    told.push_str(letter(append_all(alloc, files, name, b"abcdefgh").map(|()| 8)))?;
-    push_fill(alloc, files, name, 0, &mut told)?;
-    push_fill(alloc, files, name, 20, &mut told)?;
-    push_fill(alloc, files, name, 1, &mut told)?;
+    for answer in answers_of(alloc, files, name) {
+        told.push_str(letter(answer))?;
+    }
     Ok(told)
 }
 
@@ -53,11 +61,12 @@ fn last_call(alloc: Global, last: Option<&LastError>) -> Result<String, Fail> {
         return Ok(String::from_str(alloc, "-")?);
     };
     let name = last.name.as_str();
-    Ok(match last.call {
-        Call::Read { at } => format!(in alloc; "read {name} {at}")?,
-        Call::Create => format!(in alloc; "create {name}")?,
-        Call::Append => format!(in alloc; "append {name}")?,
-    })
+    let word = match last.call {
+        Call::Read { at } => return Ok(format!(in alloc; "read {name} {at}")?),
+        Call::Create => "create",
+        Call::Append => "append",
+    };
+    Ok(format!(in alloc; "{word} {name}")?)
 }
 
 // By the number of the call that fails, the answers and the last call that failed. The calls, of at most three bytes each, are: create,
@@ -81,14 +90,23 @@ fffff|read out 1
 08807|-
 ";
 
-// The answers where the call of this number fails, and the last call that failed.
-fn told_of(alloc: Global, failing: u64) -> Result<String, Fail> {
+fn failing_system(alloc: Global, failing: u64) -> Result<MemSystem, Fail> {
     let mut system = MemSystem::new(alloc, 3);
     system.fail_at(alloc, failing)?;
-    let mut files = SystemFiles::over(system, alloc);
-    let answers = story(alloc, &mut files, "out")?;
+    Ok(system)
+}
+
+// The answers of these files, and the last call that failed.
+fn told_by(alloc: Global, files: &mut SystemFiles<MemSystem>) -> Result<String, Fail> {
+    let answers = story(alloc, files, "out")?;
     let last = last_call(alloc, files.last_error())?;
     Ok(format!(in alloc; "{answers}|{last}")?)
+}
+
+// The same where the call of this number fails.
+fn told_of(alloc: Global, failing: u64) -> Result<String, Fail> {
+    let mut files = SystemFiles::over(failing_system(alloc, failing)?, alloc);
+    told_by(alloc, &mut files)
 }
 
 #[test]
@@ -117,13 +135,17 @@ create other=0
 append other 23=2
 fill other 0 8=23";
 
-#[test]
-fn a_write_is_read_by_who_read_ahead_of_it(rt: HostRuntime) -> Result<(), Fail> {
-    let alloc = rt.alloc();
+fn two_files(alloc: Global) -> Result<MemSystem, Fail> {
     let mut system = MemSystem::new(alloc, 100);
     system.set(alloc, "in", b"abc")?;
     system.set(alloc, "other", b"uvwxyz")?;
-    let mut files = SystemFiles::over(system, alloc);
+    Ok(system)
+}
+
+#[test]
+fn a_write_is_read_by_who_read_ahead_of_it(rt: HostRuntime) -> Result<(), Fail> {
+    let alloc = rt.alloc();
+    let mut files = SystemFiles::over(two_files(alloc)?, alloc);
     assert_eq!(rt; first_other(alloc, &mut files, "", AHEAD)?, "");
     let system = files.system();
     assert!(rt; holds(system.get("in"), b"abcdef") && holds(system.get("other"), b"23"));
@@ -138,54 +160,58 @@ fn last_kind(last: Option<&LastError>) -> Option<ErrorKind> {
     }
 }
 
-// What is kept before a call has failed, and behind each of five calls that do; and the last of them.
-fn kinds_of<R: FileSystem + Drop>(
+// Calls that fail, and the kind of what the system says.
+const KINDS: [(&str, ErrorKind); 5] = [
+    ("read /proc/aftr_base_none 7", ErrorKind::NotFound),
+    ("read /tmp 0", ErrorKind::IsADirectory),
+    ("create /proc/aftr_base_none/out", ErrorKind::NotFound),
+    ("create /tmp", ErrorKind::IsADirectory),
+    ("append /dev/full x", ErrorKind::StorageFull),
+];
+
+// What the system said last behind a call.
+fn kind_behind<R: FileSystem + Drop>(
+    alloc: Global,
+    files: &mut RealFiles<R>,
+    line: &str,
+) -> Option<ErrorKind> {
+    let mut words = line.split(' ');
+    let call = words.next().unwrap_or("");
+    let name = words.next().unwrap_or("");
+    let rest = words.next();
+    let mut into = [0; 4];
+    let _ = answer(alloc, files, call, name, rest, &mut into);
+    last_kind(files.last_error())
+}
+
+// The first of these calls behind which another kind is kept. Nothing is kept before them.
+fn first_other_kind<R: FileSystem + Drop>(alloc: Global, files: &mut RealFiles<R>) -> &'static str {
+    if files.last_error().is_some() {
+        return "no call";
+    }
+    'calls: for (line, kind) in KINDS {
+        if kind_behind(alloc, files, line) != Some(kind) {
+            return line;
+        }
+    }
+    ""
+}
+
+// It, and what is kept of the last call.
+fn other_kind<R: FileSystem + Drop>(
     alloc: Global,
     system: R,
-    missing: &str,
-) -> Result<([Option<ErrorKind>; 6], String), Fail> {
-    let below = format!(in alloc; "{missing}/out")?;
+) -> Result<(&'static str, String), Fail> {
     let mut files = RealFiles::new(system, alloc);
-    let mut into = [0; 4];
-    let first = last_kind(files.last_error());
-    let _ = files.read(alloc, missing, 7, &mut into);
-    let none_there = last_kind(files.last_error());
-    let _ = files.read(alloc, "/tmp", 0, &mut into);
-    let a_folder = last_kind(files.last_error());
-    let _ = files.create(alloc, below.as_str());
-    let no_folder = last_kind(files.last_error());
-    let _ = files.create(alloc, "/tmp");
-    let over_a_folder = last_kind(files.last_error());
-    let _ = files.append(alloc, "/dev/full", b"x");
-    let no_room = last_kind(files.last_error());
+    let other = first_other_kind(alloc, &mut files);
     let last = last_call(alloc, files.last_error())?;
-    Ok((
-        [
-            first,
-            none_there,
-            a_folder,
-            no_folder,
-            over_a_folder,
-            no_room,
-        ],
-        last,
-    ))
+    Ok((other, last))
 }
 
 #[test]
 fn what_the_system_said_is_kept(rt: HostRuntime) -> Result<(), Fail> {
-    let alloc = rt.alloc();
-    let missing = format!(in alloc; "/tmp/aftr_base_missing_{}", process::id(rt.process()))?;
-    let (kinds, last) = kinds_of(alloc, &rt, missing.as_str())?;
-    let wanted = [
-        None,
-        Some(ErrorKind::NotFound),
-        Some(ErrorKind::IsADirectory),
-        Some(ErrorKind::NotFound),
-        Some(ErrorKind::IsADirectory),
-        Some(ErrorKind::StorageFull),
-    ];
-    assert_eq!(rt; kinds, wanted);
+    let (other, last) = other_kind(rt.alloc(), &rt)?;
+    assert_eq!(rt; other, "");
     assert_eq!(rt; last.as_str(), "append /dev/full");
     Ok(())
 }
