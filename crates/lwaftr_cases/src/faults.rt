@@ -1,56 +1,43 @@
 // Each call of the outside failing in turn.
-use crate::captures::{Form, capture, lowered};
-use crate::cases::lines_of;
-use crate::due::Due;
+use crate::captures::{Form, capture_of};
+use crate::cases::part;
+use crate::due::{Due, READS, RECORDS, TABLE, WORDS, due_of};
 use crate::given::RUNS;
+use crate::loads::FIVE;
 use crate::outside::Narrow;
-use crate::runs::{Ran, WORDS, files_of, run_into, run_over};
-use crate::worked::{capture_of, case_of, files_of_case, words_of_case};
-use aftr_base::MemFiles;
-use binding_file::{FileRefused, Name, Place};
-use case_data::WHOLE_TABLE;
+use crate::runs::{Ran, files_of, run_over};
+use crate::tables::table_text;
+use crate::workers::{WINDOW, at_point};
 use lwaftr_engine::{Status, status_line};
 use std::alloc::Global;
 use std::sync::Wait;
 use std::test::Fail;
 use std::thread::Threads;
+use worker_gate::OpenGate;
 
-/// How long a file is, or `-` where there is none.
-fn length(alloc: Global, ran: &Ran, name: &str) -> Result<String, Fail> {
-    match ran.files.files.get(name) {
-        Some(bytes) => {
-            let length = bytes.len();
-            Ok(format!(in alloc; "{length}")?)
-        }
-        None => Ok(String::from_str(alloc, "-")?),
+/// The run of this line over this capture, in which this call of the files is to fail, or this put, of 16 bytes of the summary.
+fn run_failing<R: Threads + Wait + Sync>(
+    rt: &R,
+    alloc: Global,
+    line: &str,
+    capture: &[u8],
+    (call, put): (Option<usize>, Option<usize>),
+) -> Result<Ran, Fail> {
+    let mut files = files_of(alloc, capture, part(line, TABLE), part(line, WORDS))?;
+    if let Some(call) = call {
+        files.files.fail_at(alloc, call as u64)?;
     }
+    let mut out = Narrow::wide(alloc);
+    if let Some(put) = put {
+        out.sink.fail_at(alloc, put as u64)?;
+        out.most = 16;
+    }
+    run_over(rt, alloc, part(line, WORDS), files, out, &OpenGate)
 }
 
-/// Puts a line behind a text: the call that failed, the status, how long OUT, VERDICTS and VERSIONS are, and how much was put.
-fn note(alloc: Global, text: &mut String, ran: &Ran) -> Result<(), Fail> {
-    let failed = ran.files.notes.failed;
-    let status = status_line(alloc, &ran.status)?;
-    let status = status.as_str().trim_end_matches('\n');
-    let out = length(alloc, ran, "out.pcap")?;
-    let verdicts = length(alloc, ran, "verdicts.txt")?;
-    let versions = length(alloc, ran, "versions.txt")?;
-    let said = ran.said().len();
-    text.push_str(&format!(in alloc; "{failed}: {status} {out} {verdicts} {versions} {said}\n")?)?;
-    Ok(())
-}
-
-/// The files of a run over two records, of which this call is to fail.
-fn failing(alloc: Global, capture: &[u8], call: u64) -> Result<MemFiles, Fail> {
-    let mut files = files_of(alloc, capture, WHOLE_TABLE)?;
-    files.fail_at(alloc, call)?;
-    Ok(files)
-}
-
-/// The capture and the table are as they were.
-fn keeps_inputs(ran: &Ran, capture: &[u8]) -> bool {
-    ran.files.files.get("in.pcap").unwrap_or(&[]) == capture
-        && ran.files.text("t0.toml") == WHOLE_TABLE
-}
+/// Two records, as a line of `given` tells a run, and how many reads there are before the outputs are made.
+const TWO: &str = "two records|whole||P@1+1*2|0..2 0 up 1||\
+    records 2 held 0 forwarded 2 dropped 0 packets 2 version 0|p@1+1*2|done|4";
 
 /// What each call that fails leaves of a run over two records: OUT has 24 bytes and 48 for each, VERDICTS 9 for each, VERSIONS
 /// 18, and the summary 59. The table and the capture are read until nothing is left, and the records are written behind the read that
@@ -69,197 +56,171 @@ read in.pcap: read fault 24 0 18 59
 read in.pcap: read fault 120 18 18 59
 append out.pcap: write fault 24 0 18 0
 append verdicts.txt: write fault 120 0 18 0
-: done 120 18 18 59
-";
+no call: done 120 18 18 59";
+
+/// What a put that fails leaves, of a summary of 59 bytes that is put 16 bytes at a time.
+const PUT: &str = "\
+no call: write fault 120 18 18 0
+no call: write fault 120 18 18 16
+no call: write fault 120 18 18 32
+no call: write fault 120 18 18 48
+no call: done 120 18 18 59";
+
+/// What a run left: the call that failed, the status, how long OUT, VERDICTS and VERSIONS are, or `-` where there is no such file, and how
+/// much was put.
+fn told(alloc: Global, ran: &Ran) -> Result<String, Fail> {
+    let (call, name) = ran.files.notes.failed;
+    let status = status_line(alloc, &ran.status)?;
+    let status = status.as_str().trim_end_matches('\n');
+    let mut text = format!(in alloc; "{call} {name}: {status}")?;
+    for name in ["out.pcap", "verdicts.txt", "versions.txt"] {
+        match ran.files.files.get(name) {
+            Some(bytes) => {
+                let length = bytes.len();
+                text.push_str(&format!(in alloc; " {length}")?)?;
+            }
+            None => text.push_str(" -")?,
+        }
+    }
+    let said = ran.said().len();
+    text.push_str(&format!(in alloc; " {said}")?)?;
+    Ok(text)
+}
+
+/// What the run of two records leaves with such a fault, in which the capture and the table are as they were.
+fn left<R: Threads + Wait + Sync>(
+    rt: &R,
+    alloc: Global,
+    fault: (Option<usize>, Option<usize>),
+) -> Result<String, Fail> {
+    let capture = capture_of(alloc, Form::Micro, part(TWO, RECORDS))?;
+    let table = table_text(alloc, part(TWO, TABLE))?;
+    let ran = run_failing(rt, alloc, TWO, &capture, fault)?;
+    let there = ran.files.files.get("in.pcap").unwrap_or(&[]);
+    if there != capture.as_slice() || ran.files.text("t0.toml") != table.as_str() {
+        return Err("the capture and the table".into());
+    }
+    told(alloc, &ran)
+}
 
 #[test]
 fn each_call_of_the_files_may_fail(rt: HostRuntime) -> Result<(), Fail> {
-    let alloc = rt.alloc();
-    let both = capture(alloc, 2)?;
-    let mut left = String::new(alloc);
-    for call in 0..LEFT.lines().count() as u64 {
-        let ran = run_over(&rt, alloc, &WORDS, failing(alloc, &both, call)?);
-        assert!(rt; keeps_inputs(&ran, &both), "{call}");
-        note(alloc, &mut left, &ran)?;
+    for (call, line) in LEFT.lines().enumerate() {
+        assert_eq!(rt; left(&rt, rt.alloc(), (Some(call), None))?.as_str(), line);
     }
-    assert_eq!(rt; left.as_str(), LEFT);
     Ok(())
 }
-
-/// What a put that fails leaves, of a summary of 59 bytes that is put 16 bytes at a time: the first line has the failing of the
-/// first put.
-const PUT: &str = "\
-: write fault 120 18 18 0
-: write fault 120 18 18 16
-: write fault 120 18 18 32
-: write fault 120 18 18 48
-: done 120 18 18 59
-";
 
 #[test]
 fn each_put_may_fail(rt: HostRuntime) -> Result<(), Fail> {
-    let alloc = rt.alloc();
-    let both = capture(alloc, 2)?;
-    let packets = lowered(alloc, 2)?;
-    let mut left = String::new(alloc);
-    for put in 0..5 {
-        let files = files_of(alloc, &both, WHOLE_TABLE)?;
-        let out = Narrow::failing(alloc, put)?;
-        let ran = run_into(&rt, alloc, &WORDS, files, out);
-        assert!(rt;
-            ran.packets() == packets.as_slice() && ran.failed(0, 0),
-            "{put}"
-        );
-        note(alloc, &mut left, &ran)?;
-    }
-    assert_eq!(rt; left.as_str(), PUT);
-    Ok(())
-}
-
-/// The run without the file of this word ends with a read fault, after one read that failed, and leaves nothing.
-fn is_missed<R: Threads + Wait + Sync>(
-    rt: &R,
-    alloc: Global,
-    missing: usize,
-) -> Result<bool, Fail> {
-    let files = files_of(alloc, &capture(alloc, 1)?, WHOLE_TABLE)?;
-    let mut words = WORDS;
-    if let Some(word) = words.get_mut(missing) {
-        *word = "not-there";
-    }
-    let ran = run_over(rt, alloc, &words, files);
-    Ok(ran.status == Status::ReadFault && ran.is_silent() && ran.failed(1, 0))
-}
-
-#[test]
-fn files_that_are_not_there(rt: HostRuntime) -> Result<(), Fail> {
-    for missing in [1, 5] {
-        assert!(rt; is_missed(&rt, rt.alloc(), missing)?, "{missing}");
+    for (put, line) in PUT.lines().enumerate() {
+        assert_eq!(rt; left(&rt, rt.alloc(), (None, Some(put)))?.as_str(), line);
     }
     Ok(())
 }
 
-#[test]
-fn a_refused_table_comes_before_a_missing_capture(rt: HostRuntime) -> Result<(), Fail> {
-    let alloc = rt.alloc();
-    let files = files_of(alloc, &[], "version = 1\n")?;
-    let mut words = WORDS;
-    words[1] = "not-there";
-    let ran = run_over(&rt, alloc, &words, files);
-    let refused = FileRefused::Missing(Place::Top(Name::Softwire));
-    assert!(rt; ran.status == Status::BadTable(refused));
-    assert!(rt; ran.is_silent() && ran.failed(0, 0));
-    Ok(())
-}
+/// The run of the window whose point is not reached.
+const UNREACHED: &str =
+    "no point|whole|2-4:none --workers 4|P@1+1*6|0..6 0 up 1|- none not-reached|\
+    records 6 held 0 forwarded 6 dropped 0 packets 6 version 0|p@1+1*6|done";
 
-/// Whether the run of this line leaves what it may where this call fails, and nothing is left to fail.
+/// Many rounds of records.
+const MANY: &str = "many rounds|whole|--workers {workers}|P@1+1*50000|0..50000 0 up 1||\
+    records 50000 held 0 forwarded 50000 dropped 0 packets 50000 version 0|p@1+1*50000|done";
+
+/// Whether the run of this line leaves what it may where this call fails, or this put, and nothing is left to fail. Of the window what
+/// is due hangs on the point, if VERSIONS names it. The reads before the outputs are those that leave nothing.
 fn step<R: Threads + Wait + Sync>(
     rt: &R,
     alloc: Global,
     line: &str,
-    due: &Due,
-    call: u64,
+    (capture, due): (&[u8], &Due),
+    (call, put): (Option<usize>, Option<usize>),
 ) -> Result<Option<bool>, Fail> {
-    let case = case_of(line);
-    let words = words_of_case(alloc, &case)?;
-    let mut files = files_of_case(alloc, Form::Micro, &case)?;
-    files.fail_at(alloc, call)?;
-    let ran = run_over(rt, alloc, &words, files);
-    Ok(due.allows(&ran))
-}
-
-/// VERSIONS of a run whose loads have these lines, where no record was taken: what came later is not reached.
-fn unread(alloc: Global, lines: &str) -> Result<String, Fail> {
-    let mut text = String::from_str(alloc, "0 t0.toml initial\n")?;
-    for line in lines.split(", ") {
-        match line.rsplit_once(" at ") {
-            Some((load, _)) => {
-                let (_, name) = load.split_once(' ').ok_or("a name")?;
-                text.push_str(&format!(in alloc; "- {name} not-reached\n")?)?;
-            }
-            None if line != "" => text.push_str(&format!(in alloc; "{line}\n")?)?,
-            None => {}
-        }
+    let ran = run_failing(rt, alloc, line, capture, (call, put))?;
+    let versions = ran.files.text("versions.txt");
+    if line.contains("{point}") && versions.ends_with('\n') && versions.contains(" at ") {
+        let line = at_point(alloc, line, &ran)?;
+        return Ok(due_of(alloc, Form::Micro, &line)?.allows(&ran, put));
     }
-    Ok(text)
+    let leaves_nothing = ran.status == Status::ReadFault && !ran.has_outputs();
+    match (call, part(line, READS).parse::<usize>()) {
+        (Some(call), Ok(reads)) if leaves_nothing != (call < reads) => Ok(None),
+        _ => Ok(due.allows(&ran, put)),
+    }
 }
 
-/// What is due of the run of this line, whose points are fixed.
-fn due_of(alloc: Global, line: &str) -> Result<Due, Fail> {
-    let case = case_of(line);
-    Ok(Due {
-        packets: capture_of(alloc, Form::Micro, case.sent)?,
-        verdicts: lines_of(alloc, "", case.verdicts)?,
-        versions: lines_of(alloc, "0 t0.toml initial\n", case.versions)?,
-        said: lines_of(alloc, "", case.said)?,
-        unread: unread(alloc, case.versions)?,
-    })
-}
-
-/// The run of this line ends well whichever call fails.
-fn ends_well<R: Threads + Wait + Sync>(rt: &R, alloc: Global, line: &str) -> Result<bool, Fail> {
-    let due = due_of(alloc, line)?;
-    for call in 0..64 {
-        match step(rt, alloc, line, &due, call)? {
-            Some(true) => return Ok(true),
+/// The run of this line by so many workers ends well whichever call of the files fails, or whichever put: each of them, or one of so many,
+/// up to where none is left; and there are more than 12 calls, and more than 3 puts.
+fn ends_well<R: Threads + Wait + Sync>(
+    rt: &R,
+    alloc: Global,
+    line: &str,
+    workers: &str,
+    stride: usize,
+    fails_puts: bool,
+) -> Result<bool, Fail> {
+    let line = line.replace(alloc, "{workers}", workers)?;
+    let capture = capture_of(alloc, Form::Micro, part(&line, RECORDS))?;
+    let told = if line.contains("{point}") {
+        UNREACHED
+    } else {
+        line.as_str()
+    };
+    let due = due_of(alloc, Form::Micro, told)?;
+    for turn in 0..200usize {
+        let at = turn.wrapping_mul(stride);
+        let fault = if fails_puts {
+            (None, Some(at))
+        } else {
+            (Some(at), None)
+        };
+        match step(rt, alloc, &line, (&capture, &due), fault)? {
+            Some(true) => return Ok(at > if fails_puts { 3 } else { 12 }),
             Some(false) => {}
             None => return Ok(false),
         }
     }
     Ok(false)
+}
+
+/// The first run that ends otherwise where a call fails, or a put, of those in which tables are loaded and of the first one.
+fn first_wrong<R: Threads + Wait + Sync>(
+    rt: &R,
+    alloc: Global,
+    fails_puts: bool,
+) -> Result<Option<&'static str>, Fail> {
+    for text in [RUNS, TWO, FIVE, WINDOW] {
+        for line in text.lines() {
+            let loads = line.contains("workers") || line.contains("city") || text != RUNS;
+            if loads && !ends_well(rt, alloc, line, "4", 1, fails_puts)? {
+                return Ok(Some(line));
+            }
+        }
+    }
+    Ok(None)
 }
 
 #[test]
 fn each_call_may_fail_where_tables_are_loaded(rt: HostRuntime) -> Result<(), Fail> {
-    let alloc = rt.alloc();
-    for line in RUNS.lines() {
-        if line.contains("workers") || line.contains("city") {
-            assert!(rt; ends_well(&rt, alloc, line)?, "{line}");
-        }
-    }
+    let wrong = first_wrong(&rt, rt.alloc(), false)?;
+    assert_eq!(rt; wrong, None);
     Ok(())
-}
-
-/// Whether the run of this line leaves what it may where this put fails, of a summary that is put 16 bytes at a time, and no put is
-/// left to fail.
-fn put_step<R: Threads + Wait + Sync>(
-    rt: &R,
-    alloc: Global,
-    line: &str,
-    due: &Due,
-    put: u8,
-) -> Result<Option<bool>, Fail> {
-    let case = case_of(line);
-    let words = words_of_case(alloc, &case)?;
-    let files = files_of_case(alloc, Form::Micro, &case)?;
-    let ran = run_into(rt, alloc, &words, files, Narrow::failing(alloc, put)?);
-    Ok(due.allows_put(&ran, usize::from(put).wrapping_mul(16)))
-}
-
-/// The run of this line ends well whichever put fails.
-fn puts_end_well<R: Threads + Wait + Sync>(
-    rt: &R,
-    alloc: Global,
-    line: &str,
-) -> Result<bool, Fail> {
-    let due = due_of(alloc, line)?;
-    for put in 0..8 {
-        match put_step(rt, alloc, line, &due, put)? {
-            Some(true) => return Ok(put > 3),
-            Some(false) => {}
-            None => return Ok(false),
-        }
-    }
-    Ok(false)
 }
 
 #[test]
 fn each_put_may_fail_where_tables_are_loaded(rt: HostRuntime) -> Result<(), Fail> {
+    let wrong = first_wrong(&rt, rt.alloc(), true)?;
+    assert_eq!(rt; wrong, None);
+    Ok(())
+}
+
+#[test]
+fn each_call_may_fail_over_many_rounds(rt: HostRuntime) -> Result<(), Fail> {
     let alloc = rt.alloc();
-    for line in RUNS.lines() {
-        if line.contains("workers") || line.contains("city") {
-            assert!(rt; puts_end_well(&rt, alloc, line)?, "{line}");
-        }
+    for (workers, stride) in [("1", 1), ("4", 3), ("16", 5)] {
+        let right = ends_well(&rt, alloc, MANY, workers, stride, false)?;
+        assert!(rt; right, "{workers}");
     }
     Ok(())
 }

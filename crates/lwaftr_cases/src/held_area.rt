@@ -7,9 +7,9 @@ ghost use Rattle.area_swap.specs.Views.{held_table};
 
 use aftr_base::{V4, V6};
 use area_swap::{Areas, Claim, WorkerSeat, prepare};
-use binding_rules::{Binding, Edition, Table, TableError, Want, table_of};
-use case_data::{SETTINGS, SHARED, SUBSCRIBER};
-use std::alloc::Global;
+use binding_file::read_table;
+use binding_rules::Want;
+use case_data::{PORT_SET_TABLE, SHARED, SUBSCRIBER};
 use std::marker::Brand;
 use std::sync::ledger::{Blank, Ledger};
 use std::test::Fail;
@@ -78,25 +78,11 @@ fn owner(areas: &Areas, seat: &mut WorkerSeat, v4: V4, port: u16) -> Option<V6>
     look_in::<Brand>(areas, seat, v4, Want::Port(port), Blank::new(1))
 }
 
-// The table of one subscriber, who owns the ports 1232 to 1235, 2256 and more of 203.0.113.1 (RFC 7597, appendix A).
-fn one_binding(alloc: Global) -> Result<Table, TableError> {
-    let mut bindings = Vec::new(alloc);
-    let binding = Binding {
-        b4: SUBSCRIBER,
-        v4: SHARED,
-        offset: 6,
-        length: 8,
-        psid: 52,
-    };
-    if bindings.push(binding).is_err() {
-        return Err(TableError::OutOfMemory);
-    }
-    table_of(alloc, Edition::One, SETTINGS, bindings)
-}
-
+// Of the ports 1232 to 1235, 2256 and more of 203.0.113.1 (RFC 7597, appendix A).
 #[test]
 fn looks_a_port_up_in_a_held_area(rt: HostRuntime) -> Result<(), Fail> {
-    let words = compile(rt.alloc(), &one_binding(rt.alloc())?)?;
+    let table = read_table(rt.alloc(), PORT_SET_TABLE.as_bytes())?;
+    let words = compile(rt.alloc(), &table)?;
     assert!(rt; words.as_slice().len() <= 1 << 24);
     let plan = Plan::of(rt.alloc(), words)?;
     let (areas, mut seat, _) = prepare(rt.alloc(), plan)?;

@@ -11,8 +11,6 @@ mod cases;
 #[cfg(test)]
 mod due;
 #[cfg(test)]
-mod endings;
-#[cfg(test)]
 mod faults;
 #[cfg(test)]
 mod given;
@@ -22,8 +20,6 @@ mod held_area;
 mod lanes;
 #[cfg(test)]
 mod loads;
-#[cfg(test)]
-mod long_faults;
 #[cfg(test)]
 mod outside;
 #[cfg(test)]

@@ -3,7 +3,6 @@ ghost use Rattle.std.specs.Prelude.{min, take, length};
 
 use aftr_base::{Fault, Files, MemFiles, MemSink, Sink};
 use std::alloc::Global;
-use std::test::Fail;
 
 /// Files in memory, and what is noted of their calls.
 #[derive(Drop)]
@@ -19,8 +18,8 @@ pub struct Notes {
     pub lost: u32,
     /// How many creates and appends failed.
     pub spoiled: u32,
-    /// The call that failed last.
-    pub failed: &'static str,
+    /// The call that failed last, and of which file.
+    pub failed: (&'static str, &'static str),
     /// A place of the capture.
     pub place: u64,
     /// So many bytes of lines and of packets are due by then.
@@ -32,55 +31,30 @@ pub struct Notes {
     pub early: bool,
 }
 
-/// A read of this file, by name.
-fn read_of(name: &str) -> &'static str {
-    match name {
-        "t0.toml" => "read t0.toml",
-        "in.pcap" => "read in.pcap",
-        _ => "read another file",
-    }
-}
-
-/// A create or an append of an output, by name.
-fn write_of(name: &str, creates: bool) -> &'static str {
-    match name {
-        "out.pcap" if creates => "create out.pcap",
-        "verdicts.txt" if creates => "create verdicts.txt",
-        "versions.txt" if creates => "create versions.txt",
-        "out.pcap" => "append out.pcap",
-        "verdicts.txt" => "append verdicts.txt",
-        "versions.txt" => "append versions.txt",
-        _ => "write another file",
-    }
-}
-
-/// How many bytes the name holds; none where there is no file.
-fn size(files: &MemFiles, name: &str) -> usize {
-    files.get(name).unwrap_or(&[]).len()
-}
-
 impl Notes {
     /// Notes what is written of these files, where the capture is read at the place or behind it for the first time.
     fn look(&mut self, files: &MemFiles, name: &str, at: u64) {
         if !self.late && name == "in.pcap" && at >= self.place {
             self.late = true;
-            self.early = size(files, "verdicts.txt") >= self.lines
-                && size(files, "out.pcap") >= self.packets;
+            self.early = files.get("verdicts.txt").unwrap_or(&[]).len() >= self.lines
+                && files.get("out.pcap").unwrap_or(&[]).len() >= self.packets;
         }
     }
 
-    /// Notes a read, and whether it failed.
-    fn note_read(&mut self, name: &str, failed: bool) {
-        if failed {
-            self.failed = read_of(name);
+    /// Notes a call that failed.
+    fn note(&mut self, call: &'static str, name: &str) {
+        let name = match name {
+            "t0.toml" => "t0.toml",
+            "in.pcap" => "in.pcap",
+            "out.pcap" => "out.pcap",
+            "verdicts.txt" => "verdicts.txt",
+            "versions.txt" => "versions.txt",
+            _ => "another file",
+        };
+        self.failed = (call, name);
+        if call == "read" {
             self.lost = self.lost.saturating_add(1);
-        }
-    }
-
-    /// Notes a create or an append, and whether it failed.
-    fn note_write(&mut self, name: &str, creates: bool, failed: bool) {
-        if failed {
-            self.failed = write_of(name, creates);
+        } else {
             self.spoiled = self.spoiled.saturating_add(1);
         }
     }
@@ -92,7 +66,7 @@ impl Watched {
         let notes = Notes {
             lost: 0,
             spoiled: 0,
-            failed: "",
+            failed: ("no", "call"),
             place: u64::MAX,
             lines: 0,
             packets: 0,
@@ -123,19 +97,25 @@ impl Files for Watched {
     ) -> Result<usize, Fault> {
         self.notes.look(&self.files, name, at);
         let answer = self.files.read(alloc, name, at, into);
-        self.notes.note_read(name, answer.is_err());
+        if answer.is_err() {
+            self.notes.note("read", name);
+        }
         answer
     }
 
     fn create(&mut self, alloc: Global, name: &str) -> Result<(), Fault> {
         let answer = self.files.create(alloc, name);
-        self.notes.note_write(name, true, answer.is_err());
+        if answer.is_err() {
+            self.notes.note("create", name);
+        }
         answer
     }
 
     fn append(&mut self, alloc: Global, name: &str, bytes: &[u8]) -> Result<usize, Fault> {
         let answer = self.files.append(alloc, name, bytes);
-        self.notes.note_write(name, false, answer.is_err());
+        if answer.is_err() {
+            self.notes.note("append", name);
+        }
         answer
     }
 }
@@ -154,13 +134,6 @@ impl Narrow {
             sink: MemSink::new(alloc),
             most: usize::MAX,
         }
-    }
-
-    /// A sink that takes 16 bytes of each put at most, and of which this put fails.
-    pub fn failing(alloc: Global, put: u8) -> Result<Narrow, Fail> {
-        let mut sink = MemSink::new(alloc);
-        sink.fail_at(alloc, u64::from(put))?;
-        Ok(Narrow { sink, most: 16 })
     }
 }
 

@@ -1,8 +1,7 @@
 // Single packets: what becomes of each, and what is written.
-use crate::captures::{HEADER, hex, put_record};
-use crate::cases::{lines_of, parts};
+use crate::captures::{Form, front, hex, put_packet};
+use crate::cases::{lines_of, part};
 use crate::runs::run;
-use crate::tables::table_text;
 use lwaftr_engine::Status;
 use std::alloc::Global;
 use std::sync::Wait;
@@ -192,25 +191,12 @@ about a packet from a group|whole|drop relay-mute 0|\
     10000000000000000000145000020000100003f115fc1e0000009cb007101003504d0000c000074657374|-
 echo request to the router|whole|drop not-softwire 0|6000000000083a4020010db800090000000000000000000120010db80000000000000000000000018000243f00000001|-";
 
-/// Puts a record at 7 seconds and 9 microseconds behind a capture, whose bytes may be none.
-fn put_one(alloc: Global, list: &mut Vec<u8>, packet: &str) -> Result<(), Fail> {
-    let bytes = hex(alloc, if packet == "-" { "" } else { packet })?;
-    put_record(list, 7, 9, &bytes)
-}
-
-/// The capture of one record.
-fn capture_of(alloc: Global, packet: &str) -> Result<Vec<u8>, Fail> {
-    let mut list = hex(alloc, HEADER)?;
-    put_one(alloc, &mut list, packet)?;
-    Ok(list)
-}
-
-/// The capture that is written where these packets leave; of no record for `-`.
-fn written_of(alloc: Global, sent: &str) -> Result<Vec<u8>, Fail> {
-    let mut list = hex(alloc, HEADER)?;
-    if sent != "-" {
-        for packet in sent.split(',') {
-            put_one(alloc, &mut list, packet)?;
+/// The capture of packets at 7 seconds and 9 microseconds, apart by `,`; `-` is one of no bytes.
+fn capture_of(alloc: Global, packets: &str) -> Result<Vec<u8>, Fail> {
+    let mut list = front(alloc, Form::Micro, "65")?;
+    for packet in packets.split(',') {
+        if packet != "" {
+            put_packet(&mut list, Form::Micro, 7, 9, &hex(alloc, packet)?)?;
         }
     }
     Ok(list)
@@ -218,12 +204,11 @@ fn written_of(alloc: Global, sent: &str) -> Result<Vec<u8>, Fail> {
 
 /// The packet of this line has the outcome of the line, and what leaves are the packets of the line.
 fn is_right<R: Threads + Wait + Sync>(rt: &R, alloc: Global, case: &str) -> Result<bool, Fail> {
-    let (_, kind, outcome, packets) = parts(case).ok_or("a case")?;
-    let (packet, sent) = packets.split_once('|').ok_or("a packet")?;
-    let table = table_text(alloc, kind)?;
-    let ran = run(rt, alloc, &capture_of(alloc, packet)?, table.as_str())?;
-    let written = written_of(alloc, sent)?;
-    let lines = lines_of(alloc, "0 0 ", outcome)?;
+    let sent = part(case, 4);
+    let written = capture_of(alloc, if sent == "-" { "" } else { sent })?;
+    let lines = lines_of(alloc, "0 0 ", part(case, 2))?;
+    let capture = capture_of(alloc, part(case, 3))?;
+    let ran = run(rt, alloc, &capture, part(case, 1))?;
     Ok(
         ran.status == Status::Done
             && ran.files.text("verdicts.txt") == lines.as_str()

@@ -1,17 +1,19 @@
-// Questions about a table file, tables of version 2, and generated traffic.
-use crate::cases::{parts, words_of};
+// What words ask for, tables of version 2, and generated traffic.
+use crate::captures::{Form, capture_of};
+use crate::cases::{lines_of, part};
 use crate::outside::Narrow;
-use crate::runs::{Ran, run_into};
+use crate::runs::{Ran, ask, files_of};
 use crate::tables::table_text;
-use aftr_base::MemFiles;
-use case_data::WHOLE_TABLE;
+use binding_file::{FileRefused, Name, Place};
 use lwaftr_engine::{Status, code, status_line};
 use std::alloc::Global;
 use std::sync::Wait;
 use std::test::Fail;
 use std::thread::Threads;
+use worker_gate::OpenGate;
 
-/// Each line has the words, the table, the exit code, and the line that is put; or the line of the status, if it is not 0.
+/// Each line has the words, the table, the exit code, the line that is put, or the line of the status, if it is not 0, and the lines of
+/// VERSIONS, if there are any.
 const CASES: &str = "\
 check t|whole|0|valid 1 bindings
 check t|shared|0|valid 1 bindings
@@ -24,6 +26,8 @@ check t|empty|5|table refused: missing version
 check other|whole|3|read fault
 check t|crowd|5|table refused: rules twice 0 64
 check t|city|0|valid 64 bindings
+check t|most|0|valid 65536 bindings
+check t|more|5|table refused: rules too-many 65537
 who t 203.0.113.1 1232|shared|0|2001:db8:1::1
 who t 203.0.113.1 1235|shared|0|2001:db8:1::1
 who t 203.0.113.1 1236|shared|0|none
@@ -38,6 +42,14 @@ who t 203.0.113.1 81|odd/2|0|none
 who t 203.0.113.1 80|odd|5|table refused: rules mixed-shape 0 1
 who t 203.0.113.1 80|clash/2|5|table refused: rules twice 0 1
 who t 203.0.113.1 80|odd/3|5|table refused: version
+who t 10.1.255.255 9|most|0|2001:db8:1::ffff
+who t 203.0.113.1 1232|=2001:0DB8::0:1|0|2001:db8::1
+who t 203.0.113.1 1232|=1:0:0:2:0:0:3:4|0|1::2:0:0:3:4
+who t 203.0.113.1 1232|=1:0:2:3:4:5:6:7|0|1:0:2:3:4:5:6:7
+who t 203.0.113.1 1232|=::ffff:192.0.2.1|0|::ffff:c000:201
+who t 203.0.113.1 1232|=1::2::3|5|table refused: address binding 0 b4
+who t 203.0.113.1 1232|=1:2:3:4:5:6:7|5|table refused: address binding 0 b4
+who t 203.0.113.1 1232|=12345::|5|table refused: address binding 0 b4
 who other 203.0.113.1 80|whole|3|read fault
 check|whole|2|usage
 check ~|whole|2|usage
@@ -69,144 +81,113 @@ migrate t|whole|2|usage
 migrate t u v|whole|2|usage
 demo 0 1 1|whole|0|records 1 held 0 forwarded 0 dropped 1 packets 0 version 1
 demo 13 2 1|whole|0|records 2 held 0 forwarded 2 dropped 0 packets 2 version 1
+demo 7 2000 1|-|0|records 2000 held 0 forwarded 1296 dropped 704 packets 1296 version 1
+demo 7 2000 2|-|0|records 2000 held 0 forwarded 1296 dropped 704 packets 1296 version 1
+demo 7 2000 3|-|0|records 2000 held 0 forwarded 1296 dropped 704 packets 1296 version 1
 demo 7 2000 3|whole|0|records 2000 held 0 forwarded 1296 dropped 704 packets 1296 version 1
+demo 7 2000 4|-|0|records 2000 held 0 forwarded 1296 dropped 704 packets 1296 version 1
+demo 7 2000 5|-|0|records 2000 held 0 forwarded 1296 dropped 704 packets 1296 version 1
+demo 7 2000 6|-|0|records 2000 held 0 forwarded 1296 dropped 704 packets 1296 version 1
+demo 7 2000 7|-|0|records 2000 held 0 forwarded 1296 dropped 704 packets 1296 version 1
+demo 7 2000 8|-|0|records 2000 held 0 forwarded 1296 dropped 704 packets 1296 version 1
+demo 7 2000 9|-|0|records 2000 held 0 forwarded 1296 dropped 704 packets 1296 version 1
+demo 7 2000 10|-|0|records 2000 held 0 forwarded 1296 dropped 704 packets 1296 version 1
+demo 7 2000 11|-|0|records 2000 held 0 forwarded 1296 dropped 704 packets 1296 version 1
+demo 7 2000 12|-|0|records 2000 held 0 forwarded 1296 dropped 704 packets 1296 version 1
+demo 7 2000 13|-|0|records 2000 held 0 forwarded 1296 dropped 704 packets 1296 version 1
+demo 7 2000 14|-|0|records 2000 held 0 forwarded 1296 dropped 704 packets 1296 version 1
+demo 7 2000 15|-|0|records 2000 held 0 forwarded 1296 dropped 704 packets 1296 version 1
+demo 7 2000 16|-|0|records 2000 held 0 forwarded 1296 dropped 704 packets 1296 version 1
+demo 1 200000 4|-|0|records 200000 held 0 forwarded 131448 dropped 68552 packets 131448 version 1
 demo 18446744073709551615 1001 16|whole|0|records 1001 held 0 forwarded 644 dropped 357 packets 644 version 1
 demo 18446744073709551616 1 1|whole|2|usage
 demo 0 0 1|whole|2|usage
 demo 0 1000001 1|whole|2|usage
 demo 0 1 0|whole|2|usage
 demo 0 1 17|whole|2|usage
-demo 0 1|whole|2|usage";
+demo 0 1|whole|2|usage
+|-|2|usage
+~|-|2|usage
+run|-|2|usage
+run a b c d|-|2|usage
+run a b c d e f|-|2|usage
+Run a b c d e|-|2|usage
+walk a b c d e|-|2|usage
+run a b b d e|-|2|usage
+run a b c b e|-|2|usage
+run a b c c e|-|2|usage
+run a a c d e|-|2|usage
+run a b a d e|-|2|usage
+run a b c a e|-|2|usage
+run a b c d b|-|2|usage
+run a b c d c|-|2|usage
+run a b c d d|-|2|usage
+run -- a b c d|-|2|usage
+run a b -- d e|-|2|usage
+run a -b c d e|-|2|usage
+run --workers b c d e|-|2|usage
+run ~ b c d e|-|2|usage
+run a b c ~ e|-|2|usage
+run a b c d ~|-|2|usage
+run a b c d e --workers 17|-|2|usage
+run a b c d e --workers 0|-|2|usage
+run a b c d e --errors 0|-|2|usage
+run a b c d e --errors 1 --errors 2|-|2|usage
+run a b c d e 4-2:f|-|2|usage
+run a b c d e 4-6:f 3-7:g|-|2|usage
+run a b c d e 1-2:b|-|2|usage
+migrate t0.toml t0.toml|-|2|usage
+run in.pcap out.pcap verdicts.txt versions.txt -|whole|0|records 1 held 0 forwarded 1 dropped 0 packets 1 version 0|0 - initial
+run in.pcap out.pcap verdicts.txt versions.txt t0.toml|bare|5|table refused: missing softwire
+run not-there out.pcap verdicts.txt versions.txt t0.toml|bare|5|table refused: missing softwire
+run not-there out.pcap verdicts.txt versions.txt t0.toml|whole|3|read fault
+run in.pcap out.pcap verdicts.txt versions.txt not-there|whole|3|read fault
+run in.pcap out.pcap verdicts.txt versions.txt t0.toml 1-1:bad 1-1:clash 2-2:not-there 3-3:bad 4-4:none --workers 1|whole|3|read fault
+run in.pcap out.pcap verdicts.txt versions.txt t0.toml 1-1:bad 1-1:clash 2-2:not-there 3-3:bad 4-4:none --workers 2|whole|3|read fault
+run in.pcap out.pcap verdicts.txt versions.txt t0.toml 1-1:bad 1-1:clash 2-2:not-there 3-3:bad 4-4:none --workers 4|whole|3|read fault";
 
-/// The file `t` with this table.
-fn table_file(alloc: Global, table: &str) -> Result<MemFiles, Fail> {
-    let mut files = MemFiles::new(alloc);
-    files.set(alloc, "t", table.as_bytes())?;
-    Ok(files)
-}
-
-/// Asks a question of these files, with blanks between its words; `~` is an empty word.
-fn ask<R: Threads + Wait + Sync>(
-    rt: &R,
-    alloc: Global,
-    question: &str,
-    files: MemFiles,
-    out: Narrow,
-) -> Result<Ran, Fail> {
-    let words = words_of(alloc, question)?;
-    Ok(run_into(rt, alloc, &words, files, out))
-}
-
-/// It ended with this code, and put this line, or, if the code is not 0, nothing; that is then the line of the status. The
-/// table is as it was.
-fn is_answer(alloc: Global, ran: &Ran, number: u8, line: &str, table: &str) -> Result<bool, Fail> {
-    let (said, status) = if number == 0 {
+/// It ended with the code of the line, and put its line, or, if the code is not 0, nothing; that is then the line of the status. The
+/// table is as it was, what VERSIONS has stands there, and a read failed only where that is the status.
+fn is_answer(alloc: Global, ran: &Ran, case: &str) -> Result<bool, Fail> {
+    let (number, line) = (part(case, 2), part(case, 3));
+    let (said, status) = if number == "0" {
         (line, "done")
     } else {
         ("", line)
     };
     let ended = status_line(alloc, &ran.status)?;
+    let table = table_text(alloc, part(case, 1))?;
+    let versions = lines_of(alloc, "", part(case, 4))?;
+    let lines = lines_of(alloc, "", said)?;
+    let missing = FileRefused::Missing(Place::Top(Name::Softwire));
+    let lacks_section = line == "table refused: missing softwire";
     Ok(
-        code(&ran.status) == number
-            && ran.said().trim_end_matches('\n') == said
+        lacks_section == (ran.status == Status::BadTable(missing))
+            && code(&ran.status) == number.parse::<u8>()?
+            && ran.said() == lines.as_str()
             && ended.as_str().trim_end_matches('\n') == status
-            && ran.files.text("t") == table
-            && ran.files.notes.spoiled == 0,
+            && ran.files.text("t") == table.as_str()
+            && ran.files.text("versions.txt") == versions.as_str()
+            && ran.has_outputs() == (versions.as_str() != "")
+            && ran.history.is_some() == said.starts_with("records ")
+            && ran.failed(if number == "3" { 1 } else { 0 }, 0),
     )
 }
 
-/// The question about this table, the file `t`, has this answer.
-fn has_answer<R: Threads + Wait + Sync>(
-    rt: &R,
-    alloc: Global,
-    question: &str,
-    table: &str,
-    number: u8,
-    line: &str,
-) -> Result<bool, Fail> {
-    let files = table_file(alloc, table)?;
-    let ran = ask(rt, alloc, question, files, Narrow::wide(alloc))?;
-    is_answer(alloc, &ran, number, line, table)
-}
-
-/// The question of this line has the answer of the line.
-fn is_right<R: Threads + Wait + Sync>(rt: &R, alloc: Global, case: &str) -> Result<bool, Fail> {
-    let (question, name, number, line) = parts(case).ok_or("a case")?;
-    let table = table_text(alloc, name)?;
-    has_answer(rt, alloc, question, &table, number.parse()?, line)
+/// What the words of this line ask for has the answer of the line.
+fn has_answer<R: Threads + Wait + Sync>(rt: &R, alloc: Global, case: &str) -> Result<bool, Fail> {
+    let words = part(case, 0);
+    let capture = capture_of(alloc, Form::Micro, "P@1")?;
+    let files = files_of(alloc, &capture, part(case, 1), words)?;
+    let ran = ask(rt, alloc, words, files, Narrow::wide(alloc), &OpenGate)?;
+    is_answer(alloc, &ran, case)
 }
 
 #[test]
-fn questions_are_answered(rt: HostRuntime) -> Result<(), Fail> {
-    let alloc = rt.alloc();
+fn words_are_answered(rt: HostRuntime) -> Result<(), Fail> {
     for case in CASES.lines() {
-        assert!(rt; is_right(&rt, alloc, case)?, "{case}");
+        assert!(rt; has_answer(&rt, rt.alloc(), case)?, "{case}");
     }
-    let files = table_file(alloc, WHOLE_TABLE)?;
-    let ran = ask(&rt, alloc, "check t", files, Narrow::wide(alloc))?;
-    assert_eq!(rt; ran.said(), "valid 1 bindings\n");
-    Ok(())
-}
-
-/// Each line has the end of a tunnel as a table spells it, the exit code, and the line that tells it or refuses the table.
-const ENDS: &str = "\
-2001:0DB8::0:1|0|2001:db8::1
-1:0:0:2:0:0:3:4|0|1::2:0:0:3:4
-1:0:2:3:4:5:6:7|0|1:0:2:3:4:5:6:7
-::ffff:192.0.2.1|0|::ffff:c000:201
-1::2::3|5|table refused: address binding 0 b4
-1:2:3:4:5:6:7|5|table refused: address binding 0 b4
-12345::|5|table refused: address binding 0 b4";
-
-/// The end of the tunnel of this line is told as the line says.
-fn is_told<R: Threads + Wait + Sync>(rt: &R, alloc: Global, case: &str) -> Result<bool, Fail> {
-    let (end, rest) = case.split_once('|').ok_or("a code")?;
-    let (number, line) = rest.split_once('|').ok_or("a line")?;
-    let mut table = table_text(alloc, "none")?;
-    table.push_str(&format!(in alloc; "[[binding]]\nb4 = \"{end}\"\nipv4 = \"203.0.113.1\"\n")?)?;
-    has_answer(
-        rt,
-        alloc,
-        "who t 203.0.113.1 1232",
-        &table,
-        number.parse()?,
-        line,
-    )
-}
-
-#[test]
-fn ends_of_tunnels_are_told_in_one_spelling(rt: HostRuntime) -> Result<(), Fail> {
-    for case in ENDS.lines() {
-        assert!(rt; is_told(&rt, rt.alloc(), case)?, "{case}");
-    }
-    Ok(())
-}
-
-/// A table of so many whole addresses, from 10.1.0.0 on. An end of a tunnel may stand in two bindings.
-fn many(alloc: Global, count: u32) -> Result<String, Fail> {
-    let mut text = table_text(alloc, "none")?;
-    for number in 0..count {
-        let (high, middle, low) = (number / 65_536 + 1, number / 256 % 256, number % 256);
-        let end = number % 65_536;
-        let binding = format!(in alloc;
-            "[[binding]]\nb4 = \"2001:db8:1::{end:x}\"\nipv4 = \"10.{high}.{middle}.{low}\"\n"
-        )?;
-        text.push_str(&binding)?;
-    }
-    Ok(text)
-}
-
-#[test]
-fn a_table_has_65536_bindings_at_most(rt: HostRuntime) -> Result<(), Fail> {
-    let alloc = rt.alloc();
-    let most = many(alloc, 65_536)?;
-    let valid = "valid 65536 bindings";
-    assert!(rt; has_answer(&rt, alloc, "check t", &most, 0, valid)?);
-    let (question, end) = ("who t 10.1.255.255 9", "2001:db8:1::ffff");
-    assert!(rt; has_answer(&rt, alloc, question, &most, 0, end)?);
-    let more = many(alloc, 65_537)?;
-    let refusal = "table refused: rules too-many 65537";
-    assert!(rt; has_answer(&rt, alloc, "check t", &more, 5, refusal)?);
     Ok(())
 }
 
@@ -220,7 +201,14 @@ fn is_lost_at_the_sink<R: Threads + Wait + Sync>(
     let mut out = Narrow::wide(alloc);
     out.most = taken;
     out.sink.fail_at(alloc, if taken > 0 { 1 } else { 0 })?;
-    let ran = ask(rt, alloc, question, table_file(alloc, WHOLE_TABLE)?, out)?;
+    let ran = ask(
+        rt,
+        alloc,
+        question,
+        files_of(alloc, &[], "whole", "")?,
+        out,
+        &OpenGate,
+    )?;
     Ok(
         ran.status == Status::WriteFault
             && ran.said().len() == taken
@@ -237,31 +225,15 @@ fn is_done_without<R: Threads + Wait + Sync>(
     question: &str,
     call: u64,
 ) -> Result<Option<bool>, Fail> {
-    let mut files = table_file(alloc, WHOLE_TABLE)?;
-    files.fail_at(alloc, call)?;
-    let ran = ask(rt, alloc, question, files, Narrow::wide(alloc))?;
+    let mut files = files_of(alloc, &[], "whole", "")?;
+    files.files.fail_at(alloc, call)?;
+    let ran = ask(rt, alloc, question, files, Narrow::wide(alloc), &OpenGate)?;
     Ok(match ran.status {
         Status::Done => Some(true),
         Status::ReadFault if ran.said() == "" && ran.failed(1, 0) => Some(false),
         Status::WriteFault if ran.said() == "" && ran.failed(0, 1) => Some(false),
         _ => None,
     })
-}
-
-/// Each call of the files may fail, and in the end all is done.
-fn ends_well<R: Threads + Wait + Sync>(
-    rt: &R,
-    alloc: Global,
-    question: &str,
-) -> Result<bool, Fail> {
-    let mut done = None;
-    for call in 0..12 {
-        done = is_done_without(rt, alloc, question, call)?;
-        if done.is_none() {
-            return Ok(false);
-        }
-    }
-    Ok(done == Some(true))
 }
 
 #[test]
@@ -274,7 +246,12 @@ fn a_question_may_fail(rt: HostRuntime) -> Result<(), Fail> {
                 "{question}"
             );
         }
-        assert!(rt; ends_well(&rt, alloc, question)?, "{question}");
+        let mut done = None;
+        for call in 0..12 {
+            done = is_done_without(&rt, alloc, question, call)?;
+            assert!(rt; done.is_some(), "{question} {call}");
+        }
+        assert!(rt; done == Some(true), "{question}");
     }
     Ok(())
 }
@@ -282,41 +259,18 @@ fn a_question_may_fail(rt: HostRuntime) -> Result<(), Fail> {
 #[test]
 fn a_table_is_moved_into_version_2(rt: HostRuntime) -> Result<(), Fail> {
     let alloc = rt.alloc();
-    let files = table_file(alloc, &table_text(alloc, "shared")?)?;
-    let mut ran = ask(&rt, alloc, "migrate t u", files, Narrow::wide(alloc))?;
+    let mut files = files_of(alloc, &[], "shared", "")?;
     for (question, line) in [
+        ("migrate t u", "migrated 1 bindings\n"),
         ("check u", "valid 1 bindings\n"),
         ("who u 203.0.113.1 1232", "2001:db8:1::1\n"),
         ("who u 203.0.113.1 1236", "none\n"),
     ] {
-        ran = ask(&rt, alloc, question, ran.files.files, Narrow::wide(alloc))?;
+        let ran = ask(&rt, alloc, question, files, Narrow::wide(alloc), &OpenGate)?;
         assert_eq!(rt; ran.said(), line);
+        files = ran.files;
     }
-    assert!(rt; ran.files.text("u").contains("version = 2"));
-    assert!(rt; ran.files.text("t") == table_text(alloc, "shared")?.as_str());
-    Ok(())
-}
-
-/// What the demonstration of these words says.
-fn demo_says<R: Threads + Wait + Sync>(
-    rt: &R,
-    alloc: Global,
-    words: &str,
-    line: &str,
-) -> Result<bool, Fail> {
-    let ran = ask(rt, alloc, words, MemFiles::new(alloc), Narrow::wide(alloc))?;
-    Ok(ran.status == Status::Done && ran.said() == line && ran.recorded().is_some())
-}
-
-#[test]
-fn the_demonstration_is_the_same_for_all_workers(rt: HostRuntime) -> Result<(), Fail> {
-    let alloc = rt.alloc();
-    let line = "records 2000 held 0 forwarded 1296 dropped 704 packets 1296 version 1\n";
-    for workers in 1..17u32 {
-        let words = format!(in alloc; "demo 7 2000 {workers}")?;
-        assert!(rt; demo_says(&rt, alloc, &words, line)?, "{workers}");
-    }
-    let long = "records 200000 held 0 forwarded 131448 dropped 68552 packets 131448 version 1\n";
-    assert!(rt; demo_says(&rt, alloc, "demo 1 200000 4", long)?);
+    assert!(rt; files.text("u").contains("version = 2"));
+    assert!(rt; files.text("t") == table_text(alloc, "shared")?.as_str());
     Ok(())
 }

@@ -1,5 +1,9 @@
 // A run over files in memory.
+use crate::captures::{Form, capture_of};
+use crate::cases::{part, words_of};
+use crate::due::{RECORDS, TABLE, WORDS};
 use crate::outside::{Narrow, Watched};
+use crate::tables::table_text;
 use aftr_base::MemFiles;
 use area_swap::History;
 use lwaftr_engine::{Status, lwaftr};
@@ -8,16 +12,6 @@ use std::sync::Wait;
 use std::test::Fail;
 use std::thread::Threads;
 use worker_gate::{Gate, OpenGate};
-
-/// The words of a run.
-pub const WORDS: [&str; 6] = [
-    "run",
-    "in.pcap",
-    "out.pcap",
-    "verdicts.txt",
-    "versions.txt",
-    "t0.toml",
-];
 
 /// What a run left.
 #[derive(Drop)]
@@ -46,69 +40,65 @@ impl Ran {
             || self.files.files.get("versions.txt").is_some()
     }
 
-    /// No output was made, and nothing was put.
-    pub fn is_silent(&self) -> bool {
-        !self.has_outputs() && self.said() == ""
-    }
-
     /// So many reads failed, and so many creates and appends.
     pub fn failed(&self, lost: u32, spoiled: u32) -> bool {
         self.files.notes.lost == lost && self.files.notes.spoiled == spoiled
     }
-
-    /// How many records and points the history has that was handed out.
-    pub fn recorded(&self) -> Option<(u32, usize)> {
-        let history = self.history.as_ref()?;
-        Some((history.records(), history.points().len()))
-    }
 }
 
-/// The capture and the table, as files.
-pub fn files_of(alloc: Global, capture: &[u8], table: &str) -> Result<MemFiles, Fail> {
+/// A capture, a table by some names, and a table for each load that words name, but for `not-there`; no files for the table `-`.
+pub fn files_of(alloc: Global, capture: &[u8], table: &str, words: &str) -> Result<Watched, Fail> {
     let mut files = MemFiles::new(alloc);
+    if table == "-" {
+        return Ok(Watched::new(files));
+    }
     files.set(alloc, "in.pcap", capture)?;
-    files.set(alloc, "t0.toml", table.as_bytes())?;
-    Ok(files)
+    let text = table_text(alloc, table)?;
+    for name in ["t0.toml", "t", "-"] {
+        files.set(alloc, name, text.as_bytes())?;
+    }
+    for word in words.split(' ') {
+        let (_, name) = word.split_once(':').unwrap_or(("", "not-there"));
+        if name != "not-there" {
+            files.set(alloc, name, table_text(alloc, name)?.as_bytes())?;
+        }
+    }
+    Ok(Watched::new(files))
 }
 
-/// Runs over these watched files and this sink, with each record drawn passing this gate.
-pub fn run_gated<R: Threads + Wait + Sync, G: Gate + Sync>(
+/// Does what the words ask for, over these files and this sink, with each record drawn passing this gate.
+pub fn ask<R: Threads + Wait + Sync, G: Gate + Sync>(
     rt: &R,
     alloc: Global,
-    words: &[&str],
+    words: &str,
     mut files: Watched,
     mut out: Narrow,
     gate: &G,
-) -> Ran {
+) -> Result<Ran, Fail> {
+    let words = words_of(alloc, words)?;
     let mut history = None;
-    let status = lwaftr(rt, alloc, words, &mut files, &mut out, gate, &mut history);
-    Ran {
+    let status = lwaftr(rt, alloc, &words, &mut files, &mut out, gate, &mut history);
+    Ok(Ran {
         status,
         files,
         out,
         history,
-    }
+    })
 }
 
-/// Runs over these files and this sink.
-pub fn run_into<R: Threads + Wait + Sync>(
+/// Runs over these files and this sink, with these words behind the table.
+pub fn run_over<R: Threads + Wait + Sync, G: Gate + Sync>(
     rt: &R,
     alloc: Global,
-    words: &[&str],
-    files: MemFiles,
+    behind: &str,
+    files: Watched,
     out: Narrow,
-) -> Ran {
-    run_gated(rt, alloc, words, Watched::new(files), out, &OpenGate)
-}
-
-/// Runs over these files.
-pub fn run_over<R: Threads + Wait + Sync>(
-    rt: &R,
-    alloc: Global,
-    words: &[&str],
-    files: MemFiles,
-) -> Ran {
-    run_into(rt, alloc, words, files, Narrow::wide(alloc))
+    gate: &G,
+) -> Result<Ran, Fail> {
+    let words = format!(in alloc;
+        "run in.pcap out.pcap verdicts.txt versions.txt t0.toml {behind}"
+    )?;
+    ask(rt, alloc, &words, files, out, gate)
 }
 
 /// Runs over a capture and a table.
@@ -118,6 +108,31 @@ pub fn run<R: Threads + Wait + Sync>(
     capture: &[u8],
     table: &str,
 ) -> Result<Ran, Fail> {
-    let files = files_of(alloc, capture, table)?;
-    Ok(run_over(rt, alloc, &WORDS, files))
+    let files = files_of(alloc, capture, table, "")?;
+    run_over(rt, alloc, "", files, Narrow::wide(alloc), &OpenGate)
+}
+
+/// The files of a line, its capture in this form.
+pub fn line_files(alloc: Global, form: Form, line: &str) -> Result<Watched, Fail> {
+    let capture = capture_of(alloc, form, part(line, RECORDS))?;
+    files_of(alloc, &capture, part(line, TABLE), part(line, WORDS))
+}
+
+/// The run of a line over a capture of this form, with each record drawn passing this gate.
+pub fn run_line<R: Threads + Wait + Sync, G: Gate + Sync>(
+    rt: &R,
+    alloc: Global,
+    form: Form,
+    line: &str,
+    gate: &G,
+) -> Result<Ran, Fail> {
+    let files = line_files(alloc, form, line)?;
+    run_over(
+        rt,
+        alloc,
+        part(line, WORDS),
+        files,
+        Narrow::wide(alloc),
+        gate,
+    )
 }
