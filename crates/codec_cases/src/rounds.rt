@@ -1,12 +1,12 @@
 // Captures read in rounds by each reader: whole files, files that answer little, and each read failing.
-ghost use Rattle.std.specs.Prelude.{◌≤◌};
+ghost use Rattle.std.specs.Prelude.{◌≤◌, IfOk};
 
 use crate::blocks::{joined, record_text};
 use crate::outside::number;
 use crate::parts::first_bytes;
 use crate::pipes::{Pipe, pipe_of};
 use aftr_base::Files;
-use capture_io::{CaptureReader, ClassicReader, Ending, Records, Written, piece_of};
+use capture_io::{CaptureError, CaptureReader, ClassicReader, Ending, Records, Written, piece_of};
 use case_data::CAPTURE;
 use pcapng_io::{NgReader, Reader};
 use std::alloc::Global;
@@ -101,34 +101,19 @@ fn tell_rounds<R: CaptureReader, F: Files>(
     Ok((told, records))
 }
 
-fn told_classic(
+// The same of a capture that a reader opened, or why it did not.
+fn told_of<R: CaptureReader + Drop>(
     alloc: Global,
+    opened: Result<R, CaptureError>,
     pipe: &mut Pipe,
     most_bytes: usize,
     room: Records,
 ) -> Result<Told, Fail>
+    requires ready { IfOk opened (λ reader. R.ready reader 0) }
     requires some { 1 ≤ most_bytes }
     requires most { most_bytes ≤ 67108864 }
 {
-    match ClassicReader::open(alloc, pipe, "in") {
-        Ok(reader) => {
-            let mut reader = reader;
-            tell_rounds(alloc, &mut reader, pipe, most_bytes, room)
-        }
-        Err(error) => Ok((format!(in alloc; "{error}")?, room)),
-    }
-}
-
-fn told_blocks(
-    alloc: Global,
-    pipe: &mut Pipe,
-    most_bytes: usize,
-    room: Records,
-) -> Result<Told, Fail>
-    requires some { 1 ≤ most_bytes }
-    requires most { most_bytes ≤ 67108864 }
-{
-    match NgReader::open(alloc, pipe, "in") {
+    match opened {
         Ok(reader) => {
             let mut reader = reader;
             tell_rounds(alloc, &mut reader, pipe, most_bytes, room)
@@ -147,13 +132,8 @@ pub(crate) fn told_either(
     requires some { 1 ≤ most_bytes }
     requires most { most_bytes ≤ 67108864 }
 {
-    match Reader::open(alloc, pipe, "in") {
-        Ok(reader) => {
-            let mut reader = reader;
-            tell_rounds(alloc, &mut reader, pipe, most_bytes, room)
-        }
-        Err(error) => Ok((format!(in alloc; "{error}")?, room)),
-    }
+    let opened = Reader::open(alloc, pipe, "in");
+    told_of(alloc, opened, pipe, most_bytes, room)
 }
 
 fn told_by(
@@ -167,8 +147,14 @@ fn told_by(
     requires most { most_bytes ≤ 67108864 }
 {
     match reader {
-        "classic" => told_classic(alloc, pipe, most_bytes, room),
-        "blocks" => told_blocks(alloc, pipe, most_bytes, room),
+        "classic" => {
+            let opened = ClassicReader::open(alloc, pipe, "in");
+            told_of(alloc, opened, pipe, most_bytes, room)
+        }
+        "blocks" => {
+            let opened = NgReader::open(alloc, pipe, "in");
+            told_of(alloc, opened, pipe, most_bytes, room)
+        }
         _ => told_either(alloc, pipe, most_bytes, room),
     }
 }
