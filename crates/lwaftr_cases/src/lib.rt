@@ -1,5 +1,4 @@
-//! Tests of the whole program over files in memory (lwaftr_engine), and of lookups of a table in a held area. Nothing
-//! stands on this crate.
+//! Tests of the whole program over files in memory (lwaftr_engine). Nothing stands on this crate.
 #![tactic(auto)]
 
 #[cfg(test)]
@@ -14,8 +13,6 @@ mod due;
 mod faults;
 #[cfg(test)]
 mod given;
-#[cfg(test)]
-mod held_area;
 #[cfg(test)]
 mod lanes;
 #[cfg(test)]
