@@ -135,10 +135,12 @@ fn sixteen_serve<R: Threads + Wait + Sync, G: Gate + Sync>(
         gate,
     };
     round(rt, &areas, &mut seat, &mut desk, &mut crew, &work);
-    Ok(crew.outcomes().len() == 1_000
-        && are_in_order(&crew.outcomes())
-        && areas.tally(&mut seat) == 1_000
-        && desk.points().len() == 1)
+    Ok(
+        crew.outcomes().len() == 1_000
+            && are_in_order(&crew.outcomes())
+            && areas.tally(&mut seat) == 1_000
+            && desk.points().len() == 1,
+    )
 }
 
 #[test]
