@@ -44,7 +44,7 @@ pub use Rattle.capture_io.specs.Record.{nanoseconds}
 pub use Rattle.capture_io.specs.Refusals.{RefusesHeader}
 pub use Rattle.capture_io.specs.Written.{IsRecordable, TimedPacket, capture_bytes, timed, written_form}
 pub use Rattle.capture_io.specs.declared.classic.ClassicReader.{ClassicReader}
-pub use Rattle.error_limit.proofs.Marking.{kept, sent}
+pub use Rattle.error_limit.proofs.LawLemmas.{kept, sent}
 pub use Rattle.error_limit.specs.Limits.{second}
 pub use Rattle.ip_codec.specs.Packet6.{bytes6}
 pub use Rattle.item_stage.specs.Items.{rows_of}
@@ -63,8 +63,7 @@ pub use Rattle.run_output.specs.Laws.{AreJoined, IsSameBut}
 pub use Rattle.run_output.specs.Limiting.{passed_in, tells, times_of, told_from, told_if}
 pub use Rattle.run_output.specs.Outputs.{record_text, sent_unless}
 pub use Rattle.run_output.specs.Rendering.{AreFitting}
-pub use Rattle.swap_core.proofs.PlanLemmas.{window_at}
-pub use Rattle.swap_core.proofs.Pointing.{settled_points}
+pub use Rattle.swap_core.proofs.Laws.{settled_points, window_at}
 pub use Rattle.swap_core.specs.Plans.{IsNotBefore, IsPlan, IsWindow, always}
 pub use Rattle.swap_core.specs.Points.{AreInWindows}
 pub use Rattle.table_words.specs.Answers.{first_b4}

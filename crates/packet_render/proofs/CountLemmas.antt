@@ -7,7 +7,7 @@ use Rattle.fragmenter.specs.Cutting.{Room, packets_of, pieces_of}
 use Rattle.fragmenter.specs.Pieces4.{piece4, room4}
 use Rattle.fragmenter.specs.Pieces6.{piece6, room6}
 use Rattle.icmp_errors.specs.Errors4.{exceeded_bytes, too_big_bytes, unreachable_bytes}
-use Rattle.ip_codec.proofs.Packet4Lemmas.{ip4_of-alone, ip4_of-shaped}
+use Rattle.ip_codec.proofs.Laws.{ip4_of-alone, ip4_of-shaped}
 use Rattle.ip_codec.specs.Packet4.{Packet4, ip4_of, packet_len}
 use Rattle.ip_codec.specs.declared.items.Item.{Item}
 use Rattle.ip_codec.specs.declared.items.Item.TheVariants as item
