@@ -6,7 +6,7 @@ use Rattle.std.proofs.lemmas.List.{append-nil, drop-drop, drop-take, length-appe
 use Rattle.std.proofs.lemmas.List.Edits.{take-paste}
 use Rattle.std.specs.List.{copy_within}
 use Rattle.aftr_base.specs.Contents.{Contents, content, Told}
-use Rattle.capture_io.specs.Fronts.{IsFront, IsStart}
+use Rattle.capture_io.specs.Fronts.{IsStart}
 use Rattle.capture_io.specs.Windows.{Ahead, IsBehind, IsMore}
 
 start_more : (left before part after : List ℕ) (got count : ℕ) → got ≤ length before → count ≤ length part →

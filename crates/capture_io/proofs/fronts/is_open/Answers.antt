@@ -1,7 +1,6 @@
 -- What the front says of the bytes as the code has them.
-use Rattle.std.proofs.Common.{◌≡◌, sym, ◌∙◌, ap}
-use Rattle.capture_io.specs.declared.fronts.Front.TheVariants as front
-use Rattle.capture_io.specs.Fronts.{front_in, is_more}
+use Rattle.std.proofs.Common.{sym, ◌∙◌, ap}
+use Rattle.capture_io.specs.Fronts.{is_more}
 use Rattle.capture_io.proofs.WindowLemmas.{open_last, open_more, open_short, said_of}
 use Rattle.capture_io.proofs.fronts.is_open.Goals as goal
 
