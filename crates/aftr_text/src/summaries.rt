@@ -26,6 +26,16 @@ pub struct Totals {
     pub version: u32,
 }
 
+/// The totals before the first record.
+pub const NO_TOTALS: Totals = Totals {
+    records: 0,
+    held: 0,
+    forwarded: 0,
+    dropped: 0,
+    packets: 0,
+    version: 0,
+};
+
 /// The one line that a run puts to standard output.
 pub fn summary(alloc: Global, totals: Totals) -> Result<Text, OutOfMemory>
     ensures { IfOk result (λ line. line ≡ summary_text totals) }

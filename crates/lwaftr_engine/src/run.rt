@@ -21,7 +21,7 @@ use crate::rounds::{Free, Pending, Progress, Room, Router, run_records};
 use crate::shift::{begin_shift, end_shift};
 use crate::tasks::{Means, Task};
 use aftr_base::{Fault, Files, OutOfMemory, Sink};
-use aftr_text::Totals;
+use aftr_text::NO_TOTALS;
 use area_swap::History;
 use capture_io::{CaptureReader, Ending, Form, Records};
 use hand_over::{Bells, line};
@@ -36,16 +36,6 @@ use worker_gate::Gate;
 /// What a round writes is made in so many parts, each by a thread of its own where there are records for it.
 const MOST_PARTS: u32 = 2;
 
-/// The totals before the first record.
-const NONE_YET: Totals = Totals {
-    records: 0,
-    held: 0,
-    forwarded: 0,
-    dropped: 0,
-    packets: 0,
-    version: 0,
-};
-
 // How far a run has come before its first record.
 fn at_first(alloc: Global, form: Form, errors: Option<u32>) -> Result<Progress, OutOfMemory>
     requires rate { IfSome errors IsRate }
@@ -54,7 +44,7 @@ fn at_first(alloc: Global, form: Form, errors: Option<u32>) -> Result<Progress, 
     Ok(Progress {
         stage: Stage::new(alloc, form)?,
         number: 0,
-        totals: NONE_YET,
+        totals: NO_TOTALS,
         limit: new_limit(errors),
         printed: 0,
     })

@@ -3,7 +3,7 @@ ghost use Rattle.std.specs.Prelude.{◌≡◌, ◌<◌, ◌≤◌, ◌^◌, [], 
 ghost use Rattle.run_output.specs.Counting.{no_totals};
 
 use aftr_base::OutOfMemory;
-use aftr_text::Totals;
+use aftr_text::{NO_TOTALS, Totals};
 use std::alloc::Global;
 use std::marker::Model;
 
@@ -34,14 +34,7 @@ impl Part {
         Part {
             packets: Vec::new(alloc),
             lines: Vec::new(alloc),
-            counted: Totals {
-                records: 0,
-                held: 0,
-                forwarded: 0,
-                dropped: 0,
-                packets: 0,
-                version: 0,
-            },
+            counted: NO_TOTALS,
             failed: false,
         }
     }
@@ -54,14 +47,7 @@ impl Part {
     {
         self.packets.clear();
         self.lines.clear();
-        self.counted = Totals {
-            records: 0,
-            held: 0,
-            forwarded: 0,
-            dropped: 0,
-            packets: 0,
-            version: 0,
-        };
+        self.counted = NO_TOTALS;
         self.failed = false;
     }
 
