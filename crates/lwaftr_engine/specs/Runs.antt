@@ -22,8 +22,8 @@ pub record IsWritten (run : RunJob) (slots : List Slot) (c : Course) (points : L
 abbrev pub SendsItsPackets : Item → Verdict → Type 0
 SendsItsPackets i v = (number : ℕ) → Sends v (length (sent i v number))
 
--- Table k of the windows comes into force at point k, which is inside its window: there is one for each window that opens by the
--- last record, and no other. Of these tables and points, and of the limit on errors, is the course of the run.
+-- Table k of the windows comes into force at point k, which is inside its window: there is one for each window whose earliest number is
+-- at most the number of records, and no other. Of these tables and points, and of the limit on errors, is the course of the run.
 pub record IsCourse (tables : ℕ → BindingTable) (windows : List Window) (errors : Option ℕ) (points : List ℕ) (form : Form) (rs : List Rec)
     (c : Course) : Type 0 where
   pub tables_are : c.tables ≡ tables

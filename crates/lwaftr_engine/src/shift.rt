@@ -12,6 +12,7 @@ ghost use Rattle.worker_gate.specs.Reloading.{IsSettled};
 
 use aftr_base::OutOfMemory;
 use area_swap::{Areas, Desk, History, WorkerSeat, prepare};
+use capture_io::MOST_TAKEN;
 use item_stage::Items;
 use std::alloc::Global;
 use std::sync::Wait;
@@ -19,9 +20,6 @@ use std::thread::Threads;
 use swap_core::Plan;
 use verdict_core::access;
 use worker_gate::{Crew, Gate, Work, outcomes_are_in_force, round};
-
-/// The most records of a round.
-const MOST_RECORDS: usize = 16_384;
 
 /// So many of the workers are at work in a round: they judge as fast as one thread reads and writes.
 const MOST_AT_WORK: u32 = 2;
@@ -44,7 +42,7 @@ pub fn begin_shift(alloc: Global, plan: Plan, workers: u32) -> Result<Shift, Out
     ensures points { IfOk result (λ shift. shift.desk.known.points ≡ []) }
     ensures reads { IfOk result (λ shift. shift.seat.known.reads ≡ 0) }
 {
-    let crew = Crew::with(alloc, workers.min(MOST_AT_WORK), MOST_RECORDS)?;
+    let crew = Crew::with(alloc, workers.min(MOST_AT_WORK), MOST_TAKEN)?;
     let (areas, seat, desk) = prepare(alloc, plan)?;
     Ok(Shift {
         areas,

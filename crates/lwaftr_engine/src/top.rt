@@ -25,7 +25,8 @@ use std::thread::Threads;
 use worker_gate::Gate;
 
 /// Does the job that the command words ask for. The words are those behind the program's name: `run`, `check`, `who`, `demo` or
-/// `migrate` with what belongs to it, as `aftr_text::read_words` reads them. Other words are `Usage`, and then nothing is touched.
+/// `migrate` with what belongs to it, as `aftr_text::read_words` reads them. Other words are `Usage`, or `OutOfMemory`
+/// where there is no room to read them, and then nothing is touched.
 ///
 /// A run reads the first table (`ReadFault`, `BadTable`), then the loads' tables in their order (`ReadFault`; a refused one is
 /// noted), then the file header of the capture, which may be a classic one or pcapng (`ReadFault`, `BadCapture`). Up to here
