@@ -2,7 +2,7 @@
 // print these texts out of this file.
 
 /// The version of the program. CONTRIBUTING says when it is raised.
-pub const VERSION: &str = "1.0.0";
+pub const VERSION: &str = "1.1.0";
 
 /// The commands with their words, options, files and exit codes, one example, and where more is told.
 pub const HELP: &str = "\
@@ -14,7 +14,8 @@ lwaftr run IN OUT VERDICTS VERSIONS TABLE [EARLIEST-LATEST:TABLE]... [--workers 
     packets sent; VERDICTS, a line for each record; VERSIONS, a line for each table.
     EARLIEST-LATEST:TABLE  a later table, and between which records it comes into force
     --workers N            how many workers judge packets: 1 to 16 (default 1)
-    --errors N             at most so many ICMP errors a second: 1 to 1000000 (default all)
+    --errors N             a bucket of N ICMP errors that gains N a second: 1 to 1000000
+                           (default all are sent)
 lwaftr check TABLE
     Says whether a table file is valid, and why not.
 lwaftr who TABLE ADDRESS PORT
