@@ -33,15 +33,38 @@ def flag(node):
     return node.value != "false"
 
 
+def number(node):
+    try:
+        return converting.number(node.name, node.value)
+    except ValueError as error:
+        raise yang.YangError(node.line, str(error)) from None
+
+
+def address(kind, node, word=None):
+    """The address of a statement, or of a word of it."""
+    try:
+        return kind(node.value if word is None else word)
+    except ValueError as error:
+        raise yang.YangError(node.line, f"{node.name}: {error}") from None
+
+
+def wanted(node, name):
+    """A statement that has to be in another one."""
+    found = node.one(name)
+    if not found:
+        raise yang.YangError(node.line, f"{node.name} has no {name}")
+    return found
+
+
 def interface(node, names, found, notes):
     """What an interface says of the settings."""
     for it in node.inside:
         name = names.get(it.name)
         if name in ("aftr", "own"):
             kind = ipaddress.IPv6Address if name == "aftr" else ipaddress.IPv4Address
-            found.setdefault(name, kind(it.value.split("/")[0]))
+            found.setdefault(name, address(kind, it, it.value.split("/")[0]))
         elif name in ("mtu6", "mtu4", "hop_limit"):
-            found.setdefault(name, int(it.value))
+            found.setdefault(name, number(it))
         elif name:
             found.setdefault(name, flag(it))
         else:
@@ -63,12 +86,12 @@ def interfaces(node, found, notes):
 
 def shape(node):
     """Offset and length of a port set; where a shift stands in place of the reserved bits, the offset is what is left."""
-    length = int(node.one("psid-length").value) if node.one("psid-length") else 0
+    length = number(node.one("psid-length")) if node.one("psid-length") else 0
     reserved, shift = node.one("reserved-ports-bit-count"), node.one("shift")
     if reserved:
-        return int(reserved.value), length
+        return number(reserved), length
     if shift:
-        return 16 - length - int(shift.value), length
+        return 16 - length - number(shift), length
     return 0, length
 
 
@@ -76,20 +99,23 @@ def maps(table):
     """The shapes that the older form gives to addresses."""
     found = {}
     for node in table.all("psid-map"):
-        first = int(ipaddress.IPv4Address(node.one("addr").value))
-        last = int(ipaddress.IPv4Address(node.one("end-addr").value)) if node.one("end-addr") else first
-        for address in range(first, last + 1):
-            found[ipaddress.IPv4Address(address)] = shape(node)
+        first = int(address(ipaddress.IPv4Address, wanted(node, "addr")))
+        last = int(address(ipaddress.IPv4Address, node.one("end-addr"))) if node.one("end-addr") else first
+        for at in range(first, last + 1):
+            found[ipaddress.IPv4Address(at)] = shape(node)
     return found
 
 
 def tunnel(node, listed):
     """The tunnel address of a softwire, if it says one."""
     if node.one("br-address"):
-        return ipaddress.IPv6Address(node.one("br-address").value)
-    if node.one("br"):
-        return listed[int(node.one("br").value)]
-    return listed[0] if listed else None
+        return address(ipaddress.IPv6Address, node.one("br-address"))
+    if not node.one("br"):
+        return listed[0] if listed else None
+    place = number(node.one("br"))
+    if not 0 <= place < len(listed):
+        raise yang.YangError(node.one("br").line, f"br {place}: the list of br-address has {len(listed)}, counted from 0")
+    return listed[place]
 
 
 KNOWN = ("ipv4", "psid", "b4-ipv6", "b4", "br-address", "br", "port-set", "padding")
@@ -97,20 +123,20 @@ KNOWN = ("ipv4", "psid", "b4-ipv6", "b4", "br-address", "br", "port-set", "paddi
 
 def softwires(table, notes):
     """Each softwire with its line, its tunnel address and its binding."""
-    listed = [ipaddress.IPv6Address(it.value) for it in table.all("br-address")]
+    listed = [address(ipaddress.IPv6Address, it) for it in table.all("br-address")]
     of_map = maps(table)
     for node in table.all("softwire"):
         b4 = node.one("b4-ipv6") or node.one("b4")
         if not b4 or not node.one("ipv4"):
             notes.left_out(node.line, "softwire", "it has no b4-ipv6 or no ipv4")
             continue
-        ipv4 = ipaddress.IPv4Address(node.one("ipv4").value)
+        ipv4 = address(ipaddress.IPv4Address, node.one("ipv4"))
         offset, length = shape(node.one("port-set")) if node.one("port-set") else of_map.get(ipv4, (0, 0))
-        psid = int(node.one("psid").value) if node.one("psid") else 0
+        psid = number(node.one("psid")) if node.one("psid") else 0
         for it in node.inside:
             if it.name not in KNOWN:
                 notes.left_out(it.line, f"softwire {it.name}")
-        yield node.line, tunnel(node, listed), tables.Binding(ipaddress.IPv6Address(b4.value), ipv4, offset, length, psid)
+        yield node.line, tunnel(node, listed), tables.Binding(address(ipaddress.IPv6Address, b4), ipv4, offset, length, psid)
     for node in table.inside:
         if node.name not in ("softwire", "psid-map", "br-address"):
             notes.left_out(node.line, f"binding-table {node.name}", WHY.get(node.name, ""))
@@ -119,15 +145,15 @@ def softwires(table, notes):
 def main():
     words = converting.settings(converting.parser(__doc__, "CONFIG")).parse_args()
     notes, found = converting.Notes(words.file), {}
+    text = converting.text_of(words.file)
     try:
-        with open(words.file, encoding="utf-8") as file:
-            top = yang.read(file.read())
+        top = yang.read(text)
         root = next((it for name in ROOT for it in top.all(name)), top)
         interfaces(root, found, notes)
         table = root.one("binding-table")
-        wires = list(softwires(table, notes)) if table else converting.fail("there is no binding-table")
-    except (yang.YangError, ValueError, OSError, AttributeError, IndexError) as error:
-        converting.fail(f"{words.file}: {error}")
+        wires = list(softwires(table, notes)) if table else converting.fail(f"{words.file}: there is no binding-table")
+    except yang.YangError as error:
+        converting.fail(f"{words.file}:{error.line}: {error}")
     counts = collections.Counter(aftr for _, aftr, _ in wires if aftr)
     aftr = words.aftr or (counts.most_common(1)[0][0] if len(counts) == 1 else None)
     if counts and not aftr:

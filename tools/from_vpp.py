@@ -17,16 +17,28 @@ def pairs(words):
     return {words[at]: words[at + 1] if at + 1 < len(words) else "" for at in range(0, len(words), 2)}
 
 
+def wanted(keys, name):
+    """The value of a name that has to be there."""
+    if not keys.get(name):
+        raise ValueError(f"{name} is wanted, with a value")
+    return keys[name]
+
+
+def number(keys, name):
+    """The number of a name, 0 where it is not said."""
+    return converting.number(name, keys[name]) if name in keys else 0
+
+
 class Domain:
     """A domain that this router can hold: one IPv4 address, its port sets' shape, and its tunnel address."""
 
     def __init__(self, line, keys):
         self.line, self.rules = line, 0
         self.ipv4 = ipaddress.IPv4Network(keys["ip4-pfx"]).network_address
-        self.ip6 = ipaddress.IPv6Network(keys["ip6-pfx"])
-        self.aftr = ipaddress.IPv6Address(keys["ip6-src"].split("/")[0])
-        self.offset, self.length = int(keys.get("psid-offset", 0)), int(keys.get("psid-len", 0))
-        self.mtu = int(keys["mtu"]) if keys.get("mtu", "0") != "0" else None
+        self.ip6 = ipaddress.IPv6Network(wanted(keys, "ip6-pfx"))
+        self.aftr = ipaddress.IPv6Address(wanted(keys, "ip6-src").split("/")[0])
+        self.offset, self.length = number(keys, "psid-offset"), number(keys, "psid-len")
+        self.mtu = number(keys, "mtu") or None
         if self.length == 0:
             self.offset = 0
 
@@ -37,9 +49,9 @@ def domain(line, keys, notes):
     for name in keys:
         if name not in known:
             notes.left_out(line, f"{name} {keys[name]}".strip())
-    if int(keys.get("ea-bits-len", 0)):
+    if number(keys, "ea-bits-len"):
         notes.left_out(line, "domain", "ea-bits-len above 0 is MAP-E (RFC 7597), which binds no single subscriber")
-    elif not keys["ip4-pfx"].endswith("/32"):
+    elif not wanted(keys, "ip4-pfx").endswith("/32"):
         notes.left_out(line, "domain", "its IPv4 prefix is no single address")
     else:
         if "tag" in keys:
@@ -48,64 +60,83 @@ def domain(line, keys, notes):
     return None
 
 
-def read(file, notes):
-    """The domains by their numbers, the bindings with their lines and tunnel addresses, and the source address of errors."""
-    domains, bindings, own = [], [], None
-    for number, line in enumerate(file, 1):
-        words = line.split("#")[0].split()
+class Commands:
+    """What the commands say: the domains by their numbers, the bindings with their lines and domains, and the source address of errors."""
+
+    def __init__(self, notes):
+        self.domains, self.bindings, self.own, self.notes = [], [], None, notes
+
+    def take(self, line, words):
+        if words[:3] == ["map", "add", "domain"]:
+            self.domains.append(domain(line, pairs(words[3:]), self.notes))
+        elif words[:3] == ["map", "add", "rule"]:
+            self.rule(line, pairs(words[3:]))
+        elif words[:4] == ["map", "params", "icmp", "source-address"]:
+            self.own = ipaddress.IPv4Address(wanted(pairs(words[3:]), "source-address"))
+        else:
+            self.notes.left_out(line, " ".join(words))
+
+    def rule(self, line, keys):
+        index = converting.number("index", wanted(keys, "index"))
+        if not 0 <= index < len(self.domains):
+            raise ValueError(f"there is no domain {index}: {len(self.domains)} stand in front of this rule")
+        of = self.domains[index]
+        if of is None:
+            self.notes.left_out(line, "rule", f"its domain {index} is")
+            return
+        of.rules += 1
+        b4 = ipaddress.IPv6Address(wanted(keys, "ip6-dst").split("/")[0])
+        psid = converting.number("psid", wanted(keys, "psid"), 0)
+        self.bindings.append((line, of, tables.Binding(b4, of.ipv4, of.offset, of.length, psid)))
+
+    def domains_without_rules(self):
+        """Adds the domains that are a binding by themselves."""
+        for of in self.domains:
+            if of is None or of.rules:
+                continue
+            if of.length == 0 and of.ip6.prefixlen == 128:
+                self.bindings.append((of.line, of, tables.Binding(of.ip6.network_address, of.ipv4)))
+            else:
+                self.notes.left_out(of.line, "domain", "it has no rule, so no subscriber")
+
+
+def read(text, notes):
+    """The bindings with their lines and domains, and the source address of errors."""
+    commands = Commands(notes)
+    for line, command in enumerate(text.split("\n"), 1):
+        words = command.split("#")[0].split()
         if words[:1] == ["vppctl"]:
             words = words[1:]
-        if not words:
-            continue
-        if words[:3] == ["map", "add", "domain"]:
-            domains.append(domain(number, pairs(words[3:]), notes))
-        elif words[:3] == ["map", "add", "rule"]:
-            keys = pairs(words[3:])
-            of = domains[int(keys["index"])]
-            if of is None:
-                notes.left_out(number, "rule", f"its domain {keys['index']} is")
-                continue
-            of.rules += 1
-            b4 = ipaddress.IPv6Address(keys["ip6-dst"].split("/")[0])
-            bindings.append((number, of, tables.Binding(b4, of.ipv4, of.offset, of.length, int(keys["psid"], 0))))
-        elif words[:4] == ["map", "params", "icmp", "source-address"]:
-            own = ipaddress.IPv4Address(words[4])
-        else:
-            notes.left_out(number, " ".join(words))
-    for of in domains:
-        if of and of.rules == 0:
-            if of.length == 0 and of.ip6.prefixlen == 128:
-                bindings.append((of.line, of, tables.Binding(of.ip6.network_address, of.ipv4)))
-            else:
-                notes.left_out(of.line, "domain", "it has no rule, so no subscriber")
-    return domains, sorted(bindings, key=lambda it: it[0]), own
+        try:
+            if words:
+                commands.take(line, words)
+        except ValueError as error:
+            converting.fail(f"{notes.file}:{line}: {error}")
+    commands.domains_without_rules()
+    return sorted(commands.bindings, key=lambda it: it[0]), commands.own
 
 
 def main():
     words = converting.settings(converting.parser(__doc__, "COMMANDS")).parse_args()
     notes = converting.Notes(words.file)
-    try:
-        with open(words.file, encoding="utf-8") as file:
-            _, found, own = read(file, notes)
-    except (ValueError, KeyError, IndexError, OSError) as error:
-        converting.fail(f"{words.file}: {type(error).__name__}: {error}")
+    found, own = read(converting.text_of(words.file), notes)
     counts = collections.Counter(of.aftr for _, of, _ in found)
     if len(counts) > 1 and not words.aftr:
         said = ", ".join(f"{it} with {count}" for it, count in counts.most_common())
         converting.fail(f"several tunnel addresses ({said}): say by --aftr which one's subscribers are carried")
     aftr = words.aftr or next(iter(counts), None)
     said = {name: it for name, it in (("aftr", aftr), ("own", own)) if it}
-    kept, mtus = [], set()
+    kept, mtus = [], {}
     for line, of, binding in found:
         if of.aftr != aftr:
             notes.left_out(line, f"binding of {binding.b4}", f"its tunnel address is {of.aftr}")
         else:
             kept.append(binding)
-            mtus.add(of.mtu)
+            mtus.setdefault(of.mtu, of.line)
     if len(mtus) == 1 and None not in mtus:
-        said["mtu6"] = mtus.pop()
-    elif mtus - {None}:
-        notes.left_out(1, "mtu", f"domains say several ({', '.join(map(str, mtus))}): give --mtu6")
+        said["mtu6"] = next(iter(mtus))
+    elif len(mtus) > 1:
+        notes.left_out(max(mtus.values()), "mtu", f"domains say several ({', '.join(map(str, mtus))}): give --mtu6")
     notes.not_said(words, said)
     converting.put(words.output, tables.text(tables.Table(converting.softwire(words, said), kept)))
 

@@ -147,10 +147,87 @@ class Converting(Folder):
     def test_refusals_name_their_cause(self):
         code, _, error = ran("from_snabb.py", os.path.join(HERE, "samples", "snabb_psid_map.conf"))
         self.assertEqual((code, "say by --aftr" in error), (1, True))
-        code, _, error = ran("from_csv.py", self.file("l.csv", "203.0.113.1,6,8,52\n203.0.113.1,6,8\n"), "--aftr", AFTR, "--own", OWN)
-        self.assertEqual((code, "line 2" in error), (1, True))
         code, _, error = ran("from_snabb.py", self.file("s.conf", "softwire-config { binding-table { softwire { "))
         self.assertEqual((code, "ends inside" in error), (1, True))
+
+
+    def from_csv(self, text):
+        return ran("from_csv.py", self.file("l.csv", text), "--aftr", AFTR, "--own", OWN, "-o", self.file("table.toml"))
+
+    def test_a_row_of_names(self):
+        for names in ("ipv4,offset,length,psid,b4", "Address, PSID offset, PSID length, PSID, B4 address"):
+            code, _, error = self.from_csv(f"{names}\n203.0.113.1,6,8,52,2001:db8:1::1\n")
+            self.assertEqual(code, 0, error)
+            self.assertIn("l.csv:1: left out: a row of names", error)
+            self.assertEqual(len(tables.read(self.file("table.toml")).bindings), 1)
+
+    def test_a_wrong_line_of_a_list_is_refused(self):
+        right = "203.0.113.1,6,8,52,2001:db8:1::1"
+        wrong = (
+            "203.0.113.1,6,8,52,2001:db8:1::1/128", "203.0.113.1,6,8,052,2001:db8:1::1", "203.0.113.1,6,8,52", "203.0.113.1,6,8,52,2001:db8:1::1,x",
+            "2O3.0.113.1,6,8,52,2001:db8:1::1", "one,6,8,52,2001:db8:1::1", "fd00::1,6,8,52,203.0.113.1", "ipv4,offset,length,52,b4",
+        )
+        for line in wrong:
+            for number, text in ((1, f"{line}\n{right}\n"), (1, line), (2, f"{right}\n{line}\n"), (3, f"ipv4,offset,length,psid,b4\n\n{line}\n")):
+                with self.subTest(line=line, number=number):
+                    code, _, error = self.from_csv(text)
+                    self.assertEqual(code, 1)
+                    self.assertIn(f"l.csv:{number}: ", error.splitlines()[-1])
+                    self.assertFalse(os.path.exists(self.file("table.toml")))
+
+    def test_files_that_cannot_be_read_or_written(self):
+        with open(self.file("binary"), "wb") as file:
+            file.write(b"\xff\xfe\x80")
+        for tool in ("from_csv.py", "from_vpp.py", "from_snabb.py", "to_vpp.py", "to_snabb.py"):
+            settings = ("--aftr", AFTR, "--own", OWN) if tool.startswith("from") else ()
+            for name in ("none", "binary"):
+                code, _, error = ran(tool, self.file(name), *settings)
+                self.assertEqual(code, 1, tool)
+                self.assertRegex(error, rf"^{tool}: .*{name}")
+        code, _, error = ran("from_csv.py", os.path.join(HERE, "samples", "list.csv"), "--aftr", AFTR, "--own", OWN, "-o", self.file("none/table.toml"))
+        self.assertEqual((code, "Traceback" in error), (1, False))
+
+    def test_a_wrong_command_of_vpp_is_refused_with_its_line(self):
+        domain = "map add domain ip4-pfx 203.0.113.1/32 ip6-pfx ::/0 ip6-src 2001:db8::1 psid-offset 6 psid-len 8"
+        for line, said in (
+            ("map add rule psid 52 ip6-dst 2001:db8:1::1", "index is wanted"),
+            ("map add rule index 1 psid 52 ip6-dst 2001:db8:1::1", "there is no domain 1"),
+            ("map add rule index -1 psid 52 ip6-dst 2001:db8:1::1", "there is no domain -1"),
+            ("map add rule index x psid 52 ip6-dst 2001:db8:1::1", "index 'x' is no number"),
+            ("map add rule index 0 psid 52", "ip6-dst is wanted"),
+            ("map add rule index 0 psid 052 ip6-dst 2001:db8:1::1", "psid '052' is no number"),
+            ("map add rule index 0 psid 52 ip6-dst nowhere", "nowhere"),
+            ("map add domain ip6-pfx ::/0 ip6-src 2001:db8::1", "ip4-pfx is wanted"),
+            ("map add domain ip4-pfx 203.0.113.2/32 ip6-pfx ::/0", "ip6-src is wanted"),
+            ("map params icmp source-address", "source-address is wanted"),
+        ):
+            with self.subTest(line=line):
+                code, _, error = ran("from_vpp.py", self.file("v.cli", f"{domain}\n\n{line}\n"), "--own", OWN)
+                self.assertEqual(code, 1)
+                self.assertRegex(error.splitlines()[-1], rf"^from_vpp.py: .*v.cli:3: .*{said}")
+
+    def test_a_wrong_statement_of_snabb_is_refused_with_its_line(self):
+        softwire = "softwire { ipv4 203.0.113.1; psid 52; b4 2001:db8:1::1; port-set { psid-length 8; } }"
+        for statement, said in (
+            ("softwire { ipv4 203.0.113; b4 2001:db8:1::1; }", "ipv4: "),
+            ("softwire { ipv4 203.0.113.1; b4 nowhere; }", "b4: "),
+            ("softwire { ipv4 203.0.113.1; b4 2001:db8:1::1; psid x; }", "psid 'x' is no number"),
+            ("softwire { ipv4 203.0.113.1; b4 2001:db8:1::1; port-set { psid-length; } }", "psid-length '' is no number"),
+            ("softwire { ipv4 203.0.113.1; b4 2001:db8:1::1; br 1; }", "br 1"),
+            ("softwire { ipv4 203.0.113.1; b4 2001:db8:1::1; br -1; }", "br -1"),
+            ("softwire { ipv4 203.0.113.1; b4 2001:db8:1::1; br-address 7; }", "br-address: "),
+            ("psid-map { psid-length 8; }", "psid-map has no addr"),
+            ("softwire { ipv4 203.0.113.1; b4 2001:db8:1::1", "ends inside"),
+            ("softwire a b c;", "more than one value"),
+        ):
+            with self.subTest(statement=statement):
+                text = f"softwire-config {{ binding-table {{ br-address {AFTR};\n{softwire}\n{statement}\n}} }}"
+                text = text.split("\n}")[0] if said == "ends inside" else text
+                code, _, error = ran("from_snabb.py", self.file("s.conf", text), "--own", OWN)
+                self.assertEqual(code, 1)
+                self.assertRegex(error.splitlines()[-1], rf"^from_snabb.py: .*s.conf:3: .*{said}")
+        code, _, error = ran("from_snabb.py", self.file("s.conf", "softwire-config {\n external-interface {\n mtu x; } }"), "--own", OWN)
+        self.assertIn("s.conf:3: mtu 'x' is no number", error)
 
 
 class Owning(unittest.TestCase):

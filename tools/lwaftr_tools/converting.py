@@ -37,7 +37,6 @@ class Notes:
         self.count += 1
         print(f"{self.file}:{line}: left out: {what}{': ' + why if why else ''}", file=sys.stderr)
 
-
     def not_said(self, words, found):
         """Names each setting that neither the file nor the words say, with what is taken."""
         for name in (*SETTINGS, *SWITCHES):
@@ -48,6 +47,25 @@ class Notes:
 
 def fail(text):
     sys.exit(f"{sys.argv[0].rsplit('/', 1)[-1]}: {text}")
+
+
+def text_of(path, encoding="utf-8", newline=None):
+    """The text of a file; where it can't be read, the tool ends with a message."""
+    try:
+        with open(path, encoding=encoding, newline=newline) as file:
+            return file.read()
+    except OSError as error:
+        fail(str(error))
+    except UnicodeDecodeError:
+        fail(f"{path}: it is no text in UTF-8")
+
+
+def number(name, word, base=10):
+    """A number as it is written; with base 0 also as 0x34."""
+    try:
+        return int(word, base)
+    except ValueError:
+        raise ValueError(f"{name} {word!r} is no number{' (written as 52 or 0x34, without leading zeros)' if base == 0 else ''}") from None
 
 
 def softwire(words, found):
@@ -68,6 +86,9 @@ def softwire(words, found):
 def put(output, text):
     if output == "-":
         sys.stdout.write(text)
-    else:
+        return
+    try:
         with open(output, "w", encoding="utf-8") as file:
             file.write(text)
+    except OSError as error:
+        fail(str(error))

@@ -3,7 +3,11 @@ import re
 
 
 class YangError(Exception):
-    """A text of another form, and the line."""
+    """A text of another form, or with a statement that is not understood, and the line."""
+
+    def __init__(self, line, text):
+        super().__init__(text)
+        self.line = line
 
 
 class Node:
@@ -25,7 +29,7 @@ def tokens(text):
     while at < len(text):
         found = TOKEN.match(text, at)
         if not found:
-            raise YangError(f"line {line}: {text[at]!r} is not understood")
+            raise YangError(line, f"{text[at]!r} is not understood")
         if found["mark"]:
             yield "mark", found["mark"], line
         elif found.lastgroup:
@@ -44,18 +48,18 @@ def read(text):
             continue
         if words:
             if len(words) > 2:
-                raise YangError(f"line {line}: more than one value behind {words[0][0]!r}")
+                raise YangError(line, f"more than one value behind {words[0][0]!r}")
             node = Node(words[0][0], words[1][0] if len(words) > 1 else "", words[0][1])
             open_nodes[-1].inside.append(node)
         if value == "{":
             if not words:
-                raise YangError(f"line {line}: no word stands in front of {{")
+                raise YangError(line, "no word stands in front of {")
             open_nodes.append(node)
         elif value == "}":
             if len(open_nodes) == 1:
-                raise YangError(f"line {line}: a }} too many")
+                raise YangError(line, "a } too many")
             open_nodes.pop()
         words = []
     if len(open_nodes) > 1 or words:
-        raise YangError("the text ends inside a statement")
+        raise YangError(words[0][1] if words else open_nodes[-1].line, "the text ends inside the statement that begins here")
     return top
