@@ -16,7 +16,6 @@ from lwaftr_tools import captures, packets, tables  # noqa: E402
 
 PROGRAM = os.environ.get("LWAFTR", os.path.join(os.path.dirname(HERE), "lwaftr"))
 os.environ["LWAFTR"] = PROGRAM
-FIRST = os.path.join(os.path.dirname(HERE), "examples", "first")
 
 
 def ran(tool, *words):
@@ -38,8 +37,26 @@ def ip4(source, destination, protocol, payload, ttl=64, number=1, word=0):
     return head[:10] + struct.pack("!H", total(head)) + head[12:] + payload
 
 
+def pieces4(source, destination, protocol, payload, size, ttl=64, number=1):
+    """The fragments of an IPv4 datagram."""
+    made = []
+    for at in range(0, len(payload), size):
+        word = at // 8 | (0x2000 if at + size < len(payload) else 0)
+        made.append(ip4(source, destination, protocol, payload[at : at + size], ttl=ttl, number=number, word=word))
+    return made
+
+
 def ip6(source, destination, kind, payload, hops=64):
     return struct.pack("!IHBB16s16s", 6 << 28, len(payload), kind, hops, ipaddress.IPv6Address(source).packed, ipaddress.IPv6Address(destination).packed) + payload
+
+
+def pieces6(source, destination, kind, payload, size, number=1):
+    """The fragments of an IPv6 packet."""
+    made = []
+    for at in range(0, len(payload), size):
+        head = struct.pack("!BBHI", kind, 0, at | (at + size < len(payload)), number)
+        made.append(ip6(source, destination, 44, head + payload[at : at + size]))
+    return made
 
 
 def udp(source, destination, payload=b"test"):
@@ -49,6 +66,12 @@ def udp(source, destination, payload=b"test"):
 def icmp(kind, code, rest):
     data = struct.pack("!BBH", kind, code, 0) + rest
     return data[:2] + struct.pack("!H", total(data)) + data[4:]
+
+
+def icmp6(source, destination, kind, code, rest):
+    data = struct.pack("!BBH", kind, code, 0) + rest
+    pseudo = ipaddress.IPv6Address(source).packed + ipaddress.IPv6Address(destination).packed + struct.pack("!IxxxB", len(data), 58)
+    return ip6(source, destination, 58, data[:2] + struct.pack("!H", total(pseudo + data)) + data[4:])
 
 
 AFTR, OWN, SHARED, WHOLE, FAR = "2001:db8::1", "192.0.2.1", "203.0.113.1", "203.0.113.2", "198.51.100.7"
@@ -246,9 +269,7 @@ def one_of_each_rule():
     tunnel = ip6(AFTR, B4, 4, ip4(FAR, SHARED, 17, udp(53, 1232)))
 
     def message(kind, code, quote, source=B4):
-        data = struct.pack("!BBHI", kind, code, 0, 0) + quote
-        pseudo = ipaddress.IPv6Address(source).packed + ipaddress.IPv6Address(AFTR).packed + struct.pack("!IxxxB", len(data), 58)
-        return ip6(source, AFTR, 58, data[:2] + struct.pack("!H", total(pseudo + data)) + data[4:])
+        return icmp6(source, AFTR, kind, code, b"\0" * 4 + quote)
 
     def up(data, source=B4):
         return ip6(source, AFTR, 4, data)
@@ -272,7 +293,7 @@ def one_of_each_rule():
         (up(bad_sum), "inner-checksum", "checksum"),
         (ip4(FAR, OWN, 17, udp(53, 1232)), "to-self", "router's own"),
         (ip4(FAR, SHARED, 1, b"\3\0\0\0"), "icmp-bad", "cut off"),
-        (ip4(FAR, WHOLE, 17, b"ab"), "no-port", "names no port"),
+        (ip4(FAR, WHOLE, 17, b"ab"), "no-port", "too short to name a port"),
         (ip4(FAR, SHARED, 17, udp(53, 1240)), "no-binding", "port 1240 of 203.0.113.1 is nobody's"),
         (up(inner, OTHER), "no-binding", "its owner's tunnel ends at 2001:db8:1::1, it came from 2001:db8:1::2"),
         (ip4(FAR, SHARED, 47, b"\0" * 8), "no-binding", "GRE has no ports"),
@@ -324,6 +345,117 @@ class Explaining(Folder):
         code, out, error = ran("why.py", names[0], names[4], 0)
         self.assertEqual(code, 0, error)
         self.assertIn("why: port 1240 of 203.0.113.1 is nobody's", out)
+
+    def why(self, names, number):
+        return self.told(names, number).split("why: ")[1].strip()
+
+    def test_the_first_fragment_tells_the_time_to_live(self):
+        data = udp(53, 1232, b"x" * 16)
+        first, last = pieces4(FAR, SHARED, 17, data, 16, ttl=1)[0], pieces4(FAR, SHARED, 17, data, 16)[1]
+        names = self.run_program([first, ip4(FAR, SHARED, 17, udp(53, 1232)), last], a_table())
+        out = self.told(names, 2)
+        self.assertIn("verdict: 2 0 drop ttl 1", out)
+        self.assertIn("the datagram of records 0, 2; its first fragment (record 0) tells ports and time to live", out)
+        self.assertEqual(self.why(names, 2), "its time to live is 1")
+        self.assertIn("destination: port 1232 of 203.0.113.1 is 2001:db8:1::1's", out)
+
+    def test_fragments_of_a_tunnel_packet(self):
+        records = pieces6(OTHER, AFTR, 4, ip4(SHARED, FAR, 17, udp(1232, 53, b"x" * 40)), 24)
+        names = self.run_program(records, a_table())
+        self.assertEqual(self.why(names, 0), "a fragment that waits for the rest of its datagram")
+        self.assertIn("1 0 held", self.told(names, 1))
+        self.assertEqual(self.why(names, 2), "its owner's tunnel ends at 2001:db8:1::1, it came from 2001:db8:1::2")
+        self.assertIn("source: port 1232 of 203.0.113.1 is 2001:db8:1::1's", self.told(names, 2))
+
+    def test_fragments_in_a_tunnel_in_fragments(self):
+        inner = pieces4(SHARED, FAR, 17, udp(1236, 53, b"x" * 40), 24)
+        records = pieces6(B4, AFTR, 4, inner[1], 24, number=9) + [ip6(B4, AFTR, 4, inner[0])]
+        names = self.run_program(records, a_table())
+        out = self.told(names, 2)
+        self.assertIn("verdict: 2 0 drop no-binding 0", out)
+        self.assertIn("the datagram of records 0, 1, 2; its first fragment (record 2)", out)
+        self.assertEqual(self.why(names, 2), "its owner's tunnel ends at 2001:db8:1::2, it came from 2001:db8:1::1")
+
+    def test_fragments_that_name_no_port(self):
+        records = pieces4(FAR, SHARED, 17, udp(53, 1240, b"x" * 16), 16)[::-1] + [ip4(FAR, SHARED, 17, b"ab")]
+        names = self.run_program(records, a_table())
+        self.assertIn("203.0.113.1 is shared by 2 bindings, and this fragment names no port", self.told(names, 0))
+        self.assertEqual(self.why(names, 1), "port 1240 of 203.0.113.1 is nobody's (offset 6, length 8)")
+        self.assertIn("203.0.113.1 is shared by 2 bindings, and it is too short to name a port", self.told(names, 2))
+        self.assertEqual(self.why(names, 2), "it is too short to name a port")
+
+    def test_an_identification_that_comes_again(self):
+        def datagram(port):
+            return pieces4(FAR, SHARED, 17, udp(53, port, b"x" * 16), 16)
+
+        names = self.run_program([*datagram(1232), *datagram(1240)], a_table())
+        self.assertIn("records 0, 1;", self.told(names, 1))
+        self.assertIn("records 2, 3;", self.told(names, 3))
+        self.assertEqual(self.why(names, 3), "port 1240 of 203.0.113.1 is nobody's (offset 6, length 8)")
+        odd = ip4(FAR, SHARED, 17, b"12345", word=0x2000)
+        names = self.run_program([datagram(1240)[0], odd, datagram(1240)[0], datagram(1240)[1]], a_table())
+        self.assertIn("records 0, 3;", self.told(names, 3))
+
+    def test_a_datagram_that_was_given_up(self):
+        first, last = pieces4(FAR, SHARED, 17, udp(53, 1240, b"x" * 16), 16)
+        names = self.run_program([first], a_table())
+        captures.write(names[0], [(0, first), (61 * 10**9, first), (62 * 10**9, last)])
+        it = subprocess.run([PROGRAM, "run", *names], capture_output=True, text=True)
+        self.assertEqual(it.returncode, 0, it.stderr)
+        self.assertIn("records 1, 2;", self.told(names, 2))
+
+    def test_a_table_that_is_not_in_force(self):
+        names = self.run_program([ip4(FAR, SHARED, 17, udp(53, 1232)), ip4(FAR, SHARED, 17, udp(53, 1240), ttl=1)], a_table())
+        other = a_table()
+        other.bindings[0] = tables.Binding(ipaddress.IPv6Address(B4), ipaddress.IPv4Address(SHARED), 6, 8, 54)
+        self.file("other.toml", tables.text(other))
+        for number, found in ((0, "no-binding"), (1, "ttl")):
+            code, out, error = ran("why.py", names[0], self.file("other.toml"), number, "--verdicts", names[2])
+            self.assertEqual(code, 0, error)
+            self.assertIn(f"why: under this table record {number} would be {found}: is it the table of the line's second number (0)?", out)
+
+    def test_files_that_are_not_there(self):
+        names = self.run_program([ip4(FAR, SHARED, 17, udp(53, 1232))], a_table())
+        none = self.file("none")
+        for words in ([none, names[4]], [names[0], none], [names[0], names[4], none], [names[0], names[4], names[3]], [names[0], names[4], names[1]]):
+            code, _, error = ran("why.py", *words[:2], 0, *(["--verdicts", words[2]] if len(words) > 2 else []))
+            self.assertEqual((code, error.count("\n"), error[:8]), (2, 1, "why.py: "), words)
+            self.assertIn(words[-1] if len(words) > 2 else none, error)
+
+    def test_what_is_wrong_with_a_message(self):
+        quote = ip4(SHARED, FAR, 17, udp(1232, 53))
+        bad_quote = quote[:10] + b"\0\0" + quote[12:]
+        bad_sum = icmp(3, 1, b"\0" * 4 + quote)[:2] + b"\1\2" + icmp(3, 1, b"\0" * 4 + quote)[4:]
+        cases = (
+            (icmp(8, 0, b"\4\xd0"), "icmp-bad", "fewer than 8 bytes"),
+            (bad_sum, "icmp-bad", "wrong checksum"),
+            (icmp(3, 1, b"\0" * 4 + bad_quote), "icmp-bad", "quotes no IPv4 header that sums up"),
+            (icmp(3, 1, b"\0" * 4 + quote[:19]), "icmp-bad", "quotes no IPv4 header that sums up"),
+            (icmp(13, 0, b"\0" * 16), "icmp-bad", "quotes no IPv4 header that sums up"),
+            (icmp(8, 0, b"\4\xd0\0\0")[:2] + b"\1\2\4\xd0\0\0", "down", "sent into the tunnel"),
+            (icmp(3, 1, b"\0" * 4 + quote), "down", "sent into the tunnel"),
+            (icmp(3, 1, b"\0" * 4 + ip4(SHARED, FAR, 17, b"12345678", word=3)), "no-port", "the packet that it quotes is a later fragment"),
+            (icmp(3, 1, b"\0" * 4 + ip4(SHARED, FAR, 1, icmp(3, 1, b"\0" * 24))), "no-port", "the packet that it quotes is an ICMP error"),
+            (icmp(3, 1, b"\0" * 4 + quote[:22]), "no-port", "the packet that it quotes is too short"),
+        )
+        names = self.run_program([ip4(FAR, SHARED, 1, data) for data, _, _ in cases], a_table())
+        for number, (_, rule, said) in enumerate(cases):
+            with self.subTest(rule=rule, number=number):
+                self.assertRegex(self.told(names, number), rf"verdict: {number} 0 (drop )?{rule} ")
+                self.assertIn(said, self.why(names, number))
+
+    def test_messages_are_shown_with_what_they_quote(self):
+        quote = ip4(SHARED, FAR, 17, udp(1232, 53))
+        tunnel = ip6(AFTR, B4, 4, ip4(FAR, SHARED, 17, udp(53, 1232)))
+        records = [ip4(FAR, SHARED, 1, icmp(3, 1, b"\0" * 4 + quote)), icmp6(B4, AFTR, 3, 0, b"\0" * 4 + tunnel), icmp6(B4, AFTR, 128, 0, b"\0" * 4)]
+        names = self.run_program(records, a_table())
+        self.assertIn("quotes IPv4 203.0.113.1 port 1232 to 198.51.100.7 port 53, UDP", self.told(names, 0))
+        out = self.told(names, 1)
+        self.assertIn("IPv6 2001:db8:1::1 to 2001:db8::1, ICMPv6 type 3 code 0", out)
+        self.assertIn("quotes IPv6 2001:db8::1 to 2001:db8:1::1, IPv4", out)
+        self.assertIn("IPv4 198.51.100.7 port 53 to 203.0.113.1 port 1232, UDP", out)
+        self.assertIn("ICMPv6 type 128 code 0", self.told(names, 2))
+        self.assertIn("type 128", self.why(names, 2))
 
 
 class Comparing(Folder):
@@ -424,6 +556,15 @@ class Reading(Folder):
             with open(self.file("cut.pcap"), "wb") as file, open(path, "rb") as whole:
                 file.write(whole.read()[:-1])
             list(captures.records(self.file("cut.pcap")))
+
+    def test_a_capture_that_is_broken_is_named(self):
+        path = self.file("broken.pcapng")
+        block = lambda kind, body: struct.pack("<II", kind, 12 + len(body)) + body + struct.pack("<I", 12 + len(body))  # noqa: E731
+        with open(path, "wb") as file:
+            file.write(block(0x0A0D0D0A, struct.pack("<IHHq", 0x1A2B3C4D, 1, 0, -1)) + block(6, struct.pack("<IIIII", 0, 0, 0, 0, 0)))
+        for path in (path, self.file("text", "nothing")):
+            with self.assertRaisesRegex(captures.CaptureError, path):
+                list(captures.records(path))
 
     def test_frames(self):
         data = ip4(FAR, SHARED, 17, udp(53, 1232))

@@ -20,12 +20,17 @@ MAGICS = {0xA1B2C3D4: 1000, 0xA1B23C4D: 1}
 
 def records(path):
     """The records of a capture, in order."""
-    with open(path, "rb", buffering=1 << 20) as file:
-        head = file.read(4)
-        if head == b"\x0a\x0d\x0d\x0a":
-            yield from _blocks(file, head)
-        else:
-            yield from _classic(file, head)
+    try:
+        with open(path, "rb", buffering=1 << 20) as file:
+            head = file.read(4)
+            if head == b"\x0a\x0d\x0d\x0a":
+                yield from _blocks(file, head)
+            else:
+                yield from _classic(file, head)
+    except CaptureError as error:
+        raise CaptureError(f"{path}: {error}") from None
+    except (IndexError, struct.error):
+        raise CaptureError(f"{path}: a block has fewer bytes than its kind, or names an interface that is not there") from None
 
 
 def _exactly(file, count, place):
