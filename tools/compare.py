@@ -3,12 +3,13 @@
 
 The two captures may have any link types, and their packets may stand in another order within a window. It names the packets of OURS
 that are missing in THEIRS, those of THEIRS that are not in OURS, and those that differ, with the fields that do; with
-`--verdicts` each with its record's number and line. Exit code 0 where nothing differs, 1 where something does, 2 where a file
-cannot be read.
+`--verdicts` each with its record's number and line: OURS is then read twice, so it is no pipe. Exit code 0 where nothing differs, 1
+where something does, 2 where a word is not understood, a file cannot be read, or VERDICTS tells of another number of packets than OURS has.
 
-Fields: version, length, tos, id, flags, offset, ttl, checksum, source, destination, protocol, label, and port-source, port-destination, payload;
-those of the header inside a tunnel begin with `in-`. `--ignore` takes these, and `ip-id` (id), `flow-label` (label), `ttl-outer` (the
-hop limit of a tunnel packet), `ttl` (of both), `fragment-id` (the identification of IPv6 fragments)."""
+Fields: version, length, tos, id, flags, offset, ttl, checksum, source, destination, options, protocol, label, fragment (the place of an IPv6
+fragment), fragment-id (its identification), and port-source, port-destination, payload; those of the header inside a tunnel begin with
+`in-`. `--ignore` takes these, and `ip-id` (id and in-id), `flow-label` (label), `ttl-outer` (the hop limit of a tunnel packet), `ttl` (ttl
+and in-ttl); with an identification or a time to live it leaves out the checksum of its header too."""
 import argparse
 import collections
 import functools
@@ -16,7 +17,19 @@ import ipaddress
 import struct
 import sys
 
-from lwaftr_tools import captures, packets
+from lwaftr_tools import captures, packets, verdicts
+
+FIELDS = (
+    "version", "length", "tos", "id", "flags", "offset", "ttl", "checksum", "source", "destination", "options", "protocol", "label",
+    "fragment", "fragment-id", "port-source", "port-destination", "payload",
+)
+# what some words of --ignore stand for
+ALSO = {
+    "ip-id": ("id", "in-id", "checksum", "in-checksum"),
+    "flow-label": ("label",),
+    "ttl": ("ttl", "in-ttl", "checksum", "in-checksum"),
+    "ttl-outer": ("ttl-outer",),
+}
 
 
 def fields(data):
@@ -63,12 +76,14 @@ def _fields(data, front, found):
     found[front + "payload"] = rest
 
 
-def ignored(words):
-    """The names of the fields that are not compared."""
-    also = {"ip-id": ["id", "in-id", "checksum", "in-checksum"], "flow-label": ["label"], "ttl": ["ttl", "in-ttl", "checksum", "in-checksum"]}
+def ignored(text):
+    """The names of the fields that are not compared, of the words of --ignore."""
+    known = {*FIELDS, *(f"in-{it}" for it in FIELDS), *ALSO}
     names = set()
-    for word in words:
-        names.update(also.get(word, [word]))
+    for word in text.split(","):
+        if word not in known:
+            raise argparse.ArgumentTypeError(f"{word!r} is no field; the fields are told by --help")
+        names.update(ALSO.get(word, (word,)))
     return names
 
 
@@ -146,12 +161,17 @@ def shown(name, value):
 
 def lines(path):
     """For each packet of OUT its record's line in VERDICTS."""
-    with open(path, encoding="ascii") as file:
-        for line in file:
-            words = line.split()
-            if words[0] not in ("expired", "unfinished"):
-                for _ in range(int(words[-1])):
-                    yield line.strip()
+    for words in verdicts.of_records(path):
+        for _ in range(int(words[-1])):
+            yield " ".join(words)
+
+
+def check(ours, path):
+    """Refuses VERDICTS that can't be of the run that wrote a capture."""
+    told = sum(int(words[-1]) for words in verdicts.of_records(path))
+    there = sum(1 for _ in captures.records(ours))
+    if told != there:
+        raise verdicts.VerdictsError(f"{path} tells of {told} packets, and {ours} has {there}: give the VERDICTS of the run that wrote {ours}")
 
 
 class Report:
@@ -200,10 +220,10 @@ def settle(ours, theirs, names, report):
 
 
 def compare(words):
-    names, report = ignored(words.ignore), Report(words.most)
+    names, report = words.ignore, Report(words.most)
     mine, other = Side(), Side()
     late_mine, late_other = [], []
-    verdicts = lines(words.verdicts) if words.verdicts else None
+    told_lines = lines(words.verdicts) if words.verdicts else None
     streams = [captures.records(words.ours), captures.records(words.theirs)]
     counts = [0, 0]
     matched = 0
@@ -216,7 +236,7 @@ def compare(words):
             data = packets.strip(record.link, record.bytes)
             if data is None:
                 continue
-            line = next(verdicts, "") if verdicts and at == 0 else ""
+            line = next(told_lines, "") if told_lines and at == 0 else ""
             packet = Packet(record.number, data, names, line)
             counts[at] += 1
             if against.take(packet.key) is None:
@@ -240,12 +260,15 @@ def main():
     it.add_argument("ours", metavar="OURS")
     it.add_argument("theirs", metavar="THEIRS")
     it.add_argument("--verdicts", help="VERDICTS of the run that wrote OURS")
-    it.add_argument("--ignore", type=lambda text: text.split(","), default=[], help="fields that are not compared, with commas between")
+    it.add_argument("--ignore", type=ignored, default=set(), metavar="FIELDS", help="fields that are not compared, with commas between")
     it.add_argument("--window", type=int, default=20000, help="how many packets a packet may be late (20000)")
     it.add_argument("--most", type=int, default=100, help="how many differences are printed (100); all are counted")
+    words = it.parse_args()
     try:
-        sys.exit(compare(it.parse_args()))
-    except (captures.CaptureError, OSError, IndexError, struct.error) as error:
+        if words.verdicts:
+            check(words.ours, words.verdicts)
+        sys.exit(compare(words))
+    except (captures.CaptureError, verdicts.VerdictsError, OSError, IndexError, struct.error) as error:
         print(f"compare.py: {error}", file=sys.stderr)
         sys.exit(2)
 

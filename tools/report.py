@@ -15,11 +15,10 @@ import html
 import io
 import sys
 
-from lwaftr_tools import captures, packets, tables
+from lwaftr_tools import captures, packets, tables, verdicts
 
 PARTS = 240
 MOST_NAMES = 65536
-OUTCOMES = ("up", "down", "hairpin", "held", "drop")
 
 
 class Course:
@@ -68,7 +67,7 @@ class Report:
 
     def line(self, words):
         """A line of VERDICTS; the kind of its record, if it is one's."""
-        if words[0] in ("expired", "unfinished"):
+        if words[0] in verdicts.DATAGRAMS:
             setattr(self, words[0], getattr(self, words[0]) + 1)
             return None
         self.records += 1
@@ -110,23 +109,22 @@ def subscriber(record, table):
 def read(words):
     report, table = Report(), tables.read(words.table) if words.table else None
     records = captures.records(words.input) if words.input else None
-    with open(words.verdicts, encoding="ascii") as file:
-        for line in file:
-            kind = report.line(line.split())
-            if kind is None or records is None:
-                continue
-            record = next(records, None)
-            if record is None:
-                records = None
-                continue
-            if report.first_time is None:
-                report.first_time = record.time
-            place = max(0, record.time - report.first_time) // 1_000_000
-            report.by_time.add(place, kind)
-            if report.came.get(report.version) == (report.records - 1, None):
-                report.came[report.version] = (report.records - 1, place)
-            if kind not in OUTCOMES:
-                report.names.add(subscriber(record, table), kind)
+    for line in verdicts.lines(words.verdicts):
+        kind = report.line(line)
+        if kind is None or records is None:
+            continue
+        record = next(records, None)
+        if record is None:
+            records = None
+            continue
+        if report.first_time is None:
+            report.first_time = record.time
+        place = max(0, record.time - report.first_time) // 1_000_000
+        report.by_time.add(place, kind)
+        if report.came.get(report.version) == (report.records - 1, None):
+            report.came[report.version] = (report.records - 1, place)
+        if kind not in verdicts.OUTCOMES:
+            report.names.add(subscriber(record, table), kind)
     return report
 
 
@@ -141,7 +139,7 @@ def versions(path):
 
 def text(report, versions_lines, count):
     lines = [f"{report.records:,} records, {report.sent:,} packets sent", "", "By outcome"]
-    lines += [f"  {name:<10}{share(report.outcomes[name], report.records)}" for name in OUTCOMES if report.outcomes[name]]
+    lines += [f"  {name:<10}{share(report.outcomes[name], report.records)}" for name in verdicts.OUTCOMES if report.outcomes[name]]
     lines += ["", "Drops by rule"] + [f"  {name:<20}{share(number, report.records)}" for name, number in report.rules.most_common()]
     lines.append(f"  answered by an error: {report.answered:,}; kept back by the limit: {report.limited:,}")
     lines.append(f"  datagrams given up after 60 s: {report.expired:,}; that wait at the end: {report.unfinished:,}")
@@ -170,7 +168,9 @@ def pictures(report, form):
     places = [at * course.width / scale for at in range(len(course.parts))]
     figure, (above, below, rules) = pyplot.subplots(3, 1, figsize=(11, 11), height_ratios=(3, 3, 2), constrained_layout=True)
     thousands = FuncFormatter(lambda value, _: f"{value:,.0f}")
-    for axes, kinds, title in ((above, [it for it in OUTCOMES[:4] if report.outcomes[it]], "Forwarded and held"), (below, [it for it, _ in report.rules.most_common(8)], "Dropped, by rule")):
+    kept = [it for it in verdicts.OUTCOMES if it != "drop" and report.outcomes[it]]
+    dropped = [it for it, _ in report.rules.most_common(8)]
+    for axes, kinds, title in ((above, kept, "Forwarded and held"), (below, dropped, "Dropped, by rule")):
         if kinds:
             colours = pyplot.get_cmap("tab10").colors
             axes.stackplot(places, [[part[kind] for part in course.parts] for kind in kinds], labels=kinds, colors=colours, step="post")
@@ -210,6 +210,19 @@ def page(report, versions_lines, count, name):
     )
 
 
+def want_pictures():
+    """Ends where what draws the pictures is missing."""
+    try:
+        import matplotlib  # noqa: F401
+    except ImportError:
+        sys.exit("report.py: --html and --png want matplotlib (Debian: apt-get install python3-matplotlib); no file was touched")
+
+
+def put(path, data):
+    with open(path, "wb") as file:
+        file.write(data)
+
+
 def main():
     it = argparse.ArgumentParser(description=__doc__, formatter_class=argparse.RawDescriptionHelpFormatter)
     it.add_argument("verdicts", metavar="VERDICTS")
@@ -220,20 +233,18 @@ def main():
     it.add_argument("--html", metavar="PAGE")
     it.add_argument("--png", metavar="PICTURE")
     words = it.parse_args()
+    if words.html or words.png:
+        want_pictures()
     try:
         report = read(words)
         lines = versions(words.versions) if words.versions else []
         sys.stdout.write(text(report, lines, words.most))
         if words.html:
-            with open(words.html, "w", encoding="utf-8") as file:
-                file.write(page(report, lines, words.most, words.verdicts))
+            put(words.html, page(report, lines, words.most, words.verdicts).encode("utf-8"))
         if words.png:
-            with open(words.png, "wb") as file:
-                file.write(pictures(report, "png"))
-    except (tables.TableError, captures.CaptureError, OSError, ValueError) as error:
+            put(words.png, pictures(report, "png"))
+    except (tables.TableError, captures.CaptureError, verdicts.VerdictsError, OSError) as error:
         sys.exit(f"report.py: {error}")
-    except ImportError:
-        sys.exit("report.py: pictures want matplotlib (Debian: apt-get install python3-matplotlib)")
 
 
 if __name__ == "__main__":

@@ -512,6 +512,26 @@ class Comparing(Folder):
         code, out, _ = self.compared(names, sent, "--ignore", "ip-id,flow-label,ttl-outer")
         self.assertEqual((code, out.split(": ")[1][:11]), (0, "40 the same"))
 
+    def test_unknown_fields(self):
+        names = self.a_run(4)
+        for word in ("ip_id", "in-label,hops", ""):
+            code, out, error = self.compared(names, [], "--ignore", word)
+            self.assertEqual((code, out), (2, ""))
+            self.assertIn(f"'{word.split(',')[-1]}' is no field", error)
+        code, _, error = self.compared(names, [], "--ignore", "in-label,options,in-options,fragment,fragment-id,ttl,in-ttl,ttl-outer")
+        self.assertEqual(code, 1, error)
+
+    def test_verdicts_of_another_run(self):
+        names = self.a_run(40)
+        other = self.file("other", "".join(f"{at} 0 up 1\n" for at in range(39)) + "39 0 up 2\nunfinished 3\n")
+        code, out, error = ran("compare.py", names[1], names[1], "--verdicts", other)
+        self.assertEqual((code, out), (2, ""))
+        self.assertIn(f"tells of 41 packets, and {names[1]} has 40: give the VERDICTS of the run that wrote {names[1]}", error)
+        for wrong in (names[1], names[3], self.file("none")):
+            code, out, error = ran("compare.py", names[1], names[1], "--verdicts", wrong)
+            self.assertEqual((code, out, error.count("\n")), (2, "", 1))
+            self.assertIn(wrong, error)
+
 
 class Reporting(Folder):
     def test_totals(self):
@@ -523,6 +543,26 @@ class Reporting(Folder):
         self.assertRegex(out, r"no-binding +3 ")
         self.assertIn("0 " + names[4] + " initial", out)
         self.assertRegex(out, r"tunnel from 2001:db8:1::2: no-binding 1")
+
+    def test_without_matplotlib(self):
+        names = self.run_program([ip4(FAR, SHARED, 17, udp(53, 1232))], a_table())
+        self.file("matplotlib.py", "raise ImportError\n")
+        page, picture = self.file("page.html", "old"), self.file("page.png")
+        it = subprocess.run(
+            [sys.executable, os.path.join(HERE, "report.py"), names[2], "--html", page, "--png", picture],
+            capture_output=True, text=True, env={**os.environ, "PYTHONPATH": self.folder.name},
+        )
+        self.assertEqual((it.returncode, "matplotlib" in it.stderr), (1, True))
+        self.assertFalse(os.path.exists(picture))
+        with open(page, encoding="utf-8") as file:
+            self.assertEqual(file.read(), "old")
+
+    def test_a_file_that_is_no_verdicts(self):
+        names = self.run_program([ip4(FAR, SHARED, 17, udp(53, 1232))], a_table())
+        for wrong in (names[3], names[1], self.file("blank", "\n")):
+            code, _, error = ran("report.py", wrong)
+            self.assertEqual(code, 1)
+            self.assertIn(f"{wrong}:1: this is no line of VERDICTS", error)
 
     def test_a_page(self):
         names = self.run_program([data for data, _, _ in one_of_each_rule()], a_table())
