@@ -20,6 +20,15 @@ put() {
     chmod "$1" "$tree/$3"
 }
 
+# page FILE: a page of docs/, with commands, tools, samples and examples by the names that they are installed under, and without what it
+# says of the repository alone
+page() {
+    put 644 "docs/$1" "usr/share/doc/lwaftr/$1"
+    sed -i -e '/^The script `\.\/lwaftr` exits with 70/d' -e 's|From the top of the repository, with|With|' -e 's| (\[[a-z]*\](\.\./[^)]*))||g' \
+        -e 's|\./lwaftr|lwaftr|g' -e 's|tools/samples|/usr/share/doc/lwaftr/examples|g' -e 's|examples/first|/usr/share/doc/lwaftr/&|g' \
+        -e 's#\(^\|[ `]\)tools/#\1/usr/lib/lwaftr/tools/#g' "$tree/usr/share/doc/lwaftr/$1"
+}
+
 mkdir -p "$tree/DEBIAN" "$tree/usr/lib/lwaftr/tools/lwaftr_tools" "$tree/usr/share/lwaftr"
 install -m 755 "$top/release/lwaftr" "$tree/usr/lib/lwaftr/lwaftr"
 put 755 packaging/lwaftr usr/bin/lwaftr
@@ -27,16 +36,21 @@ put 755 packaging/lwaftr usr/bin/lwaftr
 sed -i 's|docs/FORMATS.md|/usr/share/doc/lwaftr/FORMATS.md|' "$tree/usr/share/lwaftr/help"
 for tool in why compare report from_snabb from_vpp from_csv to_snabb to_vpp; do
     put 755 tools/$tool.py usr/lib/lwaftr/tools/$tool.py
-    sed -i '1s|.*|#!/usr/bin/python3|' "$tree/usr/lib/lwaftr/tools/$tool.py"
+    sed -i '1s|.*|#!/usr/bin/python3|; s|^    tools/|    /usr/lib/lwaftr/tools/|' "$tree/usr/lib/lwaftr/tools/$tool.py"
 done
 for part in "$top"/tools/lwaftr_tools/*.py; do
     put 644 "tools/lwaftr_tools/$(basename "$part")" "usr/lib/lwaftr/tools/lwaftr_tools/$(basename "$part")"
 done
 put 644 packaging/lwaftr.bash usr/share/bash-completion/completions/lwaftr
 put 644 packaging/lwaftr.1 usr/share/man/man1/lwaftr.1
-put 644 docs/FORMATS.md usr/share/doc/lwaftr/FORMATS.md
-put 644 docs/OPERATING.md usr/share/doc/lwaftr/OPERATING.md
+page FORMATS.md
+page OPERATING.md
 put 644 release/NOTICES usr/share/doc/lwaftr/NOTICES
+for sample in "$top"/tools/samples/*; do
+    put 644 "tools/samples/$(basename "$sample")" "usr/share/doc/lwaftr/examples/$(basename "$sample")"
+done
+mkdir -p "$tree/usr/share/doc/lwaftr/examples/first"
+install -m 644 "$top/examples/first/in.pcap" "$top/examples/first/t0.toml" "$tree/usr/share/doc/lwaftr/examples/first"
 {
     printf 'Format: https://www.debian.org/doc/packaging-manuals/copyright-format/1.0/\nUpstream-Name: lwaftr\n\n'
     printf 'Files: *\nCopyright: 2026 Ciddavera maintainers\nLicense: Expat or Apache-2.0\nComment: NOTICES has the licences of the libraries that are linked in.\n\n'

@@ -1,9 +1,11 @@
 #!/usr/bin/env python3
 """The tests of the tools. `tools/test.sh` runs them."""
+import gzip
 import ipaddress
 import os
 import random
 import re
+import shutil
 import struct
 import subprocess
 import sys
@@ -14,7 +16,8 @@ HERE = os.path.dirname(os.path.abspath(__file__))
 sys.path.insert(0, HERE)
 from lwaftr_tools import captures, packets, tables  # noqa: E402
 
-PROGRAM = os.environ.get("LWAFTR", os.path.join(os.path.dirname(HERE), "lwaftr"))
+TOP = os.path.dirname(HERE)
+PROGRAM = os.environ.get("LWAFTR", os.path.join(TOP, "lwaftr"))
 os.environ["LWAFTR"] = PROGRAM
 
 
@@ -576,6 +579,33 @@ class Reporting(Folder):
             self.assertRegex(file.read(), r'<img alt="[^"]+" src="data:image/png;base64,')
         with open(self.file("page.png"), "rb") as file:
             self.assertEqual(file.read(8), b"\x89PNG\r\n\x1a\n")
+
+
+@unittest.skipUnless(shutil.which("dpkg-deb"), "no dpkg-deb")
+class Packaging(Folder):
+    def setUp(self):
+        super().setUp()
+        made = subprocess.run([os.path.join(TOP, "packaging", "deb.sh"), self.folder.name], capture_output=True, text=True)
+        self.assertEqual(made.returncode, 0, made.stderr)
+        subprocess.run(["dpkg-deb", "-x", made.stdout.strip(), self.file("root")], check=True)
+        self.pages = {}
+        for name in ("doc/lwaftr/OPERATING.md", "doc/lwaftr/FORMATS.md", "lwaftr/help"):
+            with open(self.file(f"root/usr/share/{name}"), encoding="utf-8") as file:
+                self.pages[name] = file.read()
+        with gzip.open(self.file("root/usr/share/man/man1/lwaftr.1.gz"), "rt", encoding="utf-8") as file:
+            self.pages["man"] = file.read()
+
+    def test_pages_name_what_is_installed(self):
+        for name, page in self.pages.items():
+            with self.subTest(page=name):
+                self.assertEqual(re.findall(r"(?<![\w/])(?:\./lwaftr|tools/|docs/|examples/|\.\./).*", page), [])
+                for path in re.findall(r"/usr/(?!local)[\w./-]*\w", page):
+                    self.assertTrue(os.path.exists(self.file("root") + path) or path.endswith("/NAME.py"), path)
+
+    def test_help_of_the_tools_names_what_is_installed(self):
+        for tool in ("why", "report"):
+            it = subprocess.run([sys.executable, self.file(f"root/usr/lib/lwaftr/tools/{tool}.py"), "--help"], capture_output=True, text=True)
+            self.assertIn(f"    /usr/lib/lwaftr/tools/{tool}.py ", it.stdout)
 
 
 class Reading(Folder):
