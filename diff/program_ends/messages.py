@@ -18,6 +18,18 @@ import ends
 
 HERE = os.path.dirname(os.path.realpath(__file__))
 PAGE = os.path.join(HERE, "messages.txt")
+SECTION = bytes.fromhex("0a0d0d0a1c0000004d3c2b1a01000000ffffffffffffffff1c000000")
+
+
+def interface(link):
+    return bytes.fromhex("0100000014000000") + link.to_bytes(4, "little") + bytes.fromhex("0000000014000000")
+
+
+def with_settings(text):
+    """The table with lines more of its settings."""
+    return ends.TABLE.replace(b"[[binding]]", text + b"\n[[binding]]")
+
+
 FILES = {
     "list.json": b'[{"address": "203.0.113.1"}]\n',
     "no-aftr.toml": b"version = 1\n[softwire]\nown = \"192.0.2.1\"\n",
@@ -39,6 +51,22 @@ FILES = {
     "shape.toml": ends.TABLE + b"offset = 9\nlength = 9\n",
     "inline.toml": ends.TABLE[:ends.TABLE.index(b"[[binding]]")].replace(b"[softwire]", b"binding = [{b4 = 4}]\n[softwire]"),
     "big.toml": ends.TABLE + b"#" * 16_777_216,
+    "version.toml": ends.TABLE.replace(b"version = 1", b"version = 3"),
+    "mtu.toml": with_settings(b"mtu6 = 1279"),
+    "hop.toml": with_settings(b"hop_limit = 0"),
+    "hops.toml": with_settings(b"hop_limit = 256"),
+    "jumbo.toml": with_settings(b"mtu6 = 65536"),
+    "small.toml": with_settings(b"mtu4 = -1"),
+    "offset.toml": ends.TABLE + b"offset = 256\n",
+    "length.toml": ends.TABLE + b"length = 256\n",
+    "psid.toml": ends.TABLE + b"psid = 65536\n",
+    "empty.pcap": b"",
+    "part.pcap": ends.HEADER + b"\0" * 15,
+    "link.pcapng": SECTION + interface(113),
+    "mixed.pcapng": SECTION + interface(1) + interface(101),
+    # An enhanced packet block of 262,145 bytes with three of padding (type 6).
+    "long.pcapng": SECTION + interface(101) + bytes.fromhex("06000000") + (262_180).to_bytes(4, "little") + b"\0" * 12
+    + (262_145).to_bytes(4, "little") * 2 + b"\0" * 262_148 + (262_180).to_bytes(4, "little"),
 }
 
 

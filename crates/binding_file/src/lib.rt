@@ -18,6 +18,7 @@ mod trouble;
 mod writing;
 
 pub use about::line_of;
+pub use binding_rules::Refused;
 pub use costs::is_held_back;
 pub use laws::{light_texts, one_table};
 pub use lines::Lines;

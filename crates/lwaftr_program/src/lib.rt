@@ -3,6 +3,7 @@
 #![tactic(auto)]
 
 mod faults;
+mod hints;
 mod lines;
 mod loads;
 mod naming;

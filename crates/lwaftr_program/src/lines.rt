@@ -6,7 +6,7 @@ use crate::faults::{Said, read_line, write_line};
 use crate::naming::{capture_name, push_named};
 use aftr_base::{OutOfMemory, Text};
 use aftr_text::{HELP, Job, JobError, fault_line, read_job, usage_line};
-use capture_io::CaptureBad;
+use capture_io::{CaptureBad, NgBad};
 use lwaftr_engine::Status;
 use std::alloc::Global;
 
@@ -96,16 +96,24 @@ fn help_for(cause: &CaptureBad) -> &'static str {
         CaptureBad::Magic | CaptureBad::Version => {
             "  it is no classic capture and no pcapng; if it is compressed, gunzip it first; else try: editcap -F pcap IN OUT\n"
         }
-        CaptureBad::Link { .. } => {
+        CaptureBad::Link { .. } | CaptureBad::Ng(NgBad::Link { .. }) => {
             "  captures of Ethernet (1) and of plain IP (101) are read: capture on one interface of such a kind\n"
+        }
+        CaptureBad::CutHeader { at: 0 } => {
+            "  it is shorter than a file header; nothing was written\n"
         }
         CaptureBad::CutHeader { .. } | CaptureBad::CutRecord { .. } => {
             "  it ends within a header or a record; all whole records before that were judged and written\n"
         }
-        CaptureBad::TooLong { .. } => {
+        CaptureBad::TooLong { .. } | CaptureBad::Ng(NgBad::TooLong { .. }) => {
             "  a record says that it has more than 262144 bytes: the file is damaged there, or was captured with a longer snapshot\n"
         }
-        CaptureBad::TooMany { .. } => "  editcap -c 100000000 IN OUT splits it\n",
+        CaptureBad::TooMany { .. } | CaptureBad::Ng(NgBad::TooMany { .. }) => {
+            "  editcap -c 100000000 IN OUT splits it\n"
+        }
+        CaptureBad::Ng(NgBad::MixedLinks { .. }) => {
+            "  one kind of interface to a file: capture on one interface, or split it\n"
+        }
         CaptureBad::Ng(_) => "  editcap -F pcap IN OUT makes a classic capture of it\n",
     }
 }

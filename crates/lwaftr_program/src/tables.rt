@@ -3,6 +3,7 @@
 ghost use Rattle.std.specs.Prelude.{◌≡◌, [], IfOk};
 ghost use Rattle.lwaftr_engine.specs.declared.status.Status.TheVariants as status_is;
 
+use crate::hints::hint_for;
 use crate::loads::push_loads;
 use crate::naming::table_name;
 use aftr_base::{OutOfMemory, Text};
@@ -56,7 +57,7 @@ pub(crate) fn bytes_of<R: Files + Alloc<A = Global>>(rt: &R, name: &str) -> Opti
     fs::read(rt, name).ok()
 }
 
-// The file that was refused, with the lines of it where they can be told.
+// The file that was refused, with the lines of it where they can be told, and what would be right.
 fn push_refused<R: Files + Alloc<A = Global>>(
     rt: &R,
     alloc: Global,
@@ -73,6 +74,7 @@ fn push_refused<R: Files + Alloc<A = Global>>(
         push_lines(alloc, text, line_of(alloc, &bytes, refused)?)?;
     }
     text.push_str("\n")?;
+    text.push_str(hint_for(refused))?;
     Ok(())
 }
 
