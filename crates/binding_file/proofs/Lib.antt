@@ -19,3 +19,4 @@ mod LineWalks
 mod Puts
 mod LineLemmas
 mod Troubles
+mod FirstKeys

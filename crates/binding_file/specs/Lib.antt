@@ -6,3 +6,4 @@ pub mod Costs
 pub mod FirstLines
 pub mod Bounds
 pub mod Lines
+pub mod UnknownKeys

@@ -2,7 +2,8 @@
 ghost use Rattle.std.specs.Prelude.{◌≡◌, ◌↔◌, true, Err, IfOk, IfSome, IsUtf8, option_map};
 ghost use Rattle.std.specs.Option.{option_and_then};
 ghost use Rattle.binding_file.specs.Files.{TableOf};
-ghost use Rattle.binding_file.specs.Lines.{AreAbout, AreBindingLines, is_told, one_of, both_of, subject_at, subject_of, subject_of_rule};
+ghost use Rattle.toml.specs.View.{table_view};
+ghost use Rattle.binding_file.specs.Lines.{AreAbout, AreBindingLines, binding_lines, is_told, one_of, both_of, subject_at, subject_of, subject_of_rule};
 
 use crate::costs::{MOST_FREE, count_outside};
 use crate::headers::header_lines;
@@ -95,7 +96,8 @@ fn subject_of_rule(rule: Refused) -> Subject
     }
 }
 
-fn one_of(lines: &Option<Vec<usize>>, at: usize) -> Option<Lines>
+/// The line of one binding, of those of all.
+pub(crate) fn one_of(lines: &Option<Vec<usize>>, at: usize) -> Option<Lines>
     ensures { result ≡ option_and_then (one_of at) (option_map (λ v. v.items) lines.now) }
 {
     let line = lines.as_ref()?.get(at)?;
@@ -139,8 +141,19 @@ fn lines_in(alloc: Global, text: &str) -> Result<Option<Vec<usize>>, OutOfMemory
         Err(FileError::Refused(_)) => return Ok(None),
         Err(FileError::OutOfMemory) => return Err(OutOfMemory),
     };
+    lines_of_bindings(alloc, text, &document)
+}
+
+/// The line of each binding's header, where there are as many headers as bindings.
+pub(crate) fn lines_of_bindings(
+    alloc: Global,
+    text: &str,
+    document: &toml::Table,
+) -> Result<Option<Vec<usize>>, OutOfMemory>
+    ensures { IfOk result (λ o. option_map (λ v. v.items) o ≡ binding_lines text.now (table_view document.now)) }
+{
     let lines = header_lines(alloc, text.as_bytes())?;
-    if lines.len() == binding_count(&document) {
+    if lines.len() == binding_count(document) {
         Ok(Some(lines))
     } else {
         Ok(None)

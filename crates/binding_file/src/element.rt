@@ -12,6 +12,15 @@ use aftr_base::{V4, V6};
 use binding_rules::Binding;
 use toml::{Table, Value};
 
+/// The keys of a binding.
+pub(crate) const BINDING_NAMES: [Name; 5] = [
+    Name::B4,
+    Name::Ipv4,
+    Name::Offset,
+    Name::Length,
+    Name::Psid,
+];
+
 /// What stands at each key of a binding, and whether there is another key.
 #[derive(Clone, Copy)]
 struct Fields<'a> {

@@ -2,6 +2,7 @@
 ghost use Rattle.std.specs.Prelude.{◌≡◌, ◌≤◌, IfOk, option_map};
 ghost use Rattle.toml.specs.View.{view, table_view};
 ghost use Rattle.binding_file.specs.Keys.{member_at, required, table_at, number_at, flag_at, IsAddress6At, IsAddress4At, is_one_of, has_other};
+ghost use Rattle.binding_file.specs.UnknownKeys.{other_key};
 ghost use Rattle.binding_file.specs.Parts.{value_or_refusal, data_of, text_from, number_from, IsAddress6From, IsAddress4From};
 
 use crate::names::{Name, Place};
@@ -157,4 +158,16 @@ pub(crate) fn has_other(names: &[Name], table: &Table) -> bool
     ensures { result ≡ has_other names.now (table_view table.now) }
 {
     table.keys().any(|key| !is_one_of(names, key.as_str()))
+}
+
+/// The first key of the table that is none of these.
+pub(crate) fn other_key<'a>(names: &[Name], table: &'a Table) -> Option<&'a str>
+    ensures { option_map (λ k. k.now) result ≡ other_key names.now (table_view table.now) }
+{
+    'keys: for (key, _) in table {
+        if !is_one_of(names, key.as_str()) {
+            return Some(key.as_str());
+        }
+    }
+    None
 }

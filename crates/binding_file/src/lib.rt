@@ -15,6 +15,7 @@ mod names;
 mod reading;
 mod refusals;
 mod trouble;
+mod unknown_keys;
 mod writing;
 
 pub use about::line_of;
@@ -25,4 +26,5 @@ pub use lines::Lines;
 pub use names::{Name, Place};
 pub use reading::read_table;
 pub use refusals::{FileError, FileRefused, LoadText, RuleText};
+pub use unknown_keys::{KeyPlace, UnknownKey, unknown_key};
 pub use writing::write_table;

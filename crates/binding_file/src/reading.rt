@@ -27,9 +27,9 @@ use toml::Value;
 
 pub(crate) const MOST_BYTES: usize = 16_777_216;
 
-const TOP_NAMES: [Name; 3] = [Name::Version, Name::Softwire, Name::Binding];
+pub(crate) const TOP_NAMES: [Name; 3] = [Name::Version, Name::Softwire, Name::Binding];
 
-const SOFTWIRE_NAMES: [Name; 9] = [
+pub(crate) const SOFTWIRE_NAMES: [Name; 9] = [
     Name::Aftr,
     Name::Own,
     Name::Mtu6,
@@ -180,7 +180,7 @@ fn settings_of(table: &toml::Table, aftr: V6, own: V4) -> Result<Softwire, FileR
 }
 
 /// The elements of `binding`, none where the key is not there.
-fn elements_of(document: &toml::Table) -> Result<&[Value], FileRefused>
+pub(crate) fn elements_of(document: &toml::Table) -> Result<&[Value], FileRefused>
     ensures { value_or_refusal (λ values. items_view values.now) result ≡ elements_of (table_view document.now) }
 {
     let place = Place::Top(Name::Binding);

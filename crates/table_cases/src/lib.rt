@@ -22,3 +22,5 @@ mod port_sets;
 mod rows;
 #[cfg(test)]
 mod rules;
+#[cfg(test)]
+mod unknown_keys;
