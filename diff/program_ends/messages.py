@@ -34,6 +34,12 @@ FILES = {
     "list.json": b'[{"address": "203.0.113.1"}]\n',
     "no-aftr.toml": b"version = 1\n[softwire]\nown = \"192.0.2.1\"\n",
     "key.toml": ends.TABLE + b"port = 3\n",
+    "settings.toml": with_settings(b"hop-limit = 64"),
+    "top.toml": b"mtu = 1500\n" + ends.TABLE + b"port = 3\n",
+    "keys.toml": ends.TABLE + b'[[binding]]\nb4 = "2001:db8:1::2"\nipv4 = "203.0.113.2"\npsids = 0\nPsid = 0\n[[binding]]\nport = 3\n',
+    "inline-key.toml": ends.TABLE[:ends.TABLE.index(b"[[binding]]")].replace(
+        b"[softwire]", b'binding = [{b4 = "2001:db8:1::1", ipv4 = "203.0.113.1", port = 3}]\n[softwire]'),
+    "odd.toml": b'"\\u001b[31m' + b"x" * 60 + b'" = 1\n' + ends.TABLE,
     "twice.toml": ends.TABLE + ends.TABLE[ends.TABLE.index(b"[[binding]]"):],
     "link.pcap": ends.HEADER[:20] + (113).to_bytes(4, "little"),
     "cut.pcap": ends.CAPTURE[:-1],

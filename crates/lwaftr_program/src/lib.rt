@@ -4,6 +4,7 @@
 
 mod faults;
 mod hints;
+mod keys;
 mod lines;
 mod loads;
 mod naming;

@@ -1,9 +1,10 @@
 // The loads that were refused, told from VERSIONS, which has a line for each table in the order of the words.
+use crate::keys::push_about;
 use crate::naming::push_named;
-use crate::tables::{bytes_of, push_lines};
+use crate::tables::bytes_of;
 use aftr_base::OutOfMemory;
 use aftr_text::RunJob;
-use binding_file::{FileError, FileRefused, LoadText, line_of, read_table};
+use binding_file::{FileError, FileRefused, LoadText, read_table};
 use std::alloc::Global;
 use std::rt::Files;
 use std::str;
@@ -51,7 +52,7 @@ pub(crate) fn push_loads<R: Files + Alloc<A = Global>>(
         }
         push_load(text, alloc, number, name, cause)?;
         if told < MOST_READ {
-            push_lines_of(rt, alloc, text, name, cause)?;
+            push_about_load(rt, alloc, text, name, cause)?;
         }
         text.push_str("\n")?;
         told = told.saturating_add(1);
@@ -82,8 +83,8 @@ fn push_load(
     Ok(())
 }
 
-// The lines of a load, where its file still has this cause.
-fn push_lines_of<R: Files + Alloc<A = Global>>(
+// The lines of a load and the key, where its file still has this cause.
+fn push_about_load<R: Files + Alloc<A = Global>>(
     rt: &R,
     alloc: Global,
     text: &mut String,
@@ -94,7 +95,7 @@ fn push_lines_of<R: Files + Alloc<A = Global>>(
         return Ok(());
     };
     match refusal_of(alloc, &bytes, cause)? {
-        Some(refused) => push_lines(alloc, text, line_of(alloc, &bytes, &refused)?),
+        Some(refused) => push_about(alloc, text, &bytes, &refused),
         None => Ok(()),
     }
 }

@@ -12,6 +12,33 @@ pub(crate) fn push_named(text: &mut String, what: &str, name: &str) -> Result<()
     Ok(())
 }
 
+/// So many characters of a word of a file are shown.
+const MOST_SHOWN: usize = 64;
+
+/// A word of a file between backquotes: its first characters, with `?` for each that would steer a terminal.
+pub(crate) fn push_shown(text: &mut String, word: &str) -> Result<(), OutOfMemory> {
+    let mut shown = 0usize;
+    text.push_str("`")?;
+    'characters: for character in word.chars() {
+        if shown == MOST_SHOWN {
+            text.push_str("`..")?;
+            return Ok(());
+        }
+        text.push(shown_as(character))?;
+        shown = shown.saturating_add(1);
+    }
+    text.push_str("`")?;
+    Ok(())
+}
+
+fn shown_as(character: char) -> char {
+    if character.is_control() {
+        '?'
+    } else {
+        character
+    }
+}
+
 /// The table file that a job reads first.
 pub(crate) fn table_name(job: &Job) -> Option<&str> {
     match job {

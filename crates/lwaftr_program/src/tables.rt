@@ -1,14 +1,15 @@
-// What is told of table files below the status line, for which they are read once more: which lines a refusal is about, which loads
-// were refused, and which table is held back for its cost. A file that is none by now, or is too big, is not looked at.
+// What is told of table files below the status line, for which they are read once more: which lines and which key a refusal is about, which
+// loads were refused, and which table is held back for its cost. A file that is none by now, or is too big, is not looked at.
 ghost use Rattle.std.specs.Prelude.{◌≡◌, [], IfOk};
 ghost use Rattle.lwaftr_engine.specs.declared.status.Status.TheVariants as status_is;
 
 use crate::hints::hint_for;
+use crate::keys::push_about;
 use crate::loads::push_loads;
 use crate::naming::table_name;
 use aftr_base::{OutOfMemory, Text};
 use aftr_text::{Job, read_job};
-use binding_file::{FileError, FileRefused, Lines, is_held_back, line_of, read_table};
+use binding_file::{FileError, FileRefused, Lines, is_held_back, read_table};
 use lwaftr_engine::Status;
 use std::alloc::Global;
 use std::fs;
@@ -57,7 +58,7 @@ pub(crate) fn bytes_of<R: Files + Alloc<A = Global>>(rt: &R, name: &str) -> Opti
     fs::read(rt, name).ok()
 }
 
-// The file that was refused, with the lines of it where they can be told, and what would be right.
+// The file that was refused, with the lines of it and the key where they can be told, and what would be right.
 fn push_refused<R: Files + Alloc<A = Global>>(
     rt: &R,
     alloc: Global,
@@ -71,7 +72,7 @@ fn push_refused<R: Files + Alloc<A = Global>>(
     text.push_str("  the table file is ")?;
     text.push_str(name)?;
     if let Some(bytes) = bytes_of(rt, name) {
-        push_lines(alloc, text, line_of(alloc, &bytes, refused)?)?;
+        push_about(alloc, text, &bytes, refused)?;
     }
     text.push_str("\n")?;
     text.push_str(hint_for(refused))?;
