@@ -20,7 +20,6 @@ use capture_io::{Form, RecordView, Records, time_of};
 use std::alloc::Global;
 use std::marker::Model;
 use std::mem::replace;
-use std::thread::Threads;
 
 /// What takes the records of one capture, in their order, and says what each becomes. Fragments wait in it for the rest of
 /// their datagrams, from one call to the next.
@@ -65,10 +64,9 @@ impl Stage {
 
     /// Takes the next records, and gives an entry for each. The first of them has the number `start`, which is how many were
     /// taken before; all numbers are below 2^31.
-    /// After `OutOfMemory` the stage has failed, and answers that to every later call.
-    pub fn items<'a, R: Threads + Sync>(
+    /// After `OutOfMemory` the stage has failed, and answers that to every later call. It is given no runtime, so it starts no thread.
+    pub fn items<'a>(
         &mut self,
-        _rt: &R,
         alloc: Global,
         records: &'a Records,
         start: u32,

@@ -111,10 +111,7 @@ pub fn judge<R: Threads + Wait + Sync, G: Gate + Sync>(
     let rt = means.rt;
     let alloc = means.alloc;
     let start = router.progress.number;
-    let items = router
-        .progress
-        .stage
-        .items(rt, alloc, &round.records, start)?;
+    let items = router.progress.stage.items(alloc, &round.records, start)?;
     judge_round(
         rt,
         &mut router.shift,

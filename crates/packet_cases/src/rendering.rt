@@ -27,7 +27,7 @@ dropped|up|0";
 #[test]
 fn packets_are_recorded(rt: HostRuntime) -> Result<(), Fail> {
     for lines in [LINES, replying::LINES] {
-        assert_eq!(rt; first_wrong(&rt, rt.alloc(), lines)?, "");
+        assert_eq!(rt; first_wrong(rt.alloc(), lines)?, "");
     }
     assert_eq!(rt; MOST_PACKETS, 128);
     Ok(())

@@ -17,7 +17,6 @@ use item_stage::{RoundItems, Stage};
 use packet_render::push_packets;
 use std::alloc::Global;
 use std::test::Fail;
-use std::thread::Threads;
 use verdict_core::{Path, Reply, Verdict};
 
 // The form and the time of every record in these tests.
@@ -207,10 +206,10 @@ fn policy(alloc: Global, bytes: &[u8], end: V6) -> Result<Recorded, Fail> {
 }
 
 // The same of a tunnel packet, as a stage takes it from a record without a frame.
-fn policy_about<R: Threads + Sync>(rt: &R, alloc: Global, bytes: &[u8]) -> Result<Recorded, Fail> {
+fn policy_about(alloc: Global, bytes: &[u8]) -> Result<Recorded, Fail> {
     let mut stage = Stage::new(alloc, form(PLAIN))?;
     let records = records_of(alloc, &[bytes])?;
-    let items = stage.items(rt, alloc, &records, 0)?;
+    let items = stage.items(alloc, &records, 0)?;
     if items.len() != 1 {
         return Err("one record".into());
     }
@@ -378,16 +377,11 @@ fn recorded(
 }
 
 // The same by the words of a line.
-fn recorded_as<R: Threads + Sync>(
-    rt: &R,
-    alloc: Global,
-    words: &str,
-    bytes: &[u8],
-) -> Result<Recorded, Fail> {
+fn recorded_as(alloc: Global, words: &str, bytes: &[u8]) -> Result<Recorded, Fail> {
     let mut words = words.split(' ');
     let way = words.next().unwrap_or("");
     if way == "policy-about" {
-        return policy_about(rt, alloc, bytes);
+        return policy_about(alloc, bytes);
     }
     let mtu = words.next().unwrap_or("0").parse()?;
     let number = words.next().unwrap_or("0").parse()?;
@@ -410,21 +404,17 @@ fn are_recorded(alloc: Global, recorded: &Recorded, line: &str) -> Result<bool, 
     Ok(right)
 }
 
-fn is_right<R: Threads + Sync>(rt: &R, alloc: Global, line: &str) -> Result<bool, Fail> {
+fn is_right(alloc: Global, line: &str) -> Result<bool, Fail> {
     let (way, rest) = line.split_once('|').ok_or("a packet")?;
     let (parts, rest) = rest.split_once('|').ok_or("what is recorded")?;
-    let recorded = recorded_as(rt, alloc, way, &bytes_of(alloc, parts)?)?;
+    let recorded = recorded_as(alloc, way, &bytes_of(alloc, parts)?)?;
     are_recorded(alloc, &recorded, rest)
 }
 
 /// The first line of which something else is recorded. Those behind `#` say what the next ones are about.
-pub fn first_wrong<R: Threads + Sync>(
-    rt: &R,
-    alloc: Global,
-    lines: &'static str,
-) -> Result<&'static str, Fail> {
+pub fn first_wrong(alloc: Global, lines: &'static str) -> Result<&'static str, Fail> {
     for line in lines.lines() {
-        if !line.starts_with('#') && !is_right(rt, alloc, line)? {
+        if !line.starts_with('#') && !is_right(alloc, line)? {
             return Ok(line);
         }
     }

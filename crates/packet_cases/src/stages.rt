@@ -9,7 +9,6 @@ use ip_codec::{Ip4Bad, ItemView, Outer};
 use item_stage::{RoundItems, Stage};
 use std::alloc::Global;
 use std::test::Fail;
-use std::thread::Threads;
 
 pub const PLAIN: u32 = 101;
 
@@ -74,8 +73,7 @@ pub fn records_of(alloc: Global, packets: &[&[u8]]) -> Result<Records, OutOfMemo
 }
 
 // Whether a stage to which nothing else came makes just this of a record with these bytes.
-fn becomes<R: Threads + Sync>(
-    rt: &R,
+fn becomes(
     alloc: Global,
     link: u32,
     bytes: &[u8],
@@ -84,7 +82,7 @@ fn becomes<R: Threads + Sync>(
 ) -> Result<bool, OutOfMemory> {
     let mut stage = Stage::new(alloc, form(link))?;
     let records = records_of(alloc, &[bytes])?;
-    let items = stage.items(rt, alloc, &records, 0)?;
+    let items = stage.items(alloc, &records, 0)?;
     Ok(items.len() == 1 && is_wanted(&items.item(0), what, wanted))
 }
 
@@ -101,19 +99,19 @@ const LINES: &str = "\
 101|up-tunnel+later-fragment|held
 101|up-tunnel+icmp|up icmp";
 
-fn is_right<R: Threads + Sync>(rt: &R, alloc: Global, line: &str) -> Result<bool, Fail> {
+fn is_right(alloc: Global, line: &str) -> Result<bool, Fail> {
     let (link, rest) = line.split_once('|').ok_or("parts")?;
     let (parts, told) = rest.split_once('|').ok_or("an item")?;
     let (what, wanted) = told.split_once(' ').unwrap_or((told, ""));
     let wanted = bytes_of(alloc, wanted)?;
     let bytes = bytes_of(alloc, parts)?;
-    Ok(becomes(rt, alloc, link.parse()?, &bytes, what, &wanted)?)
+    Ok(becomes(alloc, link.parse()?, &bytes, what, &wanted)?)
 }
 
 #[test]
 fn records_become_items(rt: HostRuntime) -> Result<(), Fail> {
     for line in LINES.lines() {
-        assert!(rt; is_right(&rt, rt.alloc(), line)?, "{line}");
+        assert!(rt; is_right(rt.alloc(), line)?, "{line}");
     }
     Ok(())
 }
@@ -136,45 +134,36 @@ fn three_records(alloc: Global) -> Result<Records, Fail>
 }
 
 // Whether a stage makes their items of three records, and gives no datagram up.
-fn makes_three<R: Threads + Sync>(
-    rt: &R,
-    alloc: Global,
-    stage: &mut Stage,
-    records: &Records,
-) -> Result<bool, OutOfMemory>
+fn makes_three(alloc: Global, stage: &mut Stage, records: &Records) -> Result<bool, OutOfMemory>
     requires start { stage.old.number ≡ 0 }
     requires three { length records.now ≡ 3 }
     ensures { IfOk result (λ _. stage.new.number ≡ 3) }
 {
-    let items = stage.items(rt, alloc, records, 0)?;
+    let items = stage.items(alloc, records, 0)?;
     Ok(items.len() > 1 && items.ended(1).is_empty() && are_up_short_up(&items))
 }
 
 // Whether it makes none of no records behind them.
-fn makes_none<R: Threads + Sync>(
-    rt: &R,
-    alloc: Global,
-    stage: &mut Stage,
-) -> Result<bool, OutOfMemory>
+fn makes_none(alloc: Global, stage: &mut Stage) -> Result<bool, OutOfMemory>
     requires start { stage.old.number ≡ 3 }
 {
     let records = records_of(alloc, &[])?;
-    let items = stage.items(rt, alloc, &records, 3)?;
+    let items = stage.items(alloc, &records, 3)?;
     Ok(items.len() == 0)
 }
 
 // Whether a stage takes these two rounds, and nothing waits then.
-fn takes_rounds<R: Threads + Sync>(rt: &R, alloc: Global) -> Result<[bool; 3], Fail> {
+fn takes_rounds(alloc: Global) -> Result<[bool; 3], Fail> {
     let records = three_records(alloc)?;
     let mut stage = Stage::new(alloc, form(PLAIN))?;
-    let three = makes_three(rt, alloc, &mut stage, &records)?;
-    let none = makes_none(rt, alloc, &mut stage)?;
+    let three = makes_three(alloc, &mut stage, &records)?;
+    let none = makes_none(alloc, &mut stage)?;
     let waiting = stage.unfinished(alloc)?;
     Ok([three, none, waiting.as_slice().is_empty()])
 }
 
 #[test]
 fn a_stage_takes_records_in_rounds(rt: HostRuntime) -> Result<(), Fail> {
-    assert_eq!(rt; takes_rounds(&rt, rt.alloc())?, [true; 3]);
+    assert_eq!(rt; takes_rounds(rt.alloc())?, [true; 3]);
     Ok(())
 }

@@ -8,19 +8,13 @@ use ip_codec::ItemView;
 use item_stage::{RoundItems, Stage};
 use std::alloc::Global;
 use std::test::Fail;
-use std::thread::Threads;
 
 /// How many of the first records of a capture are packets in a subscriber's tunnel.
-fn count_up<R: Threads + Sync>(
-    rt: &R,
-    alloc: Global,
-    form: Form,
-    records: &Records,
-) -> Result<usize, OutOfMemory>
+fn count_up(alloc: Global, form: Form, records: &Records) -> Result<usize, OutOfMemory>
     requires { length records.now ≤ 2 ^ 31 }
 {
     let mut stage = Stage::new(alloc, form)?;
-    let items = stage.items(rt, alloc, records, 0)?; // 0 is the number of the first of them
+    let items = stage.items(alloc, records, 0)?; // 0 is the number of the first of them
     let mut found = 0;
     'items: for index in 0..items.len() {
         if let ItemView::Up { .. } = items.item(index) {
@@ -48,6 +42,6 @@ fn packets_in_a_tunnel_are_counted(rt: HostRuntime) -> Result<(), Fail> {
         link: 101,
     };
     assert_eq!(rt; records.len(), 3);
-    assert_eq!(rt; count_up(&rt, alloc, form, &records)?, 1);
+    assert_eq!(rt; count_up(alloc, form, &records)?, 1);
     Ok(())
 }

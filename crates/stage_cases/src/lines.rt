@@ -11,7 +11,6 @@ use capture_io::{Form, Records};
 use item_stage::Stage;
 use std::alloc::Global;
 use std::test::Fail;
-use std::thread::Threads;
 
 /// More records than any case has.
 const MOST: u32 = 1_000_000;
@@ -36,13 +35,7 @@ fn records_in(alloc: Global, round: &str) -> Result<Records, Fail> {
 
 /// Gives the records of a round to a stage that has taken `start` of them, and says how many it has taken then, unless an
 /// item is not the one that its line names.
-fn taken<R: Threads + Sync>(
-    rt: &R,
-    alloc: Global,
-    stage: &mut Stage,
-    start: u32,
-    round: &str,
-) -> Result<u32, Fail>
+fn taken(alloc: Global, stage: &mut Stage, start: u32, round: &str) -> Result<u32, Fail>
     requires { start ≡ stage.old.number }
     ensures { IfOk result (λ number. stage.new.number ≡ number) }
 {
@@ -51,7 +44,7 @@ fn taken<R: Threads + Sync>(
     if start > MOST || count > MOST as usize {
         return Err(Fail::from("too many records"));
     }
-    let items = stage.items(rt, alloc, &records, start)?;
+    let items = stage.items(alloc, &records, start)?;
     may_be_shared(&items);
     if let Some(line) = first_other(alloc, &items, round)? {
         return Err(Fail::from(line));
@@ -66,18 +59,14 @@ fn is_unfinished(alloc: Global, stage: &Stage, text: &str) -> Result<bool, Fail>
 
 /// Goes through the rounds of a case, and says whether what is unfinished then is what its last line says. An error names the
 /// first line whose record becomes another item.
-pub fn goes<R: Alloc<A = Global> + Threads + Sync>(
-    rt: &R,
-    link: u32,
-    case: &str,
-) -> Result<bool, Fail> {
+pub fn goes<R: Alloc<A = Global>>(rt: &R, link: u32, case: &str) -> Result<bool, Fail> {
     let alloc = rt.alloc();
     let (rounds, last) = case.split_once("unfinished").ok_or("a last line")?;
     let mut stage = Stage::new(alloc, form(link))?;
     may_be_shared(&stage);
     let mut number = 0;
     'rounds: for round in rounds.split('|') {
-        number = taken(rt, alloc, &mut stage, number, round)?;
+        number = taken(alloc, &mut stage, number, round)?;
     }
     is_unfinished(alloc, &stage, last)
 }

@@ -2,4 +2,4 @@ use Rattle.std.proofs.Common.{◌≤◌}
 use Rattle.stage_cases.proofs.callers.count_up.Given as goal
 
 abbrev pub invariant-items : goal.invariant-items
-invariant-items g l = l.found ≤ l.index
+invariant-items l = l.found ≤ l.index
