@@ -9,7 +9,7 @@ abbrev pub seen : ItemView → Item
 seen (view.Down packet) = item.Down (whole4 (packet4 packet.view))
 seen (view.Up outer inner) = item.Up outer (whole4 (packet4 inner.view))
 seen (view.UpUnread outer inner) = item.Up outer inner.bytes.now
-seen (view.Six dst) = item.Six dst
-seen (view.Six58 src dst message) = item.Six58 src dst message.now
+seen (view.OtherIp6 dst) = item.OtherIp6 dst
+seen (view.Icmp6 src dst message) = item.Icmp6 src dst message.now
 seen view.Held = item.Held
 seen (view.Bad why) = item.Bad why

@@ -24,9 +24,9 @@ pub enum Item {
     /// cut to its total length; anything else stands as it came.
     Up { outer: Outer, inner: Bytes },
     /// An IPv6 packet that carries neither an IPv4 packet nor an ICMPv6 message.
-    Six { dst: V6 },
+    OtherIp6 { dst: V6 },
     /// An IPv6 packet that carries an ICMPv6 message (RFC 4443): its bytes, whatever they hold.
-    Six58 { src: V6, dst: V6, message: Bytes },
+    Icmp6 { src: V6, dst: V6, message: Bytes },
     /// A fragment that is kept until its datagram is whole.
     Held,
     /// A record that is dropped before any table is asked.
@@ -44,9 +44,9 @@ pub enum ItemView<'a> {
     /// The same where what it carries is no IPv4 packet.
     UpUnread { outer: Outer, inner: Unread<'a> },
     /// An IPv6 packet that carries neither an IPv4 packet nor an ICMPv6 message.
-    Six { dst: V6 },
+    OtherIp6 { dst: V6 },
     /// An IPv6 packet that carries an ICMPv6 message (RFC 4443): its bytes, whatever they hold.
-    Six58 { src: V6, dst: V6, message: &'a [u8] },
+    Icmp6 { src: V6, dst: V6, message: &'a [u8] },
     /// A fragment that is kept until its datagram is whole.
     Held,
     /// A record that is dropped before any table is asked.

@@ -167,7 +167,7 @@ headers_known outer next bytes known = by_number (next == 4) (next == 58) known
   where
     found : Bool → Bool → Option four.Packet4
     found four_in_six icmp =
-        packet_in (item_inside (if four_in_six then in_tunnel outer bytes (four.ip4_of bytes) else if icmp then Settled (item.Six58 outer.src outer.dst bytes) else Settled (item.Six outer.dst)))
+        packet_in (item_inside (if four_in_six then in_tunnel outer bytes (four.ip4_of bytes) else if icmp then Settled (item.Icmp6 outer.src outer.dst bytes) else Settled (item.OtherIp6 outer.dst)))
 
     by_number : (four_in_six icmp : Bool) → is_some (found four_in_six icmp) ≡ true → found four_in_six icmp ≡ if_packet (four.ip4_of bytes)
     by_number true icmp some = tunnel_known outer bytes some

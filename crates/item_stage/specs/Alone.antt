@@ -70,8 +70,8 @@ in_tunnel outer bytes (Err why) = Settled (item.Up outer bytes)
 abbrev pub behind_headers : Outer → ℕ → List ℕ → Inside
 behind_headers outer next bytes =
     if next == 4 then in_tunnel outer bytes (four.ip4_of bytes)
-    else if next == 58 then Settled (item.Six58 outer.src outer.dst bytes)
-    else Settled (item.Six outer.dst)
+    else if next == 58 then Settled (item.Icmp6 outer.src outer.dst bytes)
+    else Settled (item.OtherIp6 outer.dst)
 
 -- what a Fragment header carried, whole: further headers may stand in it, but no second Fragment header (RFC 8200, section 4.5)
 abbrev pub by_inner_chain : Outer → List ℕ → Result Chain ChainBad → Inside

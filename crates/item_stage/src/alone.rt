@@ -165,12 +165,12 @@ fn behind_headers(outer: Outer, next: u8, bytes: &[u8]) -> Inside<'_>
 {
     match next {
         IPV4_IN_IPV6 => in_tunnel(outer, bytes),
-        ICMP6 => Inside::Settled(ItemView::Six58 {
+        ICMP6 => Inside::Settled(ItemView::Icmp6 {
             src: outer.src,
             dst: outer.dst,
             message: bytes,
         }),
-        _ => Inside::Settled(ItemView::Six { dst: outer.dst }),
+        _ => Inside::Settled(ItemView::OtherIp6 { dst: outer.dst }),
     }
 }
 

@@ -264,7 +264,7 @@ fn relayed(
         why: Rule::Relayed,
         reply,
     };
-    let item = ItemView::Six58 {
+    let item = ItemView::Icmp6 {
         src,
         dst: AFTR,
         message,

@@ -196,7 +196,7 @@ const ON_THE_WAY: V6 = V6(0x2001_0db8_0009_0000_0000_0000_0000_0001);
 
 // An ICMPv6 message from there.
 fn message(dst: V6, message: &[u8]) -> ItemView<'_> {
-    ItemView::Six58 {
+    ItemView::Icmp6 {
         src: ON_THE_WAY,
         dst,
         message,
@@ -214,8 +214,8 @@ fn item_of<'a>(kind: &str, bytes: &'a [u8]) -> Option<ItemView<'a>> {
         "plain" => down(bytes),
         "message" => message(AFTR, bytes),
         "message-elsewhere" => message(ELSEWHERE, bytes),
-        "six" => ItemView::Six { dst: AFTR },
-        "six-elsewhere" => ItemView::Six { dst: ELSEWHERE },
+        "six" => ItemView::OtherIp6 { dst: AFTR },
+        "six-elsewhere" => ItemView::OtherIp6 { dst: ELSEWHERE },
         _ => return None,
     })
 }

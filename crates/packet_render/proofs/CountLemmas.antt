@@ -66,21 +66,21 @@ many_made {A = A} some a packets is = ap (λ (o : Option A). length (made_of o p
 one_policy : (i : Item) (from to : V6) (hop : ℕ) (p : Packet4) → IsUp i → length (policies i from to hop p) ≡ 1
 one_policy (item.Up outer inner) from to hop p up = refl
 one_policy (item.Down packet) from to hop p up = absurd up
-one_policy (item.Six dst) from to hop p up = absurd up
-one_policy (item.Six58 src dst message) from to hop p up = absurd up
+one_policy (item.OtherIp6 dst) from to hop p up = absurd up
+one_policy (item.Icmp6 src dst message) from to hop p up = absurd up
 one_policy item.Held from to hop p up = absurd up
 one_policy (item.Bad why) from to hop p up = absurd up
 
 -- the tunnel packet that the item quotes
 quote_is : (i : Item) → IsRelayable i → (quote : TunnelQuote) × (quote_of_item i ≡ Some quote)
-quote_is (item.Six58 src dst message) quotes = (
+quote_is (item.Icmp6 src dst message) quotes = (
   quotes.quote,
   ap (λ (read : Result Message6 IcmpBad). option_and_then (λ m. if_ok (quote_of m.rest)) (if_ok read)) quotes.read
       ∙ ap if_ok quotes.quoted,
 )
 quote_is (item.Down packet) quotes = absurd quotes
 quote_is (item.Up outer inner) quotes = absurd quotes
-quote_is (item.Six dst) quotes = absurd quotes
+quote_is (item.OtherIp6 dst) quotes = absurd quotes
 quote_is item.Held quotes = absurd quotes
 quote_is (item.Bad why) quotes = absurd quotes
 

@@ -32,7 +32,7 @@ packet_of_item i = option_and_then (λ bytes. if_ok (ip4_of bytes)) (ipv4_bytes 
 
 -- the tunnel packet that the item's ICMPv6 message quotes, where both can be read
 abbrev pub quote_of_item : Item → Option TunnelQuote
-quote_of_item (item.Six58 src dst bytes) = option_and_then (λ message. if_ok (quote_of message.rest)) (if_ok (icmp6_of src.0 dst.0 bytes))
+quote_of_item (item.Icmp6 src dst bytes) = option_and_then (λ message. if_ok (quote_of message.rest)) (if_ok (icmp6_of src.0 dst.0 bytes))
 quote_of_item _ = None
 
 -- what is made of a value, where there is one

@@ -18,8 +18,8 @@ pub(crate) fn packet_of<'a>(item: &ItemView<'a>) -> Option<ReadPacket<'a>>
         ItemView::Down { packet } => Some(*packet),
         ItemView::Up { inner, .. } => Some(*inner),
         ItemView::UpUnread { .. }
-        | ItemView::Six { .. }
-        | ItemView::Six58 { .. }
+        | ItemView::OtherIp6 { .. }
+        | ItemView::Icmp6 { .. }
         | ItemView::Held
         | ItemView::Bad(_) => None,
     }
@@ -30,7 +30,7 @@ pub(crate) fn quote_of<'a>(item: &ItemView<'a>) -> Option<Quote<'a>>
     ensures { MatchOption result (quote_of_item (seen item.now) ≡ None)
         (λ quote. quote_of_item (seen item.now) ≡ Some (tunnel_quote quote)) }
 {
-    let ItemView::Six58 { src, dst, message } = item else {
+    let ItemView::Icmp6 { src, dst, message } = item else {
         return None;
     };
     let Ok(view) = icmp6(*src, *dst, message) else {

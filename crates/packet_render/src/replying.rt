@@ -201,8 +201,8 @@ fn push_policy(
         ItemView::Up { outer, inner } => push_policy_about(out, stamp, ends, outer, inner),
         ItemView::Down { .. }
         | ItemView::UpUnread { .. }
-        | ItemView::Six { .. }
-        | ItemView::Six58 { .. }
+        | ItemView::OtherIp6 { .. }
+        | ItemView::Icmp6 { .. }
         | ItemView::Held
         | ItemView::Bad(_) => Ok(0),
     }

@@ -31,8 +31,8 @@ sendable_is bytes i room s carried =
 sendable_goes : (i : Item) (room : ℕ) → IsSendable i room → GoesOn i
 sendable_goes (item.Down packet) room s = record { packet = s.packet; is = sendable_is packet (item.Down packet) room s refl; alive = s.alive }
 sendable_goes (item.Up outer inner) room s = record { packet = s.packet; is = sendable_is inner (item.Up outer inner) room s refl; alive = s.alive }
-sendable_goes (item.Six dst) room s = absurd (let none : None ≡ Some s.carried.0 = s.carried.1 in cc)
-sendable_goes (item.Six58 src dst message) room s = absurd (let none : None ≡ Some s.carried.0 = s.carried.1 in cc)
+sendable_goes (item.OtherIp6 dst) room s = absurd (let none : None ≡ Some s.carried.0 = s.carried.1 in cc)
+sendable_goes (item.Icmp6 src dst message) room s = absurd (let none : None ≡ Some s.carried.0 = s.carried.1 in cc)
 sendable_goes item.Held room s = absurd (let none : None ≡ Some s.carried.0 = s.carried.1 in cc)
 sendable_goes (item.Bad why) room s = absurd (let none : None ≡ Some s.carried.0 = s.carried.1 in cc)
 
@@ -51,8 +51,8 @@ same_reading (Err refusal) = refl
 same_packet : (i : Item) → packet_in i ≡ packet_of_item i
 same_packet (item.Down packet) = same_reading (ip4_of packet)
 same_packet (item.Up outer inner) = same_reading (ip4_of inner)
-same_packet (item.Six dst) = refl
-same_packet (item.Six58 src dst message) = refl
+same_packet (item.OtherIp6 dst) = refl
+same_packet (item.Icmp6 src dst message) = refl
 same_packet item.Held = refl
 same_packet (item.Bad why) = refl
 

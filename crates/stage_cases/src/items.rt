@@ -14,8 +14,8 @@ fn kind_of(item: &ItemView<'_>) -> &'static str {
         ItemView::Down { .. } => "down",
         ItemView::Up { .. } => "up",
         ItemView::UpUnread { .. } => "unread",
-        ItemView::Six { .. } => "six",
-        ItemView::Six58 { .. } => "six58",
+        ItemView::OtherIp6 { .. } => "six",
+        ItemView::Icmp6 { .. } => "icmp6",
     }
 }
 
@@ -52,8 +52,8 @@ fn push_item(list: &mut Vec<u8>, item: &ItemView<'_>) -> Result<(), OutOfMemory>
             push_outer(list, outer)?;
             Ok(list.extend_from_slice(inner.bytes)?)
         }
-        ItemView::Six { dst } => push_address(list, dst.0),
-        ItemView::Six58 { src, dst, message } => {
+        ItemView::OtherIp6 { dst } => push_address(list, dst.0),
+        ItemView::Icmp6 { src, dst, message } => {
             push_address(list, src.0)?;
             push_address(list, dst.0)?;
             Ok(list.extend_from_slice(message)?)

@@ -289,15 +289,15 @@ module _ (t : BindingTable) (lawful : IsLawful t) where
 pub sends_on : (t : BindingTable) (i : Item) (v : Verdict) → IsLawful t → verdict_in (lines t i) ≡ Some v → SendsOn t i v
 sends_on t (item.Up outer inner) v lawful is = sent_on t lawful outer inner v (outcome t outer inner v lawful is)
 sends_on t (item.Down packet) v lawful is = tt
-sends_on t (item.Six dst) v lawful is = tt
-sends_on t (item.Six58 src dst message) v lawful is = tt
+sends_on t (item.OtherIp6 dst) v lawful is = tt
+sends_on t (item.Icmp6 src dst message) v lawful is = tt
 sends_on t item.Held v lawful is = tt
 sends_on t (item.Bad why) v lawful is = tt
 
 pub brings_in : (t : BindingTable) (i : Item) (v : Verdict) → IsLawful t → verdict_in (lines t i) ≡ Some v → BringsIn t i v
 brings_in t (item.Down packet) v lawful is = brought_in t lawful packet v is
 brings_in t (item.Up outer inner) v lawful is = tt
-brings_in t (item.Six dst) v lawful is = tt
-brings_in t (item.Six58 src dst message) v lawful is = tt
+brings_in t (item.OtherIp6 dst) v lawful is = tt
+brings_in t (item.Icmp6 src dst message) v lawful is = tt
 brings_in t item.Held v lawful is = tt
 brings_in t (item.Bad why) v lawful is = tt

@@ -71,8 +71,8 @@ module _ (t : BindingTable) where
   decides (item.Bad why) = some_decides (lines t (item.Bad why)) refl
   decides (item.Down packet) = down_decides (ip4_of packet)
   decides (item.Up outer inner) = up_decides outer (ip4_of inner)
-  decides (item.Six dst) = some_decides (lines t (item.Six dst)) (simp or_true)
-  decides (item.Six58 src dst message) =
+  decides (item.OtherIp6 dst) = some_decides (lines t (item.OtherIp6 dst)) (simp or_true)
+  decides (item.Icmp6 src dst message) =
       decides_behind (message_refusals t.softwire dst message) (error_lines t (icmp6_of src.0 dst.0 message)) (error_decides (icmp6_of src.0 dst.0 message))
 
 -- each item has a verdict
@@ -100,8 +100,8 @@ fine t item.Held v lawful is =
     let same : verdict.Held ≡ v = cc in
     subst (λ w. IsFine t item.Held w) same (record { fits = refl; room = tt; delivers = tt; relays = tt })
 fine t (item.Bad why) v lawful is = fine_refused t (item.Bad why) (λ _. tt) (lines t (item.Bad why)) v refl is
-fine t (item.Six dst) v lawful is = fine_refused t (item.Six dst) (λ _. tt) (lines t (item.Six dst)) v refl is
-fine t (item.Six58 src dst message) v lawful is =
+fine t (item.OtherIp6 dst) v lawful is = fine_refused t (item.OtherIp6 dst) (λ _. tt) (lines t (item.OtherIp6 dst)) v refl is
+fine t (item.Icmp6 src dst message) v lawful is =
     let own = message_own t lawful src dst message v is in
     record { fits = own.fits; room = own.room; delivers = own.delivers; relays = own.relays }
 fine t (item.Down packet) v lawful is = by_reading (ip4_of packet) refl is

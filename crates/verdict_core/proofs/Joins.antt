@@ -113,11 +113,11 @@ module _ (t : BindingTable) (kind word : ℕ) (q : TunnelQuote) (v : Verdict) wh
         ∙ (ap (λ (o : Option V6). verdict_in (relaying (has_binding source) o)) (sym owner_is) ∙ first)))
 
 module _ (t : BindingTable) (src dst : V6) (message : List ℕ) (v : Verdict) where
-  pub message_refused : verdict_in (message_refusals t.softwire dst message) ≡ Some v → verdict_in (lines t (item.Six58 src dst message)) ≡ Some v
+  pub message_refused : verdict_in (message_refusals t.softwire dst message) ≡ Some v → verdict_in (lines t (item.Icmp6 src dst message)) ≡ Some v
   message_refused first =
       decided_before (message_refusals t.softwire dst message) (error_lines t (icmp6_of src.0 dst.0 message)) v first
 
   pub message_led : verdict_in (message_refusals t.softwire dst message) ≡ None → verdict_in (error_lines t (icmp6_of src.0 dst.0 message)) ≡ Some v →
-      verdict_in (lines t (item.Six58 src dst message)) ≡ Some v
+      verdict_in (lines t (item.Icmp6 src dst message)) ≡ Some v
   message_led none first =
       decided_behind (message_refusals t.softwire dst message) (error_lines t (icmp6_of src.0 dst.0 message)) none ∙ first

@@ -56,9 +56,9 @@ module _ (t : BindingTable) (src dst : V6) (message : List ℕ) where
   sender_by quote (path.Tunnel hop from to) leads found =
       record { want = leads.1.0; key = leads.1.1.0; binding = leads.1.1.1.binding; owner = leads.1.1.1.owner }
 
-  owed_on : (v : Verdict) → IsLawful t → verdict_in (lines t (item.Six58 src dst message)) ≡ Some v → IsRelayed v → IsOwedOn t src dst message
+  owed_on : (v : Verdict) → IsLawful t → verdict_in (lines t (item.Icmp6 src dst message)) ≡ Some v → IsRelayed v → IsOwedOn t src dst message
   owed_on v lawful is goes =
-      let own = own_way v goes (fine t (item.Six58 src dst message) v lawful is).relays in
+      let own = own_way v goes (fine t (item.Icmp6 src dst message) v lawful is).relays in
       let permitted = own.0 in
       let quote = permitted.quote in
       let kind = permitted.error.kind in
@@ -88,7 +88,7 @@ module _ (t : BindingTable) (src dst : V6) (message : List ℕ) where
       let quotes : ◌≡◌ {A = Result TunnelQuote QuoteBad} (Ok a.quote) (Ok b.quote) =
       sym a.quoted ∙ (ap (λ (m : Message6). quote_of m.rest) same ∙ b.quoted) in cc
 
-  passed_way : (v : Verdict) → IsLawful t → verdict_in (lines t (item.Six58 src dst message)) ≡ Some v → (o : IsOwedOn t src dst message) →
+  passed_way : (v : Verdict) → IsLawful t → verdict_in (lines t (item.Icmp6 src dst message)) ≡ Some v → (o : IsOwedOn t src dst message) →
       (way : Path) × (LeadsTo t o.about.quote way × (v ≡ relayed t.softwire o.about.error.kind o.about.error.word way))
   passed_way v lawful is o = (all.0, (leads, all.1))
     where
@@ -100,24 +100,24 @@ module _ (t : BindingTable) (src dst : V6) (message : List ℕ) where
           let both : ◌≡◌ {A = Option V6} None (Some s.binding.b4) = sym none ∙ some in cc
 
       all : (way : Path) × (v ≡ relayed t.softwire o.about.error.kind o.about.error.word way)
-      all = relays_all t (item.Six58 src dst message) v is o.about o.error found o.answered
+      all = relays_all t (item.Icmp6 src dst message) v is o.about o.error found o.answered
 
       own : IsRelayedOwn t src dst message (relayed t.softwire o.about.error.kind o.about.error.word all.0)
-      own = subst (λ (w : Verdict). IsRelayedOwn t src dst message w) all.1 (fine t (item.Six58 src dst message) v lawful is).relays
+      own = subst (λ (w : Verdict). IsRelayedOwn t src dst message w) all.1 (fine t (item.Icmp6 src dst message) v lawful is).relays
 
       leads : LeadsTo t o.about.quote all.0
       leads = subst (λ (q : TunnelQuote). LeadsTo t q all.0) (one_quote own.0 o.about) own.1
 
-  passed_on : (v : Verdict) → IsLawful t → verdict_in (lines t (item.Six58 src dst message)) ≡ Some v → IsPassedOn t src dst message v
+  passed_on : (v : Verdict) → IsLawful t → verdict_in (lines t (item.Icmp6 src dst message)) ≡ Some v → IsPassedOn t src dst message v
   passed_on v lawful is = record {
     exactly = (owed_on v lawful is, λ o. subst (λ (w : Verdict). IsRelayed w) (sym (passed_way v lawful is o).1.1) tt);
     way = passed_way v lawful is;
   }
 
 pub passes_on : (t : BindingTable) (i : Item) (v : Verdict) → IsLawful t → verdict_in (lines t i) ≡ Some v → PassesOn t i v
-passes_on t (item.Six58 src dst message) v lawful is = passed_on t src dst message v lawful is
+passes_on t (item.Icmp6 src dst message) v lawful is = passed_on t src dst message v lawful is
 passes_on t (item.Up outer inner) v lawful is = tt
 passes_on t (item.Down packet) v lawful is = tt
-passes_on t (item.Six dst) v lawful is = tt
+passes_on t (item.OtherIp6 dst) v lawful is = tt
 passes_on t item.Held v lawful is = tt
 passes_on t (item.Bad why) v lawful is = tt

@@ -24,9 +24,9 @@ use Rattle.verdict_core.proofs.Owned.{owner_ends, owner_known, owner_of}
 
 -- what an answer about a message has to be: it fits the message, and is relayed only to the quoted packet's source
 pub record IsOwn (t : BindingTable) (src dst : V6) (message : List ℕ) (v : Verdict) : Type 0 where
-  pub fits : Fits (item.Six58 src dst message) v
+  pub fits : Fits (item.Icmp6 src dst message) v
   pub room : HasRoom v
-  pub delivers : Delivers t (item.Six58 src dst message) v
+  pub delivers : Delivers t (item.Icmp6 src dst message) v
   pub relays : IsRelayedOwn t src dst message v
 
 -- the code is one of the two
@@ -139,7 +139,7 @@ module _ (t : BindingTable) (lawful : IsLawful t) (src dst : V6) (message : List
       let ours = so_behind (message_refusals t.softwire dst message) (dst.0 == t.softwire.aftr.0) rest.0 (λ other. simp (other, or_true)) in
       error_own (eqb-true _ _ ours) v rest.1
 
-  pub message_own : (v : Verdict) → verdict_in (lines t (item.Six58 src dst message)) ≡ Some v → P v
+  pub message_own : (v : Verdict) → verdict_in (lines t (item.Icmp6 src dst message)) ≡ Some v → P v
   message_own v is = message_by v (parted (message_refusals t.softwire dst message) (error_lines t (icmp6_of src.0 dst.0 message)) v is)
 
 -- a message that nothing keeps back is passed on
@@ -152,7 +152,7 @@ relay_decides t kind word quote true (Some to) found loud = (path.Tunnel t.softw
 relay_decides t kind word quote false (Some to) found loud = (path.Tunnel t.softwire.hop_limit t.softwire.aftr to, rw loud refl)
 
 pub relays_all : (t : BindingTable) (i : Item) (v : Verdict) → verdict_in (lines t i) ≡ Some v → RelaysAll t i v
-relays_all t (item.Six58 src dst message) v is = λ permitted error found loud.
+relays_all t (item.Icmp6 src dst message) v is = λ permitted error found loud.
     let quote = permitted.quote in
     let kind = permitted.error.kind in
     let word = permitted.error.word in
@@ -163,7 +163,7 @@ relays_all t (item.Six58 src dst message) v is = λ permitted error found loud.
     let from : (quote.src6 == t.softwire.aftr.0) ≡ true = eq-eqb quote.src6 t.softwire.aftr.0 permitted.from in
     let sent_to : ends_at (owner_end t quote.inner.dst (quoted_destination quote)) quote.dst6 ≡ true =
     owner_ends t quote.inner.dst (quoted_destination quote) permitted.want quote.dst6 permitted.key permitted.receiver in
-    let at_message : verdict_in (lines t (item.Six58 src dst message)) ≡ verdict_in (error_lines t (icmp6_of src.0 dst.0 message)) =
+    let at_message : verdict_in (lines t (item.Icmp6 src dst message)) ≡ verdict_in (error_lines t (icmp6_of src.0 dst.0 message)) =
     decided_behind (message_refusals t.softwire dst message) (error_lines t (icmp6_of src.0 dst.0 message)) (rw (ours, error) refl) in
     let at_quote : verdict_in (error_lines t (icmp6_of src.0 dst.0 message)) ≡ verdict_in (quote_lines t kind word (Ok quote)) =
     ap (λ r. verdict_in (error_lines t r)) permitted.read ∙ ap (λ r. verdict_in (quote_lines t kind word r)) permitted.quoted in
@@ -175,6 +175,6 @@ relays_all t (item.Six58 src dst message) v is = λ permitted error found loud.
     (decided.0, same)
 relays_all t (item.Up outer inner) v is = tt
 relays_all t (item.Down packet) v is = tt
-relays_all t (item.Six dst) v is = tt
+relays_all t (item.OtherIp6 dst) v is = tt
 relays_all t item.Held v is = tt
 relays_all t (item.Bad why) v is = tt

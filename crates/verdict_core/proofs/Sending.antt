@@ -171,23 +171,23 @@ module _ (t : BindingTable) (outer : Outer) (inner : List ℕ) (v : Verdict) whe
 pub forwards : (t : BindingTable) (i : Item) (v : Verdict) → IsLawful t → verdict_in (lines t i) ≡ Some v → Forwards t i v
 forwards t (item.Up outer inner) v lawful is = forwards_by t outer inner v (outcome t outer inner v lawful is)
 forwards t (item.Down packet) v lawful is = tt
-forwards t (item.Six dst) v lawful is = tt
-forwards t (item.Six58 src dst message) v lawful is = tt
+forwards t (item.OtherIp6 dst) v lawful is = tt
+forwards t (item.Icmp6 src dst message) v lawful is = tt
 forwards t item.Held v lawful is = tt
 forwards t (item.Bad why) v lawful is = tt
 
 pub forbidden : (t : BindingTable) (i : Item) (v : Verdict) → IsLawful t → verdict_in (lines t i) ≡ Some v → Forbidden t i v
 forbidden t (item.Up outer inner) v lawful is = forbidden_by t outer inner v (outcome t outer inner v lawful is)
 forbidden t (item.Down packet) v lawful is = tt
-forbidden t (item.Six dst) v lawful is = tt
-forbidden t (item.Six58 src dst message) v lawful is = tt
+forbidden t (item.OtherIp6 dst) v lawful is = tt
+forbidden t (item.Icmp6 src dst message) v lawful is = tt
 forbidden t item.Held v lawful is = tt
 forbidden t (item.Bad why) v lawful is = tt
 
 pub refused : (t : BindingTable) (i : Item) (v : Verdict) → IsLawful t → verdict_in (lines t i) ≡ Some v → Refused t i v
 refused t (item.Up outer inner) v lawful is = refused_by_rule t outer inner v (outcome t outer inner v lawful is)
 refused t (item.Down packet) v lawful is = tt
-refused t (item.Six dst) v lawful is = tt
-refused t (item.Six58 src dst message) v lawful is = tt
+refused t (item.OtherIp6 dst) v lawful is = tt
+refused t (item.Icmp6 src dst message) v lawful is = tt
 refused t item.Held v lawful is = tt
 refused t (item.Bad why) v lawful is = tt

@@ -222,7 +222,7 @@ LeadsTo t quote (path.Tunnel hop from to) =
 
 -- this holds of the item if it is an ICMPv6 message
 abbrev pub IfMessage : Item → (V6 → V6 → List ℕ → Type 0) → Type 0
-IfMessage (item.Six58 src dst message) P = P src dst message
+IfMessage (item.Icmp6 src dst message) P = P src dst message
 IfMessage _ P = Unit {0}
 
 -- a relayed error is about a packet that the router sent, and leads to that packet's source

@@ -46,7 +46,7 @@ pub record QuotesTunnel (from to : V6) (bytes : List ℕ) : Type 0 where
 
 -- the item is an ICMPv6 message that can be passed on
 abbrev pub IsRelayable : Item → Type 0
-IsRelayable (item.Six58 src dst message) = QuotesTunnel src dst message
+IsRelayable (item.Icmp6 src dst message) = QuotesTunnel src dst message
 IsRelayable _ = ⊥
 
 abbrev pub FitsReply : Item → Reply → Type 0

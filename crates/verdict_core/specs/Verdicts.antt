@@ -219,8 +219,8 @@ lines t item.Held = passes verdict.Held ∷ []
 lines t (item.Bad why) = stops true (silent why) ∷ []
 lines t (item.Down packet) = down_lines t (ip4_of packet)
 lines t (item.Up outer inner) = up_lines t outer (ip4_of inner)
-lines t (item.Six dst) = six_lines t.softwire dst
-lines t (item.Six58 src dst message) =
+lines t (item.OtherIp6 dst) = six_lines t.softwire dst
+lines t (item.Icmp6 src dst message) =
     message_refusals t.softwire dst message ++ error_lines t (icmp6_of src.0 dst.0 message)
 
 -- some line has a true condition, every line before it has a false one, and the verdict is what that line answers

@@ -104,11 +104,11 @@ fn judge_under<W: Words, L: Ledger>(
             read_count(words, steps);
             judge_unread(settings, outer, inner.why, verdict)
         }
-        ItemView::Six { dst } => {
+        ItemView::OtherIp6 { dst } => {
             read_count(words, steps);
             judge_six(settings, *dst, verdict)
         }
-        ItemView::Six58 { src, dst, message } => {
+        ItemView::Icmp6 { src, dst, message } => {
             read_count(words, steps);
             judge_message(words, settings, *src, *dst, message, verdict, steps)
         }

@@ -51,7 +51,7 @@ pub fn judge_message<W: Words, L: Ledger>(
 )
     requires { AreCompiled (W.list words.old) }
     ensures verdict { (t : BindingTable) → IsCompiled t (W.list words.old) →
-        verdict_in (lines (binding_table t.edition settings.now t.bindings) (item.Six58 src dst message.now)) ≡ Some verdict.new }
+        verdict_in (lines (binding_table t.edition settings.now t.bindings) (item.Icmp6 src dst message.now)) ≡ Some verdict.new }
     ensures reads { Reads W.Words words.old words.new steps.old steps.new }
     ensures bound { IsWithin (λ look. 2 * look) (W.list words.old) steps.old steps.new }
 {

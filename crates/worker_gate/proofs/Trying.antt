@@ -182,8 +182,8 @@ asks_or_not item.Held before after less asked = (let k : before + 0 ≤ after = 
 asks_or_not (item.Bad why) before after less asked = (let k : before + 0 ≤ after = omega (arith, less) in k)
 asks_or_not (item.Up outer inner) before after less asked = asked tt
 asks_or_not (item.Down packet) before after less asked = asked tt
-asks_or_not (item.Six dst) before after less asked = asked tt
-asks_or_not (item.Six58 src dst message) before after less asked = asked tt
+asks_or_not (item.OtherIp6 dst) before after less asked = asked tt
+asks_or_not (item.Icmp6 src dst message) before after less asked = asked tt
 
 pub asked_once : (items : List Item) (start number version : ℕ) (i : Item) (before after : ℕ) → slice_get items (number - start) ≡ Some i
     → before ≤ after → (AsksTable i → before + 1 ≤ after) → before + asking items start ((number, version) ∷ []) ≤ after

@@ -25,19 +25,19 @@ returns-in-UpUnread-clause-verdict g c = λ t h.
     ap (λ i. verdict_in (lines under (seen i))) c.in-UpUnread.is
     ∙ (ap (λ r. verdict_in (up_lines under c.in-UpUnread.outer r)) c.in-UpUnread.inner.refused ∙ c.judge_unread.ensures t)
 
-pub returns-in-Six58-clause-verdict : goal.returns-in-Six58-clause-verdict
-returns-in-Six58-clause-verdict g c = λ t h.
-    let here = subst (λ (ws : List ℕ). IsCompiled t ws) (sym c.read_count-in-Six58.ensures.reads.list) h in
-    ap (λ i. verdict_in (lines (binding_table t.edition c.args.settings.now t.bindings) (seen i))) c.in-Six58.is
+pub returns-in-Icmp6-clause-verdict : goal.returns-in-Icmp6-clause-verdict
+returns-in-Icmp6-clause-verdict g c = λ t h.
+    let here = subst (λ (ws : List ℕ). IsCompiled t ws) (sym c.read_count-in-Icmp6.ensures.reads.list) h in
+    ap (λ i. verdict_in (lines (binding_table t.edition c.args.settings.now t.bindings) (seen i))) c.in-Icmp6.is
     ∙ c.judge_message.ensures.verdict t here
 
-pub returns-in-Six58-clause-reads : goal.returns-in-Six58-clause-reads
-returns-in-Six58-clause-reads g c = reads_then g.W.Words _ _ _ _ g.met.W.Words.goes_on _ _ c.read_count-in-Six58.ensures.reads c.judge_message.ensures.reads
+pub returns-in-Icmp6-clause-reads : goal.returns-in-Icmp6-clause-reads
+returns-in-Icmp6-clause-reads g c = reads_then g.W.Words _ _ _ _ g.met.W.Words.goes_on _ _ c.read_count-in-Icmp6.ensures.reads c.judge_message.ensures.reads
 
-pub returns-in-Six58-clause-bound : goal.returns-in-Six58-clause-bound
-returns-in-Six58-clause-bound g c = λ t h n w.
-    let here = subst (λ (ws : List ℕ). IsCompiled t ws) (sym c.read_count-in-Six58.ensures.reads.list) h in
-    omega (arith, c.read_count-in-Six58.ensures.steps, c.judge_message.ensures.bound t here n w)
+pub returns-in-Icmp6-clause-bound : goal.returns-in-Icmp6-clause-bound
+returns-in-Icmp6-clause-bound g c = λ t h n w.
+    let here = subst (λ (ws : List ℕ). IsCompiled t ws) (sym c.read_count-in-Icmp6.ensures.reads.list) h in
+    omega (arith, c.read_count-in-Icmp6.ensures.steps, c.judge_message.ensures.bound t here n w)
 
 pub returns-in-Down-clause-bound : goal.returns-in-Down-clause-bound
 returns-in-Down-clause-bound g c = λ t h n w. omega (arith, c.judge_down.ensures.bound t h n w)
