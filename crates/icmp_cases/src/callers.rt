@@ -4,7 +4,7 @@ use crate::errors::{AFTR, EXCEEDED, LAST_HOP, OWN};
 use crate::relay::{MESSAGE, ON_THE_WAY, RELAYED};
 use aftr_base::{OutOfMemory, V4, V6};
 use icmp_codec::{Icmp6View, IcmpBad, icmp4, icmp6};
-use icmp_errors::{may_complain, push_time_exceeded};
+use icmp_errors::{gets_answer, push_time_exceeded};
 use icmp_relay::{may_relay, push_relay, read_quote};
 use ip_codec::{Ip4View, ip4};
 use std::test::Fail;
@@ -20,7 +20,7 @@ fn quoted_sender(message: &[u8]) -> Result<Option<V4>, IcmpBad> {
 
 /// Tells the sender of a packet, from the address `own`, that its time to live is used up, where a sender may be told.
 fn tell_sender(out: &mut Vec<u8>, own: V4, packet: &Ip4View<'_>) -> Result<(), OutOfMemory> {
-    if may_complain(packet) {
+    if gets_answer(packet) {
         push_time_exceeded(out, own, packet)?;
     }
     Ok(())

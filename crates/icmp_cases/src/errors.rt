@@ -3,7 +3,7 @@ ghost use Rattle.std.specs.Prelude.{◌≡◌, IfOk, vec_len};
 
 use aftr_base::{V4, V6};
 use icmp_errors::{
-    error_len, host_unreachable, may_complain, may_complain6, policy_len, source_policy6,
+    error_len, gets_answer, gets_answer6, host_unreachable, policy_len, source_policy6,
     time_exceeded, too_big,
 };
 use ip_codec::{Ip4View, Outer, ip4};
@@ -136,7 +136,7 @@ fn lengths_of_errors_are_known_before(rt: HostRuntime) {
 }
 
 fn answered(protocol: u8, offset: u16, src: u32, dst: u32, payload: &[u8]) -> bool {
-    may_complain(&Ip4View {
+    gets_answer(&Ip4View {
         tos: 0,
         id: 0,
         reserved: false,
@@ -194,8 +194,8 @@ fn these_sources_get_no_answer(rt: HostRuntime) {
     for src in sources {
         assert!(rt; !answered(17, 0, src, SERVER, &[]), "{src:x}");
     }
-    assert!(rt; may_complain6(SUBSCRIBER));
-    assert!(rt; may_complain6(V6(1)));
-    assert!(rt; !may_complain6(V6(0)));
-    assert!(rt; !may_complain6(V6(0xff02_0000_0000_0000_0000_0000_0000_0001)));
+    assert!(rt; gets_answer6(SUBSCRIBER));
+    assert!(rt; gets_answer6(V6(1)));
+    assert!(rt; !gets_answer6(V6(0)));
+    assert!(rt; !gets_answer6(V6(0xff02_0000_0000_0000_0000_0000_0000_0001)));
 }

@@ -48,6 +48,7 @@ unanswered p =
     ∷ (first_bits p.src == 15)
     ∷ []
 
+-- an ICMP error may be sent about it: it is of no such kind
 abbrev pub gets_answer : EmbeddedPacket → Bool
 gets_answer p = not (list_any (λ kind. kind) (unanswered p))
 
@@ -60,5 +61,6 @@ unanswered6 src =
     ∷ (src / 2 ^ 120 == 255)
     ∷ []
 
+-- an ICMPv6 error may be sent to it
 abbrev pub gets_answer6 : ℕ → Bool
 gets_answer6 src = not (list_any (λ kind. kind) (unanswered6 src))

@@ -9,10 +9,10 @@ use icmp_codec::{Embedded, is_echo};
 use ip_codec::{ICMP, Ip4View};
 
 /// Whether an ICMP error may be sent about the packet (RFC 1122, section 3.2.2; RFC 1812, section 4.3.2.7).
-pub fn may_complain(p: &Ip4View<'_>) -> bool
+pub fn gets_answer(p: &Ip4View<'_>) -> bool
     ensures { result ≡ gets_answer (about (packet4 p.now)) }
 {
-    may_complain_about(&Embedded {
+    gets_answer_about(&Embedded {
         protocol: p.protocol,
         offset: p.offset,
         src: p.src,
@@ -22,7 +22,7 @@ pub fn may_complain(p: &Ip4View<'_>) -> bool
 }
 
 /// Whether an ICMP error may be sent about a packet of which these fields and this much of its payload are known.
-pub fn may_complain_about(packet: &Embedded<'_>) -> bool
+pub fn gets_answer_about(packet: &Embedded<'_>) -> bool
     ensures { result ≡ gets_answer (embedded_packet packet.now) }
 {
     let is_piece = packet.offset != 0;
@@ -58,7 +58,7 @@ fn is_one_host(address: V4) -> bool
 
 /// Whether an ICMPv6 error may be sent to the address (RFC 4443, section 2.4 (e)): it is not the unspecified address, and
 /// no multicast address.
-pub fn may_complain6(src: V6) -> bool
+pub fn gets_answer6(src: V6) -> bool
     ensures { result ≡ gets_answer6 src.0 }
 {
     src.0 != 0 && src.0 >> 120 != 0xff

@@ -6,7 +6,7 @@ mod errors4;
 mod fronts;
 mod policy6;
 
-pub use answers::{may_complain, may_complain_about, may_complain6};
+pub use answers::{gets_answer, gets_answer_about, gets_answer6};
 pub use errors4::{
     error_len, host_unreachable, push_error4, push_host_unreachable, push_time_exceeded,
     push_too_big, time_exceeded, too_big,

@@ -8,7 +8,7 @@ ghost use Rattle.port_locate.specs.Keys.{destination_at, quoted_want, source_at}
 use aftr_base::{V4, V6, be16, be128};
 use binding_rules::Want;
 use icmp_codec::{Embedded, read_embedded};
-use icmp_errors::may_complain_about;
+use icmp_errors::gets_answer_about;
 use ip_codec::{FRAGMENT, FRAGMENT_LEN, HEADER6_LEN, IPV4_IN_IPV6};
 use port_locate::{quoted_destination, quoted_source};
 
@@ -127,5 +127,5 @@ pub fn quote_to(q: &Quote<'_>) -> Option<Want>
 pub fn may_relay(q: &Quote<'_>) -> bool
     ensures { result ≡ gets_answer (inner_packet q.now) }
 {
-    may_complain_about(&q.inner())
+    gets_answer_about(&q.inner())
 }

@@ -28,10 +28,6 @@ refused (Err why) = Some (silent why)
 abbrev pub dropped : Rule → Bool → Reply → Verdict
 dropped why tells told = verdict.Drop why (if tells then told else reply.Silent)
 
--- an ICMP error may be sent about the packet (RFC 1122, section 3.2.2)
-abbrev pub may_complain : Packet4 → Bool
-may_complain p = gets_answer (about p)
-
 -- the way back to a subscriber: the tunnel that its packet came through (RFC 7596, section 6.2)
 abbrev pub way_back : Softwire → Outer → Path
 way_back s outer = path.Tunnel s.hop_limit s.aftr outer.src
@@ -44,15 +40,15 @@ not_sender s outer =
 
 -- nobody owns the destination: host unreachable (RFC 7596, section 6.2; RFC 792)
 abbrev pub no_owner : Softwire → Rule → Path → Packet4 → Verdict
-no_owner s why way p = dropped why (s.errors_down && may_complain p) (reply.Unreachable s.own way)
+no_owner s why way p = dropped why (s.errors_down && gets_answer (about p)) (reply.Unreachable s.own way)
 
 -- the time to live is used up: time exceeded (RFC 1812, section 5.3.1)
 abbrev pub time_exceeded : Softwire → Path → Packet4 → Verdict
-time_exceeded s way p = dropped rule.Ttl (may_complain p) (reply.Exceeded s.own way)
+time_exceeded s way p = dropped rule.Ttl (gets_answer (about p)) (reply.Exceeded s.own way)
 
 -- it is too large for so many bytes and must not be cut: fragmentation needed (RFC 1191, section 4; RFC 2473, section 7.2)
 abbrev pub too_large : Softwire → ℕ → Path → Packet4 → Verdict
-too_large s room way p = dropped rule.TooBig (may_complain p) (reply.TooBig s.own room way)
+too_large s room way p = dropped rule.TooBig (gets_answer (about p)) (reply.TooBig s.own room way)
 
 -- how large an IPv4 packet fits into the tunnel, whose header has 40 bytes (RFC 2473, section 7.2)
 abbrev pub inward_room : Softwire → ℕ

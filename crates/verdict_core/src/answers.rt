@@ -1,14 +1,14 @@
 // What the lines answer: drops, with what the sender is told, and ways out.
 ghost use Rattle.std.specs.Prelude.{◌≡◌, ◌-◌, ◌≤◌, ◌&&◌, min, max};
-ghost use Rattle.icmp_errors.specs.Answers.{gets_answer6};
+ghost use Rattle.icmp_errors.specs.Answers.{about, gets_answer, gets_answer6};
 ghost use Rattle.ip_codec.specs.Packet4.{packet4};
-ghost use Rattle.verdict_core.specs.Answers.{dropped, ends_at, inward, inward_room, is_too_large, is_expired, may_complain, no_owner};
+ghost use Rattle.verdict_core.specs.Answers.{dropped, ends_at, inward, inward_room, is_too_large, is_expired, no_owner};
 ghost use Rattle.verdict_core.specs.Answers.{not_sender, relayed, relayed_code, relayed_mtu, silent, too_large, time_exceeded, way_back};
 
 use crate::verdicts::{Path, Reply, Verdict};
 use aftr_base::V6;
 use binding_rules::{LEAST_MTU6, Softwire};
-use icmp_errors::{may_complain, may_complain6};
+use icmp_errors::{gets_answer, gets_answer6};
 use ip_codec::{HEADER6_LEN, Ip4View, Outer, Rule};
 
 // With less a packet's time to live would be used up here.
@@ -81,7 +81,7 @@ pub fn not_sender(settings: &Softwire, outer: &Outer) -> Verdict
 fn tells_subscriber(settings: &Softwire, outer: &Outer) -> bool
     ensures { result ≡ (settings.now.errors_up && gets_answer6 outer.now.src.0) }
 {
-    settings.errors_up && may_complain6(outer.src)
+    settings.errors_up && gets_answer6(outer.src)
 }
 
 // Nobody owns the destination.
@@ -96,9 +96,9 @@ pub fn no_owner(settings: &Softwire, why: Rule, path: Path, packet: &Ip4View<'_>
 }
 
 fn tells_sender(settings: &Softwire, packet: &Ip4View<'_>) -> bool
-    ensures { result ≡ (settings.now.errors_down && may_complain (packet4 packet.now)) }
+    ensures { result ≡ (settings.now.errors_down && gets_answer (about (packet4 packet.now))) }
 {
-    settings.errors_down && may_complain(packet)
+    settings.errors_down && gets_answer(packet)
 }
 
 // The time to live is used up.
@@ -109,7 +109,7 @@ pub fn time_exceeded(settings: &Softwire, path: Path, packet: &Ip4View<'_>) -> V
         own: settings.own,
         path,
     };
-    dropped(Rule::Ttl, may_complain(packet), told)
+    dropped(Rule::Ttl, gets_answer(packet), told)
 }
 
 // The packet is larger than this and must not be cut.
@@ -121,7 +121,7 @@ pub fn too_large(settings: &Softwire, room: u16, path: Path, packet: &Ip4View<'_
         mtu: room,
         path,
     };
-    dropped(Rule::TooBig, may_complain(packet), told)
+    dropped(Rule::TooBig, gets_answer(packet), told)
 }
 
 // How large an IPv4 packet fits into the tunnel.
