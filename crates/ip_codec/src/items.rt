@@ -27,7 +27,7 @@ pub enum Item {
     OtherIp6 { dst: V6 },
     /// An IPv6 packet that carries an ICMPv6 message (RFC 4443): its bytes, whatever they hold.
     Icmp6 { src: V6, dst: V6, message: Bytes },
-    /// A fragment that is kept until its datagram is whole.
+    /// A fragment that waits until its datagram is whole.
     Held,
     /// A record that is dropped before any table is asked.
     Bad(Rule),
@@ -47,7 +47,7 @@ pub enum ItemView<'a> {
     OtherIp6 { dst: V6 },
     /// An IPv6 packet that carries an ICMPv6 message (RFC 4443): its bytes, whatever they hold.
     Icmp6 { src: V6, dst: V6, message: &'a [u8] },
-    /// A fragment that is kept until its datagram is whole.
+    /// A fragment that waits until its datagram is whole.
     Held,
     /// A record that is dropped before any table is asked.
     Bad(Rule),

@@ -80,7 +80,7 @@ replies i (reply.Exceeded own way) = made_of (packet_of_item i) (λ packet. alon
 replies i (reply.Policy from to hop) = made_of (packet_of_item i) (policies i from to hop)
 replies i (reply.Relay own code mtu way) = made_of (quote_of_item i) (λ quote. along way (relayed_bytes own code mtu quote) ∷ [])
 
--- The packets sent for a verdict that fits the item of the record with this number: what is kept sends none, nor does what is
+-- The packets sent for a verdict that fits the item of the record with this number: what is held sends none, nor does what is
 -- dropped in silence.
 abbrev pub sent : Item → Verdict → ℕ → List (List ℕ)
 sent i verdict.Held number = []

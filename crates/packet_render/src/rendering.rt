@@ -23,7 +23,7 @@ use verdict_core::Verdict;
 pub const MOST_PACKETS: u32 = MOST_PIECES4 as u32;
 
 /// Appends the packets that are sent for an item, by the verdict on it, each as a capture of this form records it, with the time of
-/// the item's record (RFC 7596, section 6.2): none for an item that is kept or dropped in silence; its IPv4 packet with the time to
+/// the item's record (RFC 7596, section 6.2): none for an item that is held or dropped in silence; its IPv4 packet with the time to
 /// live one less where it goes out, and the same in the tunnel where it goes to a subscriber, in pieces where it does not fit; an
 /// ICMP error where a sender is told. The verdict fits the item, and names sizes that every link takes. `number` is the number of
 /// the item's record, which the fragments of a tunnel packet have as identification. It answers how many packets there are. After

@@ -128,8 +128,8 @@ abbrev pub FitsTunnel : BindingTable → Packet4 → Type 0
 FitsTunnel t p = p.df ≡ true → packet_len p + 40 ≤ t.softwire.mtu6
 
 -- it may be cut, or is no larger than the IPv4 network takes (RFC 1191, section 4)
-abbrev pub FitsOutside : BindingTable → Packet4 → Type 0
-FitsOutside t p = p.df ≡ true → packet_len p ≤ t.softwire.mtu4
+abbrev pub FitsNetwork : BindingTable → Packet4 → Type 0
+FitsNetwork t p = p.df ≡ true → packet_len p ≤ t.softwire.mtu4
 
 -- from subscriber to subscriber (RFC 7596, section 6.2)
 pub record IsFreeBack (t : BindingTable) (p : Packet4) : Type 0 where
@@ -140,7 +140,7 @@ pub record IsFreeBack (t : BindingTable) (p : Packet4) : Type 0 where
 -- from a subscriber to the IPv4 network
 pub record IsFreeOut (t : BindingTable) (p : Packet4) : Type 0 where
   pub not_own : p.dst ≡ t.softwire.own.0 → ⊥
-  pub fits : FitsOutside t p
+  pub fits : FitsNetwork t p
 
 -- nothing keeps a packet whose sender may send: its time to live lasts, and so it is on its way to a subscriber's address or
 -- to any other

@@ -53,7 +53,7 @@ pub fn judge<W: Words, L: Ledger>(
 
 /// The same verdict with the table's settings handed in, as `softwire` gives them, so that a caller with many items under one table
 /// reads them once, and written where the caller keeps it, whatever stood there: a verdict has many words, and each call that hands
-/// it on would copy them. It reads one word at least, unless the item is kept or dropped already.
+/// it on would copy them. It reads one word at least, unless the item is held or dropped already.
 pub fn judge_into<W: Words, L: Ledger>(
     words: &mut W,
     settings: &Softwire,

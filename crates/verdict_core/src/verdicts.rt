@@ -50,7 +50,7 @@ pub enum Reply {
 /// What becomes of an item.
 #[derive(Clone, Copy, Debug, PartialEq, Eq)]
 pub enum Verdict {
-    /// A fragment that is kept until its datagram is whole.
+    /// A fragment that waits until its datagram is whole.
     Held,
     /// It goes nowhere, for this rule.
     Drop {
