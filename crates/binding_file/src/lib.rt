@@ -24,7 +24,7 @@ pub use costs::is_held_back;
 pub use laws::{light_texts, one_table};
 pub use lines::Lines;
 pub use names::{Name, Place};
-pub use reading::read_table;
+pub use reading::{MOST_FILE_BYTES, read_table};
 pub use refusals::{FileError, FileRefused, LoadText, RuleText};
 pub use unknown_keys::{KeyPlace, UnknownKey, unknown_key};
 pub use writing::write_table;

@@ -25,7 +25,8 @@ use std::alloc::Global;
 use std::str;
 use toml::Value;
 
-pub(crate) const MOST_BYTES: usize = 16_777_216;
+/// The most bytes of a table file. One with more is refused as `TooBig`.
+pub const MOST_FILE_BYTES: usize = 16_777_216;
 
 pub(crate) const TOP_NAMES: [Name; 3] = [Name::Version, Name::Softwire, Name::Binding];
 
@@ -59,7 +60,7 @@ pub fn read_table(alloc: Global, text: &[u8]) -> Result<Table, FileError>
         result ≡ Err file_error.OutOfMemory }
     ensures small { length text.now ≤ most_free → is_held_back text.now ≡ false }
 {
-    if text.len() > MOST_BYTES {
+    if text.len() > MOST_FILE_BYTES {
         return Err(FileError::Refused(FileRefused::TooBig));
     }
     match str::from_utf8(text) {
@@ -215,7 +216,7 @@ fn bindings_of(alloc: Global, document: &toml::Table) -> Result<Vec<Binding>, Fi
     ensures few { IfOk result (λ v. vec_len v ≤ most_bytes) }
 {
     let values = elements_of(document)?;
-    if values.len() > MOST_BYTES {
+    if values.len() > MOST_FILE_BYTES {
         return Err(FileError::OutOfMemory);
     }
     let mut bindings = Vec::with_capacity(alloc, values.len())?;

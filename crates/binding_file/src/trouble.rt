@@ -11,7 +11,7 @@ use crate::about::is_told;
 use crate::costs::is_held_back;
 use crate::first_line::{begins_toml, first_place};
 use crate::lines::{Lines, first_lines, last_begun, line_behind};
-use crate::reading::MOST_BYTES;
+use crate::reading::MOST_FILE_BYTES;
 use aftr_base::OutOfMemory;
 use std::alloc::Global;
 use std::str;
@@ -21,7 +21,7 @@ pub(crate) fn of_no_toml(alloc: Global, text: &[u8]) -> Result<Option<Lines>, Ou
     ensures lines { length text.now ≤ most_bytes → IfOk result (IsOfNoToml text.now) }
     ensures its_own { IfOk result (λ o. IfSome o (λ _. TableOf text.now (Err refused.NotToml))) }
 {
-    if text.len() > MOST_BYTES {
+    if text.len() > MOST_FILE_BYTES {
         return Ok(None);
     }
     match str::from_utf8(text) {

@@ -14,7 +14,7 @@ use crate::element::BINDING_NAMES;
 use crate::keys::{other_key, table_at};
 use crate::lines::Lines;
 use crate::names::{Name, Place};
-use crate::reading::{MOST_BYTES, SOFTWIRE_NAMES, TOP_NAMES, document_of, elements_of};
+use crate::reading::{MOST_FILE_BYTES, SOFTWIRE_NAMES, TOP_NAMES, document_of, elements_of};
 use crate::refusals::FileError;
 use aftr_base::{OutOfMemory, Text};
 use std::alloc::Global;
@@ -71,7 +71,7 @@ fn key_of(alloc: Global, text: &[u8]) -> Result<Option<UnknownKey>, OutOfMemory>
 fn is_looked_at(text: &[u8]) -> bool
     ensures { result ≡ is_looked_at text.now }
 {
-    text.len() <= MOST_BYTES && !is_held_back(text) && is_told(text)
+    text.len() <= MOST_FILE_BYTES && !is_held_back(text) && is_told(text)
 }
 
 // The same of a text in UTF-8 that is looked at.

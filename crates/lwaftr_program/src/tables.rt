@@ -9,14 +9,11 @@ use crate::loads::push_loads;
 use crate::naming::table_name;
 use aftr_base::{OutOfMemory, Text};
 use aftr_text::{Job, read_job};
-use binding_file::{FileError, FileRefused, Lines, is_held_back, read_table};
+use binding_file::{FileError, FileRefused, Lines, MOST_FILE_BYTES, is_held_back, read_table};
 use lwaftr_engine::Status;
 use std::alloc::Global;
 use std::fs;
 use std::rt::Files;
-
-/// The most bytes of a file that is looked at.
-const MOST_BYTES: u64 = 16_777_216;
 
 /// The lines below the status line that tell of table files. The words are those behind the program's name.
 pub fn table_lines<R: Files + Alloc<A = Global>>(
@@ -49,10 +46,10 @@ pub fn table_lines<R: Files + Alloc<A = Global>>(
     Ok(Text::of(text))
 }
 
-/// The bytes of a file, where it is one that can be read at once.
+/// The bytes of a file, where it is one that can be read at once and is no bigger than a table may be.
 pub(crate) fn bytes_of<R: Files + Alloc<A = Global>>(rt: &R, name: &str) -> Option<Vec<u8>> {
     let about = fs::metadata(rt, name).ok()?;
-    if !about.is_file() || about.len() > MOST_BYTES {
+    if !about.is_file() || about.len() > MOST_FILE_BYTES as u64 {
         return None;
     }
     fs::read(rt, name).ok()

@@ -10,11 +10,11 @@ returns-in-Ok-clause-lines c = λ size.
 
 pub returns-in-Ok-clause-its_own : goal.returns-in-Ok-clause-its_own
 returns-in-Ok-clause-its_own c =
-    text_refused c.args.text.now c.in-Ok.text.now c.of_text.result (omega (arith, c.if-text-gt-MOST_BYTES.false)) c.in-Ok.ensures.cases.0 c.of_text.ensures.its_own
+    text_refused c.args.text.now c.in-Ok.text.now c.of_text.result (omega (arith, c.if-text-gt-MOST_FILE_BYTES.false)) c.in-Ok.ensures.cases.0 c.of_text.ensures.its_own
 
 pub returns-in-Err-clause-lines : goal.returns-in-Err-clause-lines
 returns-in-Err-clause-lines c = λ size.
     no_text_lines c.args.text.now c.valid_up_to.result c.line_at.result c.in-Err.ensures.cases.0 (subst (IsValidUpTo c.args.text.now) (sym c.valid_up_to.ensures) c.in-Err.ensures.cases.1) c.line_at.ensures
 
 pub returns-in-Err-clause-its_own : goal.returns-in-Err-clause-its_own
-returns-in-Err-clause-its_own c = cause_no_text c.args.text.now (omega (arith, c.if-text-gt-MOST_BYTES.false)) c.in-Err.ensures.cases.0
+returns-in-Err-clause-its_own c = cause_no_text c.args.text.now (omega (arith, c.if-text-gt-MOST_FILE_BYTES.false)) c.in-Err.ensures.cases.0
