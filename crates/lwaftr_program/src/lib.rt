@@ -9,6 +9,7 @@ mod lines;
 mod loads;
 mod naming;
 mod running;
+mod same_files;
 mod tables;
 
 pub use faults::Said;

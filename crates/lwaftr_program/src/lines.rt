@@ -33,8 +33,8 @@ pub fn lines_below(
     }
 }
 
-// What is wrong with the words, and how the command is written; where there is no such command, how all are.
-fn usage_lines(alloc: Global, words: &[&str], fault: &str) -> Result<Text, OutOfMemory> {
+/// What is wrong with the words, and how the command is written; where there is no such command, how all are.
+pub(crate) fn usage_lines(alloc: Global, words: &[&str], fault: &str) -> Result<Text, OutOfMemory> {
     let mut text = String::new(alloc);
     text.push_str(fault)?;
     match usage_of(words) {

@@ -3,6 +3,7 @@ ghost use Rattle.std.specs.Prelude.{◌≤◌};
 
 use crate::faults::Said;
 use crate::lines::lines_below;
+use crate::same_files::same_file_lines;
 use crate::tables::table_lines;
 use aftr_base::{OutOfMemory, RealFiles, RealSink};
 use lwaftr_engine::{Status, code, lwaftr, status_line};
@@ -14,7 +15,12 @@ use std::sync::Wait;
 use std::thread::Threads;
 use worker_gate::SparingGate;
 
-/// Does the job that the words behind the program's name ask for, and answers the exit code. A word that is no UTF-8 asks for none.
+const NO_UTF8: &str = "  a word is no text in UTF-8\n";
+
+const NO_MEMORY: &str = "  memory was wanted\n";
+
+/// Does the job that the words behind the program's name ask for, and answers the exit code. A word that is no UTF-8 asks for none, and
+/// words are refused in the same way where the system says that a file which the job makes is another file of it under a second name.
 /// Unless all was done, the status line goes to standard error, and where that was written, the lines below it.
 pub fn run_program<
     R: Alloc<A = Global> + Env + Files + Print + Eprint + Threads + Wait + Sync + Drop,
@@ -25,20 +31,20 @@ pub fn run_program<
     let args = match env::args(rt) {
         Ok(args) => args,
         Err(error) if error.kind() == ErrorKind::OutOfMemory => {
-            return end_early(rt, alloc, &Status::OutOfMemory);
+            return end_early(rt, alloc, &Status::OutOfMemory, NO_MEMORY);
         }
-        Err(_) => return end_early(rt, alloc, &Status::Usage),
+        Err(_) => return end_early(rt, alloc, &Status::Usage, NO_UTF8),
     };
     let mut texts = Vec::new(alloc);
     for text in args {
         if texts.push(text).is_err() {
-            return end_early(rt, alloc, &Status::OutOfMemory);
+            return end_early(rt, alloc, &Status::OutOfMemory, NO_MEMORY);
         }
     }
     let mut words = Vec::new(alloc);
     for text in texts.iter().skip(1) {
         if words.push(text.as_str()).is_err() {
-            return end_early(rt, alloc, &Status::OutOfMemory);
+            return end_early(rt, alloc, &Status::OutOfMemory, NO_MEMORY);
         }
     }
     do_job(rt, rt, alloc, &words)
@@ -51,6 +57,11 @@ fn do_job<
 >(system: F, rt: &R, alloc: Global, words: &[&str]) -> u8
     ensures code { result ≤ 7 }
 {
+    match same_file_lines(rt, alloc, words) {
+        Ok(None) => {}
+        Ok(Some(lines)) => return end_early(rt, alloc, &Status::Usage, lines.as_str()),
+        Err(OutOfMemory) => return end_early(rt, alloc, &Status::OutOfMemory, NO_MEMORY),
+    }
     let mut files = RealFiles::new(system, alloc);
     let mut out = RealSink::new(rt);
     let mut history = None;
@@ -90,20 +101,18 @@ fn report<R: Alloc<A = Global> + Eprint + Files>(
             let _ = rt.eprint(lines.as_str());
         }
         Err(OutOfMemory) if *status == Status::OutOfMemory => {
-            let _ = rt.eprint("  memory was wanted\n");
+            let _ = rt.eprint(NO_MEMORY);
         }
         Err(OutOfMemory) => {}
     }
 }
 
-// The same where the words could not be read.
-fn end_early<R: Eprint>(rt: &R, alloc: Global, status: &Status) -> u8
+// The same where no job was begun, with these lines.
+fn end_early<R: Eprint>(rt: &R, alloc: Global, status: &Status, lines: &str) -> u8
     ensures code { result ≤ 7 }
 {
     if tell_status(rt, alloc, status) {
-        if *status == Status::Usage {
-            let _ = rt.eprint("  a word is no text in UTF-8\n");
-        }
+        let _ = rt.eprint(lines);
     }
     code(status)
 }
