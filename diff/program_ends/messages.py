@@ -55,6 +55,8 @@ FILES = {
     "latin.toml": b"# \xc3\xa4\n# \xe4\n" + ends.TABLE,
     "second.toml": ends.TABLE + b"\n# [[binding]]\n[[ binding ]]  # two\nipv4 = \"203.0.113.2\"\n",
     "shape.toml": ends.TABLE + b"offset = 9\nlength = 9\n",
+    "bits.toml": ends.TABLE + b"length = 4\npsid = 16\n",
+    "far.toml": with_settings(b"mtu6 = 9223372036854775808"),
     "inline.toml": ends.TABLE[:ends.TABLE.index(b"[[binding]]")].replace(b"[softwire]", b"binding = [{b4 = 4}]\n[softwire]"),
     "big.toml": ends.TABLE + b"#" * 16_777_216,
     "version.toml": ends.TABLE.replace(b"version = 1", b"version = 3"),
@@ -68,6 +70,11 @@ FILES = {
     "psid.toml": ends.TABLE + b"psid = 65536\n",
     "empty.pcap": b"",
     "part.pcap": ends.HEADER + b"\0" * 15,
+    "older.pcap": ends.HEADER[:6] + b"\x03" + ends.HEADER[7:],
+    # Of an interface: two thirds of its block, a block with another length at its end, and a resolution of 10^-20 s.
+    "half.pcapng": SECTION + interface(101)[:-8],
+    "length.pcapng": SECTION + interface(101)[:-4] + bytes.fromhex("18000000"),
+    "fine.pcapng": SECTION + bytes.fromhex("0100000020000000650000000000000009000100140000000000000020000000"),
     "link.pcapng": SECTION + interface(113),
     "mixed.pcapng": SECTION + interface(1) + interface(101),
     # An enhanced packet block of 262,145 bytes with three of padding (type 6).

@@ -6,12 +6,16 @@ pub(crate) fn hint_for(refused: &FileRefused) -> &'static str {
     match refused {
         FileRefused::TooBig => "  a table file has at most 16777216 bytes\n",
         FileRefused::NotToml => {
-            "  a table file is TOML in UTF-8: look for a missing quote, or for a key given twice\n"
+            "  a table file is TOML in UTF-8: look for a missing quote, a key given twice, or an integer beyond 2^63 - 1\n"
         }
         FileRefused::Version => "  the key version has to be 1 or 2\n",
         FileRefused::Range(place) => range_hint(place.name()),
         FileRefused::Rules(Refused::Mtu) => "  mtu6 has to be 1280 to 65535, mtu4 576 to 65535\n",
         FileRefused::Rules(Refused::Hop) => range_hint(Name::HopLimit),
+        FileRefused::Rules(Refused::Shape { .. }) => {
+            "  offset has to be 0 to 15, length 0 to 16, and both together at most 16\n"
+        }
+        FileRefused::Rules(Refused::Psid { .. }) => range_hint(Name::Psid),
         _ => "",
     }
 }

@@ -93,8 +93,11 @@ fn capture_lines(alloc: Global, job: &Job, cause: &CaptureBad) -> Result<Text, O
 
 fn help_for(cause: &CaptureBad) -> &'static str {
     match cause {
-        CaptureBad::Magic | CaptureBad::Version => {
+        CaptureBad::Magic => {
             "  it is no classic capture and no pcapng; if it is compressed, gunzip it first; else try: editcap -F pcap IN OUT\n"
+        }
+        CaptureBad::Version => {
+            "  of classic captures version 2.4 is read alone; try: editcap -F pcap IN OUT\n"
         }
         CaptureBad::Link { .. } | CaptureBad::Ng(NgBad::Link { .. }) => {
             "  captures of Ethernet (1) and of plain IP (101) are read: capture on one interface of such a kind\n"
@@ -114,6 +117,21 @@ fn help_for(cause: &CaptureBad) -> &'static str {
         CaptureBad::Ng(NgBad::MixedLinks { .. }) => {
             "  one kind of interface to a file: capture on one interface, or split it\n"
         }
-        CaptureBad::Ng(_) => "  editcap -F pcap IN OUT makes a classic capture of it\n",
+        CaptureBad::Ng(cause) => help_for_blocks(cause),
+    }
+}
+
+fn help_for_blocks(cause: &NgBad) -> &'static str {
+    match cause {
+        NgBad::Cut { at: 0 } => "  it is shorter than a section header; nothing was written\n",
+        NgBad::Cut { .. } => {
+            "  it ends within a block; all whole records before that were judged and written\n"
+        }
+        NgBad::Version { .. } => "  of pcapng version 1 is read alone\n",
+        NgBad::Old { .. }
+        | NgBad::Interfaces { .. }
+        | NgBad::Resolution { .. }
+        | NgBad::Time { .. } => { "  editcap -F pcap IN OUT makes a classic capture of it\n" }
+        _ => "  the file is damaged in the block that begins at that byte\n",
     }
 }

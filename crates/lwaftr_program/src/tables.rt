@@ -120,7 +120,7 @@ fn push_held_back<R: Files + Alloc<A = Global>>(
         text.push_str("  memory was wanted\n")?;
     } else {
         text.push_str(
-            "  memory was wanted, or a table file would cost too much to read: see What reading costs in docs/FORMATS.md\n",
+            "  memory was wanted, or a table file would cost too much to read: see What reading costs in FORMATS.md\n",
         )?;
     }
     Ok(())
@@ -150,7 +150,7 @@ fn push_costly(text: &mut String, name: &str) -> Result<(), OutOfMemory> {
     text.push_str("  ")?;
     text.push_str(name)?;
     text.push_str(
-        " would cost too much to read, and is held back: see What reading costs in docs/FORMATS.md\n",
+        " would cost too much to read, and is held back: see What reading costs in FORMATS.md\n",
     )?;
     Ok(())
 }
