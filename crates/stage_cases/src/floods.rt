@@ -95,9 +95,7 @@ fn datagrams_of_all_lanes(alloc: Global, count: u32, behind: &str) -> Result<Str
 }
 
 #[test]
-fn lanes_beside_one_another_give_what_one_record_at_a_time_gives(
-    rt: HostRuntime,
-) -> Result<(), Fail> {
+fn one_round_gives_what_one_record_at_a_time_gives(rt: HostRuntime) -> Result<(), Fail> {
     let beside = datagrams_of_all_lanes(rt.alloc(), 1100, "")?;
     assert!(rt; goes(&rt, PLAIN, &beside)?);
     let alone = datagrams_of_all_lanes(rt.alloc(), 1100, "|\n")?;
