@@ -17,6 +17,7 @@ cp "$here/program/main.rt.txt" "$repository/crates/draws_bench/src/main.rt"
 cp "$here/program/DrawOn.antt.txt" "$repository/crates/draws_bench/proofs/draw_on/Invariants.antt"
 cp "$here/program/SeatsOf.antt.txt" "$repository/crates/draws_bench/proofs/seats_of/Invariants.antt"
 printf 'aftr_base:\nswap_core: aftr_base\narea_swap: aftr_base swap_core atomic_table\ndraws_bench: aftr_base swap_core area_swap\n' > "$repository/crates.txt"
+rm -f "$repository/crates/draws_bench/out/draws_bench"
 (cd "$repository/crates/draws_bench" && ${RT:-rt} run > "$work/build.txt" 2>&1) || true
 [ -x "$repository/crates/draws_bench/out/draws_bench" ] || { tail "$work/build.txt"; exit 1; }
 for turn in 1 2 3; do

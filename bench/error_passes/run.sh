@@ -14,8 +14,9 @@ cp -r "$top/crates/error_limit" "$repository/crates/"
 mkdir -p "$repository/crates/passes_bench/src"
 cp "$here/program/main.rt.txt" "$repository/crates/passes_bench/src/main.rt"
 printf 'error_limit:\npasses_bench: error_limit\n' > "$repository/crates.txt"
-(cd "$repository/crates/passes_bench" && rt run > "$work/build.txt" 2>&1) || true
 program="$repository/crates/passes_bench/out/passes_bench"
+rm -f "$program"
+(cd "$repository/crates/passes_bench" && rt run > "$work/build.txt" 2>&1) || true
 [ -x "$program" ] || { tail "$work/build.txt"; exit 1; }
 for turn in 1 2 3; do
     "$program"

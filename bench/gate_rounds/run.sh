@@ -22,6 +22,7 @@ rm -rf "$bench/src" "$bench/proofs"
 mkdir -p "$bench/src" "$bench/proofs/judge_all"
 cp "$here/program/main.rt.txt" "$bench/src/main.rt"
 cp "$here/program/judge_all.antt.txt" "$bench/proofs/judge_all/Invariants.antt"
+rm -f "$bench/out/gate_bench"
 (cd "$bench" && ${RT:-rt} run > "$work/build.txt" 2>&1) || true
 [ -x "$bench/out/gate_bench" ] || { tail "$work/build.txt"; exit 1; }
 "$bench/out/gate_bench"

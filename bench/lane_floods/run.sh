@@ -16,8 +16,9 @@ done
 mkdir -p "$repository/crates/floods_bench/src"
 cp "$here/program/main.rt.txt" "$repository/crates/floods_bench/src/main.rt"
 printf 'aftr_base:\nreassembly_lane: aftr_base\nfloods_bench: aftr_base reassembly_lane\n' > "$repository/crates.txt"
-(cd "$repository/crates/floods_bench" && rt run > "$work/build.txt" 2>&1) || true
 program="$repository/crates/floods_bench/out/floods_bench"
+rm -f "$program"
+(cd "$repository/crates/floods_bench" && rt run > "$work/build.txt" 2>&1) || true
 [ -x "$program" ] || { tail "$work/build.txt"; exit 1; }
 "$program"
 if [ -x /usr/bin/time ]; then

@@ -24,8 +24,9 @@ for crate in $crates; do
     grep "^$crate:" "$top/crates.txt"
 done > "$repository/crates.txt"
 echo "costs_bench: aftr_base binding_rules table_words ip_codec capture_io verdict_core packet_render" >> "$repository/crates.txt"
-(cd "$bench" && rt run > "$work/build.txt" 2>&1) || true
 program="$bench/out/costs_bench"
+rm -f "$program"
+(cd "$bench" && rt run > "$work/build.txt" 2>&1) || true
 [ -x "$program" ] || { tail "$work/build.txt"; exit 1; }
 
 instructions() {

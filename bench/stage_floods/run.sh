@@ -26,7 +26,8 @@ for crate in aftr_base ip_codec capture_io ipv6_chain reassembly_lane item_stage
     grep "^$crate:" "$top/crates.txt"
 done > "$repository/crates.txt"
 printf 'stage_bench: aftr_base capture_io item_stage\n' >> "$repository/crates.txt"
-(cd "$bench" && rt run > "$work/build.txt" 2>&1) || true
 program="$bench/out/stage_bench"
+rm -f "$program"
+(cd "$bench" && rt run > "$work/build.txt" 2>&1) || true
 [ -x "$program" ] || { tail "$work/build.txt"; exit 1; }
 "$program"

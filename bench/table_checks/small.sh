@@ -12,6 +12,7 @@ mkdir -p "$repository/crates"
 cp "$top/HANDLES" "$repository/"
 names="aftr_base addr_text port_set binding_rules binding_file"
 for crate in $names; do
+    rm -rf "$repository/crates/$crate"
     (cd "$top/crates" && tar --exclude="$crate/out" --exclude="$crate/must-fail" -cf - "$crate") | tar -C "$repository/crates" -xf -
 done
 for crate in $names; do
@@ -20,7 +21,8 @@ done > "$repository/crates.txt"
 echo 'check_alone: aftr_base binding_rules binding_file' >> "$repository/crates.txt"
 mkdir -p "$repository/crates/check_alone/src"
 cp "$here/program/main.rt.txt" "$repository/crates/check_alone/src/main.rt"
-(cd "$repository/crates/check_alone" && rt run > "$work/build.txt" 2>&1) || true
 program="$repository/crates/check_alone/out/check_alone"
+rm -f "$program"
+(cd "$repository/crates/check_alone" && rt run > "$work/build.txt" 2>&1) || true
 [ -x "$program" ] || { tail "$work/build.txt" >&2; exit 1; }
 echo "$program"

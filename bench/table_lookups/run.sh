@@ -18,8 +18,9 @@ cp "$here/program/main.rt.txt" "$repository/crates/lookups_bench/src/main.rt"
 cp "$here/program/Invariants.antt.txt" "$repository/crates/lookups_bench/proofs/found_in/Invariants.antt"
 sed -n '/^\(aftr_base\|port_set\|binding_rules\|table_words\):/p' "$top/crates.txt" > "$repository/crates.txt"
 echo "lookups_bench: aftr_base binding_rules table_words" >> "$repository/crates.txt"
-(cd "$repository/crates/lookups_bench" && rt run > "$work/build.txt" 2>&1) || true
 program="$repository/crates/lookups_bench/out/lookups_bench"
+rm -f "$program"
+(cd "$repository/crates/lookups_bench" && rt run > "$work/build.txt" 2>&1) || true
 [ -x "$program" ] || { tail "$work/build.txt"; exit 1; }
 for turn in 1 2 3; do
     "$program"

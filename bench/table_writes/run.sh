@@ -20,6 +20,7 @@ for file in "$here"/program/*.antt.txt; do
     cp "$file" "$bench/proofs/$name/Invariants.antt"
 done
 printf 'aftr_base:\nswap_core: aftr_base\narea_swap: aftr_base swap_core atomic_table\nwrites_bench: aftr_base swap_core area_swap\n' > "$repository/crates.txt"
+rm -f "$bench/out/writes_bench"
 (cd "$bench" && ${RT:-rt} run > "$work/build.txt" 2>&1) || true
 [ -x "$bench/out/writes_bench" ] || { tail "$work/build.txt"; exit 1; }
 "$bench/out/writes_bench"

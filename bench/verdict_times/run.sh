@@ -23,8 +23,9 @@ for crate in $crates; do
     grep "^$crate:" "$top/crates.txt"
 done > "$repository/crates.txt"
 echo "verdicts_bench: aftr_base binding_rules table_words ip_codec icmp_codec verdict_core" >> "$repository/crates.txt"
-(cd "$bench" && rt run > "$work/build.txt" 2>&1) || true
 program="$bench/out/verdicts_bench"
+rm -f "$program"
+(cd "$bench" && rt run > "$work/build.txt" 2>&1) || true
 [ -x "$program" ] || { tail "$work/build.txt"; exit 1; }
 for turn in 1 2 3; do
     "$program"
