@@ -1,8 +1,8 @@
 #!/usr/bin/env bash
 # Draws by 4 and by 16 seats in threads beside a desk that puts 255 tables into force, 10 times each: builds the program in a
-# temporary repository, which proves it first, and runs it. No try may fail.
+# temporary repository, which proves it first, and runs it. It ends with 1 where a try fails.
 #     bench/area_stress/run.sh
-set -e
+set -eo pipefail
 here="$(cd "$(dirname "$0")" && pwd)"
 top="$(cd "$here/../.." && pwd)"
 work=/tmp/area_stress_bench
@@ -23,6 +23,8 @@ for file in "$here"/program/*.antt.txt; do
     cp "$file" "$bench/proofs/$name/Invariants.antt"
 done
 printf 'aftr_base:\nswap_core: aftr_base\narea_swap: aftr_base swap_core atomic_table\nstress_bench: aftr_base swap_core area_swap\n' > "$repository/crates.txt"
+rm -f "$bench/out/stress_bench"
 (cd "$bench" && ${RT:-rt} run > "$work/build.txt" 2>&1) || true
 [ -x "$bench/out/stress_bench" ] || { tail "$work/build.txt"; exit 1; }
-"$bench/out/stress_bench"
+"$bench/out/stress_bench" | tee "$work/said.txt"
+[ "$(grep -c 'tries: 0 failed,' "$work/said.txt")" = 4 ]

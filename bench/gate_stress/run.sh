@@ -1,6 +1,7 @@
 #!/usr/bin/env bash
 # Rounds by 4 and by 16 workers beside a desk that puts 255 tables into force: builds the program in a
-# temporary repository, which proves it first, and runs it once.
+# temporary repository, which proves it first, and runs it once. It ends with 1 where a record was not drawn once, or a table or an
+# outcome is wrong.
 #     bench/gate_stress/run.sh
 set -e
 here="$(cd "$(dirname "$0")" && pwd)"
@@ -28,3 +29,4 @@ cp "$here/program/growing.antt.txt" "$bench/proofs/Growing.antt"
 echo "pub mod Growing" > "$bench/proofs/Lib.antt"
 (cd "$bench" && ${RT:-rt} run > "$work/build.txt" 2>&1) || true
 grep ' workers, ' "$work/build.txt" || { tail "$work/build.txt"; exit 1; }
+[ "$(grep -cE ' ([0-9]+) records, \1 drawn, 255 tables came, 0 outcomes wrong, 0 points outside' "$work/build.txt")" = 2 ]
