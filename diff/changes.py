@@ -194,8 +194,10 @@ def found(program, number, words):
         with tempfile.TemporaryDirectory() as folder:
             beside = [sys.executable, os.path.join(HERE, "run.py"), str(first), str(end - first), "-j", "1"]
             beside += ["--program", program, "--stop-at", "1", "--keep", folder]
-            said = subprocess.run(beside, capture_output=True, text=True, env={**os.environ, "CHANGE": str(number)}).stdout
+            said = subprocess.run(beside, stdout=subprocess.PIPE, text=True, env={**os.environ, "CHANGE": str(number)}).stdout
         it = re.search(r"^job (\d+): (.*)$", said, re.M)
+        if not it and not re.search(r"^\d+ jobs from", said, re.M):
+            sys.exit("run.py ended early")
         if not it or not it[2].startswith("TimeoutExpired"):
             return (int(it[1]) - words.seed + 1, it[2]) if it else (None, "")
         first = int(it[1]) + 1

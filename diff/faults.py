@@ -7,7 +7,7 @@ Five jobs, by 1 and by 16 workers: a packet, fragments, loads, a pcapng capture 
 rounds. In each, every opening, creation, read, append, put, growth of memory and start of a thread fails in turn, once and from there on
 (faults.c, which gcc compiles); a run with more than N calls of a kind (100) has N of them failed, spread evenly. Then memory in twenty
 steps, files and a disk that fill, a standard output that is closed, full or unread, a reader of each output that goes away, and a kill
-in the middle. Each ending is held against 'Exit codes' of docs/FORMATS.md by the second router. Exit code 1 where one is otherwise.
+in the middle. Each ending is held against 'Exit codes' of docs/FORMATS.md by the second router. Exit code 1 where one is otherwise, or nothing ran.
 --only takes the rows whose name has WORD (memory, files, disk, stdout, reader and killed are those behind the calls), --job one job."""
 import argparse
 import collections
@@ -227,18 +227,26 @@ class Table:
             self.wrong += 1
             print(f"{what}: {title}: {why}", flush=True)
 
+    def untried(self, what):
+        self.rows.setdefault(what, collections.Counter())
+
     def show(self):
         print("| what | runs | ended with | lost |\n|---|---|---|---|")
         for what, row in self.rows.items():
             codes = ", ".join(f"{name[5:]}: {count}" for name, count in sorted(row.items()) if name.startswith("code"))
             print(f"| {what} | {row['runs']} | {codes} | {row['lost']} |")
-        print(f"{sum(row['runs'] for row in self.rows.values())} runs, {self.wrong} otherwise")
+        print(f"{self.runs()} runs, {self.wrong} otherwise")
+
+    def runs(self):
+        return sum(row["runs"] for row in self.rows.values())
 
 
 WORDS = {EIO: "an error", EINTR: "interrupted", 0: "one byte of it moved", EAGAIN: "an error", ENOMEM: "refused", EACCES: "refused", ENOSPC: "no room"}
 
 
 def calls_fail(table, library, most, only):
+    if not all(calls(words, files, library, "read") for _, words, files in five()):
+        sys.exit("faults.c was not loaded")
     for (title, words, files), workers in itertools.product(five(), (1, 16)):
         due, title = Due(words, files), f"{title}, {workers} workers"
         words = words + ["--workers", str(workers)]
@@ -306,7 +314,7 @@ def limits(table, only):
                     resource.setrlimit(resource.RLIMIT_FSIZE, (size, size))
 
                 judge_limited(table, due, "files of at most so many bytes", f"{title}, {size}", words, files, before)
-        if os.geteuid() == 0 and (not only or only in "disk"):
+        if not only or only in "disk":
             for step in range(10):
                 full_disk(table, due, f"{title}, step {step}", words, files, 4096 * (1 + step) + (largest * step // 9 if step else 0))
 
@@ -326,6 +334,7 @@ def full_disk(table, due, title, words, files, room):
         disk = os.path.join(folder, "disk")
         os.mkdir(disk)
         if subprocess.run(["mount", "-t", "tmpfs", "-o", f"size={room}", "none", disk], capture_output=True).returncode:
+            table.untried("(no disk could be mounted)")
             return
         try:
             words = [f"disk/{it}" if it in OUTPUTS else it for it in words]
@@ -425,7 +434,7 @@ def main():
     except KeyboardInterrupt:
         print("broken off")
     table.show()
-    sys.exit(1 if table.wrong else 0)
+    sys.exit(1 if table.wrong or not table.runs() else 0)
 
 
 def every(table, words):

@@ -272,7 +272,7 @@ def main():
         count, failed, came = added(words.sum)
         show(came)
         print(f"{count} jobs, {len(failed)} differ")
-        return
+        sys.exit(1 if failed else 0)
     PROGRAM = os.path.abspath(words.program) if words.program else program_here()
     if words.job is not None:
         job = jobs.job(words.job)

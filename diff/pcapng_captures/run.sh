@@ -49,5 +49,6 @@ for file in files/{editcap_micro,editcap_nano,editcap_ether,tshark,mergecap,text
     cp "$file" capture.pcapng
     "$program" > ours.txt
     tshark -r "$file" -T fields -e frame.time_epoch -e frame.cap_len 2> /dev/null | awk '{ sub(/\./, "", $1); print $1, $2 } END { print "end" }' > theirs.txt
-    cmp ours.txt theirs.txt && echo "$(basename "$file"): $(($(wc -l < ours.txt) - 1)) packets alike"
+    cmp ours.txt theirs.txt
+    echo "$(basename "$file"): $(($(wc -l < ours.txt) - 1)) packets alike"
 done

@@ -13,4 +13,4 @@ fi
 program="$(realpath "$program")"
 work="$(mktemp -d /tmp/points_and_files.XXXXXX)"
 trap 'rm -rf "$work"' EXIT
-exec python3 "$here/compare.py" "$program" "$work"
+python3 "$here/compare.py" "$program" "$work"
