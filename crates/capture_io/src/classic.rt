@@ -89,7 +89,7 @@ impl ClassicReader {
 /// How many bytes a reader asks for at once, where a round may have so many captured bytes: a piece that stays in a processor's
 /// second-level cache, or, where they are more than one processor's share, as many as they are, up to 1,048,576.
 pub fn piece_of(most_bytes: usize) -> usize
-    ensures some { 1 ≤ result }
+    ensures least { 262144 ≤ result }
     ensures few { result ≤ 1048576 }
 {
     if most_bytes > ROOM {

@@ -19,7 +19,8 @@ pub enum Written {
 impl Written {
     /// Puts what a capture begins with behind what `out` holds.
     pub fn push_header(self, out: &mut Vec<u8>) -> Result<(), OutOfMemory>
-        ensures { IfOk result (λ _. out.new.items ≡ out.old.items ++ file_head self) }
+        ensures bytes { IfOk result (λ _. out.new.items ≡ out.old.items ++ file_head self) }
+        ensures kept { IsErr result → Extends out.old.items out.new.items }
     {
         match self {
             Written::Classic { nano } => out.extend_from_slice(&put_header(nano))?,

@@ -27,7 +27,7 @@ returns-in_err-append_all-clause-half g c =
     let a = (g.F.Files.outside c.args.files.now).held in
     let b = (g.F.Files.outside c.make_outputs.new.files).held in
     let d = (g.F.Files.outside c.append_all.new.files).held in
-    let head = c.deref.ensures.value ∙ behind_nothing _ _ _ c.new-header.ensures.items c.in_ok-push_header.ensures in
+    let head = c.deref.ensures.value ∙ behind_nothing _ _ _ c.new-header.ensures.items c.in_ok-push_header.ensures.bytes in
     let part = cut run (apart run c.requires.apart) out_file _ b d (rw (c.as_str-2.ensures, head) at c.in_err-append_all.ensures.held) in
     if_err _ c.from_residual-in_err-append_all.result
     (joined_front run making_steps _ a b d c.in_ok-make_outputs.ensures.made (more_front run _ _ b d part))
@@ -40,7 +40,7 @@ returns-in_err-append_all-2-clause-half g c =
     let b = (g.F.Files.outside c.make_outputs.new.files).held in
     let d = (g.F.Files.outside c.append_all.new.files).held in
     let e = (g.F.Files.outside c.append_all-2.new.files).held in
-    let head = c.deref.ensures.value ∙ behind_nothing _ _ _ c.new-header.ensures.items c.in_ok-push_header.ensures in
+    let head = c.deref.ensures.value ∙ behind_nothing _ _ _ c.new-header.ensures.items c.in_ok-push_header.ensures.bytes in
     let line = c.as_bytes.ensures.value ∙ (c.as_str-4.ensures ∙ (c.in_ok-line.ensures ∙ ap initial_text c.as_str.ensures)) in
     let first = added run far out_file _ b d (rw (c.as_str-2.ensures, head) at c.in_ok-append_all.ensures.held) in
     let part = cut run far versions_file (initial_text run.table) d e (rw (c.as_str-3.ensures, line) at c.in_err-append_all-2.ensures.held) in
@@ -55,7 +55,7 @@ returns-clause-opened g c =
     let b = (g.F.Files.outside c.make_outputs.new.files).held in
     let d = (g.F.Files.outside c.append_all.new.files).held in
     let e = (g.F.Files.outside c.append_all-2.new.files).held in
-    let head = c.deref.ensures.value ∙ behind_nothing _ _ _ c.new-header.ensures.items c.in_ok-push_header.ensures in
+    let head = c.deref.ensures.value ∙ behind_nothing _ _ _ c.new-header.ensures.items c.in_ok-push_header.ensures.bytes in
     let line = c.as_bytes.ensures.value ∙ (c.as_str-4.ensures ∙ (c.in_ok-line.ensures ∙ ap initial_text c.as_str.ensures)) in
     let first = added run far out_file _ b d (rw (c.as_str-2.ensures, head) at c.in_ok-append_all.ensures.held) in
     let second = added run far versions_file _ d e (rw (c.as_str-3.ensures, line) at c.in_ok-append_all-2.ensures.held) in
