@@ -13,7 +13,9 @@ use crate::fronts::{Taken, Upcoming, is_open, take_records};
 use crate::header::read_header_behind;
 use crate::records::MOST_TAKEN;
 use crate::window::{ROOM, Window};
-use crate::{CaptureError, CaptureReader, Ending, Form, Place, Records, Round, read_header};
+use crate::{
+    CaptureError, CaptureReader, Ending, FILE_HEADER_LEN, Form, Place, Records, Round, read_header,
+};
 use aftr_base::{Fault, Files, OutOfMemory};
 use std::alloc::Global;
 
@@ -24,7 +26,7 @@ const PIECE: usize = 262_144;
 /// The most bytes that are read at once.
 pub const MOST_PIECE: usize = 1_048_576;
 
-const FIRST_RECORD: u64 = 24;
+const FIRST_RECORD: u64 = FILE_HEADER_LEN as u64;
 
 /// A reader of a pcap file, version 2.4.
 #[derive(Drop)]

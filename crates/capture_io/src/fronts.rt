@@ -5,7 +5,7 @@ ghost use Rattle.capture_io.specs.Records.{IsWithin, placed};
 ghost use Rattle.capture_io.specs.Rounds.{bytes_captured, is_cut};
 ghost use Rattle.capture_io.specs.Taken.{AreTaken, Ended};
 
-use crate::record::{HEADER_LEN, Head, MOST_BYTES, MOST_RECORDS};
+use crate::record::{Head, MOST_BYTES, MOST_RECORDS, RECORD_HEADER_LEN};
 use crate::records::MOST_TAKEN;
 use crate::window::Window;
 use crate::words::word;
@@ -53,14 +53,14 @@ fn front_by_order(big: bool, first: &[u8], last: bool, at: u64, number: u32) -> 
     if number == MOST_RECORDS {
         return Front::Bad(CaptureBad::TooMany { at });
     }
-    if first.len() < HEADER_LEN {
+    if first.len() < RECORD_HEADER_LEN {
         return at_last(last, Front::Bad(CaptureBad::CutHeader { at }));
     }
     let captured = word(big, first, 8);
     if captured > MOST_BYTES {
         return Front::Bad(CaptureBad::TooLong { at });
     }
-    if first.len() < HEADER_LEN + captured as usize {
+    if first.len() < RECORD_HEADER_LEN + captured as usize {
         return at_last(last, Front::Bad(CaptureBad::CutRecord { at }));
     }
     Front::Whole(Head {
@@ -106,7 +106,7 @@ fn place_of(head: Head, from: usize, at: u64) -> Place
     Place {
         seconds: head.seconds,
         fraction: head.fraction,
-        from: from + HEADER_LEN,
+        from: from + RECORD_HEADER_LEN,
         count: head.captured as usize,
         next_at: at + 16 + u64::from(head.captured),
     }
@@ -177,7 +177,7 @@ pub fn take_records(
         };
         places.push_reserved(place_of(head, used, here));
         let count = head.captured as usize;
-        used += HEADER_LEN + count;
+        used += RECORD_HEADER_LEN + count;
         bytes += count;
     }
     Taken {

@@ -12,7 +12,8 @@ use crate::{CaptureBad, CaptureError, Form};
 use aftr_base::{Files, OutOfMemory, fill};
 use std::alloc::Global;
 
-const HEADER_LEN: usize = 24;
+/// How many bytes the file header has; the first record stands behind them.
+pub const FILE_HEADER_LEN: usize = 24;
 
 const MAGIC_MICRO: u32 = 0xa1b2c3d4;
 
@@ -33,7 +34,7 @@ pub fn read_header<F: Files>(alloc: Global, files: &mut F, name: &str) -> Result
     ensures link { IfOk result (λ form. IsTrue (is_known_link form.link)) }
     ensures reads { OnlyReads (is_read_fault result) name.now (λ place. place < 24) (F.outside files.old) (F.outside files.new) }
 {
-    let mut header = [0; HEADER_LEN];
+    let mut header = [0; FILE_HEADER_LEN];
     let count = fill(alloc, files, name, 0, &mut header)?;
     match form_of(&header[..count]) {
         Ok(form) => Ok(form),
@@ -55,7 +56,7 @@ pub fn read_header_behind<F: Files>(
     ensures link { IfOk result (λ form. IsTrue (is_known_link form.link)) }
     ensures reads { OnlyReads (is_read_fault result) name.now (λ place. place < 24) (F.outside files.old) (F.outside files.new) }
 {
-    let mut rest = [0; HEADER_LEN - 4];
+    let mut rest = [0; FILE_HEADER_LEN - 4];
     let count = fill(alloc, files, name, first.len() as u64, &mut rest)?;
     let header = match joined(alloc, first, &rest[..count]) {
         Ok(header) => header,
@@ -80,7 +81,7 @@ fn joined(alloc: Global, first: &[u8], rest: &[u8]) -> Result<Vec<u8>, OutOfMemo
 fn form_of(bytes: &[u8]) -> Result<Form, CaptureBad>
     ensures { result ≡ header_in bytes.now }
 {
-    if bytes.len() < HEADER_LEN {
+    if bytes.len() < FILE_HEADER_LEN {
         return Err(CaptureBad::CutHeader { at: 0 });
     }
     let big = is_magic(true, false, bytes) || is_magic(true, true, bytes);

@@ -12,7 +12,8 @@ use crate::{CaptureBad, CaptureError, Form, Next, Rec};
 use aftr_base::{Bytes, Files, OutOfMemory, bytes_at, fill};
 use std::alloc::Global;
 
-pub const HEADER_LEN: usize = 16;
+/// How many bytes a record's header has; its captured bytes stand behind them.
+pub const RECORD_HEADER_LEN: usize = 16;
 
 /// The most captured bytes of a record.
 pub const MOST_BYTES: u32 = 262_144;
@@ -44,7 +45,7 @@ pub fn next_record<F: Files>(
         (λ place. (at ≤ place) × IsBeforeEnd (F.outside files.old).held name.now form.big at number place)
         (F.outside files.old) (F.outside files.new) }
 {
-    let mut header = [0; HEADER_LEN];
+    let mut header = [0; RECORD_HEADER_LEN];
     let count = fill(alloc, files, name, at, &mut header)?;
     if count == 0 {
         return Ok(Next::End);
@@ -79,7 +80,7 @@ fn head_of(big: bool, bytes: &[u8], at: u64, number: u32) -> Result<Head, Captur
     if number == MOST_RECORDS {
         return Err(CaptureBad::TooMany { at });
     }
-    if bytes.len() < HEADER_LEN {
+    if bytes.len() < RECORD_HEADER_LEN {
         return Err(CaptureBad::CutHeader { at });
     }
     let captured = word(big, bytes, 8);
@@ -114,7 +115,7 @@ pub fn put_record(
 {
     let captured = (packet.len() as u32).to_le_bytes();
     let original = captured;
-    let mut list = Vec::with_capacity(alloc, HEADER_LEN + packet.len())?;
+    let mut list = Vec::with_capacity(alloc, RECORD_HEADER_LEN + packet.len())?;
     list.extend_from_slice(&seconds.to_le_bytes())?;
     list.extend_from_slice(&fraction.to_le_bytes())?;
     list.extend_from_slice(&captured)?;

@@ -7,12 +7,10 @@ use crate::packets::push_record;
 use crate::subscribers::table_from;
 use aftr_base::{Bytes, OutOfMemory};
 use binding_rules::Table;
-use capture_io::put_header;
+use capture_io::{FILE_HEADER_LEN, put_header};
 use std::alloc::Global;
 
-// How many bytes a capture's header has, and the longest record.
-const HEADER_LEN: usize = 24;
-
+// How many bytes the longest record has.
 const RECORD_LEN: usize = 88;
 
 // The first subscriber of the second table.
@@ -49,7 +47,7 @@ fn capture_of(alloc: Global, seed: u64, count: u32) -> Result<Bytes, OutOfMemory
     requires { count ≤ 1000000 }
     ensures { IfOk result (λ bytes. bytes ≡ capture_of seed count) }
 {
-    let mut list = Vec::with_capacity(alloc, HEADER_LEN + RECORD_LEN * count as usize)?;
+    let mut list = Vec::with_capacity(alloc, FILE_HEADER_LEN + RECORD_LEN * count as usize)?;
     list.extend_from_slice(&put_header(false))?;
     let mut state = seed;
     'records: for number in 0..count {
