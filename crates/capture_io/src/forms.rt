@@ -22,6 +22,7 @@ pub struct Form {
 #[derive(Debug, Drop)]
 pub struct Rec {
     pub seconds: u32,
+    /// Micro- or nanoseconds, as `Form::nano` says.
     pub fraction: u32,
     /// At most 262,144 bytes.
     pub bytes: Bytes,

@@ -2,7 +2,7 @@
 ghost use Rattle.std.specs.Prelude.{◌≡◌, ◌+◌, ◌≤◌, length};
 ghost use Rattle.capture_io.specs.Words.{half_at, word_at};
 
-/// The 16 bits at a place.
+/// The 16 bits at a place: big-endian where `big` is true, else little-endian.
 pub fn half(big: bool, bytes: &[u8], at: usize) -> u16
     requires { at + 2 ≤ length bytes.now }
     ensures { result ≡ half_at big bytes.now at }
@@ -15,7 +15,7 @@ pub fn half(big: bool, bytes: &[u8], at: usize) -> u16
     }
 }
 
-/// The 32 bits at a place.
+/// The 32 bits at a place: big-endian where `big` is true, else little-endian.
 pub fn word(big: bool, bytes: &[u8], at: usize) -> u32
     requires { at + 4 ≤ length bytes.now }
     ensures { result ≡ word_at big bytes.now at }

@@ -55,7 +55,8 @@ impl Shape {
 #[derive(Clone, Copy, Debug, PartialEq, Eq)]
 pub struct BadShape;
 
-/// The shape of these two numbers.
+/// The shape of an offset and a length (RFC 7597, section 5.1); `BadShape` where the offset is above 15, the length above 16 or their
+/// sum above 16.
 pub fn shape_of(offset: u8, length: u8) -> Result<Shape, BadShape>
     ensures bad { IsErr result ↔ IsNoShape offset length }
     ensures numbers { IfOk result (λ shape. (shape.offset ≡ offset) × (shape.length ≡ length)) }
