@@ -1,10 +1,25 @@
-use Rattle.std.proofs.Common.{◌≡◌, ℕ, refl, ◌+◌, ◌<◌, Err, List, length, take, drop, sym, ◌∙◌, ap, arith}
+use Rattle.std.proofs.Common.{◌≡◌, ℕ, refl, ◌+◌, ◌<◌, Ok, Err, List, length, take, drop, sym, ◌∙◌, ap, arith}
 use Rattle.std.proofs.lemmas.Result.{err_from_is_err_and}
 use Rattle.std.proofs.lemmas.Bool.Decides.{nat_tests}
 use Rattle.aftr_base.proofs.OutsideLemmas.{read_well}
-use Rattle.aftr_base.specs.Contents.{content}
+use Rattle.aftr_base.specs.Contents.{content, Told}
+use Rattle.capture_io.specs.Head.{head_in}
 use Rattle.capture_io.proofs.AnswerLemmas.{continued_told, cut_told, failed_inside, in_bytes, in_header, refused_told, told_same, whole_told}
+use Rattle.capture_io.proofs.record.next_record.Given.{Over}
 use Rattle.capture_io.proofs.record.next_record.Goals as goal
+use Rattle.capture_io.proofs.record.next_record.Goals.{In-Ok, In_ok-bytes}
+
+-- the record's header, of the bytes that were read
+head_is : (g : Over) (c : In-Ok g) → head_in c.args.form.big (take c.in_ok-count.count c.fill.new.into) c.args.at c.args.number ≡ Ok c.in-Ok.head
+head_is g c = sym c.head_of.ensures ∙ c.in-Ok.is
+
+-- the bytes behind it, of the files as they were at first
+bytes_are : (g : Over) (c : In_ok-bytes g) →
+    Told (g.F.Files.outside c.args.files.now).held (λ m. c.in_ok-bytes.bytes ≡ take c.in-Ok.head.captured (drop (c.args.at + 16) (content m c.args.name.now)))
+bytes_are g c =
+    told_same (g.F.Files.outside c.fill.new.files).held (g.F.Files.outside c.args.files.now).held
+    (λ m. c.in_ok-bytes.bytes ≡ take c.in-Ok.head.captured (drop (c.args.at + 16) (content m c.args.name.now))) c.in_ok-count.ensures.reads.held
+    c.in_ok-bytes.ensures.bytes
 
 pub returns-in_err-count-clause-reads : goal.returns-in_err-count-clause-reads
 returns-in_err-count-clause-reads g c =
@@ -17,8 +32,9 @@ returns-in_err-count-clause-reads g c =
 
 pub returns-in-Err-clause-told : goal.returns-in-Err-clause-told
 returns-in-Err-clause-told g c =
-    refused_told (g.F.Files.outside c.args.files.now).held c.args.name.now c.args.form.big (take c.in_ok-count.count c.fill.new.into) c.args.at c.args.number c.in_ok-count.count
-    c.in-Err.refusal c.in_ok-count.ensures.bytes c.in_ok-count.ensures.count (grind (arith, nat_tests)) (sym c.head_of.ensures ∙ c.in-Err.is)
+    refused_told (g.F.Files.outside c.args.files.now).held c.args.name.now c.args.form.big (take c.in_ok-count.count c.fill.new.into) c.args.at c.args.number
+    c.in_ok-count.count c.in-Err.refusal c.in_ok-count.ensures.bytes c.in_ok-count.ensures.count (grind (arith, nat_tests))
+    (sym c.head_of.ensures ∙ c.in-Err.is)
 
 pub returns-in-Err-clause-step : goal.returns-in-Err-clause-step
 returns-in-Err-clause-step g c = returns-in-Err-clause-told g c
@@ -31,18 +47,18 @@ returns-in_err-bytes-clause-reads g c =
     (e.1 ∙ ap Err e.2) (read_well c.args.name.now _ _ _ c.in_ok-count.ensures.reads)
     (λ place within. (
       omega (arith, within.0),
-      in_bytes (g.F.Files.outside c.args.files.now).held c.args.name.now c.args.form.big (take c.in_ok-count.count c.fill.new.into) c.args.at c.args.number place c.in-Ok.head
-          c.in_ok-count.ensures.bytes (sym c.head_of.ensures ∙ c.in-Ok.is) within.1,
+      in_bytes (g.F.Files.outside c.args.files.now).held c.args.name.now c.args.form.big (take c.in_ok-count.count c.fill.new.into) c.args.at c.args.number
+          place c.in-Ok.head
+          c.in_ok-count.ensures.bytes (head_is g (goal.at.returns-in_err-bytes-clause-reads g c).In-Ok) within.1,
     ))
     c.in_err-bytes.ensures.reads
 
 pub returns-then-as_slice-head-clause-told : goal.returns-then-as_slice-head-clause-told
 returns-then-as_slice-head-clause-told g c =
     let less : length c.in_ok-bytes.bytes < c.in-Ok.head.captured = grind (arith, nat_tests) in
-    cut_told (g.F.Files.outside c.args.files.now).held c.args.name.now c.args.form.big (take c.in_ok-count.count c.fill.new.into) c.in_ok-bytes.bytes c.args.at c.args.number c.in-Ok.head
-    c.in_ok-count.ensures.bytes (sym c.head_of.ensures ∙ c.in-Ok.is)
-    (told_same (g.F.Files.outside c.fill.new.files).held (g.F.Files.outside c.args.files.now).held (λ m. c.in_ok-bytes.bytes ≡ take c.in-Ok.head.captured (drop (c.args.at + 16) (content m c.args.name.now)))
-    c.in_ok-count.ensures.reads.held c.in_ok-bytes.ensures.bytes)
+    cut_told (g.F.Files.outside c.args.files.now).held c.args.name.now c.args.form.big (take c.in_ok-count.count c.fill.new.into) c.in_ok-bytes.bytes c.args.at
+    c.args.number c.in-Ok.head c.in_ok-count.ensures.bytes (head_is g (goal.at.returns-then-as_slice-head-clause-told g c).In-Ok)
+    (bytes_are g (goal.at.returns-then-as_slice-head-clause-told g c).In_ok-bytes)
     less
 
 pub returns-then-as_slice-head-clause-step : goal.returns-then-as_slice-head-clause-step
@@ -50,11 +66,9 @@ returns-then-as_slice-head-clause-step g c = returns-then-as_slice-head-clause-t
 
 pub returns-clause-told : goal.returns-clause-told
 returns-clause-told g c =
-    whole_told (g.F.Files.outside c.args.files.now).held c.args.name.now c.args.form.big (take c.in_ok-count.count c.fill.new.into) c.in_ok-bytes.bytes c.args.at c.args.number
-    (c.args.at + 16 + c.from.result) c.in-Ok.head
-    c.in_ok-count.ensures.bytes (sym c.head_of.ensures ∙ c.in-Ok.is)
-    (told_same (g.F.Files.outside c.fill.new.files).held (g.F.Files.outside c.args.files.now).held (λ m. c.in_ok-bytes.bytes ≡ take c.in-Ok.head.captured (drop (c.args.at + 16) (content m c.args.name.now)))
-    c.in_ok-count.ensures.reads.held c.in_ok-bytes.ensures.bytes)
+    whole_told (g.F.Files.outside c.args.files.now).held c.args.name.now c.args.form.big (take c.in_ok-count.count c.fill.new.into) c.in_ok-bytes.bytes
+    c.args.at c.args.number (c.args.at + 16 + c.from.result) c.in-Ok.head
+    c.in_ok-count.ensures.bytes (head_is g (goal.at.returns-clause-told g c).In-Ok) (bytes_are g (goal.at.returns-clause-told g c).In_ok-bytes)
     (grind (arith, nat_tests)) (omega arith)
 
 pub returns-clause-step : goal.returns-clause-step
