@@ -183,10 +183,7 @@ fn block_of_front(
     if first.is_empty() {
         return Ok(Block::End);
     }
-    let frame = match frame_of_front(known.big, first, known.at) {
-        Ok(frame) => frame,
-        Err(refusal) => return Err(refusal),
-    };
+    let frame = frame_of_front(known.big, first, known.at)?;
     if frame.kind == INTERFACE {
         return interface_of_front(known, interfaces, first, frame);
     }
@@ -200,10 +197,7 @@ fn frame_of_front(big: bool, first: &[u8], at: u64) -> Result<Frame, CaptureBad>
     ensures some { IfOk result (λ frame. 12 ≤ frame.total) }
     ensures whole { IfOk result (λ frame. frame.total ≤ length first.now) }
 {
-    let frame = match head_of(big, first, at) {
-        Ok(frame) => frame,
-        Err(refusal) => return Err(refusal),
-    };
+    let frame = head_of(big, first, at)?;
     let total = frame.total as usize;
     if first.len() < total {
         return Err(CaptureBad::Ng(NgBad::Cut { at }));

@@ -105,10 +105,7 @@ pub fn block_of(at: u64, start: Start, found: Option<u8>, frame: Frame) -> Resul
         Some(byte) => byte,
         None => DEFAULT_RESOLUTION,
     };
-    let interface = match interface_by(at, start.most, byte) {
-        Ok(interface) => interface,
-        Err(refusal) => return Err(refusal),
-    };
+    let interface = interface_by(at, start.most, byte)?;
     Ok(Block::Passed(Passed::Interface {
         interface,
         link: start.link,
