@@ -1,5 +1,6 @@
 -- A text that grows behind what stood there before.
-use Rattle.std.proofs.Common.{◌≡◌, ℕ, List, [], ◌++◌, decimal, refl, sym, ◌∙◌, ap, append_assoc}
+use Rattle.std.proofs.Common.{◌≡◌, ℕ, List, [], ◌++◌, decimal, refl, sym, ◌∙◌, ap, append_assoc, append-nil}
+use Rattle.aftr_base.specs.Appended.{Extends}
 
 pub longer : (old part more text after : List ℕ) → text ≡ old ++ part → after ≡ text ++ more → after ≡ old ++ (part ++ more)
 longer old part more text after before added = added ∙ ap (λ (l : List ℕ). l ++ more) before ∙ append_assoc old part more
@@ -27,3 +28,7 @@ pub once : (a b c d e f last : List ℕ) → last ≡ e ++ f → a ++ ((b ++ c +
 once a b c d e f last same =
     ended [] a b c d e f a (a ++ (b ++ c ++ d)) (a ++ ((b ++ c ++ d) ++ last)) refl refl
     (sym (append_assoc a (b ++ c ++ d) last) ∙ ap (λ (l : List ℕ). a ++ (b ++ c ++ d) ++ l) same)
+
+-- nothing was put behind a text
+pub unchanged : (old after : List ℕ) → after ≡ old → Extends old after
+unchanged old after same = ([], same ∙ sym (append-nil old))

@@ -1,5 +1,6 @@
 // The lines of records and of datagrams.
-ghost use Rattle.std.specs.Prelude.{◌≡◌, ◌++◌, IfOk, codes, decimal};
+ghost use Rattle.std.specs.Prelude.{◌≡◌, ◌++◌, IfOk, IsErr, codes, decimal};
+ghost use Rattle.aftr_base.specs.Appended.{Extends};
 ghost use Rattle.ip_codec.specs.Rules.{name_of};
 ghost use Rattle.aftr_text.specs.Lines.{ended_text, judged_text, limited_text, outcome, verdict_text};
 
@@ -41,7 +42,7 @@ pub fn verdict_line(
     Ok(Text::of(line))
 }
 
-/// Puts the line of `verdict_line` behind others. After an error a part of the line may stand there.
+/// Puts the line of `verdict_line` behind others. After an `Err` some of it may stand behind what stood there.
 pub fn push_verdict_line(
     lines: &mut Vec<u8>,
     number: u32,
@@ -49,7 +50,8 @@ pub fn push_verdict_line(
     verdict: &Verdict,
     packets: u32,
 ) -> Result<(), OutOfMemory>
-    ensures { IfOk result (λ _. lines.new.items ≡ lines.old.items ++ verdict_text number version verdict.now packets) }
+    ensures bytes { IfOk result (λ _. lines.new.items ≡ lines.old.items ++ verdict_text number version verdict.now packets) }
+    ensures kept { IsErr result → Extends lines.old.items lines.new.items }
 {
     push_counted_line(lines, &RecordNumber::of(number), version, verdict, packets)
 }
@@ -63,7 +65,8 @@ pub fn push_counted_line(
     verdict: &Verdict,
     packets: u32,
 ) -> Result<(), OutOfMemory>
-    ensures { IfOk result (λ _. lines.new.items ≡ lines.old.items ++ verdict_text number.now version verdict.now packets) }
+    ensures bytes { IfOk result (λ _. lines.new.items ≡ lines.old.items ++ verdict_text number.now version verdict.now packets) }
+    ensures kept { IsErr result → Extends lines.old.items lines.new.items }
 {
     if packets == 1 && version < 10 {
         if let Some((ending, end)) = short_ending(verdict) {
@@ -82,7 +85,8 @@ fn push_long_line(
     verdict: &Verdict,
     packets: u32,
 ) -> Result<(), OutOfMemory>
-    ensures { IfOk result (λ _. lines.new.items ≡ lines.old.items ++ verdict_text number.now version verdict.now packets) }
+    ensures bytes { IfOk result (λ _. lines.new.items ≡ lines.old.items ++ verdict_text number.now version verdict.now packets) }
+    ensures kept { IsErr result → Extends lines.old.items lines.new.items }
 {
     push_judged(lines, number, version)?;
     push_outcome(lines, verdict)?;
@@ -93,7 +97,8 @@ fn push_long_line(
 
 // Which record was judged, and by which version of the table.
 fn push_judged(lines: &mut Vec<u8>, number: &RecordNumber, version: u32) -> Result<(), OutOfMemory>
-    ensures { IfOk result (λ _. lines.new.items ≡ lines.old.items ++ judged_text number.now version) }
+    ensures bytes { IfOk result (λ _. lines.new.items ≡ lines.old.items ++ judged_text number.now version) }
+    ensures kept { IsErr result → Extends lines.old.items lines.new.items }
 {
     let mut judged = [0; JUDGED_ROOM];
     let start = write_judged(number, version, &mut judged, JUDGED_ROOM);
@@ -103,7 +108,8 @@ fn push_judged(lines: &mut Vec<u8>, number: &RecordNumber, version: u32) -> Resu
 
 // What became of the record, with a blank on either side.
 fn push_outcome(lines: &mut Vec<u8>, verdict: &Verdict) -> Result<(), OutOfMemory>
-    ensures { IfOk result (λ _. lines.new.items ≡ lines.old.items ++ (codes " " ++ outcome verdict.now ++ codes " ")) }
+    ensures bytes { IfOk result (λ _. lines.new.items ≡ lines.old.items ++ (codes " " ++ outcome verdict.now ++ codes " ")) }
+    ensures kept { IsErr result → Extends lines.old.items lines.new.items }
 {
     match *verdict {
         Verdict::Held => lines.extend_from_slice(b" held ")?,
@@ -120,7 +126,8 @@ fn push_outcome(lines: &mut Vec<u8>, verdict: &Verdict) -> Result<(), OutOfMemor
 
 // That the record was dropped, and for which rule.
 fn push_rule(lines: &mut Vec<u8>, why: Rule) -> Result<(), OutOfMemory>
-    ensures { IfOk result (λ _. lines.new.items ≡ lines.old.items ++ (codes " drop " ++ name_of why)) }
+    ensures bytes { IfOk result (λ _. lines.new.items ≡ lines.old.items ++ (codes " drop " ++ name_of why)) }
+    ensures kept { IsErr result → Extends lines.old.items lines.new.items }
 {
     lines.extend_from_slice(b" drop ")?;
     lines.extend_from_slice(why.name().as_bytes())?;
@@ -143,14 +150,15 @@ pub fn limited_line(
     Ok(Text::of(line))
 }
 
-/// Puts the line of `limited_line` behind others. After an error a part of the line may stand there.
+/// Puts the line of `limited_line` behind others. After an `Err` some of it may stand behind what stood there.
 pub fn push_limited_line(
     lines: &mut Vec<u8>,
     number: u32,
     version: u32,
     why: Rule,
 ) -> Result<(), OutOfMemory>
-    ensures { IfOk result (λ _. lines.new.items ≡ lines.old.items ++ limited_text number version why) }
+    ensures bytes { IfOk result (λ _. lines.new.items ≡ lines.old.items ++ limited_text number version why) }
+    ensures kept { IsErr result → Extends lines.old.items lines.new.items }
 {
     push_limited(lines, &RecordNumber::of(number), version, why)
 }
@@ -161,7 +169,8 @@ fn push_limited(
     version: u32,
     why: Rule,
 ) -> Result<(), OutOfMemory>
-    ensures { IfOk result (λ _. lines.new.items ≡ lines.old.items ++ limited_text number.now version why) }
+    ensures bytes { IfOk result (λ _. lines.new.items ≡ lines.old.items ++ limited_text number.now version why) }
+    ensures kept { IsErr result → Extends lines.old.items lines.new.items }
 {
     push_judged(lines, number, version)?;
     push_rule(lines, why)?;
@@ -179,9 +188,10 @@ pub fn ended_line(alloc: Global, expired: bool, number: u32) -> Result<Text, Out
     Ok(Text::of(line))
 }
 
-/// Puts the line of `ended_line` behind others. After an error a part of the line may stand there.
+/// Puts the line of `ended_line` behind others. After an `Err` some of it may stand behind what stood there.
 pub fn push_ended_line(lines: &mut Vec<u8>, expired: bool, number: u32) -> Result<(), OutOfMemory>
-    ensures { IfOk result (λ _. lines.new.items ≡ lines.old.items ++ ended_text expired number) }
+    ensures bytes { IfOk result (λ _. lines.new.items ≡ lines.old.items ++ ended_text expired number) }
+    ensures kept { IsErr result → Extends lines.old.items lines.new.items }
 {
     let ending = if expired { "expired " } else { "unfinished " };
     lines.extend_from_slice(ending.as_bytes())?;

@@ -1,5 +1,6 @@
 // The lines of most records: one packet was written, and the version has one digit.
-ghost use Rattle.std.specs.Prelude.{◌≡◌, ◌-◌, ◌<◌, ◌≤◌, ◌++◌, IfOk, IfSome, codes, drop, take};
+ghost use Rattle.std.specs.Prelude.{◌≡◌, ◌-◌, ◌<◌, ◌≤◌, ◌++◌, IfOk, IfSome, IsErr, codes, drop, take};
+ghost use Rattle.aftr_base.specs.Appended.{Extends};
 ghost use Rattle.aftr_text.specs.Lines.{judged_text, outcome};
 
 use crate::numbers::write_judged;
@@ -43,7 +44,8 @@ pub(crate) fn push_short(
 ) -> Result<(), OutOfMemory>
     requires version { version < 10 }
     requires room { (12 ≤ end) × (end ≤ 24) }
-    ensures { IfOk result (λ _. lines.new.items ≡ lines.old.items ++ (judged_text number.now version ++ take (24 - end) (drop end ending.now))) }
+    ensures bytes { IfOk result (λ _. lines.new.items ≡ lines.old.items ++ (judged_text number.now version ++ take (24 - end) (drop end ending.now))) }
+    ensures kept { IsErr result → Extends lines.old.items lines.new.items }
 {
     let mut line = *ending;
     let start = write_judged(number, version, &mut line, end);
@@ -55,7 +57,8 @@ pub(crate) fn push_short(
 #[inline(always)]
 fn push_window(lines: &mut Vec<u8>, line: &[u8; TWICE], start: usize) -> Result<(), OutOfMemory>
     requires { start ≤ 24 }
-    ensures { IfOk result (λ _. lines.new.items ≡ lines.old.items ++ take (24 - start) (drop start line.now)) }
+    ensures bytes { IfOk result (λ _. lines.new.items ≡ lines.old.items ++ take (24 - start) (drop start line.now)) }
+    ensures kept { IsErr result → Extends lines.old.items lines.new.items }
 {
     let before = lines.len();
     lines.extend_from_slice(&line[start..start + SHORT])?;

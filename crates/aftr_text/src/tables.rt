@@ -1,5 +1,6 @@
 // The lines of the tables in force: one for the first table, and one for each load, in the order of the command words.
-ghost use Rattle.std.specs.Prelude.{◌≡◌, ◌++◌, IfOk, string_bytes};
+ghost use Rattle.std.specs.Prelude.{◌≡◌, ◌++◌, IfOk, IsErr, string_bytes};
+ghost use Rattle.aftr_base.specs.Appended.{Extends};
 ghost use Rattle.aftr_text.specs.Lines.{initial_text, point_text, refused_load_text, unreached_text};
 
 use crate::numbers::{push_count, push_number};
@@ -27,14 +28,15 @@ pub fn point_line(alloc: Global, version: u32, name: &str, point: u32) -> Result
     Ok(Text::of(line))
 }
 
-/// Puts the line of `point_line` at the end of a text. After an error a part of the line may stand there.
+/// Puts the line of `point_line` at the end of a text. After an `Err` some of it may stand behind what stood there.
 pub fn push_point_line(
     text: &mut String,
     version: u32,
     name: &str,
     point: u32,
 ) -> Result<(), OutOfMemory>
-    ensures { IfOk result (λ _. string_bytes text.new ≡ string_bytes text.old ++ point_text version name.now point) }
+    ensures bytes { IfOk result (λ _. string_bytes text.new ≡ string_bytes text.old ++ point_text version name.now point) }
+    ensures kept { IsErr result → Extends (string_bytes text.old) (string_bytes text.new) }
 {
     push_number(text, u64::from(version))?;
     text.push_str(" ")?;
@@ -54,14 +56,15 @@ pub fn refused_line(alloc: Global, name: &str, cause: FileRefused) -> Result<Tex
     Ok(Text::of(line))
 }
 
-/// Puts the line of `refused_line` at the end of a text. After an error a part of the line may stand there.
+/// Puts the line of `refused_line` at the end of a text. After an `Err` some of it may stand behind what stood there.
 pub fn push_refused_line(
     alloc: Global,
     text: &mut String,
     name: &str,
     cause: FileRefused,
 ) -> Result<(), OutOfMemory>
-    ensures { IfOk result (λ _. string_bytes text.new ≡ string_bytes text.old ++ refused_load_text name.now cause) }
+    ensures bytes { IfOk result (λ _. string_bytes text.new ≡ string_bytes text.old ++ refused_load_text name.now cause) }
+    ensures kept { IsErr result → Extends (string_bytes text.old) (string_bytes text.new) }
 {
     let cause = LoadText(cause);
     let told = format!(in alloc; "{cause}")?;
@@ -82,9 +85,10 @@ pub fn unreached_line(alloc: Global, name: &str) -> Result<Text, OutOfMemory>
     Ok(Text::of(line))
 }
 
-/// Puts the line of `unreached_line` at the end of a text. After an error a part of the line may stand there.
+/// Puts the line of `unreached_line` at the end of a text. After an `Err` some of it may stand behind what stood there.
 pub fn push_unreached_line(text: &mut String, name: &str) -> Result<(), OutOfMemory>
-    ensures { IfOk result (λ _. string_bytes text.new ≡ string_bytes text.old ++ unreached_text name.now) }
+    ensures bytes { IfOk result (λ _. string_bytes text.new ≡ string_bytes text.old ++ unreached_text name.now) }
+    ensures kept { IsErr result → Extends (string_bytes text.old) (string_bytes text.new) }
 {
     text.push_str("- ")?;
     text.push_str(name)?;

@@ -19,10 +19,10 @@ returns c =
     (counted old held (codes " forwarded ") (string_bytes c.push_count-2.new.line) (string_bytes c.push_count-3.new.line) c.from-3.result t.forwarded
     (counted old records (codes " held ") (string_bytes c.push_count.new.line) (string_bytes c.push_count-2.new.line) c.from-2.result t.held
     (longer old (codes "records ") (decimal t.records) (old ++ codes "records ") (string_bytes c.push_count.new.line) refl
-    (c.in_ok-push_count.ensures ∙ ap (λ (n : ℕ). old ++ codes "records " ++ decimal n) c.from.ensures))
-    c.in_ok-push_count-2.ensures c.from-2.ensures)
-    c.in_ok-push_count-3.ensures c.from-3.ensures)
-    c.in_ok-push_count-4.ensures c.from-4.ensures)
-    c.in_ok-push_count-5.ensures refl)
-    c.in_ok-push_count-6.ensures c.from-5.ensures)
+    (c.in_ok-push_count.ensures.bytes ∙ ap (λ (n : ℕ). old ++ codes "records " ++ decimal n) c.from.ensures))
+    c.in_ok-push_count-2.ensures.bytes c.from-2.ensures)
+    c.in_ok-push_count-3.ensures.bytes c.from-3.ensures)
+    c.in_ok-push_count-4.ensures.bytes c.from-4.ensures)
+    c.in_ok-push_count-5.ensures.bytes refl)
+    c.in_ok-push_count-6.ensures.bytes c.from-5.ensures)
     c.in_ok-push_str.ensures.bytes
