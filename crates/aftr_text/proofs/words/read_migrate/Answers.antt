@@ -2,7 +2,7 @@ use Rattle.std.proofs.Common.{◌≡◌, ◌≢◌, ◌∙◌, ◌∷◌, [], Li
 use Rattle.clap.specs.Words.{app_of}
 use Rattle.aftr_text.specs.Commands.{found_in, word_of}
 use Rattle.aftr_text.specs.Faults.{IsFaultOf}
-use Rattle.aftr_text.specs.Jobs.{AsksFor}
+use Rattle.aftr_text.specs.Jobs.{AsksFor, IsName}
 use Rattle.aftr_text.specs.Parts.{texts}
 use Rattle.aftr_text.specs.declared.jobs.Job.{Job}
 use Rattle.aftr_text.specs.declared.faults.Fault.{Fault}
@@ -11,6 +11,25 @@ use Rattle.aftr_text.specs.declared.faults.JobError.TheVariants as error_is
 use Rattle.aftr_text.proofs.AskLemmas.{apart, count_migrate, no_migrate, refused_migrate, found_migrate, unfit_migrate, same_texts, other_texts}
 use Rattle.aftr_text.proofs.FaultLemmas.{as_cause, empty_argument, from_cause, no_room}
 use Rattle.aftr_text.proofs.words.read_migrate.Goals as goal
+use Rattle.aftr_text.proofs.words.read_migrate.Goals.{In_ok-matches}
+
+-- the word of an argument
+abbrev word : In_ok-matches → List ℕ → List ℕ
+word c argument = word_of (found_in c.in_ok-matches.matches) argument
+
+abbrev arguments : In_ok-matches → List (List ℕ)
+arguments c = word c (codes "input") ∷ word c (codes "output") ∷ []
+
+found : (c : In_ok-matches) → c.args.parts.now.arguments ≡ arguments c
+found c =
+    found_migrate c.args.parts.now (app_of c.in_ok-migrate_command.field-0) (texts c.as_slice.result.now) c.in_ok-migrate_command.ensures
+    (ap texts c.as_slice.ensures.value ∙ c.in_ok-line.ensures) (found_in c.in_ok-matches.matches) c.in_ok-matches.ensures.taken c.in_ok-matches.ensures.found
+
+-- words that do not fit ask for no job
+unfit : (c : In_ok-matches)
+    → (IsName (word c (codes "input")) → IsName (word c (codes "output")) → word c (codes "input") ≢ word c (codes "output") → ⊥)
+    → (j : Job) → AsksFor (codes "migrate") c.args.parts.now j → ⊥
+unfit c none = no_migrate c.args.parts.now (unfit_migrate c.args.parts.now (word c (codes "input")) (word c (codes "output")) (found c) none)
 
 pub returns-in_err-matches-clause-usage : goal.returns-in_err-matches-clause-usage
 returns-in_err-matches-clause-usage c =
@@ -21,41 +40,32 @@ returns-in_err-matches-clause-usage c =
 
 pub returns-in_err-input-clause-usage : goal.returns-in_err-input-clause-usage
 returns-in_err-input-clause-usage c =
-    let rows = found_in c.in_ok-matches.matches in
-    let found = found_migrate c.args.parts.now (app_of c.in_ok-migrate_command.field-0) (texts c.as_slice.result.now) c.in_ok-migrate_command.ensures
-    (ap texts c.as_slice.ensures.value ∙ c.in_ok-line.ensures) rows c.in_ok-matches.ensures.taken c.in_ok-matches.ensures.found in
+    let m = (goal.at.returns-in_err-input-clause-usage c).In_ok-matches in
     let none : c.in_err-input.field-0.0 ≢ error_is.OutOfMemory → (j : Job) → AsksFor (codes "migrate") c.args.parts.now j → ⊥ =
-    λ e. no_migrate c.args.parts.now (unfit_migrate c.args.parts.now (word_of rows (codes "input")) (word_of rows (codes "output")) found (λ first second apart. c.in_err-input.ensures.usage e first)) in
+    λ e. unfit m (λ first second apart. c.in_err-input.ensures.usage e first) in
     search rules
 
 pub returns-in_err-output-clause-usage : goal.returns-in_err-output-clause-usage
 returns-in_err-output-clause-usage c =
-    let rows = found_in c.in_ok-matches.matches in
-    let found = found_migrate c.args.parts.now (app_of c.in_ok-migrate_command.field-0) (texts c.as_slice.result.now) c.in_ok-migrate_command.ensures
-    (ap texts c.as_slice.ensures.value ∙ c.in_ok-line.ensures) rows c.in_ok-matches.ensures.taken c.in_ok-matches.ensures.found in
+    let m = (goal.at.returns-in_err-output-clause-usage c).In_ok-matches in
     let none : c.in_err-output.field-0.0 ≢ error_is.OutOfMemory → (j : Job) → AsksFor (codes "migrate") c.args.parts.now j → ⊥ =
-    λ e. no_migrate c.args.parts.now (unfit_migrate c.args.parts.now (word_of rows (codes "input")) (word_of rows (codes "output")) found (λ first second apart. c.in_err-output.ensures.usage e second)) in
+    λ e. unfit m (λ first second apart. c.in_err-output.ensures.usage e second) in
     search rules
 
 pub returns-then-eq-clause-usage : goal.returns-then-eq-clause-usage
 returns-then-eq-clause-usage c =
-    let rows = found_in c.in_ok-matches.matches in
-    let found = found_migrate c.args.parts.now (app_of c.in_ok-migrate_command.field-0) (texts c.as_slice.result.now) c.in_ok-migrate_command.ensures
-    (ap texts c.as_slice.ensures.value ∙ c.in_ok-line.ensures) rows c.in_ok-matches.ensures.taken c.in_ok-matches.ensures.found in
+    let m = (goal.at.returns-then-eq-clause-usage c).In_ok-matches in
     let equal = same_texts c.eq.result c.as_str.result.now c.as_str-2.result.now c.in_ok-input.input c.in_ok-output.output c.eq.ensures c.if-eq.true
     c.as_str.ensures c.as_str-2.ensures in
-    λ e. no_migrate c.args.parts.now (unfit_migrate c.args.parts.now (word_of rows (codes "input")) (word_of rows (codes "output")) found
-    (λ first second apart. apart (sym c.in_ok-input.ensures.name.0 ∙ equal ∙ c.in_ok-output.ensures.name.0)))
+    λ e. unfit m (λ first second apart. apart (sym c.in_ok-input.ensures.name.0 ∙ equal ∙ c.in_ok-output.ensures.name.0))
 
 pub returns-clause-job : goal.returns-clause-job
 returns-clause-job c =
-    let rows = found_in c.in_ok-matches.matches in
-    let found = found_migrate c.args.parts.now (app_of c.in_ok-migrate_command.field-0) (texts c.as_slice.result.now) c.in_ok-migrate_command.ensures
-    (ap texts c.as_slice.ensures.value ∙ c.in_ok-line.ensures) rows c.in_ok-matches.ensures.taken c.in_ok-matches.ensures.found in (
+    let m = (goal.at.returns-clause-job c).In_ok-matches in (
       refl,
       record {
         options = c.if-has_options.ensures.0 refl;
-        arguments = found ∙ ap₂ (λ (v w : List ℕ). v ∷ w ∷ []) (sym c.in_ok-input.ensures.name.0) (sym c.in_ok-output.ensures.name.0);
+        arguments = found m ∙ ap₂ (λ (v w : List ℕ). v ∷ w ∷ []) (sym c.in_ok-input.ensures.name.0) (sym c.in_ok-output.ensures.name.0);
         named = (c.in_ok-input.ensures.name.1, c.in_ok-output.ensures.name.1);
         apart = other_texts c.eq.result c.as_str.result.now c.as_str-2.result.now c.in_ok-input.input c.in_ok-output.output c.eq.ensures c.if-eq.false
             c.as_str.ensures c.as_str-2.ensures;
@@ -76,31 +86,29 @@ returns-in_err-matches-clause-cause c =
 
 pub returns-in_err-input-clause-cause : goal.returns-in_err-input-clause-cause
 returns-in_err-input-clause-cause c =
-    let rows = found_in c.in_ok-matches.matches in
-    let found = found_migrate c.args.parts.now (app_of c.in_ok-migrate_command.field-0) (texts c.as_slice.result.now) c.in_ok-migrate_command.ensures
-    (ap texts c.as_slice.ensures.value ∙ c.in_ok-line.ensures) rows c.in_ok-matches.ensures.taken c.in_ok-matches.ensures.found in
+    let m = (goal.at.returns-in_err-input-clause-cause c).In_ok-matches in
     let told : (f : Fault) → c.in_err-input.field-0.0 ≡ error_is.Refused f → IsFaultOf (codes "migrate") c.args.parts.now f =
-    λ f e. from_cause (IsFaultOf (codes "migrate") c.args.parts.now) c.in_err-input.field-0.0 (fault.Empty 0) c.in_err-input.ensures.cause
-    (omega arith, empty_argument c.args.parts.now (word_of rows (codes "input") ∷ word_of rows (codes "output") ∷ []) 0 (word_of rows (codes "input")) found refl (c.in_err-input.ensures.usage (no_room _ f e))) f e in
+    λ f e. from_cause (IsFaultOf (codes "migrate") c.args.parts.now) c.in_err-input.field-0.0 (fault.Empty 0) c.in_err-input.ensures.cause (
+      omega arith,
+      empty_argument c.args.parts.now (arguments m) 0 (word m (codes "input")) (found m) refl (c.in_err-input.ensures.usage (no_room _ f e)),
+    ) f e in
     search rules
 
 pub returns-in_err-output-clause-cause : goal.returns-in_err-output-clause-cause
 returns-in_err-output-clause-cause c =
-    let rows = found_in c.in_ok-matches.matches in
-    let found = found_migrate c.args.parts.now (app_of c.in_ok-migrate_command.field-0) (texts c.as_slice.result.now) c.in_ok-migrate_command.ensures
-    (ap texts c.as_slice.ensures.value ∙ c.in_ok-line.ensures) rows c.in_ok-matches.ensures.taken c.in_ok-matches.ensures.found in
+    let m = (goal.at.returns-in_err-output-clause-cause c).In_ok-matches in
     let told : (f : Fault) → c.in_err-output.field-0.0 ≡ error_is.Refused f → IsFaultOf (codes "migrate") c.args.parts.now f =
-    λ f e. from_cause (IsFaultOf (codes "migrate") c.args.parts.now) c.in_err-output.field-0.0 (fault.Empty 1) c.in_err-output.ensures.cause
-    (omega arith, empty_argument c.args.parts.now (word_of rows (codes "input") ∷ word_of rows (codes "output") ∷ []) 1 (word_of rows (codes "output")) found refl (c.in_err-output.ensures.usage (no_room _ f e))) f e in
+    λ f e. from_cause (IsFaultOf (codes "migrate") c.args.parts.now) c.in_err-output.field-0.0 (fault.Empty 1) c.in_err-output.ensures.cause (
+      omega arith,
+      empty_argument c.args.parts.now (arguments m) 1 (word m (codes "output")) (found m) refl (c.in_err-output.ensures.usage (no_room _ f e)),
+    ) f e in
     search rules
 
 pub returns-then-eq-clause-cause : goal.returns-then-eq-clause-cause
 returns-then-eq-clause-cause c =
-    let rows = found_in c.in_ok-matches.matches in
-    let found = found_migrate c.args.parts.now (app_of c.in_ok-migrate_command.field-0) (texts c.as_slice.result.now) c.in_ok-migrate_command.ensures
-    (ap texts c.as_slice.ensures.value ∙ c.in_ok-line.ensures) rows c.in_ok-matches.ensures.taken c.in_ok-matches.ensures.found in
+    let m = (goal.at.returns-then-eq-clause-cause c).In_ok-matches in
     let equal = same_texts c.eq.result c.as_str.result.now c.as_str-2.result.now c.in_ok-input.input c.in_ok-output.output c.eq.ensures c.if-eq.true
     c.as_str.ensures c.as_str-2.ensures in
-    let same : word_of rows (codes "input") ≡ word_of rows (codes "output") = sym c.in_ok-input.ensures.name.0 ∙ equal ∙ c.in_ok-output.ensures.name.0 in
+    let same : word m (codes "input") ≡ word m (codes "output") = sym c.in_ok-input.ensures.name.0 ∙ equal ∙ c.in_ok-output.ensures.name.0 in
     as_cause (IsFaultOf (codes "migrate") c.args.parts.now) fault.SameTable
-    (refl, (word_of rows (codes "input"), found ∙ ap (λ (n : List ℕ). word_of rows (codes "input") ∷ n ∷ []) (sym same)))
+    (refl, (word m (codes "input"), found m ∙ ap (λ (n : List ℕ). word m (codes "input") ∷ n ∷ []) (sym same)))
