@@ -4,6 +4,7 @@ use Rattle.std.specs.Option.{is_some}
 use Rattle.std.specs.Prelude.{slice_index_or}
 use Rattle.std.proofs.lemmas.Bool.{cases_lt}
 use Rattle.std.proofs.lemmas.List.{drop_all, length-drop, take_all}
+use Rattle.aftr_base.specs.Appended.{Extends}
 use Rattle.aftr_text.specs.declared.jobs.LoadWords.{LoadWords}
 use Rattle.reload_plan.specs.declared.loads.Slot.{Slot}
 use Rattle.reload_plan.specs.declared.loads.Slot.TheVariants as slot
@@ -221,3 +222,7 @@ ends_more points slots from last at version after inside there point =
         point_is = point.1;
       },
     )
+
+-- what is put behind a text stands behind what stood in front of that
+pub put_on : (old text after part : List ℕ) → Extends old text → after ≡ text ++ part → Extends old after
+put_on old text after part kept is = (kept.0 ++ part, is ∙ (ap (λ (l : List ℕ). l ++ part) kept.1 ∙ append_assoc old kept.0 part))

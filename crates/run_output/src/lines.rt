@@ -1,5 +1,6 @@
 // The lines of records and of datagrams.
-ghost use Rattle.std.specs.Prelude.{◌≡◌, ◌++◌, IfOk, flat_map};
+ghost use Rattle.std.specs.Prelude.{◌≡◌, ◌++◌, IfOk, IsErr, flat_map};
+ghost use Rattle.aftr_base.specs.Appended.{Extends};
 ghost use Rattle.aftr_text.specs.Lines.{ended_text};
 ghost use Rattle.run_output.specs.Outputs.{record_text};
 
@@ -8,14 +9,15 @@ use aftr_text::{RecordNumber, push_counted_line, push_ended_line, push_limited_l
 use verdict_core::Verdict;
 
 /// Puts the lines of datagrams that ended unfinished behind others: those whose time was up, or those that the capture's
-/// end left. After an error a part of them may stand there.
+/// end left. After an `Err` some of them may stand behind what stood there.
 #[inline(always)]
 pub fn push_ended_lines(
     lines: &mut Vec<u8>,
     expired: bool,
     numbers: &[u32],
 ) -> Result<(), OutOfMemory>
-    ensures { IfOk result (λ _. lines.new.items ≡ lines.old.items ++ flat_map (ended_text expired) numbers.now) }
+    ensures lines { IfOk result (λ _. lines.new.items ≡ lines.old.items ++ flat_map (ended_text expired) numbers.now) }
+    ensures kept { IsErr result → Extends lines.old.items lines.new.items }
 {
     'numbers: for number in numbers {
         push_ended_line(lines, expired, *number)?;

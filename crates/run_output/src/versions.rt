@@ -1,5 +1,6 @@
 // The lines of the tables of a run, as they come into force.
-ghost use Rattle.std.specs.Prelude.{◌≡◌, ◌≤◌, ◌++◌, IfOk, List, ℕ, drop, length, string_bytes};
+ghost use Rattle.std.specs.Prelude.{◌≡◌, ◌≤◌, ◌++◌, IfOk, IsErr, List, ℕ, drop, length, string_bytes};
+ghost use Rattle.aftr_base.specs.Appended.{Extends};
 ghost use Rattle.run_output.specs.Versions.{AreTold, EndsInForce, NoneIsDue, between, load_lines, named, point_of, slot_text};
 
 use aftr_base::OutOfMemory;
@@ -10,7 +11,7 @@ use std::alloc::Global;
 /// Puts the lines of the loads behind others that are told by now and were not before: those from the place `printed` up to the
 /// last one, before a table that is not in force, that came into force, with the refused ones between them. `points` are those
 /// so far; later ones change nothing of these lines. It answers the place of the first load whose line is still to come. After
-/// an error a part of the lines may stand there.
+/// an `Err` some of the lines may stand behind what stood there.
 pub fn push_new_versions(
     alloc: Global,
     lines: &mut String,
@@ -27,6 +28,7 @@ pub fn push_new_versions(
     ensures to { IfOk result (λ to. to ≤ length slots.now) }
     ensures none_left { IfOk result (λ to. NoneIsDue points.now (drop to slots.now)) }
     ensures last { IfOk result (λ to. EndsInForce points.now slots.now printed to) }
+    ensures kept { IsErr result → Extends (string_bytes lines.old) (string_bytes lines.new) }
 {
     let to = last_in_force(slots, points, printed);
     push_loads(alloc, lines, loads, slots, points, printed, to)?;
@@ -34,7 +36,7 @@ pub fn push_new_versions(
 }
 
 /// Puts the lines of all loads from the place `printed` on behind others, at the end of a run whose points these are: a table
-/// that did not come into force was not reached. After an error a part of the lines may stand there.
+/// that did not come into force was not reached. After an `Err` some of the lines may stand behind what stood there.
 pub fn push_last_versions(
     alloc: Global,
     lines: &mut String,
@@ -45,8 +47,9 @@ pub fn push_last_versions(
 ) -> Result<(), OutOfMemory>
     requires same { length slots.now ≡ length loads.now }
     requires inside { printed ≤ length slots.now }
-    ensures { IfOk result (λ _. string_bytes lines.new ≡ string_bytes lines.old
+    ensures lines { IfOk result (λ _. string_bytes lines.new ≡ string_bytes lines.old
         ++ load_lines points.now (drop printed (named loads.now slots.now))) }
+    ensures kept { IsErr result → Extends (string_bytes lines.old) (string_bytes lines.new) }
 {
     push_loads(alloc, lines, loads, slots, points, printed, loads.len())
 }
@@ -97,8 +100,9 @@ fn push_loads(
     requires same { length slots.now ≡ length loads.now }
     requires inside { to ≤ length slots.now }
     requires order { from ≤ to }
-    ensures { IfOk result (λ _. string_bytes lines.new ≡ string_bytes lines.old
+    ensures lines { IfOk result (λ _. string_bytes lines.new ≡ string_bytes lines.old
         ++ load_lines points.now (between from to (named loads.now slots.now))) }
+    ensures kept { IsErr result → Extends (string_bytes lines.old) (string_bytes lines.new) }
 {
     let mut at = from;
     'loads: while at < to {
@@ -116,7 +120,8 @@ fn push_load(
     slot: Slot,
     points: &[u32],
 ) -> Result<(), OutOfMemory>
-    ensures { IfOk result (λ _. string_bytes lines.new ≡ string_bytes lines.old ++ slot_text points.now name.now slot) }
+    ensures line { IfOk result (λ _. string_bytes lines.new ≡ string_bytes lines.old ++ slot_text points.now name.now slot) }
+    ensures kept { IsErr result → Extends (string_bytes lines.old) (string_bytes lines.new) }
 {
     match slot {
         Slot::Refused(cause) => push_refused_line(alloc, lines, name, cause),

@@ -24,7 +24,7 @@ returns-clause-more c = λ entry there.
       packets = c.in_ok-count.ensures.bytes entry.item item
           ∙ ap (λ (n : ℕ). old.packets.items ++ flat_map (packet_bytes round.written c.args.rec.now.seconds c.args.rec.now.fraction) (sent_unless limited entry.item o.verdict n)) c.get.ensures;
       lines = c.in_ok-push_record_line.ensures
-          ∙ (ap (λ (l : List ℕ). l ++ text c.in_ok-count.count) c.in_ok-push_ended_lines.ensures
+          ∙ (ap (λ (l : List ℕ). l ++ text c.in_ok-count.count) c.in_ok-push_ended_lines.ensures.lines
           ∙ (append_assoc (old.lines.items) (flat_map (ended_text true) c.ended.result.now) (text c.in_ok-count.count)
           ∙ (λ j. old.lines.items ++ (flat_map (ended_text true) (ended j) ++ text (count j)))));
       counts = c.count_record.ensures ∙ ap (with_record old.counted o.verdict) (c.from.ensures ∙ count);
