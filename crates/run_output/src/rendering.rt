@@ -274,15 +274,12 @@ fn push_sent(
         return Ok(0);
     }
     if let Verdict::Outward { .. } = verdict {
-        let count = push_packet(packets, round, number, index, seconds, fraction, verdict)?;
-        return Ok(count);
+        return push_packet(packets, round, number, index, seconds, fraction, verdict);
     }
     if let Verdict::Inward { .. } = verdict {
-        let count = push_apart(packets, round, number, index, seconds, fraction, verdict)?;
-        return Ok(count);
+        return push_apart(packets, round, number, index, seconds, fraction, verdict);
     }
-    let count = push_item(packets, round, number, index, seconds, fraction, verdict)?;
-    Ok(count)
+    push_item(packets, round, number, index, seconds, fraction, verdict)
 }
 
 // Puts the packets of a record there by its item. Nothing of it is made for a packet that goes on, so it stands apart.
@@ -326,8 +323,7 @@ fn push_apart(
     requires { CanGoOn round.now index verdict.now }
     ensures { IfOk result (IsSent round.now number index seconds fraction verdict.now packets.old.items packets.new.items) }
 {
-    let count = push_packet(packets, round, number, index, seconds, fraction, verdict)?;
-    Ok(count)
+    push_packet(packets, round, number, index, seconds, fraction, verdict)
 }
 
 // Puts the packets of a record there whose own packet goes on.
