@@ -142,6 +142,7 @@ run in.pcap out.pcap verdicts.txt versions.txt t0.toml|bare|5|table refused: mis
 run not-there out.pcap verdicts.txt versions.txt t0.toml|bare|5|table refused: missing softwire
 run not-there out.pcap verdicts.txt versions.txt t0.toml|whole|3|read fault
 run in.pcap out.pcap verdicts.txt versions.txt not-there|whole|3|read fault
+run t out.pcap verdicts.txt versions.txt t0.toml 1-1:not-there|whole|3|read fault
 run in.pcap out.pcap verdicts.txt versions.txt t0.toml 1-1:bad 1-1:clash 2-2:not-there 3-3:bad 4-4:none --workers 1|whole|3|read fault
 run in.pcap out.pcap verdicts.txt versions.txt t0.toml 1-1:bad 1-1:clash 2-2:not-there 3-3:bad 4-4:none --workers 2|whole|3|read fault
 run in.pcap out.pcap verdicts.txt versions.txt t0.toml 1-1:bad 1-1:clash 2-2:not-there 3-3:bad 4-4:none --workers 4|whole|3|read fault";
