@@ -75,6 +75,8 @@ FailedIn name _ old new = new ≡ old
 pub record KeepsQuestion (Asks : BindingTable → List ℕ → Type 0) (name : List ℕ) (result : Status) (before now : World)
     (history : Option HistoryValue) : Type 0 where
   pub kept : now.files.held ≡ before.files.held
+  -- no file is made or written to, so none of that fails
+  pub spoiled : now.files.spoiled ≡ before.files.spoiled
   pub line : Answers (λ line. IsLineOf Asks before.files.held name line) result before.said now.said
   pub refused : Told before.files.held (λ m. RefusesAs (content m name) result)
   pub cause : HasOneCause result before now

@@ -32,6 +32,7 @@ pub fn check_table<F: Files, O: Sink>(
     out: &mut O,
 ) -> Status
     ensures held { (F.outside files.new).held ≡ (F.outside files.old).held }
+    ensures spoiled { (F.outside files.new).spoiled ≡ (F.outside files.old).spoiled }
     ensures line { Answers (λ line. IsLineOf IsValidLine (F.outside files.old).held name.now line) result (O.out out.old) (O.out out.new) }
     ensures refused { Told (F.outside files.old).held (λ m. RefusesAs (content m name.now) result) }
     ensures cause { HasOneCause result (world (F.outside files.old) (O.out out.old) (O.faults out.old))
@@ -66,6 +67,7 @@ pub fn who_owns<F: Files, O: Sink>(
     out: &mut O,
 ) -> Status
     ensures held { (F.outside files.new).held ≡ (F.outside files.old).held }
+    ensures spoiled { (F.outside files.new).spoiled ≡ (F.outside files.old).spoiled }
     ensures line { Answers (λ line. IsLineOf (IsOwnerLine v4 port) (F.outside files.old).held name.now line) result (O.out out.old) (O.out out.new) }
     ensures refused { Told (F.outside files.old).held (λ m. RefusesAs (content m name.now) result) }
     ensures cause { HasOneCause result (world (F.outside files.old) (O.out out.old) (O.faults out.old))
