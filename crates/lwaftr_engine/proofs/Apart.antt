@@ -12,10 +12,6 @@ pub record AreFilesApart (run : RunJob) : Type 0 where
   pub verdicts_input : run.verdicts ≢ run.input
   pub versions_input : run.versions ≢ run.input
 
--- so the capture is kept
-pub input_kept : {run : RunJob} → AreFilesApart run → (a b : Contents) → OthersKept run a b → content b run.input ≡ content a run.input
-input_kept {run} far a b others = others run.input (λ e. far.output_input (sym e)) (λ e. far.verdicts_input (sym e)) (λ e. far.versions_input (sym e))
-
 abbrev is_same : List ℕ → List ℕ → ℕ
 is_same name other = cond (bytes_eq other name) 1 0
 
@@ -62,3 +58,9 @@ module _ (run : RunJob) where
         verdicts_input = λ e. absurd (omega (arith, verdicts, same_one run.verdicts run.verdicts refl, same_one run.input run.verdicts (sym e)));
         versions_input = λ e. absurd (omega (arith, versions, same_one run.versions run.versions refl, same_one run.input run.versions (sym e)));
       }
+
+  -- so the capture is kept
+  pub input_kept : AreApart run → (a b : Contents) → OthersKept run a b → content b run.input ≡ content a run.input
+  input_kept h a b others =
+      let far = apart h in
+      others run.input (λ e. far.output_input (sym e)) (λ e. far.verdicts_input (sym e)) (λ e. far.versions_input (sym e))

@@ -1,18 +1,17 @@
 -- Rounds that two sides took, put together.
 use Rattle.std.specs.Prelude.{IsOk}
-use Rattle.lwaftr_engine.proofs.Words.{Bool, Breaks, CanGoOn, Ending, Err, Fault, HasRead, IfOk, IsAtStart, IsInHand, IsNothing, IsOnDuty, KeepsRest, List}
-use Rattle.lwaftr_engine.proofs.Words.{Moves, None, Ok, OthersKept, Outside, PutsAndReads, ReadsOf, Result, Rises, Round, Router, RunLaws, Setup, Spot}
-use Rattle.lwaftr_engine.proofs.Words.{StandsBetween, StaysOnDuty, Step, WentWell, [], ap, arith, drop, has_failed, is_cut, length, length-append, refl}
-use Rattle.lwaftr_engine.proofs.Words.{state_of, steps_of, subst, sym, ℕ, ◌++◌, ◌+◌, ◌∙◌, ◌∷◌, ◌≡◌}
+use Rattle.lwaftr_engine.proofs.Words.{AreApart, Bool, Breaks, CanGoOn, Ending, Err, Fault, HasRead, IfOk, IsAtStart, IsInHand, IsNothing, IsOnDuty, KeepsRest}
+use Rattle.lwaftr_engine.proofs.Words.{List, Moves, None, Ok, OthersKept, Outside, Pending, PutsAndReads, ReadsOf, Result, Rises, Round, Router, RunLaws, Setup}
+use Rattle.lwaftr_engine.proofs.Words.{Spot, StandsBetween, StaysOnDuty, Step, WentWell, [], ap, arith, drop, has_failed, is_cut, length, length-append, refl}
+use Rattle.lwaftr_engine.proofs.Words.{state_of, steps_of, subst, sym, ℕ, ◌++◌, ◌∙◌, ◌∷◌, ◌≡◌}
 use Rattle.aftr_base.specs.declared.outside.Fault.TheVariants as fault
 use Rattle.lwaftr_engine.specs.Beside.{Asks, Exchange, Go, HaveBroken, HaveFetched, HaveJudged, HaveTaken, Standing, assignments, reached, reached_from}
 use Rattle.lwaftr_engine.specs.Beside.{reports}
 use Rattle.lwaftr_engine.specs.declared.beside.Assignment.{Assignment}
 use Rattle.lwaftr_engine.specs.declared.beside.Report.{Report}
-use Rattle.lwaftr_engine.proofs.Apart.{AreFilesApart}
 use Rattle.lwaftr_engine.proofs.Adding.{can_begin, goes_on, others_more, others_same, reads_on}
 use Rattle.lwaftr_engine.proofs.EndLemmas.{SomeLeft}
-use Rattle.lwaftr_engine.proofs.ReadLemmas.{rest_after}
+use Rattle.lwaftr_engine.proofs.ReadLemmas.{rest_after, rest_before, rest_read}
 use Rattle.lwaftr_engine.proofs.RoundLemmas.{reads_after}
 use Rattle.lwaftr_engine.proofs.UnderwayLemmas.{InRounds, begin_rounds, breaks_off, steps_on}
 
@@ -56,6 +55,10 @@ pub as_many : (es : List Exchange) → length (reports es) ≡ length (assignmen
 as_many [] = refl
 as_many (e ∷ es) =
     omega (arith, as_many es, length-append (reports es) (e.report ∷ []), length-append (assignments es) (e.assignment ∷ []))
+
+-- a round that went over with this room, and what came back
+abbrev pub exchange : Round → Pending → Report → Exchange
+exchange round room report = record { assignment = record { round = round; room = room }; report = report }
 
 -- an exchange more
 module _ (es : List Exchange) (e : Exchange) where
@@ -113,7 +116,7 @@ pub record IsBroken (x : Setup) (first : Spot) (a : Outside) (began r : Router) 
   pub duty : IsOnDuty r.shift.areas.plan r.shift
   pub spoiled : Rises failed a.spoiled files.spoiled
 
-module _ (x : Setup) (laws : RunLaws) (far : AreFilesApart x.run) {C : Type 0} {place : C → Spot} {Ready : C → ℕ → Type 0} {first : Spot} {a : Outside}
+module _ (x : Setup) (laws : RunLaws) (far : AreApart x.run) {C : Type 0} {place : C → Spot} {Ready : C → ℕ → Type 0} {first : Spot} {a : Outside}
     {began : Router} where
   -- a round between the one that is not written yet and the one that is read
   abbrev pub under_way : {now : Standing C} {r : Router} → IsGoing x place Ready first a began now r → InRounds
@@ -129,6 +132,12 @@ module _ (x : Setup) (laws : RunLaws) (far : AreFilesApart x.run) {C : Type 0} {
     m = now.files;
     under = known.went;
   }
+
+  -- what was kept till then is kept behind a step in which no read fails
+  pub still_kept : {now : Standing C} {r : Router} → IsGoing x place Ready first a began now r → (b : Outside) →
+      Moves now.files.held b.held (OthersKept x.run) → b.lost ≡ now.files.lost → b.last ≡ now.files.last → KeepsRest x.run a b
+  still_kept {now} known b others lost last =
+      rest_before x.run a now.files b (rest_read x.run (is_cut now.round.ending) a now.files known.others known.reads) others lost last
 
   -- a round more went well
   pub goes : {before next : Standing C} {r now : Router} → IsGoing x place Ready first a began before r → before.round.ending ≡ None →

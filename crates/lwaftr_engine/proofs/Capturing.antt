@@ -1,13 +1,13 @@
 -- What a run leaves from the opening of its outputs on.
-use Rattle.lwaftr_engine.proofs.Words.{AreAllPoints, AreBefore, AreSlotsOf, AreTaken, AreWritten, BindingTable, Bool, Breaks, CaptureBad, Contents, Did}
-use Rattle.lwaftr_engine.proofs.Words.{DidFront, Ending, Err, Fault, Finishes, FinishesPart, Goes, HistoryValue, IfSome, IsAtFirst, IsBroken, IsClosed}
+use Rattle.lwaftr_engine.proofs.Words.{AreApart, AreAllPoints, AreBefore, AreSlotsOf, AreTaken, AreWritten, BindingTable, Bool, Breaks, CaptureBad, Contents}
+use Rattle.lwaftr_engine.proofs.Words.{Did, DidFront, Ending, Err, Fault, Finishes, FinishesPart, Goes, HistoryValue, IfSome, IsAtFirst, IsBroken, IsClosed}
 use Rattle.lwaftr_engine.proofs.Words.{IsFront, IsInput, IsPlan, IsPlanOf, IsRate, IsRun, IsWhole, LeavesBy, LeavesOpened, List, Moves, None, Ok, Option}
-use Rattle.lwaftr_engine.proofs.Words.{Outside, Rec, Result, Rises, RunLaws, Setup, Some, Spot, State, Stop, Tables, Takes, Window, World, ap, arith, content}
-use Rattle.lwaftr_engine.proofs.Words.{ended_status, is_cut, is_failure, length, opening_steps, refl, some_slot_refused, stop_by, ℕ, ◌++◌, ◌∙◌, ◌≡◌, false}
-use Rattle.lwaftr_engine.proofs.Words.{inl, inr, true, has_failed, subst, sym}
+use Rattle.lwaftr_engine.proofs.Words.{Outside, Rec, Result, Rises, RunLaws, Setup, Some, Spot, State, Stop, Tables, Takes, Window, World, arith, content}
+use Rattle.lwaftr_engine.proofs.Words.{ended_status, is_cut, is_failure, length, opening_steps, refl, some_slot_refused, stop_by, ℕ, ◌++◌, ◌∙◌, ◌≡◌, false, inl}
+use Rattle.lwaftr_engine.proofs.Words.{inr, true, has_failed, subst, sym}
 use Rattle.lwaftr_engine.specs.Fronts.{NothingPut}
 use Rattle.lwaftr_engine.specs.Progress.{OneRises}
-use Rattle.lwaftr_engine.proofs.Apart.{AreFilesApart, input_kept}
+use Rattle.lwaftr_engine.proofs.Apart.{input_kept}
 use Rattle.lwaftr_engine.proofs.Closing.{ClosedRun, suits_bare, is_run}
 use Rattle.lwaftr_engine.proofs.EndLemmas.{EndsAt, SomeLeft, ends_at, takes_by}
 use Rattle.lwaftr_engine.proofs.Writing.{opening_front, opened}
@@ -97,10 +97,10 @@ ended_err x plan reader r why before now history is none step =
           (λ m n broken at_first tables windows of. inr ((λ slots_of. broken at_first tables windows of slots_of), none)) step
 
 -- memory was wanted before anything was done
-pub none_done : (x : Setup) (plan : Tables) (reader : Spot) (r : Result Ending Fault) (why : Fault) (w : World) (history : Option HistoryValue) →
-    r ≡ Err why → why ≡ fault.OutOfMemory → history ≡ None → Moves w.files.held w.files.held (LeavesOpened x plan reader r w w history)
-none_done x plan reader r why w history is wanted none =
-    rw (is ∙ ap Err wanted) (moves_none w.files.held w.files.held (LeavesOpened x plan reader (Err fault.OutOfMemory) w w history)
+pub none_done : (x : Setup) (plan : Tables) (reader : Spot) (r : Result Ending Fault) (w : World) (history : Option HistoryValue) → r ≡ Err fault.OutOfMemory →
+    history ≡ None → Moves w.files.held w.files.held (LeavesOpened x plan reader r w w history)
+none_done x plan reader r w history is none =
+    rw is (moves_none w.files.held w.files.held (LeavesOpened x plan reader (Err fault.OutOfMemory) w w history)
     (λ m at_first tables windows of.
     inl (record { files = refl; sink = refl; none = none }, record { lost = refl; spoiled = refl; faults = refl; last = refl })) refl)
 
@@ -126,7 +126,7 @@ opening_broken laws x plan planned rate reader some stop nothing same step =
 pub record Opened : Type 1 where
   pub laws : RunLaws
   pub x : Setup
-  pub far : AreFilesApart x.run
+  pub far : AreApart x.run
   pub rate : IfSome x.run.errors IsRate
   pub plan : Tables
   pub first : Spot
@@ -156,7 +156,7 @@ pub record AtEnd : Type 1 where
   pub placed : AreAllPoints run.s.plan.windows run.s.points run.s.progress.number
   pub going : Moves run.opened.middle.held end.held (Goes run.opened.x run.s run.opened.first reader (Some stop) end.last)
 
-abbrev pub opened_run : (laws : RunLaws) (x : Setup) → AreFilesApart x.run → IfSome x.run.errors IsRate → (plan : Tables) (first : Spot) (before : World)
+abbrev pub opened_run : (laws : RunLaws) (x : Setup) → AreApart x.run → IfSome x.run.errors IsRate → (plan : Tables) (first : Spot) (before : World)
     (middle : Outside) → Moves before.files.held middle.held (Did x.run (opening_steps x.run x.written)) → Opened
 opened_run laws x far rate plan first before middle opening =
     record { laws = laws; x = x; far = far; rate = rate; plan = plan; first = first; before = before; middle = middle; opening = opening }
@@ -200,7 +200,7 @@ module _ (r : Captured) where
       (λ a b d did breaks at_first tables windows of slots_of.
       let run = closed_run a b did tables windows of in
       let stop = stop_by why o.before r.now in
-      let same = input_kept o.far a b run.opening.others in
+      let same = input_kept o.x.run o.far a b run.opening.others in
       let it = breaks (rw same at_first.stands) in
       broken o.x a at_first 3 stop (takes_all o.x a at_first stop (rw (same, lost_is) at it.taken)) (at_rounds run slots_of stop nothing it))
       o.opening breaking
@@ -232,7 +232,7 @@ module _ (e : AtEnd) where
       HasRecords e (closed_run r a b did tables windows of) d
   records_of a b d did goes at_first tables windows of =
       let run = closed_run e.run a b did tables windows of in
-      let same = input_kept e.run.opened.far a b run.opening.others in
+      let same = input_kept x.run e.run.opened.far a b run.opening.others in
       let took = goes (rw same at_first.stands) in
       let L : Option (List ℕ × ℕ) → Type 0 = λ last. EndsAt x.run.input first (content a x.run.input) took.records e.stop last in
       record {

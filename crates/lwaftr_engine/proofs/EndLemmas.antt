@@ -15,17 +15,15 @@ pub points_at_end : SettledPointsAreAll → {x : Setup} {r : Router} {h : Histor
     IsOnDuty r.shift.areas.plan r.shift → AreAllPoints r.shift.areas.plan.windows r.shift.desk.known.points r.progress.number
 points_at_end law {r = r} {h = h} closed at_end duty =
     let u = r.shift in
-    let q = r.progress in
     let plan = u.areas.plan in
     let points = u.desk.known.points in
-    let seat = u.seat.known in
     let records = sym closed.drawn.all ∙ at_end.drawn in
     let inside : AreInWindows r.shift.areas.plan.windows r.shift.desk.known.points r.progress.number =
     rw (← closed.same_plan) (rw (← closed.points) (rw (← records) closed.history.placed)) in
     let seen = sym (at_end.settled.all_drawn duty.whole) ∙ at_end.drawn in
     let due : (length plan.tables ≤ length points + 1) ⊎ (r.progress.number < (window plan (length points + 1)).earliest) =
-    rw (← seen) (none_waits plan u.desk.known seat.seen.records duty.desk_areas.same_plan at_end.settled.none_due) in
-    law plan points q.number (its_planned closed) (few_points closed) inside due
+    rw (← seen) (none_waits plan u.desk.known u.seat.known.seen.records duty.desk_areas.same_plan at_end.settled.none_due) in
+    law plan points r.progress.number (its_planned closed) (few_points closed) inside due
 
 is_behind : (place : ℕ) (left : Left) (bytes : List ℕ) (number : ℕ) (rest : List Rec) (ended : Option CaptureBad) → left bytes number rest ended →
     ((r : Rec) (rs : List Rec) (e : Option CaptureBad) → left bytes number (r ∷ rs) e → place < r.next_at) → IsBehind place rest

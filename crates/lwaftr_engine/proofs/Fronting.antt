@@ -257,8 +257,7 @@ module _ (r : ClosedRun) (slots_of : AreSlotsOf r.x.run r.windows r.x.slots) whe
       AreWritten r.x r.opened d r.s rs → Half why before after rs d e →
       IsFront r.x.run r.tables r.windows r.x.slots r.x.form r.x.written rs 3 r.old e (stop_by why before after)
   at_finish why before after {d} {e} {rs} placed are half =
-      let points = r.s.points in
-      rw (← (append-nil rs)) (at_begun points rs [] (rw (append-nil rs) placed) e (λ c. verdicts_of c r.x.form rs)
+      rw (← (append-nil rs)) (at_begun r.s.points rs [] (rw (append-nil rs) placed) e (λ c. verdicts_of c r.x.form rs)
       (λ s part front.
       let every = sym (append-nil rs) in
       let same = verdicts_same r.laws s ∙ ap (λ (l : List Rec). verdicts_of s.course r.x.form l) every in

@@ -1,8 +1,7 @@
 -- What the run of the demonstration is told.
 use Rattle.lwaftr_engine.proofs.Words.{◌≡◌, true, ℕ, ◌≤◌, List, [], ◌∷◌, cond, unwrap_or, codes, Some, None, refl, ◌∙◌, ap, arith, All-cons, All-nil}
-use Rattle.lwaftr_engine.proofs.Words.{eq_by_cmp_equiv, nat_cmp, eq_by_cmp, slice_cmp, nat_list_cmp_total, get, get-insert, insert, Contents, content}
-use Rattle.lwaftr_engine.proofs.Words.{AreApart, IsLoad, StandsOnce, names_of, RunJob, IsDemoJob, IsDemoMade, IsShow, Made, Window, capture_of, table_from}
-use Rattle.lwaftr_engine.proofs.Words.{half_way}
+use Rattle.lwaftr_engine.proofs.Words.{eq_by_cmp_equiv, nat_cmp, eq_by_cmp, slice_cmp, nat_list_cmp_total, get, get-insert, insert, Contents, content, AreApart}
+use Rattle.lwaftr_engine.proofs.Words.{IsLoad, StandsOnce, names_of, RunJob, IsDemoJob, IsDemoMade, IsShow, Made, Window, capture_of, table_from, half_way}
 use Rattle.aftr_text.specs.Jobs.{how_many}
 
 -- the names of the run are apart

@@ -1,6 +1,6 @@
 -- What command words come to where nobody is waited for.
-use Rattle.lwaftr_engine.proofs.Words.{◌≡◌, ◌⊎◌, ℕ, List, Option, None, inl, inr, refl, sym, ◌∙◌, Outside, RunJob, HistoryValue, HasCause, HasOneCause}
-use Rattle.lwaftr_engine.proofs.Words.{KeepsDemo, KeepsRun, Leaves, IsLeft, World, world, Status}
+use Rattle.lwaftr_engine.proofs.Words.{◌≡◌, ◌⊎◌, ℕ, Option, None, inl, inr, refl, sym, ◌∙◌, RunJob, HistoryValue, HasCause, HasOneCause}
+use Rattle.lwaftr_engine.proofs.Words.{KeepsDemo, KeepsRun, Leaves, IsLeft, World, Status}
 use Rattle.lwaftr_engine.proofs.Adding.{others_same}
 use Rattle.lwaftr_engine.proofs.Moving.{moves_none, told_all}
 use Rattle.lwaftr_engine.specs.declared.at_once.AtOnce.TheVariants as at_once
@@ -30,10 +30,6 @@ run_not_demo (inr short) = absurd (cc short)
 pub demo_not_run : {run : RunJob} {s c w : ℕ} → IsLeft (at_once.Run run) (at_once.Demo s c w) → ⊥
 demo_not_run (inl left) = absurd (cc left)
 demo_not_run (inr short) = absurd (cc short)
-
--- what was not touched is as it was
-pub same_world : {a b : Outside} {said was : Option (List ℕ)} {puts before : ℕ} → a ≡ b → said ≡ was → puts ≡ before → world a said puts ≡ world b was before
-same_world files took failed = λ i. record { files = files i; said = took i; puts = failed i }
 
 -- memory was short before anything was done
 pub no_run : (run : RunJob) (s : Status) (w : World) (history : Option HistoryValue) → s ≡ status.OutOfMemory → history ≡ None → KeepsRun run s w w history

@@ -43,11 +43,11 @@ module _ (run : RunJob) where
       record { others = others; capture_read = failed_by failed run.input (λ _. Unit {0}) a b reads.lost reads.last }
 
   -- the capture was not opened
-  pub rest_unopened : (T : Type 0) (k : List ℕ) → k ≡ run.input → (Inside : ℕ → Type 0) (a b : Outside) (error : CaptureError) →
-      OnlyReads (failed_as T error) k Inside a b → KeepsRest run a b
-  rest_unopened T k named Inside a b error only = record {
+  pub rest_unopened : (k : List ℕ) → k ≡ run.input → (Inside : ℕ → Type 0) (a b : Outside) (error : CaptureError) →
+      OnlyReads (failed_as error) k Inside a b → KeepsRest run a b
+  rest_unopened k named Inside a b error only = record {
     others = others_same run a.held b.held only.held;
-    capture_read = rw (← named) (failed_by (failed_as T error) k Inside a b only.lost only.last);
+    capture_read = rw (← named) (failed_by (failed_as error) k Inside a b only.lost only.last);
   }
 
 -- a read of one of some files is one of more

@@ -1,8 +1,7 @@
 -- What a run leaves once its tables are read, or a read of them failed.
 use Rattle.lwaftr_engine.proofs.Words.{◌≡◌, Contains-append_left, ℕ, List, [], ◌∷◌, Option, None, Ok, inr, refl, true, map, content, Moves, Told, Outside}
-use Rattle.lwaftr_engine.proofs.Words.{LoadWords, RunJob, HistoryValue, TableOf, BindingTable, FailsIn, HasCause, IsReadOf, table_names, AreFitFor}
-use Rattle.lwaftr_engine.proofs.Words.{AreLoadsOf, OnlyReadsAmong, IsMade, LeavesMade, HasHistory, KeepsRest, KeepsRun, Leaves, world, Status, Load, Made}
-use Rattle.lwaftr_engine.proofs.Words.{World}
+use Rattle.lwaftr_engine.proofs.Words.{LoadWords, RunJob, HistoryValue, TableOf, BindingTable, FailsIn, HasCause, IsReadOf, table_names, AreFitFor, AreLoadsOf}
+use Rattle.lwaftr_engine.proofs.Words.{OnlyReadsAmong, IsMade, LeavesMade, HasHistory, KeepsRest, KeepsRun, Leaves, world, Status, Load, Made, World}
 use Rattle.lwaftr_engine.proofs.DueLemmas.{AreSingle, due_told}
 use Rattle.lwaftr_engine.proofs.LeaveLemmas.{among_all, load_read, unread_tables, AreRead, ReadRun, leaves}
 use Rattle.lwaftr_engine.proofs.ReadLemmas.{fails_behind, read_among}

@@ -1,11 +1,11 @@
 -- Rounds of which the last one is written while the next one is judged and the one behind it is read.
-use Rattle.lwaftr_engine.proofs.Words.{All-append, Breaks, BreaksLast, Contents, Course, Did, DidBoth, DidFront, Ending, Goes, HasRead, HasTaken, IsAtStart}
-use Rattle.lwaftr_engine.proofs.Words.{IsBrokenFrom, IsCutFrom, IsNext, IsNothing, IsPending, IsPlaced, IsUnderWay, Moves, Option, Outside, Pending}
+use Rattle.lwaftr_engine.proofs.Words.{AreApart, All-append, Breaks, BreaksLast, Contents, Course, Did, DidBoth, DidFront, Ending, Goes, HasRead, HasTaken}
+use Rattle.lwaftr_engine.proofs.Words.{IsAtStart, IsBrokenFrom, IsCutFrom, IsNext, IsNothing, IsPending, IsPlaced, IsUnderWay, Moves, Option, Outside, Pending}
 use Rattle.lwaftr_engine.proofs.Words.{ReadsPast, Rises, Round, Router, RunLaws, Setup, Spot, StandsBetween, State, StaysOnDuty, Suits, Takes, Told, UnderWay}
 use Rattle.lwaftr_engine.proofs.Words.{WentWell, [], ap, append-nil, append_assoc, arith, content, is_cut, length, length-append, lines_in, packets_in, refl}
 use Rattle.lwaftr_engine.proofs.Words.{round_steps, state_of, steps_of, string_bytes, subst, sym, take, take-nil, ◌++◌, ◌+◌, ◌∙◌, ◌≡◌, ◌≤◌, Areas, List, None}
 use Rattle.lwaftr_engine.proofs.Words.{Rec, Some, Step, inl, inr, ℕ}
-use Rattle.lwaftr_engine.proofs.Apart.{AreFilesApart, input_kept}
+use Rattle.lwaftr_engine.proofs.Apart.{input_kept}
 use Rattle.lwaftr_engine.proofs.EndLemmas.{SomeLeft, ends_at, takes_by}
 use Rattle.lwaftr_engine.proofs.Writing.{WroteFront, did_none, wrote_front, in_others, in_tables, wrote}
 use Rattle.lwaftr_engine.proofs.Begun.{TakenUnder, begun_more, begun_tables, still_begun}
@@ -102,7 +102,7 @@ takes_of {name = name} {first = first} {bytes = bytes} {rs = rs} (Some stop) a b
 pub record InRounds : Type 1 where
   pub laws : RunLaws
   pub x : Setup
-  pub far : AreFilesApart x.run
+  pub far : AreApart x.run
   pub first : Spot
   pub here : Spot
   pub w : UnderWay
@@ -142,7 +142,7 @@ module _ (r : InRounds) (now : Router) (made : Pending) (duty : StaysOnDuty r.be
   pending_more : {opened m n : Contents} {records : List Rec} → IsPending r.x (state_of r.before) u opened m records → Did r.x.run u m n →
       Well → IsPending r.x (state_of now) (steps_of made) opened n (records ++ r.w.round.records)
   pending_more {opened} {m} {n} {records} pending did well = record {
-    input = input_kept r.far m n did.others ∙ pending.input;
+    input = input_kept r.x.run r.far m n did.others ∙ pending.input;
     whole = λ next done c suits. written_more (under_course c suits) next (wrote r.x.run vs ps ls n next done);
     part = λ next front. by_front next (wrote_front r.x.run vs ps ls n next front);
   } where
@@ -193,9 +193,8 @@ module _ (r : InRounds) (now : Router) (made : Pending) (duty : StaysOnDuty r.be
     rest = cut.rest;
     all = cut.all;
     begun = λ later c suits.
-        let old = r.before.shift.desk.known.points in
         let same : r.before.shift.desk.known.points ++ (duty.adds.news ++ later) ≡ now.shift.desk.known.points ++ later =
-        sym (append_assoc old duty.adds.news later) ∙ ap (λ (l : List ℕ). l ++ later) (sym duty.adds.points) in
+        sym (append_assoc r.before.shift.desk.known.points duty.adds.news later) ∙ ap (λ (l : List ℕ). l ++ later) (sym duty.adds.points) in
         rw (← same) (cut.begun (duty.adds.news ++ later) c (suited suits));
   }
 
@@ -287,7 +286,7 @@ module _ (r : InRounds) (now : Router) (made : Pending) (duty : StaysOnDuty r.be
       (λ a m n way put told stood.
       let w : Under a m = way stood in
       let N : List ℕ → Type 0 = λ bytes. ReadsPast r.x.run.input r.here there r.w.round.number bytes r.a b in
-      let same : content n r.x.run.input ≡ content a r.x.run.input = input_kept r.far m n put.1.others ∙ w.pending.input in
+      let same : content n r.x.run.input ≡ content a r.x.run.input = input_kept r.x.run r.far m n put.1.others ∙ w.pending.input in
       part_broken b w (takes_past there b some some_there w (subst N same told)) put)
       r.under front past
 

@@ -1,17 +1,16 @@
 -- A capture that cannot be opened.
-use Rattle.lwaftr_engine.proofs.Words.{◌≡◌, ℕ, ◌<◌, Bool, true, false, List, Option, Some, None, Result, Err, inl, inr, refl, sym, ap, subst, Contents}
-use Rattle.lwaftr_engine.proofs.Words.{content, Moves, Told, FailsAt, OnlyReads, Outside, RunJob, Agrees, is_read_fault, RefusesHeader, CaptureError}
+use Rattle.lwaftr_engine.proofs.Words.{◌≡◌, ℕ, Bool, true, false, List, Option, Some, None, Result, Err, inl, inr, refl, sym, ap, subst, Contents}
+use Rattle.lwaftr_engine.proofs.Words.{content, Moves, Told, FailsAt, OnlyReads, Outside, RunJob, is_read_fault, RefusesHeader, CaptureError}
 use Rattle.lwaftr_engine.proofs.Words.{NoneOfFilesRose, header_by, header_of, in_blocks, in_classic, IsEarly, LeavesMade, unopened_status, HasHistory}
-use Rattle.lwaftr_engine.proofs.Words.{IsInHeader, IsInHead, IsInHeadBy, OpensEither, RefusesBy, Reader, Slot, Tables, World}
+use Rattle.lwaftr_engine.proofs.Words.{IsInHead, IsInHeadBy, OpensEither, RefusesBy, Reader, Slot, Tables, World}
 use Rattle.lwaftr_engine.proofs.Moving.{told_still}
 use Rattle.lwaftr_engine.proofs.JobLemmas.{early_blocks, early_classic}
-use Rattle.capture_io.specs.Header as classic_header
 use Rattle.capture_io.specs.declared.forms.CaptureError.TheVariants as failure
 use Rattle.pcapng_io.specs.Captures as blocks
 
 -- a read failed, by an answer of some call
-abbrev pub failed_as : (T : Type 0) → CaptureError → Bool
-failed_as T error = let r : Result T CaptureError = Err error in is_read_fault r
+abbrev pub failed_as : CaptureError → Bool
+failed_as error = let r : Result Reader CaptureError = Err error in is_read_fault r
 
 -- where memory was short no call failed
 abbrev pub IsShort : Outside → Outside → CaptureError → Type 0
@@ -19,11 +18,11 @@ IsShort before after (failure.Bad refusal) = Unit {0}
 IsShort before after failure.ReadFault = Unit {0}
 IsShort before after failure.OutOfMemory = NoneOfFilesRose before after
 
-pub is_short : (T : Type 0) (name : List ℕ) (Inside : ℕ → Type 0) (before after : Outside) (error : CaptureError) →
-    OnlyReads (failed_as T error) name Inside before after → IsShort before after error
-is_short T name Inside before after (failure.Bad refusal) only = tt
-is_short T name Inside before after failure.ReadFault only = tt
-is_short T name Inside before after failure.OutOfMemory only = record { lost = only.lost; spoiled = only.spoiled; faults = only.faults; last = only.last }
+pub is_short : (name : List ℕ) (Inside : ℕ → Type 0) (before after : Outside) (error : CaptureError) →
+    OnlyReads (failed_as error) name Inside before after → IsShort before after error
+is_short name Inside before after (failure.Bad refusal) only = tt
+is_short name Inside before after failure.ReadFault only = tt
+is_short name Inside before after failure.OutOfMemory only = record { lost = only.lost; spoiled = only.spoiled; faults = only.faults; last = only.last }
 
 -- why it was not opened
 abbrev pub IsUnopened : RunJob → Contents → Option (List ℕ × ℕ) → CaptureError → Type 0
@@ -31,32 +30,21 @@ IsUnopened run m last (failure.Bad refusal) = header_of (content m run.input) �
 IsUnopened run m last failure.ReadFault = IsEarly run.input (content m run.input) last
 IsUnopened run m last failure.OutOfMemory = Unit {0}
 
-classic_by : (T : Type 0) (run : RunJob) (m : Contents) (error : CaptureError) (old last : Option (List ℕ × ℕ)) →
-    false ≡ blocks.is_pcapng (content m run.input) → Agrees (Err error) (classic_header.header_in (content m run.input)) →
-    FailsAt (failed_as T error) run.input (λ place. place < 24) old last → IsUnopened run m last error
-classic_by T run m (failure.Bad refusal) old last kind agrees failed =
-    let H : Bool → Type 0 = λ b. header_by b (content m run.input) ≡ Err refusal in subst H kind (ap in_classic agrees)
-classic_by T run m failure.ReadFault old last kind agrees failed = early_classic run.input (content m run.input) old last kind failed
-classic_by T run m failure.OutOfMemory old last kind agrees failed = tt
-
-blocks_by : (T : Type 0) (run : RunJob) (m : Contents) (error : CaptureError) (old last : Option (List ℕ × ℕ)) → true ≡ blocks.is_pcapng (content m run.input) →
-    Agrees (Err error) (blocks.header_in (content m run.input)) →
-    FailsAt (failed_as T error) run.input (IsInHeader (Some m) run.input) old last → IsUnopened run m last error
-blocks_by T run m (failure.Bad refusal) old last kind agrees failed =
-    let H : Bool → Type 0 = λ b. header_by b (content m run.input) ≡ Err refusal in subst H kind (ap in_blocks agrees)
-blocks_by T run m failure.ReadFault old last kind agrees failed = early_blocks m run.input old last kind failed
-blocks_by T run m failure.OutOfMemory old last kind agrees failed = tt
-
 -- which format it is, is told by the bytes
-by_format : (run : RunJob) (m : Contents) (error : CaptureError) (old last : Option (List ℕ × ℕ)) (is : Bool) → is ≡ blocks.is_pcapng (content m run.input)
-    → RefusesBy error is (content m run.input) → FailsAt (failed_as Reader error) run.input (IsInHeadBy is (content m run.input)) old last → IsUnopened run m
-    last error
-by_format run m error old last true kind refuses failed = blocks_by Reader run m error old last kind refuses failed
-by_format run m error old last false kind refuses failed = classic_by Reader run m error old last kind refuses failed
+by_format : (run : RunJob) (m : Contents) (error : CaptureError) (old last : Option (List ℕ × ℕ)) (is : Bool) → is ≡ blocks.is_pcapng (content m run.input) →
+    RefusesBy error is (content m run.input) → FailsAt (failed_as error) run.input (IsInHeadBy is (content m run.input)) old last →
+    IsUnopened run m last error
+by_format run m (failure.Bad refusal) old last true kind refuses failed =
+    let H : Bool → Type 0 = λ b. header_by b (content m run.input) ≡ Err refusal in subst H kind (ap in_blocks refuses)
+by_format run m (failure.Bad refusal) old last false kind refuses failed =
+    let H : Bool → Type 0 = λ b. header_by b (content m run.input) ≡ Err refusal in subst H kind (ap in_classic refuses)
+by_format run m failure.ReadFault old last true kind refuses failed = early_blocks m run.input old last kind failed
+by_format run m failure.ReadFault old last false kind refuses failed = early_classic run.input (content m run.input) old last kind failed
+by_format run m failure.OutOfMemory old last is kind refuses failed = tt
 
 pub by_name : (run : RunJob) (h : Option Contents) (error : CaptureError) (old last : Option (List ℕ × ℕ)) →
     Told h (λ m. OpensEither (Err error) (content m run.input))
-    → FailsAt (failed_as Reader error) run.input (IsInHead h run.input) old last → Told h (λ m. IsUnopened run m last error)
+    → FailsAt (failed_as error) run.input (IsInHead h run.input) old last → Told h (λ m. IsUnopened run m last error)
 by_name run None error old last opened failed = tt
 by_name run (Some m) error old last opened failed = by_format run m error old last (blocks.is_pcapng (content m run.input)) refl opened failed
 

@@ -1,8 +1,8 @@
 -- The names that the proofs of this crate take from its specs and from the crates below.
-pub use Rattle.std.proofs.Common.{All, Bool, Err, IsErr, List, None, Ok, Option, Result, Some, [], ap, append-nil, append_assoc, arith, codes, cond, count_by}
-pub use Rattle.std.proofs.Common.{drop, false, flat_map, get_or, if◌then◌else◌, inl, inr, le-leb, le-ltb, length, length-append, length-take, length-take-le}
-pub use Rattle.std.proofs.Common.{map, max, nat_le, nat_lt, not, refl, rules, slice_get, slice_index, subst, suc, sym, take, take-append-drop, true, unwrap_or}
-pub use Rattle.std.proofs.Common.{zero, ℕ, ◌%◌, ◌*◌, ◌++◌, ◌+◌, ◌-◌, ◌<◌, ◌==◌, ◌^◌, ◌∙◌, ◌∷◌, ◌≡◌, ◌≢◌, ◌≤◌, ◌⊎◌}
+pub use Rattle.std.proofs.Common.{All, Bool, Err, IsErr, IsErrAnd, List, None, Ok, Option, Result, Some, [], ap, append-nil, append_assoc, arith, codes, cond}
+pub use Rattle.std.proofs.Common.{count_by, drop, false, flat_map, get_or, if◌then◌else◌, inl, inr, le-leb, le-ltb, length, length-append, length-take}
+pub use Rattle.std.proofs.Common.{length-take-le, map, max, nat_le, nat_lt, not, refl, rules, slice_get, slice_index, subst, suc, sym, take, take-append-drop}
+pub use Rattle.std.proofs.Common.{true, unwrap_or, zero, ℕ, ◌%◌, ◌*◌, ◌++◌, ◌+◌, ◌-◌, ◌<◌, ◌==◌, ◌^◌, ◌∙◌, ◌∷◌, ◌≡◌, ◌≢◌, ◌≤◌, ◌⊎◌}
 pub use Rattle.std.proofs.Math.Seq.{take-add, take-append-add, take-append_seam, take-length, take-nil, take-suc}
 pub use Rattle.std.proofs.lemmas.Bool.{cases_lt, eq-eqb, true≢false}
 pub use Rattle.std.proofs.lemmas.Bool.Decides.{eqb_tells, nat_tests}
@@ -13,15 +13,13 @@ pub use Rattle.std.proofs.lemmas.List.Elements.{All-append, All-cons, All-get_or
 pub use Rattle.std.proofs.lemmas.List.FromFn.{get_or-range_with_len, length-map-range_with_len, length-range_with_len}
 pub use Rattle.std.proofs.lemmas.List.Sums.{count_by-le-length, sum_by-append, sum_by-cons, sum_by-le-sum_by}
 pub use Rattle.std.proofs.lemmas.Option.{get_or_from_slice_get, slice_get-get_or, slice_get-map, slice_get_read, slice_get_within}
-pub use Rattle.std.proofs.lemmas.Result.{err_from_is_err_and}
 pub use Rattle.std.proofs.lemmas.Slice.Eq.{bytes_eq-Decides}
 pub use Rattle.std.proofs.lemmas.Slice.Zip.{all_zipped_more}
 pub use Rattle.std.specs.Cmp.Lexicographic.{nat_list_cmp_total, slice_cmp}
 pub use Rattle.std.specs.FinMap.{get, get-insert, insert}
 pub use Rattle.std.specs.List.{range_with_len, sum_by}
 pub use Rattle.std.specs.Ordering.{eq_by_cmp, nat_cmp}
-pub use Rattle.std.specs.Prelude.{IfErr, OnOk, bytes_eq, min, replicate, slice_index_or, ◌&&◌}
-pub use Rattle.std.specs.Prelude.{IfOk, IfSome, string_bytes}
+pub use Rattle.std.specs.Prelude.{IfErr, OnOk, bytes_eq, min, replicate, slice_index_or, ◌&&◌, IfOk, IfSome, string_bytes}
 pub use Rattle.std.specs.List.{AllZip, Contains}
 pub use Rattle.std.specs.Option.{option_map}
 pub use Rattle.aftr_base.proofs.OutsideLemmas.{read_well}
@@ -36,7 +34,7 @@ pub use Rattle.area_swap.specs.declared.board.View.{View}
 pub use Rattle.binding_file.specs.Files.{IsFileCause, fits, most_bytes}
 pub use Rattle.binding_file.specs.Keys.{Then}
 pub use Rattle.binding_file.specs.declared.refusals.FileError.{FileError}
-pub use Rattle.capture_io.specs.Answers.{Agrees, is_read_fault}
+pub use Rattle.capture_io.specs.Answers.{is_read_fault}
 pub use Rattle.capture_io.specs.Capture.{IsCapture, Splits}
 pub use Rattle.capture_io.specs.Classic.{left_of, stands_in}
 pub use Rattle.capture_io.specs.Packets.{packet_bytes}
@@ -104,8 +102,7 @@ pub use Rattle.lwaftr_engine.specs.Migrations.{HoldsText, IsMigratedLine, Leaves
 pub use Rattle.lwaftr_engine.specs.Planned.{AreNumbered, AreSlotsOf, IsAtFirst, IsEarly, IsMade, IsRunJob, IsStopped, LeavesBy, LeavesMade, LeavesOpened}
 pub use Rattle.lwaftr_engine.specs.Planned.{ended_status, some_slot_refused, unopened_status}
 pub use Rattle.lwaftr_engine.specs.Progress.{AddsTo, AreWritten, Goes, HasTaken, HasWritten, IsClosed, IsLimitedRun, IsOnDuty, IsUpToDate, KeepsRest, ReadsOf}
-pub use Rattle.lwaftr_engine.specs.Progress.{Setup}
-pub use Rattle.lwaftr_engine.specs.Progress.{Spot, State, Suits, Wrote, loads_of, setup_of, spot, state_of}
+pub use Rattle.lwaftr_engine.specs.Progress.{Setup, Spot, State, Suits, Wrote, loads_of, setup_of, spot, state_of}
 pub use Rattle.lwaftr_engine.specs.Promises.{AsksDone, GoesWithRead, GoesWithRefusal, HasHistory, HasSummary, IsAskedFor, IsSummedUp, KeepsRun, Leaves}
 pub use Rattle.lwaftr_engine.specs.Prompt.{IsLeft}
 pub use Rattle.lwaftr_engine.specs.Questions.{Answers, IsLineOf, IsOwnerLine, NamesOwner, RefusesAs}

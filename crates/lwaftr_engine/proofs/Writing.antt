@@ -3,8 +3,8 @@ use Rattle.lwaftr_engine.proofs.Words.{◌≡◌, ℕ, zero, suc, ◌+◌, ◌�
 use Rattle.lwaftr_engine.proofs.Words.{sym, ◌∙◌, ap, append-nil, append_assoc, take-append-add, take-length, Contents, content, Moves, Writes, initial_text}
 use Rattle.lwaftr_engine.proofs.Words.{RunJob, file_head, Written, HoldsFront, Wrote, OthersKept, Did, DidFront, File, Step, add, adds, holds, make}
 use Rattle.lwaftr_engine.proofs.Words.{making_steps, name_of, opening_steps, out_file, round_steps, same_file, verdicts_file, versions_file, BreaksLast}
-use Rattle.lwaftr_engine.proofs.Words.{DidBoth, Fault, IfErr, IfOk, OnOk, Result, inl, inr, Err, Ok, arith, cases_lt, take_all, ◌-◌}
-use Rattle.lwaftr_engine.proofs.Apart.{AreFilesApart}
+use Rattle.lwaftr_engine.proofs.Words.{AreApart, DidBoth, Fault, IfErr, IfOk, OnOk, Result, inl, inr, Err, Ok, arith, cases_lt, take_all, ◌-◌}
+use Rattle.lwaftr_engine.proofs.Apart.{AreFilesApart, apart}
 use Rattle.lwaftr_engine.proofs.Moving.{moves_by, moves_join, moves_none}
 use Rattle.lwaftr_engine.proofs.Parts.{front_part}
 use Rattle.lwaftr_engine.proofs.Going.{wrote_same}
@@ -115,7 +115,10 @@ module _ (run : RunJob) where
   cut_of u v Well (Err why) h0 h1 h2 well one two = moves_join h0 h1 h2 _ _ _ (λ a m n w z. inr (well, (m, w, z))) one two
 
 -- the calls of the files, as steps; a file may be named in another writing
-module _ (run : RunJob) (far : AreFilesApart run) where
+module _ (run : RunJob) (names : AreApart run) where
+  abbrev far : AreFilesApart run
+  far = apart run names
+
   each : (m n : Contents) (file : File) (f : List ℕ → List ℕ) → Writes m n (name_of run file) (f (content m (name_of run file))) → (other : File) →
       content n (name_of run other) ≡ (if same_file file other then f (content m (name_of run other)) else content m (name_of run other))
   each m n out_file f w out_file = w.here

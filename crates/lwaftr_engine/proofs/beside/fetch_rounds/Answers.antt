@@ -1,6 +1,7 @@
-use Rattle.lwaftr_engine.proofs.Words.{Err, Round, [], ap, err_from_is_err_and, refl, rules, ◌∙◌, ◌∷◌}
-use Rattle.lwaftr_engine.specs.Beside.{Exchange, standing}
-use Rattle.lwaftr_engine.proofs.Besides.{as_many, asked_more, heard_more, in_vain, reached_more}
+use Rattle.lwaftr_engine.proofs.Words.{Round, [], ap, refl, rules, ◌∙◌, ◌∷◌}
+use Rattle.lwaftr_engine.specs.Beside.{standing}
+use Rattle.lwaftr_engine.proofs.Besides.{as_many, asked_more, exchange, heard_more, in_vain, reached_more}
+use Rattle.lwaftr_engine.proofs.Exits.{handed}
 use Rattle.lwaftr_engine.proofs.beside.fetch_rounds.Goals as goal
 
 pub returns-then-not-wait_for_answerer-clause-asks : goal.returns-then-not-wait_for_answerer-clause-asks
@@ -27,10 +28,9 @@ rounds-init g c = record {
 pub returns-in_err-next-clause-asks : goal.returns-in_err-next-clause-asks
 returns-in_err-next-clause-asks g c =
     let known = c.rounds.invariant in
-    let from = err_from_is_err_and c.from_residual.result c.from_residual.ensures.1 in
-    let e : Exchange = record { assignment = record { round = c.replace-round.result; room = c.rounds.room }; report = c.hear-records.result } in
+    let e = exchange c.replace-round.result c.rounds.room c.hear-records.result in
     let before = standing (g.F.Files.outside c.rounds.files) c.rounds.reader c.rounds.under_way.round c.rounds.under_way.pending in
-    rw (from.1 ∙ ap Err from.2) (record {
+    rw (handed c.from_residual.result c.from_residual.ensures.1) (record {
       exchanges = e ∷ known.exchanges;
       asked_are = asked_more known.exchanges e known.asked_are (c.hear-records.ensures.asked ∙ c.ask.ensures.asked);
       heard_are = heard_more known.exchanges e (c.ask.ensures.heard ∙ known.heard_are) c.hear-records.ensures.heard;
@@ -40,10 +40,9 @@ returns-in_err-next-clause-asks g c =
 pub returns-in_err-judged-clause-asks : goal.returns-in_err-judged-clause-asks
 returns-in_err-judged-clause-asks g c =
     let known = c.rounds.invariant in
-    let from = err_from_is_err_and c.from_residual-in_err-judged.result c.from_residual-in_err-judged.ensures.1 in
-    let e : Exchange = record { assignment = record { round = c.replace-round.result; room = c.rounds.room }; report = c.hear-records.result } in
+    let e = exchange c.replace-round.result c.rounds.room c.hear-records.result in
     let before = standing (g.F.Files.outside c.rounds.files) c.rounds.reader c.rounds.under_way.round c.rounds.under_way.pending in
-    rw (from.1 ∙ ap Err from.2) (record {
+    rw (handed c.from_residual-in_err-judged.result c.from_residual-in_err-judged.ensures.1) (record {
       exchanges = e ∷ known.exchanges;
       asked_are = asked_more known.exchanges e known.asked_are (c.hear-records.ensures.asked ∙ c.ask.ensures.asked);
       heard_are = heard_more known.exchanges e (c.ask.ensures.heard ∙ known.heard_are) c.hear-records.ensures.heard;
@@ -54,7 +53,7 @@ pub rounds-preserved : goal.rounds-preserved
 rounds-preserved g c =
     let known = c.rounds.invariant in
     let did = c.in_ok-next.ensures in
-    let e : Exchange = record { assignment = record { round = c.replace-round.result; room = c.rounds.room }; report = c.hear-records.result } in
+    let e = exchange c.replace-round.result c.rounds.room c.hear-records.result in
     let before = standing (g.F.Files.outside c.rounds.files) c.rounds.reader c.rounds.under_way.round c.rounds.under_way.pending in
     let asks = asked_more known.exchanges e known.asked_are (c.hear-records.ensures.asked ∙ c.ask.ensures.asked) in
     let hears = heard_more known.exchanges e (c.ask.ensures.heard ∙ known.heard_are) c.hear-records.ensures.heard in

@@ -1,8 +1,7 @@
 use Rattle.std.specs.Prelude.{IsOk}
 use Rattle.lwaftr_engine.proofs.Words.{WentWell, rules, setup_of, sym, ◌∙◌, ◌∷◌}
-use Rattle.lwaftr_engine.specs.Beside.{Exchange}
 use Rattle.lwaftr_engine.proofs.Adding.{goes_on}
-use Rattle.lwaftr_engine.proofs.Besides.{as_many, asked_more, heard_more, if_ok, reached_more}
+use Rattle.lwaftr_engine.proofs.Besides.{as_many, asked_more, exchange, heard_more, if_ok, reached_more}
 use Rattle.lwaftr_engine.proofs.beside.judge_rounds.Goals as goal
 
 pub returns-then-not-went-clause-judged : goal.returns-then-not-went-clause-judged
@@ -10,10 +9,7 @@ returns-then-not-went-clause-judged g c =
     let known = c.rounds.invariant in
     let a = c.in-Some-take.assignment in
     let did = c.judge-judged in
-    let e : Exchange = record {
-      assignment = record { round = a.round; room = a.room };
-      report = record { records = a.round.records; made = did.new.made; judged = did.result };
-    } in
+    let e = exchange a.round a.room (record { records = a.round.records; made = did.new.made; judged = did.result }) in
     record {
       exchanges = e ∷ known.exchanges;
       took_are = asked_more known.exchanges e known.asked (c.answer.ensures.taken ∙ c.in-Some-take.ensures.some.0);
@@ -26,10 +22,7 @@ rounds-preserved g c =
     let known = c.rounds.invariant in
     let a = c.in-Some-take.assignment in
     let did = c.judge-judged in
-    let e : Exchange = record {
-      assignment = record { round = a.round; room = a.room };
-      report = record { records = a.round.records; made = did.new.made; judged = did.result };
-    } in
+    let e = exchange a.round a.room (record { records = a.round.records; made = did.new.made; judged = did.result }) in
     let is : IsOk did.result = search rules in
     let well : WentWell (setup_of c.args.task) c.rounds.router did.new.router a.round did.new.made = if_ok did.result is did.ensures.well in
     let took = asked_more known.exchanges e known.asked (c.answer.ensures.taken ∙ c.in-Some-take.ensures.some.0) in

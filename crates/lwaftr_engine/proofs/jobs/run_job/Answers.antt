@@ -19,7 +19,6 @@ returns g c =
     let f = g.F.Files in
     let o = g.O.Sink in
     let a = f.outside c.args.files.now in
-    let d = f.outside c.loads_in.new.files in
     let first = read_well _ _ _ _ c.in-Ok.ensures.reads in
     let run : MadeRun = record {
       one =
@@ -43,5 +42,5 @@ returns g c =
       loads = rw (c.as_slice.ensures, first) at c.in-Ok-loads_in.ensures.loads;
     } in
     let left = c.run_made.ensures in
-    keeps_run run d c.run_made.result c.run_made.new.history (read_all first c.in-Ok-loads_in.ensures.reads)
+    keeps_run run (f.outside c.loads_in.new.files) c.run_made.result c.run_made.new.history (read_all first c.in-Ok-loads_in.ensures.reads)
     left.left left.rest left.cause left.failed_read left.has_history

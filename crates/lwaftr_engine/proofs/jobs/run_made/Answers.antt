@@ -1,4 +1,4 @@
-use Rattle.lwaftr_engine.proofs.Words.{IsInHead, Reader, refl, world, read_well}
+use Rattle.lwaftr_engine.proofs.Words.{IsInHead, refl, world, read_well}
 use Rattle.lwaftr_engine.proofs.OpenLemmas.{opened_first}
 use Rattle.lwaftr_engine.proofs.ReadLemmas.{rest_unopened}
 use Rattle.lwaftr_engine.proofs.UnopenedLemmas.{by_name, is_short, unopened_leaves, history_by_error}
@@ -6,9 +6,8 @@ use Rattle.lwaftr_engine.proofs.jobs.run_made.Goals as goal
 
 pub run_opened-requires-clause-opened : goal.run_opened-requires-clause-opened
 run_opened-requires-clause-opened g c κs within =
-    let f = g.F.Files in
     let opened = c.in-Ok.ensures in
-    rw (opened.reads.held, c.form.ensures, c.written.ensures) (opened_first c.in-Ok.reader c.args.job.now.input (f.outside c.args.files.now).held
+    rw (opened.reads.held, c.form.ensures, c.written.ensures) (opened_first c.in-Ok.reader c.args.job.now.input (g.F.Files.outside c.args.files.now).held
     opened.fresh (rw c.as_str.ensures at opened.told))
 
 pub returns-in-Err-clause-left : goal.returns-in-Err-clause-left
@@ -24,7 +23,7 @@ returns-in-Err-clause-left g c =
     let name = c.as_str.result.now in
     let opened = c.in-Err.ensures in
     rw (c.unopened.ensures, c.requires.none) (unopened_leaves run c.args.made.plan c.args.made.slots error before now opened.reads.held refl
-    (is_short Reader name (IsInHead a.held name) a b error opened.reads)
+    (is_short name (IsInHead a.held name) a b error opened.reads)
     (by_name run a.held error a.last b.last (rw c.as_str.ensures at opened.told) (rw c.as_str.ensures at opened.reads.last)))
 
 pub returns-in-Ok-clause-left : goal.returns-in-Ok-clause-left
@@ -36,7 +35,7 @@ returns-in-Err-clause-rest g c =
     let f = g.F.Files in
     let a = f.outside c.args.files.now in
     let name = c.as_str.result.now in
-    rest_unopened c.args.job.now Reader name c.as_str.ensures (IsInHead a.held name) a (f.outside c.open.new.files) c.in-Err.error c.in-Err.ensures.reads
+    rest_unopened c.args.job.now name c.as_str.ensures (IsInHead a.held name) a (f.outside c.open.new.files) c.in-Err.error c.in-Err.ensures.reads
 
 pub returns-in-Ok-clause-rest : goal.returns-in-Ok-clause-rest
 returns-in-Ok-clause-rest g c = rw (← (read_well _ _ _ _ c.in-Ok.ensures.reads)) c.run_opened.ensures.rest

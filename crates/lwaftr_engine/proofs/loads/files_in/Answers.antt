@@ -5,7 +5,6 @@ use Rattle.lwaftr_engine.proofs.loads.files_in.Goals as goal
 
 pub files-preserved : goal.files-preserved
 files-preserved g c =
-    let f = g.F.Files in
     let ws = c.args.words.now in
     let there = slice_get_read ws (length ws) c.files.at c.index-words-at.result refl (omega (arith, c.files-test.true)) c.index-words-at.is in
     let items = c.files.read.items in
@@ -16,7 +15,7 @@ files-preserved g c =
     let text = rw c.files.invariant.outside at read.ensures.text in
     record {
       within = omega (arith, c.files-test.true);
-      texts = rw pushed (told_both (f.outside c.args.files.now).held _ _ _
+      texts = rw pushed (told_both (g.F.Files.outside c.args.files.now).held _ _ _
           (λ m first one. zipped_more (IsFileOf m) ws items at words read.file there first one) c.files.invariant.texts text);
       windows = rw pushed (zipped_more HasWindowOf ws items at words read.file there c.files.invariant.windows read.ensures.window);
       outside = read_well _ _ _ _ c.in_ok-file.ensures.reads ∙ c.files.invariant.outside;

@@ -1,11 +1,11 @@
-use Rattle.lwaftr_engine.proofs.Words.{◌≡◌, ◌+◌, ◌-◌, Err, ◌∙◌, ap, arith, err_from_is_err_and, has_failed, IsFitFor, IsLoadOf}
+use Rattle.lwaftr_engine.proofs.Words.{◌≡◌, ◌+◌, ◌-◌, ap, arith, has_failed, IsFitFor, IsLoadOf}
+use Rattle.lwaftr_engine.proofs.Exits.{handed}
 use Rattle.lwaftr_engine.proofs.LoadLemmas.{read_all, reads_within, zipped_on}
 use Rattle.lwaftr_engine.proofs.Moving.{told_both}
 use Rattle.lwaftr_engine.proofs.loads.loads_in.Goals as goal
 
 pub batches-preserved : goal.batches-preserved
 batches-preserved g c =
-    let f = g.F.Files in
     let ws = c.args.words.now in
     let at = c.batches.at in
     let count = c.min-count.result in
@@ -16,7 +16,7 @@ batches-preserved g c =
     let loads = rw (c.batches.invariant.outside, many) at batch.ensures.loads in
     record {
       within = omega (arith, c.batches.invariant.within, c.min-count.ensures);
-      loads = rw appended (told_both (f.outside c.args.files.now).held _ _ _
+      loads = rw appended (told_both (g.F.Files.outside c.args.files.now).held _ _ _
           (λ m first next. zipped_on (IsLoadOf m) ws items batch.batch.items at count first next) c.batches.invariant.loads loads);
       fit = rw appended (zipped_on IsFitFor ws items batch.batch.items at count c.batches.invariant.fit (rw many at batch.ensures.fit));
       outside = read_all c.batches.invariant.outside c.in_ok-batch.ensures.reads;
@@ -25,10 +25,9 @@ batches-preserved g c =
 pub returns-in_err-batch-clause-reads : goal.returns-in_err-batch-clause-reads
 returns-in_err-batch-clause-reads g c =
     let f = g.F.Files in
-    let ws = c.args.words.now in
     let at = c.batches.at in
     let a = f.outside c.args.files.now in
     let d = f.outside c.batch_in.new.files in
-    let e = err_from_is_err_and c.from_residual-in_err-batch.result c.from_residual-in_err-batch.ensures.1 in
-    rw (ap (λ r. has_failed r) (e.1 ∙ ap Err e.2)) (reads_within _ ws at (at + c.min-count.result - at) a (f.outside c.batches.files) d
+    let r = c.from_residual-in_err-batch in
+    rw (ap (λ r. has_failed r) (handed r.result r.ensures.1)) (reads_within _ c.args.words.now at (at + c.min-count.result - at) a (f.outside c.batches.files) d
     c.batches.invariant.outside c.in_err-batch.ensures.reads)

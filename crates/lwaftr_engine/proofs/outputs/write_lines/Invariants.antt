@@ -1,15 +1,9 @@
-use Rattle.lwaftr_engine.proofs.Words.{◌≡◌, ◌≤◌, ◌-◌, ◌++◌, length, take, Moves, Writes, content, lines_in}
+use Rattle.lwaftr_engine.proofs.Words.{length, ◌-◌}
+use Rattle.lwaftr_engine.proofs.WriteLemmas.{ArePut}
 use Rattle.lwaftr_engine.proofs.outputs.write_lines.Given as goal
 
 abbrev pub invariant-parts : goal.invariant-parts
-invariant-parts g l = let f = g.F.Files in record {
-  within : l.i ≤ length l.parts;
-  held : Moves (f.outside l.initial.files).held (f.outside l.files).held (λ m n. Writes m n l.name (content m l.name ++ lines_in (take l.i l.parts)));
-  faults : (f.outside l.files).faults ≡ (f.outside l.initial.files).faults;
-  lost : (f.outside l.files).lost ≡ (f.outside l.initial.files).lost;
-  spoiled : (f.outside l.files).spoiled ≡ (f.outside l.initial.files).spoiled;
-  last : (f.outside l.files).last ≡ (f.outside l.initial.files).last;
-}
+invariant-parts g l = let f = g.F.Files in ArePut (λ p. p.lines.items) l.name l.parts l.i (f.outside l.initial.files) (f.outside l.files)
 
 abbrev pub decreases-parts : goal.decreases-parts
 decreases-parts g l = length l.parts - l.i

@@ -9,13 +9,11 @@ use Rattle.lwaftr_engine.proofs.rounds.put_and_read.Goals as goal
 
 pub returns-in_err-put : goal.returns-in_err-put
 returns-in_err-put g c =
-    let f = g.F.Files in
-    let b = f.outside c.put.new.files in
     let wrote = c.in_err-put.ensures in
     record {
       well = not_ok _ c.from_residual.result c.from_residual.ensures.0;
       part = wrote.begun;
-      past = told_all b.held _ (λ m. inl wrote.writes.lost);
+      past = told_all (g.F.Files.outside c.put.new.files).held _ (λ m. inl wrote.writes.lost);
       rest = record { others = wrote.others; capture_read = inl (wrote.writes.lost, wrote.writes.last) };
       spoiled = search rules;
     }
@@ -23,8 +21,6 @@ returns-in_err-put g c =
 pub returns-in_err-round : goal.returns-in_err-round
 returns-in_err-round g c =
     let f = g.F.Files in
-    let x = setup_of c.args.task in
-    let a = f.outside c.args.files.now in
     let m = f.outside c.put.new.files in
     let b = f.outside c.read_next.new.files in
     let wrote = c.in_ok-put.ensures in
@@ -32,7 +28,7 @@ returns-in_err-round g c =
     let lost = read.lost ∙ wrote.writes.lost in
     record {
       well = not_ok _ c.from_residual-in_err-round.result c.from_residual-in_err-round.ensures.0;
-      part = fronts_of x.run (steps_of c.args.pending.now) a.held m.held b.held read.held wrote.wrote;
+      part = fronts_of (setup_of c.args.task).run (steps_of c.args.pending.now) (f.outside c.args.files.now).held m.held b.held read.held wrote.wrote;
       past = told_all b.held _ (λ m. inl lost);
       rest = record { others = rw read.held wrote.others; capture_read = inl (lost, read.last ∙ wrote.writes.last) };
       spoiled = search rules;

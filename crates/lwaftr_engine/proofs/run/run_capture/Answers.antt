@@ -1,33 +1,52 @@
-use Rattle.lwaftr_engine.proofs.Words.{Err, ap, err_from_is_err_and, inl, refl, setup_of, spot, state_of, stop_by, world, ◌∙◌, Areas, rules}
-use Rattle.lwaftr_engine.proofs.Capturing.{at_end, captured, ended_err, ends, finish_broken, none_done, one_rises, opened_run, opening_broken, rounds_broken}
-use Rattle.lwaftr_engine.proofs.Apart.{apart}
+use Rattle.lwaftr_engine.proofs.Words.{Areas, KeepsRest, Spot, World, ap, inl, refl, setup_of, spot, state_of, stop_by, world, ◌∙◌}
+use Rattle.lwaftr_engine.proofs.Capturing.{AtEnd, at_end, captured, ended_err, ends, finish_broken, none_done, one_rises, opened_run, opening_broken}
+use Rattle.lwaftr_engine.proofs.Capturing.{rounds_broken}
+use Rattle.lwaftr_engine.proofs.Exits.{handed}
 use Rattle.lwaftr_engine.proofs.ReadLemmas.{rest_after, rest_before}
 use Rattle.lwaftr_engine.proofs.EndLemmas.{points_at_end}
 use Rattle.lwaftr_engine.proofs.SummaryLemmas.{summed_up}
+use Rattle.lwaftr_engine.proofs.run.run_capture.Given.{Over}
 use Rattle.lwaftr_engine.proofs.run.run_capture.Goals as goal
+use Rattle.lwaftr_engine.proofs.run.run_capture.Goals.{After-finish}
 
-pub returns-clause-left : goal.returns-clause-left
-returns-clause-left g c =
-    let f = g.F.Files in
-    let o = g.O.Sink in
-    let k = g.C.CaptureReader in
-    let x = setup_of c.args.task in
-    let before = world (f.outside c.args.files.now) (o.out c.args.out.now) (o.faults c.args.out.now) in
-    let now = world (f.outside c.finish.new.files) (o.out c.finish.new.out) (o.faults c.finish.new.out) in
-    let first = spot (k.stands c.args.reader.now) (k.left c.args.reader.now) (k.at c.args.reader.now) in
+abbrev place : (g : Over) → g.row.C.Denot → Spot
+place g r = spot (g.C.CaptureReader.stands r) (g.C.CaptureReader.left r) (g.C.CaptureReader.at r)
+
+abbrev there : (g : Over) → g.row.F.Denot → g.row.O.Denot → World
+there g files out = world (g.F.Files.outside files) (g.O.Sink.out out) (g.O.Sink.faults out)
+
+-- the records have ended, and what is left is written or not
+abbrev end : (g : Over) → After-finish g → AtEnd
+end g c =
     let reader = c.run_records-taken.new.reader in
     let router = c.run_records-taken.new.router in
     let opening = c.in_ok-open_outputs.ensures in
     let taken = c.in_ok-ending.ensures in
     let closed = c.end_shift-closed.ensures router.progress in
-    let its_plan = ap (λ (w : Areas). w.plan) taken.areas ∙ c.in_ok-router.ensures.plan in
-    let run = opened_run c.run_laws.ensures x (apart x.run c.requires.apart) c.requires.errors c.args.plan first before
-    (f.outside c.open_outputs.new.files) opening.opened in
-    let end = at_end (captured run (state_of router) its_plan c.end_shift-closed.result closed now) (spot (k.stands reader) (k.left reader) (k.at reader))
-    (λ bytes number. c.some_left.ensures reader bytes number) c.in_ok-ending.ending (f.outside c.run_records-taken.new.files)
-    c.in_ok-finish.ensures.last (rw (← opening.writes.lost) (rw c.in_ok-finish.ensures.lost taken.reads.lost)) taken.after.drawn
-    (points_at_end c.run_laws.ensures.points closed taken.after taken.duty) taken.went in
-    ends end (rw (c.points.ensures.points ∙ closed.points) at c.in_ok-finish.ensures.finished)
+    let run = opened_run c.run_laws.ensures (setup_of c.args.task) c.requires.apart c.requires.errors c.args.plan (place g c.args.reader.now)
+    (there g c.args.files.now c.args.out.now) (g.F.Files.outside c.open_outputs.new.files) opening.opened in
+    at_end (captured run (state_of router) (ap (λ (w : Areas). w.plan) taken.areas ∙ c.in_ok-router.ensures.plan) c.end_shift-closed.result closed
+    (there g c.finish.new.files c.finish.new.out)) (place g reader) (λ bytes number. c.some_left.ensures reader bytes number) c.in_ok-ending.ending
+    (g.F.Files.outside c.run_records-taken.new.files) c.finish.ensures.last
+    (rw (← opening.writes.lost) (rw c.finish.ensures.lost taken.reads.lost)) taken.after.drawn
+    (points_at_end c.run_laws.ensures.points closed taken.after taken.duty) taken.went
+
+-- whether it is written or not, other names are kept, and which reads failed is known
+rest : (g : Over) (c : After-finish g) → KeepsRest (setup_of c.args.task).run (g.F.Files.outside c.args.files.now) (g.F.Files.outside c.finish.new.files)
+rest g c =
+    let f = g.F.Files in
+    let run = (setup_of c.args.task).run in
+    let m = f.outside c.open_outputs.new.files in
+    let b = f.outside c.finish.new.files in
+    let opening = c.in_ok-open_outputs.ensures in
+    let last = c.finish.ensures in
+    rest_after run (f.outside c.args.files.now) m b opening.others opening.writes.lost opening.writes.last
+    (rest_before run m (f.outside c.run_records-taken.new.files) b c.in_ok-ending.ensures.rest last.others last.lost last.last)
+
+pub returns-clause-left : goal.returns-clause-left
+returns-clause-left g c =
+    let closed = c.end_shift-closed.ensures c.run_records-taken.new.router.progress in
+    ends (end g (goal.at.returns-clause-left g c).After-finish) (rw (c.points.ensures.points ∙ closed.points) at c.in_ok-finish.ensures.finished)
 
 pub returns-clause-history : goal.returns-clause-history
 returns-clause-history g c =
@@ -50,108 +69,65 @@ returns-in_err-ending-clause-rest g c =
     opening.others opening.writes.lost opening.writes.last c.in_err-ending.ensures.rest
 
 pub returns-in_err-finish-clause-rest : goal.returns-in_err-finish-clause-rest
-returns-in_err-finish-clause-rest g c =
-    let f = g.F.Files in
-    let run = (setup_of c.args.task).run in
-    let m = f.outside c.open_outputs.new.files in
-    let b = f.outside c.finish.new.files in
-    let opening = c.in_ok-open_outputs.ensures in
-    let end = c.in_err-finish.ensures in
-    let rest = rest_before run m (f.outside c.run_records-taken.new.files) b c.in_ok-ending.ensures.rest end.others end.lost end.last in
-    rest_after run (f.outside c.args.files.now) m b opening.others opening.writes.lost opening.writes.last rest
+returns-in_err-finish-clause-rest g c = rest g (goal.at.returns-in_err-finish-clause-rest g c).After-finish
 
 pub returns-clause-rest : goal.returns-clause-rest
-returns-clause-rest g c =
-    let f = g.F.Files in
-    let run = (setup_of c.args.task).run in
-    let m = f.outside c.open_outputs.new.files in
-    let b = f.outside c.finish.new.files in
-    let opening = c.in_ok-open_outputs.ensures in
-    let end = c.in_ok-finish.ensures in
-    let rest = rest_before run m (f.outside c.run_records-taken.new.files) b c.in_ok-ending.ensures.rest end.others end.lost end.last in
-    rest_after run (f.outside c.args.files.now) m b opening.others opening.writes.lost opening.writes.last rest
+returns-clause-rest g c = rest g (goal.at.returns-clause-rest g c).After-finish
 
 pub returns-in_err-room-clause-left : goal.returns-in_err-room-clause-left
 returns-in_err-room-clause-left g c =
-    let f = g.F.Files in
-    let o = g.O.Sink in
-    let k = g.C.CaptureReader in
-    let w = world (f.outside c.args.files.now) (o.out c.args.out.now) (o.faults c.args.out.now) in
-    let first = spot (k.stands c.args.reader.now) (k.left c.args.reader.now) (k.at c.args.reader.now) in
-    let e = err_from_is_err_and c.from_residual-in_err-room.result c.from_residual-in_err-room.ensures.1 in
-    none_done (setup_of c.args.task) c.args.plan first c.from_residual-in_err-room.result e.0 w c.args.history.now e.1 e.2 c.requires.none
+    let r = c.from_residual-in_err-room in
+    none_done (setup_of c.args.task) c.args.plan (place g c.args.reader.now) r.result (there g c.args.files.now c.args.out.now) c.args.history.now
+    (handed r.result r.ensures.1) c.requires.none
 
 pub returns-in_err-open_outputs-clause-writing : goal.returns-in_err-open_outputs-clause-writing
 returns-in_err-open_outputs-clause-writing g c =
-    let e = err_from_is_err_and c.from_residual-in_err-open_outputs.result c.from_residual-in_err-open_outputs.ensures.1 in
-    rw (e.1 ∙ ap Err e.2) (one_rises c.in_err-open_outputs.field-0.0 _ _ _ c.in_err-open_outputs.ensures.writes.spoiled)
+    let r = c.from_residual-in_err-open_outputs in
+    rw (handed r.result r.ensures.1) (one_rises c.in_err-open_outputs.field-0.0 _ _ _ c.in_err-open_outputs.ensures.writes.spoiled)
 
 pub returns-in_err-ending-clause-writing : goal.returns-in_err-ending-clause-writing
 returns-in_err-ending-clause-writing g c =
-    let opening = c.in_ok-open_outputs.ensures in
-    let e = err_from_is_err_and c.from_residual-in_err-ending.result c.from_residual-in_err-ending.ensures.1 in
-    rw (e.1 ∙ ap Err e.2) (one_rises c.in_err-ending.field-0.0 _ _ _ (rw opening.writes.spoiled at c.in_err-ending.ensures.spoiled))
+    let r = c.from_residual-in_err-ending in
+    rw (handed r.result r.ensures.1) (one_rises c.in_err-ending.field-0.0 _ _ _
+    (rw c.in_ok-open_outputs.ensures.writes.spoiled at c.in_err-ending.ensures.spoiled))
 
 pub returns-in_err-open_outputs-clause-left : goal.returns-in_err-open_outputs-clause-left
 returns-in_err-open_outputs-clause-left g c =
-    let f = g.F.Files in
-    let o = g.O.Sink in
-    let k = g.C.CaptureReader in
     let x = setup_of c.args.task in
-    let before = world (f.outside c.args.files.now) (o.out c.args.out.now) (o.faults c.args.out.now) in
-    let now = world (f.outside c.open_outputs.new.files) (o.out c.args.out.now) (o.faults c.args.out.now) in
-    let first = spot (k.stands c.args.reader.now) (k.left c.args.reader.now) (k.at c.args.reader.now) in
+    let before = there g c.args.files.now c.args.out.now in
+    let now = there g c.open_outputs.new.files c.args.out.now in
+    let first = place g c.args.reader.now in
     let why = c.in_err-open_outputs.field-0.0 in
     let broke = c.in_err-open_outputs.ensures in
-    let e = err_from_is_err_and c.from_residual-in_err-open_outputs.result c.from_residual-in_err-open_outputs.ensures.1 in
-    ended_err x c.args.plan first c.from_residual-in_err-open_outputs.result why before now c.args.history.now (e.1 ∙ ap Err e.2) c.requires.none
+    let r = c.from_residual-in_err-open_outputs in
+    ended_err x c.args.plan first r.result why before now c.args.history.now (handed r.result r.ensures.1) c.requires.none
     (opening_broken c.run_laws.ensures x c.args.plan c.len.ensures.rules c.requires.errors first
     (λ bytes number. c.some_left.ensures c.args.reader.now bytes number)
     (stop_by why before now) (broke.writes.spoiled, refl) broke.writes.lost broke.half)
 
 pub returns-in_err-ending-clause-left : goal.returns-in_err-ending-clause-left
 returns-in_err-ending-clause-left g c =
-    let f = g.F.Files in
-    let o = g.O.Sink in
-    let k = g.C.CaptureReader in
     let x = setup_of c.args.task in
-    let before = world (f.outside c.args.files.now) (o.out c.args.out.now) (o.faults c.args.out.now) in
-    let now = world (f.outside c.run_records-taken.new.files) (o.out c.args.out.now) (o.faults c.args.out.now) in
-    let first = spot (k.stands c.args.reader.now) (k.left c.args.reader.now) (k.at c.args.reader.now) in
+    let before = there g c.args.files.now c.args.out.now in
+    let now = there g c.run_records-taken.new.files c.args.out.now in
+    let first = place g c.args.reader.now in
     let router = c.run_records-taken.new.router in
     let opening = c.in_ok-open_outputs.ensures in
     let why = c.in_err-ending.field-0.0 in
     let broke = c.in_err-ending.ensures in
-    let e = err_from_is_err_and c.from_residual-in_err-ending.result c.from_residual-in_err-ending.ensures.1 in
-    let its_plan = ap (λ (w : Areas). w.plan) broke.areas ∙ c.in_ok-router.ensures.plan in
-    let run = opened_run c.run_laws.ensures x (apart x.run c.requires.apart) c.requires.errors c.args.plan first before
-    (f.outside c.open_outputs.new.files) opening.opened in
-    let r = captured run (state_of router) its_plan c.end_shift-closed.result (c.end_shift-closed.ensures router.progress) now in
-    ended_err x c.args.plan first c.from_residual-in_err-ending.result why before now c.args.history.now (e.1 ∙ ap Err e.2) c.requires.none
-    (rounds_broken r why (rw opening.writes.spoiled at broke.spoiled, refl) opening.writes.lost broke.broken)
+    let r = c.from_residual-in_err-ending in
+    let run = opened_run c.run_laws.ensures x c.requires.apart c.requires.errors c.args.plan first before
+    (g.F.Files.outside c.open_outputs.new.files) opening.opened in
+    ended_err x c.args.plan first r.result why before now c.args.history.now (handed r.result r.ensures.1) c.requires.none
+    (rounds_broken (captured run (state_of router) (ap (λ (w : Areas). w.plan) broke.areas ∙ c.in_ok-router.ensures.plan) c.end_shift-closed.result
+    (c.end_shift-closed.ensures router.progress) now) why (rw opening.writes.spoiled at broke.spoiled, refl) opening.writes.lost broke.broken)
 
 pub returns-in_err-finish-clause-left : goal.returns-in_err-finish-clause-left
 returns-in_err-finish-clause-left g c =
-    let f = g.F.Files in
-    let o = g.O.Sink in
-    let k = g.C.CaptureReader in
-    let x = setup_of c.args.task in
-    let before = world (f.outside c.args.files.now) (o.out c.args.out.now) (o.faults c.args.out.now) in
-    let now = world (f.outside c.finish.new.files) (o.out c.finish.new.out) (o.faults c.finish.new.out) in
-    let first = spot (k.stands c.args.reader.now) (k.left c.args.reader.now) (k.at c.args.reader.now) in
-    let reader = c.run_records-taken.new.reader in
-    let router = c.run_records-taken.new.router in
-    let opening = c.in_ok-open_outputs.ensures in
-    let taken = c.in_ok-ending.ensures in
     let why = c.in_err-finish.field-0.0 in
-    let e = err_from_is_err_and c.from_residual-in_err-finish.result c.from_residual-in_err-finish.ensures.1 in
-    let closed = c.end_shift-closed.ensures router.progress in
-    let its_plan = ap (λ (w : Areas). w.plan) taken.areas ∙ c.in_ok-router.ensures.plan in
-    let run = opened_run c.run_laws.ensures x (apart x.run c.requires.apart) c.requires.errors c.args.plan first before
-    (f.outside c.open_outputs.new.files) opening.opened in
-    let end = at_end (captured run (state_of router) its_plan c.end_shift-closed.result closed now) (spot (k.stands reader) (k.left reader) (k.at reader))
-    (λ bytes number. c.some_left.ensures reader bytes number) c.in_ok-ending.ending (f.outside c.run_records-taken.new.files)
-    c.in_err-finish.ensures.last (rw (← opening.writes.lost) (rw c.in_err-finish.ensures.lost taken.reads.lost)) taken.after.drawn
-    (points_at_end c.run_laws.ensures.points closed taken.after taken.duty) taken.went in
-    ended_err x c.args.plan first c.from_residual-in_err-finish.result why before now c.args.history.now (e.1 ∙ ap Err e.2) c.requires.none
-    (finish_broken end why (rw (c.points.ensures.points ∙ closed.points, taken.spoiled ∙ opening.writes.spoiled) at c.in_err-finish.ensures.cut))
+    let r = c.from_residual-in_err-finish in
+    let closed = c.end_shift-closed.ensures c.run_records-taken.new.router.progress in
+    ended_err (setup_of c.args.task) c.args.plan (place g c.args.reader.now) r.result why (there g c.args.files.now c.args.out.now)
+    (there g c.finish.new.files c.finish.new.out) c.args.history.now (handed r.result r.ensures.1) c.requires.none
+    (finish_broken (end g (goal.at.returns-in_err-finish-clause-left g c).After-finish) why
+    (rw (c.points.ensures.points ∙ closed.points, c.in_ok-ending.ensures.spoiled ∙ c.in_ok-open_outputs.ensures.writes.spoiled) at c.in_err-finish.ensures.cut))
