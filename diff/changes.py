@@ -204,14 +204,6 @@ def found(program, number, words):
     return None, ""
 
 
-def place_of(change):
-    """File and line of a change."""
-    path, old, _ = edit_of(change)
-    with open(os.path.join(TOP, path), encoding="utf-8") as file:
-        text = file.read()
-    return f"{path.split('/', 2)[2]}, {text[: text.index(old)].count(chr(10)) + 1}"
-
-
 def main():
     it = argparse.ArgumentParser(description=__doc__, formatter_class=argparse.RawDescriptionHelpFormatter)
     it.add_argument("changes", nargs="*", default=CHANGES)
@@ -224,13 +216,13 @@ def main():
         if not os.path.exists(program):
             build(folder, program)
         missed = 0
-        print("| crate | change | file, line | jobs | what differed |\n|---|---|---|---|---|", flush=True)
+        print("| crate | change | file | jobs | what differed |\n|---|---|---|---|---|", flush=True)
         for change in words.changes:
             number = CHANGES.index(change)
             count, what = found(program, number, words)
             missed += (count is None) == (number > 0)
             crate, _, name = change.rpartition("/")
-            row = f"| {crate} | {name.replace('_', ' ')} | {place_of(change) if number else ''} |"
+            row = f"| {crate} | {name.replace('_', ' ')} | {edit_of(change)[0].split('/', 2)[2] if number else ''} |"
             print(row, f"{count or f'none of {words.jobs}'} | {what} |", flush=True)
     sys.exit(1 if missed else 0)
 
