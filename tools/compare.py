@@ -1,9 +1,10 @@
 #!/usr/bin/env python3
 """Compares the packets of this router's OUT with those that another router sent for the same input.
 
-The two captures may have any link types, and their packets may stand in another order within a window. It names the packets of OURS
-that are missing in THEIRS, those of THEIRS that are not in OURS, and those that differ, with the fields that do; with
-`--verdicts` each with its record's number and line: OURS is then read twice, so it is no pipe. Exit code 0 where nothing differs, 1
+The two captures may have unlike link types, of these: 1 (Ethernet), 12, 14, 101, 228, 229 (plain IP), 0, 108 (loopback), 113 and 276 (Linux
+cooked). What stands in a frame behind the end of its packet is not compared, and the packets may stand in another order within a window. It
+names the packets of OURS that are missing in THEIRS, those of THEIRS that are not in OURS, and those that differ, with the fields that do;
+with `--verdicts` each with its record's number and line: OURS is then read twice, so it is no pipe. Exit code 0 where nothing differs, 1
 where something does, 2 where a word is not understood, a file cannot be read, or VERDICTS tells of another number of packets than OURS has.
 
 Fields: version, length, tos, id, flags, offset, ttl, checksum, source, destination, options, protocol, label, fragment (the place of an IPv6
@@ -25,8 +26,11 @@ FIELDS = (
 )
 # what some words of --ignore stand for
 ALSO = {
+    "id": ("id", "checksum"),
+    "in-id": ("in-id", "in-checksum"),
     "ip-id": ("id", "in-id", "checksum", "in-checksum"),
     "flow-label": ("label",),
+    "in-ttl": ("in-ttl", "in-checksum"),
     "ttl": ("ttl", "in-ttl", "checksum", "in-checksum"),
     "ttl-outer": ("ttl-outer",),
 }
@@ -211,12 +215,20 @@ def settle(ours, theirs, names, report):
             every = list(dict.fromkeys([*mine.found, *other.found]))
             apart = [it for it in every if mine.found.get(it) != other.found.get(it) and not is_ignored(it, names, mine.found)]
             said = ", ".join(f"{it} {shown(it, mine.found.get(it))} here, {shown(it, other.found.get(it))} there" for it in apart)
-            report.say("differs", f"{place(mine)} and their packet {other.number}: {said}")
+            report.say("differs", f"{place(mine)} and their packet {other.number}: {said or 'bytes that no field names'}")
         ours = left
     for mine in ours:
         report.say("missing there", f"{place(mine)}: {told(mine)}")
     for other in theirs.values():
         report.say("not ours", f"their packet {other.number}: {told(other)}")
+
+
+def packet_of(record, path):
+    """The bytes of a record's packet, or None where its frame holds none."""
+    if record.link not in packets.LINKS:
+        raise captures.CaptureError(f"{path}: link type {record.link} is not read")
+    data = packets.strip(record.link, record.bytes)
+    return None if data is None else packets.unpadded(data)
 
 
 def compare(words):
@@ -233,7 +245,7 @@ def compare(words):
             if record is None:
                 streams[at] = None
                 continue
-            data = packets.strip(record.link, record.bytes)
+            data = packet_of(record, (words.ours, words.theirs)[at])
             if data is None:
                 continue
             line = next(told_lines, "") if told_lines and at == 0 else ""

@@ -515,6 +515,51 @@ class Comparing(Folder):
         code, out, _ = self.compared(names, sent, "--ignore", "ip-id,flow-label,ttl-outer")
         self.assertEqual((code, out.split(": ")[1][:11]), (0, "40 the same"))
 
+    def test_an_ignored_field_leaves_out_its_checksum(self):
+        names = self.a_run(2)
+        for word, change in (("id", {"number": 2}), ("ttl", {"ttl": 9}), ("id,ttl", {"number": 2, "ttl": 9})):
+            mine, other = (ip4(FAR, SHARED, 17, udp(53, 1232), **it) for it in ({}, change))
+            inside = ",".join(f"in-{it}" for it in word.split(","))
+            for fields, front in ((word, b""), (inside, ip6(AFTR, B4, 4, mine)[:40])):
+                with self.subTest(fields=fields):
+                    captures.write(names[1], [(0, front + mine)])
+                    captures.write(self.file("theirs.pcap"), [(0, front + other)])
+                    code, out, _ = ran("compare.py", names[1], self.file("theirs.pcap"), "--ignore", fields)
+                    self.assertEqual((code, out.split(": ")[1][:10]), (0, "1 the same"), out)
+
+    def test_frames_that_are_filled_up(self):
+        names = self.a_run(40)
+        with open(self.file("frames.pcap"), "wb") as file:
+            file.write(struct.pack("<IHHiIII", 0xA1B2C3D4, 2, 4, 0, 0, 262144, 1))
+            for it in captures.records(names[1]):
+                frame = b"\2" * 12 + (b"\x86\xdd" if it.bytes[0] >> 4 == 6 else b"\x08\0") + it.bytes
+                frame += b"\0" * (60 - len(frame)) + b"last"
+                file.write(struct.pack("<IIII", 0, 0, len(frame), len(frame)) + frame)
+        code, out, _ = ran("compare.py", names[1], self.file("frames.pcap"))
+        self.assertEqual((code, out.split(": ")[1][:11]), (0, "40 the same"), out)
+
+    def test_a_length_that_is_none_leaves_the_packet_whole(self):
+        for data in (b"", b"\x45\0\0\x13" + b"x" * 20, b"\x60" + b"x" * 20, b"\x45\0\0\x40" + b"x" * 20):
+            self.assertEqual(packets.unpadded(data), data)
+
+    def test_bytes_that_no_field_names(self):
+        ours, theirs = self.file("ours.pcap"), self.file("theirs.pcap")
+        piece = ip6(AFTR, B4, 44, struct.pack("!BBHI", 4, 0, 1, 7) + b"x" * 16)
+        captures.write(ours, [(0, piece)])
+        captures.write(theirs, [(0, piece[:41] + b"\1" + piece[42:])])
+        code, out, _ = ran("compare.py", ours, theirs)
+        self.assertEqual((code, out.splitlines()[0]), (1, "differs: packet 0 and their packet 0: bytes that no field names"))
+
+    def test_a_link_type_that_is_not_read(self):
+        names = self.a_run(4)
+        with open(names[1], "rb") as file:
+            ours = file.read()
+        for link in (9, 105, 127, 0x14000001):
+            with open(self.file("other.pcap"), "wb") as file:
+                file.write(ours[:20] + struct.pack("<I", link) + ours[24:])
+            code, out, error = ran("compare.py", names[1], self.file("other.pcap"))
+            self.assertEqual((code, out, error), (2, "", f"compare.py: {self.file('other.pcap')}: link type {link} is not read\n"))
+
     def test_unknown_fields(self):
         names = self.a_run(4)
         for word in ("ip_id", "in-label,hops", ""):

@@ -12,6 +12,8 @@ ECHOES = (0, 8)
 # the ICMPv6 errors: destination unreachable, packet too big, time exceeded, parameter problem (RFC 4443, section 2.1)
 ERRORS6 = (1, 2, 3, 4)
 BROADCAST = ipaddress.IPv4Address("255.255.255.255")
+# the link types that `strip` reads
+LINKS = (0, 1, 12, 14, 101, 108, 113, 228, 229, 276)
 
 
 def strip(link, data):
@@ -32,6 +34,14 @@ def strip(link, data):
     if link in (0, 108):
         return data[4:]
     return None
+
+
+def unpadded(data):
+    """An IP packet without what stands behind its end, as the bytes that fill up a short frame; all of it where it says less than 20 bytes."""
+    if len(data) >= 40 and data[0] >> 4 == 6:
+        return data[: 40 + (data[4] << 8 | data[5])]
+    said = data[2] << 8 | data[3] if len(data) >= 20 and data[0] >> 4 == 4 else 0
+    return data[:said] if said >= 20 else data
 
 
 @dataclasses.dataclass
