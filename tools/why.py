@@ -16,9 +16,6 @@ import tempfile
 
 from lwaftr_tools import captures, fragments, packets, rules, tables, verdicts
 
-TOP = os.path.dirname(os.path.dirname(os.path.abspath(__file__)))
-PROGRAM = os.environ.get("LWAFTR") or next((it for it in (f"{TOP}/lwaftr", "/usr/bin/lwaftr") if os.path.exists(it)), "lwaftr")
-
 
 def fail(text):
     print(f"why.py: {text}", file=sys.stderr)
@@ -30,7 +27,7 @@ def verdicts_of(capture, table):
     """The path of VERDICTS of a run of the program."""
     with tempfile.TemporaryDirectory() as folder:
         words = ["run", os.path.abspath(capture), f"{folder}/out", f"{folder}/verdicts", f"{folder}/versions", os.path.abspath(table)]
-        ran = subprocess.run([PROGRAM, *words], capture_output=True, text=True)
+        ran = subprocess.run([tables.PROGRAM, *words], capture_output=True, text=True)
         if not os.path.exists(f"{folder}/verdicts"):
             fail(ran.stderr.strip() or f"the program ended with {ran.returncode}")
         yield f"{folder}/verdicts"

@@ -1,8 +1,14 @@
-"""Binding tables: read from TOML, asked who owns a port, and written as `lwaftr migrate` writes them."""
+"""Binding tables: read as the program reads them, asked who owns a port, and written as TOML."""
 import collections
 import dataclasses
 import ipaddress
+import os
+import subprocess
+import tempfile
 import tomllib
+
+TOP = os.path.dirname(os.path.dirname(os.path.dirname(os.path.abspath(__file__))))
+PROGRAM = os.environ.get("LWAFTR") or next((it for it in (f"{TOP}/lwaftr", "/usr/bin/lwaftr") if os.path.exists(it)), "lwaftr")
 
 
 class TableError(Exception):
@@ -61,29 +67,34 @@ class Table:
 
 
 def read(path):
-    """The table of a file that `lwaftr check` takes; other files are refused with the reason at hand."""
+    """The table of a file; the program judges it, and of one that it refuses the error has what it says."""
     try:
-        with open(path, "rb") as file:
-            tree = tomllib.load(file)
-        keys = tree["softwire"]
-        softwire = Softwire(
-            ipaddress.IPv6Address(keys["aftr"]),
-            ipaddress.IPv4Address(keys["own"]),
-            **{it.name: keys[it.name] for it in dataclasses.fields(Softwire)[2:] if it.name in keys},
-        )
-        bindings = [
-            Binding(
-                ipaddress.IPv6Address(it["b4"]),
-                ipaddress.IPv4Address(it["ipv4"]),
-                it.get("offset", 0),
-                it.get("length", 0),
-                it.get("psid", 0),
-            )
-            for it in tree.get("binding", [])
-        ]
-        return Table(softwire, bindings, tree["version"])
-    except (OSError, KeyError, TypeError, ValueError) as error:
-        raise TableError(f"{path}: no table that this tool can read ({type(error).__name__}: {error}); `lwaftr check` says more") from None
+        with tempfile.TemporaryDirectory() as folder:
+            tree = migrated(path, f"{folder}/table.toml")
+    except OSError as error:
+        raise TableError(str(error)) from None
+    keys = tree["softwire"]
+    softwire = Softwire(
+        ipaddress.IPv6Address(keys["aftr"]),
+        ipaddress.IPv4Address(keys["own"]),
+        **{it.name: keys[it.name] for it in dataclasses.fields(Softwire)[2:]},
+    )
+    bindings = [
+        Binding(ipaddress.IPv6Address(it["b4"]), ipaddress.IPv4Address(it["ipv4"]), it["offset"], it["length"], it["psid"])
+        for it in tree["binding"]
+    ]
+    return Table(softwire, bindings, tree["version"])
+
+
+def migrated(path, made):
+    """The document that `lwaftr migrate` makes of a table, with every key of each binding and of the settings."""
+    words = [PROGRAM, "migrate", "--", os.path.abspath(path), made]
+    # a table may come by a pipe that the shell has opened
+    ran = subprocess.run(words, capture_output=True, encoding="utf-8", errors="replace", close_fds=False)
+    if ran.returncode:
+        raise TableError(ran.stderr.strip() or f"{path}: the program ended with {ran.returncode}")
+    with open(made, "rb") as file:
+        return tomllib.load(file)
 
 
 def text(table):
