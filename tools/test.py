@@ -476,6 +476,39 @@ class Explaining(Folder):
             self.assertEqual((code, len(re.findall("(?m)^(?!  )", error.strip())), error[:8]), (2, 1, "why.py: "), words)
             self.assertIn(words[-1] if len(words) > 2 else none, error)
 
+    def test_a_capture_that_the_program_refuses(self):
+        names = self.run_program([ip4(FAR, SHARED, 17, udp(53, 1232))], a_table())
+        with open(names[0], "rb") as file:
+            text = file.read()
+        for wrong, code, said in ((text[:20] + struct.pack("<I", 113) + text[24:], 2, "link 113"), (text + b"cut", 0, "cut header")):
+            with open(names[0], "wb") as file:
+                file.write(wrong)
+            found = ran("why.py", names[0], names[4], 0)
+            self.assertEqual(found[0], code, found[2])
+            self.assertIn(f"why.py: capture refused: {said}", found[2])
+            self.assertEqual("sent into the tunnel" in found[1], code == 0, found[1])
+        # a record of another link type behind the first
+        block = lambda kind, body: struct.pack("<II", kind, 12 + len(body)) + body + struct.pack("<I", 12 + len(body))  # noqa: E731
+        link = lambda number: block(1, struct.pack("<HHI", number, 0, 0))  # noqa: E731
+        with open(names[0], "wb") as file:
+            file.write(block(0x0A0D0D0A, struct.pack("<IHHq", 0x1A2B3C4D, 1, 0, -1)) + link(101) + link(1) + block(6, struct.pack("<IIIII", 0, 0, 0, 0, 0)))
+        code, out, error = ran("why.py", names[0], names[4], 0)
+        self.assertEqual((code, out), (2, ""))
+        self.assertIn("why.py: capture refused: ng mixed-links 48\n", error)
+        self.assertEqual(error.splitlines()[-1], "why.py: the run has no line of record 0")
+
+    def test_pipes(self):
+        names = self.run_program([ip4(FAR, SHARED, 17, udp(53, 1232))], a_table())
+        pipe = "/dev/stdin"
+        for words, file, code in (
+            ((pipe, names[4], 0), 0, 2), ((names[0], pipe, 0), 4, 2), ((pipe, names[4], 0, "--verdicts", names[2]), 0, 2),
+            ((names[0], pipe, 0, "--verdicts", names[2]), 4, 0), ((names[0], names[4], 0, "--verdicts", pipe), 2, 2),
+        ):
+            with open(names[file], "rb") as data:
+                it = subprocess.run([sys.executable, os.path.join(HERE, "why.py"), *map(str, words)], input=data.read(), capture_output=True)
+            said = b"why.py: /dev/stdin is no plain file: it is to be read more than once\n" if code else b""
+            self.assertEqual((it.returncode, it.stderr), (code, said), words)
+
     def test_what_is_wrong_with_a_message(self):
         quote = ip4(SHARED, FAR, 17, udp(1232, 53))
         bad_quote = quote[:10] + b"\0\0" + quote[12:]

@@ -6,7 +6,8 @@ causes of its rule it is. N counts from 0, as VERDICTS does; tcpdump and Wiresha
 
 With VERDICTS of a run the line is taken from there; without it the program is run over the capture under TABLE alone, into a folder
 that goes again. What is said of owners and causes is by TABLE: with several tables in a run, give the one that the line's second number
-names. Of a fragment that makes a datagram whole the verdict is the datagram's, which is put together of the records before it."""
+names. Of a fragment that makes a datagram whole the verdict is the datagram's, which is put together of the records before it. IN and
+VERDICTS are read more than once, so they are no pipes; nor is TABLE without VERDICTS."""
 import argparse
 import contextlib
 import os
@@ -27,18 +28,20 @@ def verdicts_of(capture, table):
     """The path of VERDICTS of a run of the program."""
     with tempfile.TemporaryDirectory() as folder:
         words = ["run", os.path.abspath(capture), f"{folder}/out", f"{folder}/verdicts", f"{folder}/versions", os.path.abspath(table)]
-        ran = subprocess.run([tables.PROGRAM, *words], capture_output=True, text=True)
+        ran = subprocess.run([tables.PROGRAM, *words], capture_output=True, encoding="utf-8", errors="replace")
+        if ran.returncode:
+            print(f"why.py: {ran.stderr.strip() or f'the program ended with {ran.returncode}'}", file=sys.stderr)
         if not os.path.exists(f"{folder}/verdicts"):
-            fail(ran.stderr.strip() or f"the program ended with {ran.returncode}")
+            sys.exit(2)
         yield f"{folder}/verdicts"
 
 
-def line_of(path, number):
-    """The words of a record's line in VERDICTS."""
+def line_of(path, number, name):
+    """The words of a record's line in VERDICTS, which are called by their name where it is not there."""
     for words in verdicts.of_records(path):
         if words[0] == str(number):
             return words
-    fail(f"{path} has no line of record {number}")
+    fail(f"{name} has no line of record {number}")
 
 
 def record_of(capture, number):
@@ -139,7 +142,7 @@ def cause_of(words, table, whole):
 
 def explain(table, record, words, path):
     """Prints what is said of a record: the table, the record, the words of the command, the path of VERDICTS."""
-    line, packet = line_of(path, record.number), packets.of_record(record)
+    line, packet = line_of(path, record.number, words.verdicts or "the run"), packets.of_record(record)
     said = [f"record {record.number} (packet {record.number + 1} of tcpdump): {len(record.bytes)} bytes"]
     said += further(headers(packet)) if packet else []
     whole = None if verdicts.outcome(line) in ALONE else whole_of(words.input, path, record)
@@ -161,6 +164,9 @@ def main():
     it.add_argument("number", metavar="N", type=int)
     it.add_argument("--verdicts", metavar="VERDICTS", help="VERDICTS of a run over IN")
     words = it.parse_args()
+    for path in (words.input, words.verdicts or words.table):
+        if os.path.exists(path) and not os.path.isfile(path):
+            fail(f"{path} is no plain file: it is to be read more than once")
     try:
         table, record = tables.read(words.table), record_of(words.input, words.number)
         with contextlib.nullcontext(words.verdicts) if words.verdicts else verdicts_of(words.input, words.table) as path:
