@@ -13,12 +13,15 @@ import base64
 import collections
 import html
 import io
+import re
 import sys
 
 from lwaftr_tools import captures, packets, tables, verdicts
 
 PARTS = 240
 MOST_NAMES = 65536
+# a line of VERSIONS
+VERSION = re.compile(r"(\d+|-) .+ (initial|at \d+|refused .+|not-reached)")
 
 
 class Course:
@@ -115,8 +118,7 @@ def read(words):
             continue
         record = next(records, None)
         if record is None:
-            records = None
-            continue
+            raise verdicts.VerdictsError(f"{words.verdicts} has more lines of records than {words.input} has records ({report.records - 1})")
         if report.first_time is None:
             report.first_time = record.time
         place = max(0, record.time - report.first_time) // 1_000_000
@@ -133,8 +135,13 @@ def share(count, of):
 
 
 def versions(path):
-    with open(path, encoding="utf-8", errors="replace") as file:
-        return [line.rstrip("\n") for line in file]
+    """The lines of VERSIONS."""
+    with open(path, encoding="utf-8", errors="replace", newline="\n") as file:
+        lines = [line.rstrip("\n") for line in file]
+    for number, line in enumerate(lines, 1):
+        if not VERSION.fullmatch(line):
+            raise verdicts.VerdictsError(f"{path}:{number}: this is no line of VERSIONS; a capture is given by --in")
+    return lines
 
 
 def text(report, versions_lines, count):
@@ -236,8 +243,8 @@ def main():
     if words.html or words.png:
         want_pictures()
     try:
-        report = read(words)
         lines = versions(words.versions) if words.versions else []
+        report = read(words)
         sys.stdout.write(text(report, lines, words.most))
         if words.html:
             put(words.html, page(report, lines, words.most, words.verdicts).encode("utf-8"))

@@ -696,6 +696,24 @@ class Reporting(Folder):
             self.assertEqual(code, 1)
             self.assertIn(f"{wrong}:1: this is no line of VERDICTS", error)
 
+    def test_a_file_that_is_no_versions(self):
+        names = self.run_program([ip4(FAR, SHARED, 17, udp(53, 1232))], a_table())
+        for wrong in (names[0], names[2], names[4], self.file("blank", "\n")):
+            code, out, error = ran("report.py", names[2], wrong)
+            self.assertEqual((code, out), (1, ""))
+            self.assertEqual(error, f"report.py: {wrong}:1: this is no line of VERSIONS; a capture is given by --in\n")
+        lines = ["0 a table.toml initial", "- b.toml refused rules psid 0", "1 c.toml at 12", "- d.toml not-reached"]
+        code, out, error = ran("report.py", names[2], self.file("four", "\n".join([*lines, ""])))
+        self.assertEqual(code, 0, error)
+        self.assertEqual(out.split("Tables\n")[1], "".join(f"  {it}\n" for it in lines))
+
+    def test_a_capture_that_ends_before_its_verdicts(self):
+        names = self.run_program([ip4(FAR, SHARED, 17, udp(53, 1232))] * 40, a_table())
+        captures.write(self.file("other.pcap"), [(0, b"")] * 3)
+        code, out, error = ran("report.py", names[2], "--in", self.file("other.pcap"))
+        self.assertEqual((code, out), (1, ""))
+        self.assertEqual(error, f"report.py: {names[2]} has more lines of records than {self.file('other.pcap')} has records (3)\n")
+
     def test_a_page(self):
         names = self.run_program([data for data, _, _ in one_of_each_rule()], a_table())
         try:
