@@ -783,6 +783,16 @@ class Reading(Folder):
             with self.assertRaisesRegex(captures.CaptureError, path):
                 list(captures.records(path))
 
+    def test_a_block_that_is_shorter_than_any(self):
+        path = self.file("short.pcapng")
+        front = struct.pack("<IIIHHqI", 0x0A0D0D0A, 28, 0x1A2B3C4D, 1, 0, -1, 28)
+        for size in range(12):
+            for text, place in ((front + struct.pack("<III", 6, size, size), 28), (front[:4] + struct.pack("<I", size) + front[8:], 0)):
+                with open(path, "wb") as file:
+                    file.write(text)
+                with self.assertRaisesRegex(captures.CaptureError, f"^{path}: the block at byte {place} says that it has {size} bytes$"):
+                    list(captures.records(path))
+
     def test_frames(self):
         data = ip4(FAR, SHARED, 17, udp(53, 1232))
         for link, front in ((101, b""), (1, b"\0" * 12 + b"\x08\0"), (1, b"\0" * 12 + b"\x81\0\0\1\x08\0"), (113, b"\0" * 14 + b"\x08\0")):

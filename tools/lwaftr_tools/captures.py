@@ -73,6 +73,14 @@ def _resolution(options, order):
     return 1_000_000
 
 
+def _size(data, order, place):
+    """The length of a block, which is that of its kind and of both lengths at least."""
+    size = struct.unpack(order + "I", data)[0]
+    if size < 12:
+        raise CaptureError(f"the block at byte {place} says that it has {size} bytes")
+    return size
+
+
 def _blocks(file, head):
     order, interfaces, number, place, last = "<", [], 0, 0, 0
     while head:
@@ -81,12 +89,12 @@ def _blocks(file, head):
         if head == b"\x0a\x0d\x0d\x0a":
             rest = _exactly(file, 8, place)
             order = "<" if rest[4:] == b"\x4d\x3c\x2b\x1a" else ">"
-            size = struct.unpack(order + "I", rest[:4])[0]
+            size = _size(rest[:4], order, place)
             _exactly(file, size - 12, place)
             interfaces = []
         else:
             kind = struct.unpack(order + "I", head)[0]
-            size = struct.unpack(order + "I", _exactly(file, 4, place))[0]
+            size = _size(_exactly(file, 4, place), order, place)
             body = _exactly(file, size - 8, place)[:-4]
             if kind == 1:
                 interfaces.append((struct.unpack_from(order + "H", body)[0], _resolution(body[8:], order), struct.unpack_from(order + "I", body, 4)[0]))
