@@ -42,7 +42,7 @@ def bindings(text, notes):
 
 def main():
     words = converting.settings(converting.parser(__doc__, "LIST.csv")).parse_args()
-    text = converting.text_of(words.file, encoding="utf-8-sig", newline="")
+    text = converting.text_of(words.file, newline="")
     found = list(bindings(text, converting.Notes(words.file)))
     converting.put(words.output, tables.text(tables.Table(converting.softwire(words, {}), found)))
 

@@ -210,8 +210,20 @@ class Converting(Folder):
                 code, _, error = ran(tool, self.file(name), *settings)
                 self.assertEqual(code, 1, tool)
                 self.assertRegex(error, rf"^{tool}: (?s:.*){name}")
-        code, _, error = ran("from_csv.py", os.path.join(HERE, "samples", "list.csv"), "--aftr", AFTR, "--own", OWN, "-o", self.file("none/table.toml"))
+        words = os.path.join(HERE, "samples", "list.csv"), "--aftr", AFTR, "--own", OWN
+        code, _, error = ran("from_csv.py", *words, "-o", self.file("none/table.toml"))
         self.assertEqual((code, "Traceback" in error), (1, False))
+        with open("/dev/full", "w", encoding="utf-8") as full:
+            it = subprocess.run([sys.executable, os.path.join(HERE, "from_csv.py"), *words], stdout=full, stderr=subprocess.PIPE, text=True)
+        self.assertEqual((it.returncode, it.stderr.splitlines()[-1][:12]), (1, "from_csv.py:"), it.stderr)
+
+    def test_a_byte_order_mark(self):
+        for tool, name in (("from_csv.py", "list.csv"), ("from_vpp.py", "vpp.cli"), ("from_snabb.py", "snabb.conf")):
+            with open(os.path.join(HERE, "samples", name), encoding="utf-8") as file:
+                text = file.read()
+            found = [ran(tool, self.file(name, front + text), "--aftr", AFTR, "--own", OWN) for front in ("", "\ufeff")]
+            self.assertEqual(found[0][0], 0, found[0][2])
+            self.assertEqual(found[0], found[1])
 
     def test_a_wrong_command_of_vpp_is_refused_with_its_line(self):
         domain = "map add domain ip4-pfx 203.0.113.1/32 ip6-pfx ::/0 ip6-src 2001:db8::1 psid-offset 6 psid-len 8"

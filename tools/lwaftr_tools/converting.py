@@ -49,10 +49,10 @@ def fail(text):
     sys.exit(f"{sys.argv[0].rsplit('/', 1)[-1]}: {text}")
 
 
-def text_of(path, encoding="utf-8", newline=None):
-    """The text of a file; where it can't be read, the tool ends with a message."""
+def text_of(path, newline=None):
+    """The text of a file, without a byte order mark; where it can't be read, the tool ends with a message."""
     try:
-        with open(path, encoding=encoding, newline=newline) as file:
+        with open(path, encoding="utf-8-sig", newline=newline) as file:
             return file.read()
     except OSError as error:
         fail(str(error))
@@ -84,11 +84,10 @@ def softwire(words, found):
 
 
 def put(output, text):
-    if output == "-":
-        sys.stdout.write(text)
-        return
+    is_standard = output == "-"
+    # standard output by its number: what it can't take is told here, not where the tool ends
     try:
-        with open(output, "w", encoding="utf-8") as file:
+        with open(1 if is_standard else output, "w", encoding="utf-8", closefd=not is_standard) as file:
             file.write(text)
     except OSError as error:
         fail(str(error))
