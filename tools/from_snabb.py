@@ -5,7 +5,8 @@ Read are `softwire-config` (the module's statements, also of an instance's queue
 `allow-incoming-icmp`, `generate-icmp-errors`; of the internal one `ip`, `mtu`, `hop-limit`, `hairpinning`, `generate-icmp-errors`;
 and the binding table: `softwire` with `ipv4`, `psid`, `b4-ipv6` (or `b4`), `br-address` (or `br`, a place in the list of
 `br-address`), `port-set` with `psid-length` and `reserved-ports-bit-count` or `shift`, and `psid-map` with `addr`, `end-addr`,
-`psid-length`, `reserved-ports-bit-count` or `shift`. All else is named on standard error as left out, with its line.
+`psid-length`, `reserved-ports-bit-count` or `shift`. All else is named on standard error as left out, with its line; so is what says
+something else than a statement before it.
 
 A router of this kind has one tunnel address: with several, `--aftr` says which one's subscribers are carried."""
 import collections
@@ -30,7 +31,9 @@ WHY = {
 
 
 def flag(node):
-    return node.value != "false"
+    if node.value not in ("true", "false"):
+        raise yang.YangError(node.line, f"{node.name} {node.value!r} is neither true nor false")
+    return node.value == "true"
 
 
 def number(node):
@@ -56,22 +59,37 @@ def wanted(node, name):
     return found
 
 
-def interface(node, names, found, notes):
-    """What an interface says of the settings."""
+def unread(node, known, notes):
+    """Names the statements of a node that are not read."""
     for it in node.inside:
-        name = names.get(it.name)
-        if name in ("aftr", "own"):
-            kind = ipaddress.IPv6Address if name == "aftr" else ipaddress.IPv4Address
-            found.setdefault(name, address(kind, it, it.value.split("/")[0]))
-        elif name in ("mtu6", "mtu4", "hop_limit"):
-            found.setdefault(name, number(it))
-        elif name:
-            found.setdefault(name, flag(it))
-        else:
+        if it.name not in known:
             notes.left_out(it.line, f"{node.name} {it.name}", WHY.get(it.name, ""))
 
 
-def interfaces(node, found, notes):
+def either(node, names, notes):
+    """The statement of the first of these names that is there."""
+    there = [node.one(name) for name in names if node.one(name)]
+    for it in there[1:]:
+        notes.left_out(it.line, f"{node.name} {it.name} {it.value}", f"{there[0].name} is taken")
+    return there[0] if there else None
+
+
+def interface(node, names, found, notes):
+    """What an interface says of the settings."""
+    unread(node, names, notes)
+    for it in node.inside:
+        name = names.get(it.name)
+        if not name:
+            continue
+        if name in ("aftr", "own"):
+            value = address(ipaddress.IPv6Address if name == "aftr" else ipaddress.IPv4Address, it, it.value.split("/")[0])
+        else:
+            value = number(it) if name in converting.SETTINGS else flag(it)
+        if found.setdefault(name, value) != value:
+            notes.left_out(it.line, f"{node.name} {it.name} {it.value}", f"{str(found[name]).lower()} is taken")
+
+
+def interfaces(node, table, found, notes):
     """The interfaces of a configuration, and of the queues of its instances."""
     for it in node.inside:
         if it.name == "external-interface":
@@ -79,42 +97,48 @@ def interfaces(node, found, notes):
         elif it.name == "internal-interface":
             interface(it, INTERNAL, found, notes)
         elif it.name in ("instance", "queue"):
-            interfaces(it, found, notes)
-        elif it.name not in ("binding-table", "id"):
+            interfaces(it, table, found, notes)
+        elif it is not table and it.name != "id":
             notes.left_out(it.line, it.name, WHY.get(it.name, ""))
 
 
-def shape(node):
+SHAPE = ("psid-length", "reserved-ports-bit-count", "shift")
+
+
+def shape(node, notes):
     """Offset and length of a port set; where a shift stands in place of the reserved bits, the offset is what is left."""
     length = number(node.one("psid-length")) if node.one("psid-length") else 0
-    reserved, shift = node.one("reserved-ports-bit-count"), node.one("shift")
-    if reserved:
-        return number(reserved), length
-    if shift:
-        return 16 - length - number(shift), length
-    return 0, length
+    said = either(node, ("reserved-ports-bit-count", "shift"), notes)
+    bits = number(said) if said else 0
+    return (16 - length - bits if said and said.name == "shift" else bits), length
 
 
-def maps(table):
+def maps(table, notes):
     """The shapes that the older form gives to addresses."""
     found = {}
     for node in table.all("psid-map"):
+        unread(node, ("addr", "end-addr", *SHAPE), notes)
         first = int(address(ipaddress.IPv4Address, wanted(node, "addr")))
         last = int(address(ipaddress.IPv4Address, node.one("end-addr"))) if node.one("end-addr") else first
+        if last < first:
+            raise yang.YangError(node.line, f"psid-map: end-addr {node.one('end-addr').value} is below addr {node.one('addr').value}")
+        its = shape(node, notes)
         for at in range(first, last + 1):
-            found[ipaddress.IPv4Address(at)] = shape(node)
+            if found.setdefault(ipaddress.IPv4Address(at), its) != its:
+                raise yang.YangError(node.line, f"psid-map: another one gives {ipaddress.IPv4Address(at)} another shape")
     return found
 
 
-def tunnel(node, listed):
+def tunnel(node, listed, notes):
     """The tunnel address of a softwire, if it says one."""
-    if node.one("br-address"):
-        return address(ipaddress.IPv6Address, node.one("br-address"))
-    if not node.one("br"):
+    said = either(node, ("br-address", "br"), notes)
+    if not said:
         return listed[0] if listed else None
-    place = number(node.one("br"))
+    if said.name == "br-address":
+        return address(ipaddress.IPv6Address, said)
+    place = number(said)
     if not 0 <= place < len(listed):
-        raise yang.YangError(node.one("br").line, f"br {place}: the list of br-address has {len(listed)}, counted from 0")
+        raise yang.YangError(said.line, f"br {place}: the list of br-address has {len(listed)}, counted from 0")
     return listed[place]
 
 
@@ -124,22 +148,21 @@ KNOWN = ("ipv4", "psid", "b4-ipv6", "b4", "br-address", "br", "port-set", "paddi
 def softwires(table, notes):
     """Each softwire with its line, its tunnel address and its binding."""
     listed = [address(ipaddress.IPv6Address, it) for it in table.all("br-address")]
-    of_map = maps(table)
+    of_map = maps(table, notes)
     for node in table.all("softwire"):
-        b4 = node.one("b4-ipv6") or node.one("b4")
+        unread(node, KNOWN, notes)
+        b4 = either(node, ("b4-ipv6", "b4"), notes)
         if not b4 or not node.one("ipv4"):
             notes.left_out(node.line, "softwire", "it has no b4-ipv6 or no ipv4")
             continue
         ipv4 = address(ipaddress.IPv4Address, node.one("ipv4"))
-        offset, length = shape(node.one("port-set")) if node.one("port-set") else of_map.get(ipv4, (0, 0))
+        ports = node.one("port-set")
+        if ports:
+            unread(ports, SHAPE, notes)
+        offset, length = shape(ports, notes) if ports else of_map.get(ipv4, (0, 0))
         psid = number(node.one("psid")) if node.one("psid") else 0
-        for it in node.inside:
-            if it.name not in KNOWN:
-                notes.left_out(it.line, f"softwire {it.name}")
-        yield node.line, tunnel(node, listed), tables.Binding(address(ipaddress.IPv6Address, b4), ipv4, offset, length, psid)
-    for node in table.inside:
-        if node.name not in ("softwire", "psid-map", "br-address"):
-            notes.left_out(node.line, f"binding-table {node.name}", WHY.get(node.name, ""))
+        yield node.line, tunnel(node, listed, notes), tables.Binding(address(ipaddress.IPv6Address, b4), ipv4, offset, length, psid)
+    unread(table, ("softwire", "psid-map", "br-address"), notes)
 
 
 def main():
@@ -149,8 +172,11 @@ def main():
     try:
         top = yang.read(text)
         root = next((it for name in ROOT for it in top.all(name)), top)
-        interfaces(root, found, notes)
-        table = root.one("binding-table")
+        for it in top.inside if root is not top else []:
+            if it is not root:
+                notes.left_out(it.line, it.name, f"the statement that is read is {root.name} of line {root.line}")
+        table = next(iter(root.all("binding-table")), None)
+        interfaces(root, table, found, notes)
         wires = list(softwires(table, notes)) if table else converting.fail(f"{words.file}: there is no binding-table")
     except yang.YangError as error:
         converting.fail(f"{words.file}:{error.line}: {error}")

@@ -255,6 +255,9 @@ class Converting(Folder):
             ("softwire { ipv4 203.0.113.1; b4 2001:db8:1::1; br -1; }", "br -1"),
             ("softwire { ipv4 203.0.113.1; b4 2001:db8:1::1; br-address 7; }", "br-address: "),
             ("psid-map { psid-length 8; }", "psid-map has no addr"),
+            ("psid-map { addr 203.0.113.6; end-addr 203.0.113.1; psid-length 8; }", "end-addr 203.0.113.1 is below addr 203.0.113.6"),
+            ("psid-map { addr 203.0.113.6; } psid-map { addr 203.0.113.4; end-addr 203.0.113.9; shift 9; }", "gives 203.0.113.6 another shape"),
+            ("softwire { ipv4 203.0.113.1; b4 2001:db8:1::1; psid 1; psid 2; }", "psid stands twice in softwire"),
             ("softwire { ipv4 203.0.113.1; b4 2001:db8:1::1", "ends inside"),
             ("softwire a b c;", "more than one value"),
         ):
@@ -264,8 +267,62 @@ class Converting(Folder):
                 code, _, error = ran("from_snabb.py", self.file("s.conf", text), "--own", OWN)
                 self.assertEqual(code, 1)
                 self.assertRegex(error.splitlines()[-1], rf"^from_snabb.py: .*s.conf:3: .*{said}")
-        code, _, error = ran("from_snabb.py", self.file("s.conf", "softwire-config {\n external-interface {\n mtu x; } }"), "--own", OWN)
-        self.assertIn("s.conf:3: mtu 'x' is no number", error)
+        for statement, said in (
+            ("mtu x", "mtu 'x' is no number"), ("allow-incoming-icmp maybe", "allow-incoming-icmp 'maybe' is neither true nor false"),
+            ("generate-icmp-errors", "generate-icmp-errors '' is neither true nor false"),
+        ):
+            code, _, error = ran("from_snabb.py", self.file("s.conf", f"softwire-config {{\n external-interface {{\n {statement}; }} }}"), "--own", OWN)
+            self.assertEqual((code, error), (1, f"from_snabb.py: {self.file('s.conf')}:3: {said}\n"))
+
+    def test_what_is_left_out_of_a_configuration_of_snabb(self):
+        text = f'''softwire-config {{
+            instance {{ queue {{ external-interface {{ ip {OWN}; }} internal-interface {{ ip {AFTR}; }} }} }}
+            instance {{
+                queue {{ external-interface {{ ip {OWN}; }} internal-interface {{
+                    ip 2001:db8::9;
+                    hairpinning false; }} }}
+                binding-table {{ softwire {{ ipv4 203.0.113.8; b4-ipv6 2001:db8:1::8; }} }}
+            }}
+            internal-interface {{
+                hairpinning true; }}
+            binding-table {{
+                br-address {AFTR};
+                psid-map {{ addr 203.0.113.1; psid-length 8; reserved-ports-bit-count 6;
+                    shift 2;
+                    bits 3; }}
+                softwire {{ ipv4 203.0.113.1; psid 52; b4-ipv6 {B4}; port-set {{ psid-length 8; reserved-ports-bit-count 6;
+                    shift 2;
+                    mask 3; }} }}
+                softwire {{ ipv4 203.0.113.1; psid 53; b4-ipv6 {OTHER};
+                    b4 2001:db8:1::7;
+                    br-address {AFTR};
+                    br 0; }}
+                softwire {{ ipv4 203.0.113.2; b4-ipv6 {ALONE}; }}
+            }}
+            binding-table {{ softwire {{ ipv4 203.0.113.9; b4-ipv6 2001:db8:1::9; }} }}
+        }}
+        softwire-config {{ binding-table {{ softwire {{ ipv4 203.0.113.9; b4-ipv6 2001:db8:1::9; }} }} }}
+        hostname router;
+        '''
+        code, _, error = ran("from_snabb.py", self.file("s.conf", text), "-o", self.file("table.toml"))
+        self.assertEqual(code, 0, error)
+        for line, what in (
+            (5, "internal-interface ip 2001:db8::9: 2001:db8::1 is taken"),
+            (7, "binding-table"),
+            (10, "internal-interface hairpinning true: false is taken"),
+            (14, "psid-map shift 2: reserved-ports-bit-count is taken"),
+            (15, "psid-map bits"),
+            (17, "port-set shift 2: reserved-ports-bit-count is taken"),
+            (18, "port-set mask"),
+            (20, "softwire b4 2001:db8:1::7: b4-ipv6 is taken"),
+            (22, "softwire br 0: br-address is taken"),
+            (25, "binding-table"),
+            (27, "softwire-config: the statement that is read is softwire-config of line 1"),
+            (28, "hostname: the statement that is read is softwire-config of line 1"),
+        ):
+            self.assertIn(f"s.conf:{line}: left out: {what}\n", error)
+        self.assertEqual(error.count("left out"), 12, error)
+        self.assertTrue(same(tables.read(self.file("table.toml")), a_table()))
 
 
 class Judging(Folder):

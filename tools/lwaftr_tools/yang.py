@@ -18,7 +18,11 @@ class Node:
         return [it for it in self.inside if it.name == name]
 
     def one(self, name):
-        return next(iter(self.all(name)), None)
+        """The statement of this name, None where there is none; one that stands twice is refused."""
+        found = self.all(name)
+        if len(found) > 1:
+            raise YangError(found[1].line, f"{name} stands twice in {self.name}")
+        return found[0] if found else None
 
 
 TOKEN = re.compile(r"""\s+|//[^\n]*|/\*.*?\*/|(?P<mark>[{};])|"(?P<double>(?:[^"\\]|\\.)*)"|'(?P<single>[^']*)'|(?P<word>[^\s{};"']+)""", re.S)
