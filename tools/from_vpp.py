@@ -14,7 +14,12 @@ from lwaftr_tools import converting, tables
 
 def pairs(words):
     """The words behind a command, as names and values."""
-    return {words[at]: words[at + 1] if at + 1 < len(words) else "" for at in range(0, len(words), 2)}
+    found = {}
+    for at in range(0, len(words), 2):
+        if words[at] in found:
+            raise ValueError(f"{words[at]} stands twice")
+        found[words[at]] = words[at + 1] if at + 1 < len(words) else ""
+    return found
 
 
 def wanted(keys, name):
@@ -43,12 +48,16 @@ class Domain:
             self.offset = 0
 
 
-def domain(line, keys, notes):
-    """The domain of a line, or None with what is said of it."""
-    known = ("ip4-pfx", "ip6-pfx", "ip6-src", "ea-bits-len", "psid-offset", "psid-len", "mtu", "tag")
+def unknown(line, keys, known, notes):
+    """Names the words of a command that are not read."""
     for name in keys:
         if name not in known:
             notes.left_out(line, f"{name} {keys[name]}".strip())
+
+
+def domain(line, keys, notes):
+    """The domain of a line, or None with what is said of it."""
+    unknown(line, keys, ("ip4-pfx", "ip6-pfx", "ip6-src", "ea-bits-len", "psid-offset", "psid-len", "mtu", "tag"), notes)
     if number(keys, "ea-bits-len"):
         notes.left_out(line, "domain", "ea-bits-len above 0 is MAP-E (RFC 7597), which binds no single subscriber")
     elif not wanted(keys, "ip4-pfx").endswith("/32"):
@@ -69,14 +78,17 @@ class Commands:
     def take(self, line, words):
         if words[:3] == ["map", "add", "domain"]:
             self.domains.append(domain(line, pairs(words[3:]), self.notes))
-        elif words[:3] == ["map", "add", "rule"]:
+        elif words[:3] == ["map", "add", "rule"] and "del" not in words:
             self.rule(line, pairs(words[3:]))
         elif words[:4] == ["map", "params", "icmp", "source-address"]:
-            self.own = ipaddress.IPv4Address(wanted(pairs(words[3:]), "source-address"))
+            keys = pairs(words[3:])
+            unknown(line, keys, ("source-address",), self.notes)
+            self.own = ipaddress.IPv4Address(wanted(keys, "source-address"))
         else:
             self.notes.left_out(line, " ".join(words))
 
     def rule(self, line, keys):
+        unknown(line, keys, ("index", "psid", "ip6-dst"), self.notes)
         index = converting.number("index", wanted(keys, "index"))
         if not 0 <= index < len(self.domains):
             raise ValueError(f"there is no domain {index}: {len(self.domains)} stand in front of this rule")

@@ -238,11 +238,29 @@ class Converting(Folder):
             ("map add domain ip6-pfx ::/0 ip6-src 2001:db8::1", "ip4-pfx is wanted"),
             ("map add domain ip4-pfx 203.0.113.2/32 ip6-pfx ::/0", "ip6-src is wanted"),
             ("map params icmp source-address", "source-address is wanted"),
+            ("map add rule index 0 psid 52 psid 53 ip6-dst 2001:db8:1::1", "psid stands twice"),
         ):
             with self.subTest(line=line):
                 code, _, error = ran("from_vpp.py", self.file("v.cli", f"{domain}\n\n{line}\n"), "--own", OWN)
                 self.assertEqual(code, 1)
                 self.assertRegex(error.splitlines()[-1], rf"^from_vpp.py: .*v.cli:3: .*{said}")
+
+    def test_what_is_left_out_of_commands_of_vpp(self):
+        domain = "map add domain ip4-pfx 203.0.113.1/32 ip6-pfx ::/0 ip6-src 2001:db8::1 psid-offset 6 psid-len 8"
+        rule = "map add rule index 0 psid 52 ip6-dst 2001:db8:1::1"
+        for line, said, count in (
+            (rule, None, 1),
+            (f"{rule} tag x", "tag x", 1),
+            (f"{rule} del", f"{rule} del", 0),
+            ("map params icmp source-address 192.0.2.1 traffic-class copy", "traffic-class copy", 0),
+            ("map params icmp source-address 192.0.2.1 more", "more", 0),
+        ):
+            with self.subTest(line=line):
+                text = f"{domain}\n{domain}\nmap add rule index 1 psid 1 ip6-dst {B4}\n{line}\n"
+                code, _, error = ran("from_vpp.py", self.file("v.cli", text), "--own", OWN, "-o", self.file("table.toml"))
+                self.assertEqual(code, 0, error)
+                self.assertEqual(re.findall(r":4: left out: (.*)", error), [said] if said else [])
+                self.assertEqual(len(tables.read(self.file("table.toml")).bindings), 1 + count)
 
     def test_a_wrong_statement_of_snabb_is_refused_with_its_line(self):
         softwire = "softwire { ipv4 203.0.113.1; psid 52; b4 2001:db8:1::1; port-set { psid-length 8; } }"
