@@ -29,7 +29,7 @@ CHANGES = (
     "capture_io/rest_of_a_read_is_lost", "error_limit/filled_anew_when_time_goes_back", "fragmenter/copies_every_option",
     "icmp_codec/takes_timestamps_for_echoes", "icmp_errors/answers_loopback", "icmp_relay/relays_errors_about_errors",
     "ip_codec/sums_twenty_bytes", "ipv6_chain/takes_a_routing_header_with_segments_left", "item_stage/inner_key_without_the_tunnel",
-    "lwaftr_engine/new_limit_each_round", "packet_render/cuts_one_byte_later", "pcapng_io/old_interfaces_kept_in_a_section",
+    "lwaftr_engine/new_limit_each_round", "packet_render/cuts_one_byte_later", "pcapng_io/interfaces_kept_over_a_section",
     "port_locate/errors_up_by_the_quoted_source", "port_set/low_ports_owned", "reassembly_lane/one_nanosecond_longer",
     "reload_plan/versions_from_two", "run_output/times_without_their_fraction", "softwire_encap/loses_the_type_of_service",
     "table_words/tells_shapes_by_the_offset_alone", "traffic_gen/increment_even", "verdict_core/relays_by_the_quoted_address_alone",
@@ -93,6 +93,8 @@ def both(text, old, new, pick):
     if new.startswith(old) and old.endswith(";"):
         return text.replace(old, f"{old} if {pick} {{ {new.removeprefix(old)} }}")
     new = re.sub(r"^(\s*)(\w+),$", r"\1\2: \2,", new)
+    if old.endswith(",") and new.endswith("}"):
+        new += ","
     for line in LINES:
         one, other = re.fullmatch(line, old), re.fullmatch(line, new)
         if one and other and one[1] == other[1]:

@@ -138,6 +138,14 @@ def kind_of(name):
     return "address" if name in router.ADDRESSES else "integer" if name in router.LIMITS or name == "version" else "flag"
 
 
+def two_and_both(r, one):
+    """Three bindings of one address: two that share no port, and one that has the ports of both."""
+    offset, length = str(r.randrange(9)), r.randrange(1, 8)
+    psid = r.randrange(1 << length - 1)
+    two = [{**one, "offset": offset, "length": str(length), "psid": str(it)} for it in (2 * psid, 2 * psid + 1)]
+    return [*two, {**one, "b4": text_of("b4", AFTR), "offset": offset, "length": str(length - 1), "psid": str(psid)}]
+
+
 def aimed_table(r):
     """A table that is refused by one refusal, each as often as the others."""
     what, place, name = r.choice(AIMS)
@@ -179,6 +187,9 @@ def aimed_table(r):
         offset, length = r.choice([it for it in SHAPES if str(it) != f"({one['offset']}, {one['length']})"])
         top["version"] = "1"
         bindings = [one, {**one, "offset": str(offset), "length": str(length), "psid": "0"}]
+    elif what == "twice" and r.random() < 0.5:
+        top["version"] = "2"
+        bindings = [*(it for it in bindings if it["ipv4"] != one["ipv4"]), *two_and_both(r, one)]
     elif what == "twice":
         bindings.insert(r.randrange(at + 1, len(bindings) + 1), {**one, "b4": text_of("b4", AFTR)})
     return spelled(r, top, settings, bindings).encode()
