@@ -1,14 +1,15 @@
 -- What `clap` finds in the words of each command, and which it refuses.
-use Rattle.std.proofs.Common.{◌≡◌, true, List, [], ◌∷◌, Option, Some, None, map, refl, sym, ◌∙◌, ap, ap₂, codes, option_map}
+use Rattle.std.proofs.Common.{◌≡◌, true, List, [], ◌∷◌, Option, Some, None, length, map, refl, sym, ◌∙◌, ap, ap₂, arith, codes, option_map}
 use Rattle.std.specs.Prelude.{IsSomeAnd, unwrap_or}
 use Rattle.std.specs.Borrow.{Bor}
-use Rattle.clap.specs.Words.{Rule, Text, first_value, fault_of, is_simple, is_simple_and_free, matches_of, new_rule, rule_of, rows_of}
+use Rattle.clap.specs.Words.{Row, Rule, Text, first_value, fault_of, is_simple, is_simple_and_free, matches_of, new_rule, rule_of, rows_of}
 use Rattle.clap.specs.declared.builder.arg.Arg.{Arg}
 use Rattle.clap.specs.declared.builder.range.ValueRange.{ValueRange}
 use Rattle.clap.specs.declared.parser.matches.Found.{Found}
 use Rattle.clap.proofs.OnLiterals.{clap_on_literals}
 use Rattle.clap.proofs.WalkLemmas.{first_value-rows, raw_values-rows}
 use Rattle.clap.specs.Matches.{matched_of, raw_values}
+use Rattle.aftr_text.specs.Faults.{TakesSoMany}
 use Rattle.aftr_text.specs.Parts.{texts}
 use Rattle.aftr_text.specs.Commands.{check_app, demo_app, line, loads_rule, migrate_app, who_app, word_of, words_of}
 
@@ -49,62 +50,59 @@ pub simple_migrate : (is_simple migrate_app ≡ true) × (is_simple_and_free mig
 unfolding clap_on_literals
 simple_migrate = (refl, refl)
 
--- one argument
-pub check_found : (args : List Text) → fault_of check_app (line (codes "check") args) ≡ []
-    → args ≡ word_of (matches_of check_app (line (codes "check") args)) (codes "file") ∷ []
+-- the arguments of a command by what is found, and how many it takes
+abbrev pub check_words : List Row → List Text
+check_words rows = word_of rows (codes "file") ∷ []
+
+pub check_found : (args : List Text) → fault_of check_app (line (codes "check") args) ≡ [] → args ≡ check_words (matches_of check_app (line (codes "check") args))
 unfolding clap_on_literals
-check_found [] e = absurd cc
 check_found (a ∷ []) e = refl
-check_found (a ∷ b ∷ rest) e = absurd cc
+check_found _ e = absurd cc
 
-pub check_taken : (a : Text) → fault_of check_app (line (codes "check") (a ∷ [])) ≡ []
+pub check_taken : (args : List Text) → TakesSoMany (codes "check") (length args) → fault_of check_app (line (codes "check") args) ≡ []
 unfolding clap_on_literals
-check_taken a = refl
+check_taken (a ∷ []) fits = refl
+check_taken _ fits = absurd (omega (arith, fits.0, fits.1))
 
--- two
+abbrev pub migrate_words : List Row → List Text
+migrate_words rows = word_of rows (codes "input") ∷ word_of rows (codes "output") ∷ []
+
 pub migrate_found : (args : List Text) → fault_of migrate_app (line (codes "migrate") args) ≡ []
-    → args ≡ word_of (matches_of migrate_app (line (codes "migrate") args)) (codes "input")
-    ∷ word_of (matches_of migrate_app (line (codes "migrate") args)) (codes "output") ∷ []
+    → args ≡ migrate_words (matches_of migrate_app (line (codes "migrate") args))
 unfolding clap_on_literals
-migrate_found [] e = absurd cc
-migrate_found (a ∷ []) e = absurd cc
 migrate_found (a ∷ b ∷ []) e = refl
-migrate_found (a ∷ b ∷ c ∷ rest) e = absurd cc
+migrate_found _ e = absurd cc
 
-pub migrate_taken : (a b : Text) → fault_of migrate_app (line (codes "migrate") (a ∷ b ∷ [])) ≡ []
+pub migrate_taken : (args : List Text) → TakesSoMany (codes "migrate") (length args) → fault_of migrate_app (line (codes "migrate") args) ≡ []
 unfolding clap_on_literals
-migrate_taken a b = refl
+migrate_taken (a ∷ b ∷ []) fits = refl
+migrate_taken _ fits = absurd (omega (arith, fits.0, fits.1))
 
--- three
-pub who_found : (args : List Text) → fault_of who_app (line (codes "who") args) ≡ []
-    → args ≡ word_of (matches_of who_app (line (codes "who") args)) (codes "file")
-    ∷ word_of (matches_of who_app (line (codes "who") args)) (codes "address")
-    ∷ word_of (matches_of who_app (line (codes "who") args)) (codes "port") ∷ []
+abbrev pub who_words : List Row → List Text
+who_words rows = word_of rows (codes "file") ∷ word_of rows (codes "address") ∷ word_of rows (codes "port") ∷ []
+
+pub who_found : (args : List Text) → fault_of who_app (line (codes "who") args) ≡ [] → args ≡ who_words (matches_of who_app (line (codes "who") args))
 unfolding clap_on_literals
-who_found [] e = absurd cc
-who_found (a ∷ []) e = absurd cc
-who_found (a ∷ b ∷ []) e = absurd cc
 who_found (a ∷ b ∷ c ∷ []) e = refl
-who_found (a ∷ b ∷ c ∷ d ∷ rest) e = absurd cc
+who_found _ e = absurd cc
 
-pub who_taken : (a b c : Text) → fault_of who_app (line (codes "who") (a ∷ b ∷ c ∷ [])) ≡ []
+pub who_taken : (args : List Text) → TakesSoMany (codes "who") (length args) → fault_of who_app (line (codes "who") args) ≡ []
 unfolding clap_on_literals
-who_taken a b c = refl
+who_taken (a ∷ b ∷ c ∷ []) fits = refl
+who_taken _ fits = absurd (omega (arith, fits.0, fits.1))
 
-pub demo_found : (args : List Text) → fault_of demo_app (line (codes "demo") args) ≡ []
-    → args ≡ word_of (matches_of demo_app (line (codes "demo") args)) (codes "seed")
-    ∷ word_of (matches_of demo_app (line (codes "demo") args)) (codes "count")
-    ∷ word_of (matches_of demo_app (line (codes "demo") args)) (codes "workers") ∷ []
+abbrev pub demo_words : List Row → List Text
+demo_words rows = word_of rows (codes "seed") ∷ word_of rows (codes "count") ∷ word_of rows (codes "workers") ∷ []
+
+pub demo_found : (args : List Text) → fault_of demo_app (line (codes "demo") args) ≡ [] → args ≡ demo_words (matches_of demo_app (line (codes "demo") args))
 unfolding clap_on_literals
-demo_found [] e = absurd cc
-demo_found (a ∷ []) e = absurd cc
-demo_found (a ∷ b ∷ []) e = absurd cc
 demo_found (a ∷ b ∷ c ∷ []) e = refl
-demo_found (a ∷ b ∷ c ∷ d ∷ rest) e = absurd cc
+demo_found _ e = absurd cc
 
-pub demo_taken : (a b c : Text) → fault_of demo_app (line (codes "demo") (a ∷ b ∷ c ∷ [])) ≡ []
+pub demo_taken : (args : List Text) → TakesSoMany (codes "demo") (length args) → fault_of demo_app (line (codes "demo") args) ≡ []
 unfolding clap_on_literals
-demo_taken a b c = refl
+demo_taken (a ∷ b ∷ c ∷ []) fits = refl
+demo_taken _ fits = absurd (omega (arith, fits.0, fits.1))
 
 -- the words of an argument that takes several
 pub words_are : (o : Option (Bor (List (Bor Text)))) (words : Bor (List (Bor Text))) (f : Found) (id : Text) → o ≡ Some words

@@ -5,18 +5,17 @@ use Rattle.std.specs.Borrow.{Bor}
 use Rattle.std.proofs.Math.Seq.{drop-cons}
 use Rattle.std.proofs.lemmas.List.{append-nil, length-map, length-take-le, map-append, take-append-drop, take_more}
 use Rattle.clap.specs.Words.{Row}
-use Rattle.aftr_text.specs.Commands.{word_of, words_of}
-use Rattle.aftr_text.specs.Faults.{EndsInOption, ForArgument, IsBadLoad, IsBadValue, IsFault, IsFaultBehind, IsFaultOf, IsNamed, IsStray, values_of}
-use Rattle.aftr_text.specs.Jobs.{IsName}
+use Rattle.aftr_text.specs.Commands.{words_of}
+use Rattle.aftr_text.specs.Faults.{EndsInOption, ForArgument, HasCause, IsBadLoad, IsBadValue, IsFault, IsFaultBehind, IsFaultOf, IsNoNumber, IsRange, IsStray, TakesSoMany, names_in, values_of}
+use Rattle.aftr_text.specs.Jobs.{HasNoOptions, IsName}
 use Rattle.aftr_text.specs.Parts.{Parts, kind_of, no_parts, parts_of, in_front, texts, unknown, wants}
 use Rattle.aftr_text.specs.Seen.{joined}
 use Rattle.aftr_text.specs.declared.faults.Fault.{Fault}
 use Rattle.aftr_text.specs.declared.faults.Fault.TheVariants as fault
 use Rattle.aftr_text.specs.declared.faults.JobError.{JobError}
 use Rattle.aftr_text.specs.declared.faults.JobError.TheVariants as error_is
-use Rattle.aftr_text.specs.declared.jobs.RunJob.{RunJob}
 use Rattle.aftr_text.specs.declared.parts.Slot.{Slot}
-use Rattle.aftr_text.proofs.AskLemmas.{IsFound, IsMade}
+use Rattle.aftr_text.proofs.AskLemmas.{IsFound}
 
 -- a cause that is named is the only one
 same_fault : (a b : Fault) → error_is.Refused a ≡ error_is.Refused b → a ≡ b
@@ -48,9 +47,28 @@ empty_word : (word : List ℕ) → (IsName word → ⊥) → word ≡ []
 empty_word [] none = refl
 empty_word (b ∷ bs) none = absurd (none (omega arith))
 
-pub empty_argument : (p : Parts) (list : List (List ℕ)) (at : ℕ) (word : List ℕ) → p.arguments ≡ list → slice_get list at ≡ Some word
-    → (IsName word → ⊥) → slice_get p.arguments at ≡ Some []
-empty_argument p list at word e is none = ap (λ (l : List (List ℕ)). slice_get l at) e ∙ is ∙ ap Some (empty_word word none)
+pub empty_name : (command : List ℕ) (p : Parts) (e : JobError) (list : List (List ℕ)) (at : ℕ) (word : List ℕ) → p.arguments ≡ list
+    → slice_get list at ≡ Some word → at < names_in command → (e ≢ error_is.OutOfMemory → IsName word → ⊥)
+    → (e ≢ error_is.OutOfMemory → e ≡ error_is.Refused (fault.Empty at)) → HasCause command p e
+empty_name command p e list at word are stands inside none is f told =
+    let empty = ap (λ (l : List (List ℕ)). slice_get l at) are ∙ stands ∙ ap Some (empty_word word (none (no_room e f told))) in
+    from_cause (IsFaultOf command p) e (fault.Empty at) is (inside, empty) f told
+
+pub no_number : (command : List ℕ) (p : Parts) (e : JobError) (list : List (List ℕ)) (at : ℕ) (word : List ℕ) → p.arguments ≡ list
+    → slice_get list at ≡ Some word → (least most : ℕ) → IsRange command at least most → IsNoNumber least most word
+    → e ≡ error_is.Refused (fault.Number at least most) → HasCause command p e
+no_number command p e list at word are stands least most range none is =
+    from_cause (IsFaultOf command p) e (fault.Number at least most) (λ _. is)
+    (range, for_argument p list at word (IsNoNumber least most) are stands none)
+
+-- too few arguments, or too many
+pub wrong_count : (command : List ℕ) (p : Parts) (e : JobError) → (e ≢ error_is.OutOfMemory → TakesSoMany command (length p.arguments) → ⊥)
+    → (e ≢ error_is.OutOfMemory → e ≡ error_is.Refused fault.Count) → HasCause command p e
+wrong_count command p e many is f told = from_cause (IsFaultOf command p) e fault.Count is (many (no_room e f told)) f told
+
+-- options behind another command than `run`
+pub has_options : (command : List ℕ) (p : Parts) → command ≢ codes "run" → (HasNoOptions p → ⊥) → HasCause command p (error_is.Refused fault.OptionOfRun)
+has_options command p other some = as_cause (IsFaultOf command p) fault.OptionOfRun (other, some)
 
 -- the loads among the arguments
 pub bad_load : (p : Parts) (rows : List Row) → IsFound p rows → (at : ℕ) → IsBadLoad (words_of rows (codes "loads")) at
@@ -61,20 +79,9 @@ bad_load p rows found at bad = subst (λ (l : List (List ℕ)). IsBadLoad l at) 
 pub behind : (command : List ℕ) (rest : List (List ℕ)) (p : Parts) → parts_of None rest ≡ Some p → (f : Fault)
     → IsFaultOf command p f → IsFaultBehind command rest f
 behind command rest p is fault.Nothing h = absurd h
-behind command rest p is fault.Command h = (p, is, h)
 behind command rest p is (fault.Stray place) h = absurd h
 behind command rest p is (fault.NoValue slot) h = absurd h
-behind command rest p is fault.OptionOfRun h = (p, is, h)
-behind command rest p is (fault.Twice slot) h = (p, is, h)
-behind command rest p is (fault.Value slot) h = (p, is, h)
-behind command rest p is fault.Count h = (p, is, h)
-behind command rest p is (fault.Empty at) h = (p, is, h)
-behind command rest p is (fault.Number at least most) h = (p, is, h)
-behind command rest p is fault.Address h = (p, is, h)
-behind command rest p is (fault.Load at) h = (p, is, h)
-behind command rest p is fault.SameTable h = (p, is, h)
-behind command rest p is (fault.Same at) h = (p, is, h)
-behind command rest p is (fault.Falls at) h = (p, is, h)
+behind command rest p is _ h = (p, is, h)
 
 pub no_word : (words : List (Bor (List ℕ))) → words ≡ [] → IsFault (texts words) fault.Nothing
 no_word words e = subst (λ (l : List (Bor (List ℕ))). IsFault (texts l) fault.Nothing) (sym e) refl
@@ -139,19 +146,6 @@ stray_at p waiting words at d inside before free kind none = record {
   parts = in_front p no_parts;
   sound = front_sound p waiting (texts (take at words)) free before;
   refused = λ more. sym (before ((slice_index_or words at d).now ∷ more)) ∙ ap (joined p) (none more);
-}
-
--- the loads and names of a run
-six_back : (a b c d e : List ℕ) (r : List (List ℕ)) (a2 b2 c2 d2 e2 : List ℕ) (r2 : List (List ℕ)) → a ≡ a2 → b ≡ b2 → c ≡ c2 → d ≡ d2 → e ≡ e2 → r ≡ r2
-    → a ∷ b ∷ c ∷ d ∷ e ∷ r ≡ a2 ∷ b2 ∷ c2 ∷ d2 ∷ e2 ∷ r2
-six_back a b c d e r a2 b2 c2 d2 e2 r2 p q s t u v = cc
-
-pub named_run : (p : Parts) (rows : List Row) (run : RunJob) → IsFound p rows → IsMade rows run → IsNamed p run
-named_run p rows run found made = record {
-  arguments = found.0 ∙ sym (six_back run.input run.output run.verdicts run.versions run.table _ (word_of rows (codes "input"))
-      (word_of rows (codes "output")) (word_of rows (codes "verdicts")) (word_of rows (codes "versions")) (word_of rows (codes "table"))
-      (words_of rows (codes "loads")) made.input made.output made.verdicts made.versions made.table made.loads);
-  loads = made.each;
 }
 
 -- one value alone

@@ -67,30 +67,11 @@ one_migrate p x y v w a b =
 
 one_for : OneAddress → (command : List ℕ) (p : Parts) (x y : Job) → AsksFor command p x → AsksFor command p y → x ≡ y
 one_for one command p (job.Run r) (job.Run s) a b = ap job.Run (one_run p r s a.1 b.1)
-one_for one command p (job.Run r) (job.Check n) a b = absurd (apart _ _ refl (sym a.0 ∙ b.0))
-one_for one command p (job.Run r) (job.Who n v m) a b = absurd (apart _ _ refl (sym a.0 ∙ b.0))
-one_for one command p (job.Run r) (job.Demo s c w) a b = absurd (apart _ _ refl (sym a.0 ∙ b.0))
-one_for one command p (job.Run r) (job.Migrate i o) a b = absurd (apart _ _ refl (sym a.0 ∙ b.0))
-one_for one command p (job.Check n) (job.Run r) a b = absurd (apart _ _ refl (sym a.0 ∙ b.0))
 one_for one command p (job.Check n) (job.Check k) a b = one_check p n k a.1 b.1
-one_for one command p (job.Check n) (job.Who k v m) a b = absurd (apart _ _ refl (sym a.0 ∙ b.0))
-one_for one command p (job.Check n) (job.Demo s c w) a b = absurd (apart _ _ refl (sym a.0 ∙ b.0))
-one_for one command p (job.Check n) (job.Migrate i o) a b = absurd (apart _ _ refl (sym a.0 ∙ b.0))
-one_for one command p (job.Who n v m) (job.Run r) a b = absurd (apart _ _ refl (sym a.0 ∙ b.0))
-one_for one command p (job.Who n v m) (job.Check k) a b = absurd (apart _ _ refl (sym a.0 ∙ b.0))
 one_for one command p (job.Who n v m) (job.Who k w l) a b = one_who one p n k v w m l a.1 b.1
-one_for one command p (job.Who n v m) (job.Demo s c w) a b = absurd (apart _ _ refl (sym a.0 ∙ b.0))
-one_for one command p (job.Who n v m) (job.Migrate i o) a b = absurd (apart _ _ refl (sym a.0 ∙ b.0))
-one_for one command p (job.Demo s c w) (job.Run r) a b = absurd (apart _ _ refl (sym a.0 ∙ b.0))
-one_for one command p (job.Demo s c w) (job.Check n) a b = absurd (apart _ _ refl (sym a.0 ∙ b.0))
-one_for one command p (job.Demo s c w) (job.Who n v m) a b = absurd (apart _ _ refl (sym a.0 ∙ b.0))
 one_for one command p (job.Demo s c w) (job.Demo t d x) a b = one_demo p s c w t d x a.1 b.1
-one_for one command p (job.Demo s c w) (job.Migrate i o) a b = absurd (apart _ _ refl (sym a.0 ∙ b.0))
-one_for one command p (job.Migrate i o) (job.Run r) a b = absurd (apart _ _ refl (sym a.0 ∙ b.0))
-one_for one command p (job.Migrate i o) (job.Check n) a b = absurd (apart _ _ refl (sym a.0 ∙ b.0))
-one_for one command p (job.Migrate i o) (job.Who n v m) a b = absurd (apart _ _ refl (sym a.0 ∙ b.0))
-one_for one command p (job.Migrate i o) (job.Demo s c w) a b = absurd (apart _ _ refl (sym a.0 ∙ b.0))
 one_for one command p (job.Migrate i o) (job.Migrate j q) a b = one_migrate p i o j q a.1 b.1
+one_for one command p _ _ a b = absurd (apart _ _ refl (sym a.0 ∙ b.0))
 
 same_some : (p q : Parts) → Some p ≡ Some q → p ≡ q
 same_some p q e = cc

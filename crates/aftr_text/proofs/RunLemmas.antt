@@ -13,6 +13,7 @@ use Rattle.clap.specs.Faults.{check_fault, defaults_fault, entered_fault, settle
 use Rattle.clap.specs.declared.builder.value_parser.ValueParser.TheVariants as vp
 use Rattle.clap.proofs.OnLiterals.{clap_on_literals}
 use Rattle.aftr_text.specs.Commands.{line, run_app, word_of, words_of}
+use Rattle.aftr_text.specs.Faults.{TakesSoMany}
 
 pub simple_run : (is_simple run_app ≡ true) × (is_simple_and_free run_app ≡ true)
 unfolding clap_on_literals
@@ -122,7 +123,7 @@ rows_are : (i o v s t l : Text) (ls : List Text) → rows_of_run (i ∷ o ∷ v 
 rows_are i o v s t l ls = ap (λ (w : Walk). finished top.rules w.held) (at_end i o v s t l ls)
 
 -- the words in their places
-abbrev IsRead : List Text → List Row → Type 0
+abbrev pub IsRead : List Text → List Row → Type 0
 IsRead args rows =
     args ≡ word_of rows (codes "input") ∷ word_of rows (codes "output") ∷ word_of rows (codes "verdicts") ∷ word_of rows (codes "versions")
     ∷ word_of rows (codes "table") ∷ words_of rows (codes "loads")
@@ -142,24 +143,20 @@ names_taken i o v s t = refl
 -- fewer than five words are refused
 pub few_words : (args : List Text) → fault_of run_app (line (codes "run") args) ≡ [] → 5 ≤ length args
 unfolding clap_on_literals
-few_words [] e = absurd cc
-few_words (i ∷ []) e = absurd cc
-few_words (i ∷ o ∷ []) e = absurd cc
-few_words (i ∷ o ∷ v ∷ []) e = absurd cc
-few_words (i ∷ o ∷ v ∷ s ∷ []) e = absurd cc
 few_words (i ∷ o ∷ v ∷ s ∷ t ∷ ls) e = omega arith
+few_words _ e = absurd cc
 
 pub run_found : (args : List Text) → fault_of run_app (line (codes "run") args) ≡ [] → IsRead args (rows_of_run args) × (length args ≤ 260)
-run_found [] e = absurd (omega (arith, few_words [] e))
-run_found (i ∷ []) e = absurd (omega (arith, few_words (i ∷ []) e))
-run_found (i ∷ o ∷ []) e = absurd (omega (arith, few_words (i ∷ o ∷ []) e))
-run_found (i ∷ o ∷ v ∷ []) e = absurd (omega (arith, few_words (i ∷ o ∷ v ∷ []) e))
-run_found (i ∷ o ∷ v ∷ s ∷ []) e = absurd (omega (arith, few_words (i ∷ o ∷ v ∷ s ∷ []) e))
 run_found (i ∷ o ∷ v ∷ s ∷ t ∷ []) e = (read_names i o v s t, omega arith)
 run_found (i ∷ o ∷ v ∷ s ∷ t ∷ l ∷ ls) e =
     let count = few_count (length (l ∷ ls)) (sym (by_count i o v s t l ls) ∙ e) in
     (subst (IsRead (i ∷ o ∷ v ∷ s ∷ t ∷ l ∷ ls)) (sym (rows_are i o v s t l ls)) (read_loads i o v s t l ls), omega (arith, count))
+run_found args e = absurd (omega (arith, few_words args e))
 
-pub run_taken : (i o v s t : Text) (loads : List Text) → length loads ≤ 255 → fault_of run_app (line (codes "run") (i ∷ o ∷ v ∷ s ∷ t ∷ loads)) ≡ []
-run_taken i o v s t [] few = names_taken i o v s t
-run_taken i o v s t (l ∷ ls) few = by_count i o v s t l ls ∙ fitting_count (length (l ∷ ls)) few
+names_and_loads : (i o v s t : Text) (loads : List Text) → length loads ≤ 255 → fault_of run_app (line (codes "run") (i ∷ o ∷ v ∷ s ∷ t ∷ loads)) ≡ []
+names_and_loads i o v s t [] few = names_taken i o v s t
+names_and_loads i o v s t (l ∷ ls) few = by_count i o v s t l ls ∙ fitting_count (length (l ∷ ls)) few
+
+pub run_taken : (args : List Text) → TakesSoMany (codes "run") (length args) → fault_of run_app (line (codes "run") args) ≡ []
+run_taken (i ∷ o ∷ v ∷ s ∷ t ∷ loads) fits = names_and_loads i o v s t loads (omega (arith, fits.1))
+run_taken _ fits = absurd (omega (arith, fits.0))

@@ -1,15 +1,13 @@
 use Rattle.std.proofs.Common.{◌≡◌, ◌≢◌, ◌∙◌, ◌∷◌, [], List, ℕ, ap, ap₂, refl, sym, codes, rules, arith}
-use Rattle.clap.specs.Words.{app_of}
+use Rattle.clap.specs.Words.{Row, Text}
 use Rattle.aftr_text.specs.Commands.{found_in, word_of}
-use Rattle.aftr_text.specs.Faults.{IsFaultOf}
-use Rattle.aftr_text.specs.Jobs.{AsksFor, IsName}
-use Rattle.aftr_text.specs.Parts.{texts}
-use Rattle.aftr_text.specs.declared.jobs.Job.{Job}
-use Rattle.aftr_text.specs.declared.faults.Fault.{Fault}
+use Rattle.aftr_text.specs.Faults.{HasCause, IsFaultOf}
+use Rattle.aftr_text.specs.Jobs.{AsksForNone, IsName}
 use Rattle.aftr_text.specs.declared.faults.Fault.TheVariants as fault
 use Rattle.aftr_text.specs.declared.faults.JobError.TheVariants as error_is
-use Rattle.aftr_text.proofs.AskLemmas.{apart, count_migrate, no_migrate, refused_migrate, found_migrate, unfit_migrate, same_texts, other_texts}
-use Rattle.aftr_text.proofs.FaultLemmas.{as_cause, empty_argument, from_cause, no_room}
+use Rattle.aftr_text.proofs.AskLemmas.{apart, asked_so_many, finds, no_migrate, not_so_many, other_texts, same_texts, unfit_migrate}
+use Rattle.aftr_text.proofs.CommandLemmas.{migrate_found, migrate_taken, migrate_words}
+use Rattle.aftr_text.proofs.FaultLemmas.{as_cause, empty_name, has_options, wrong_count}
 use Rattle.aftr_text.proofs.words.read_migrate.Goals as goal
 use Rattle.aftr_text.proofs.words.read_migrate.Goals.{In_ok-matches}
 
@@ -17,38 +15,43 @@ use Rattle.aftr_text.proofs.words.read_migrate.Goals.{In_ok-matches}
 abbrev word : In_ok-matches → List ℕ → List ℕ
 word c argument = word_of (found_in c.in_ok-matches.matches) argument
 
-abbrev arguments : In_ok-matches → List (List ℕ)
-arguments c = word c (codes "input") ∷ word c (codes "output") ∷ []
-
-found : (c : In_ok-matches) → c.args.parts.now.arguments ≡ arguments c
+found : (c : In_ok-matches) → c.args.parts.now.arguments ≡ migrate_words (found_in c.in_ok-matches.matches)
 found c =
-    found_migrate c.args.parts.now (app_of c.in_ok-migrate_command.field-0) (texts c.as_slice.result.now) c.in_ok-migrate_command.ensures
-    (ap texts c.as_slice.ensures.value ∙ c.in_ok-line.ensures) (found_in c.in_ok-matches.matches) c.in_ok-matches.ensures.taken c.in_ok-matches.ensures.found
+    finds c.in_ok-migrate_command.ensures c.as_slice.ensures.value c.in_ok-line.ensures (λ (args : List Text) (rows : List Row). args ≡ migrate_words rows) migrate_found
+    c.in_ok-matches.ensures.taken c.in_ok-matches.ensures.found
 
 -- words that do not fit ask for no job
 unfit : (c : In_ok-matches)
     → (IsName (word c (codes "input")) → IsName (word c (codes "output")) → word c (codes "input") ≢ word c (codes "output") → ⊥)
-    → (j : Job) → AsksFor (codes "migrate") c.args.parts.now j → ⊥
+    → AsksForNone (codes "migrate") c.args.parts.now
 unfit c none = no_migrate c.args.parts.now (unfit_migrate c.args.parts.now (word c (codes "input")) (word c (codes "output")) (found c) none)
 
 pub returns-in_err-matches-clause-usage : goal.returns-in_err-matches-clause-usage
 returns-in_err-matches-clause-usage c =
-    let none : c.in_err-matches.field-0.0 ≢ error_is.OutOfMemory → (j : Job) → AsksFor (codes "migrate") c.args.parts.now j → ⊥ =
-    λ e. no_migrate c.args.parts.now (refused_migrate c.args.parts.now (app_of c.in_ok-migrate_command.field-0) (texts c.as_slice.result.now)
-    c.in_ok-migrate_command.ensures (ap texts c.as_slice.ensures.value ∙ c.in_ok-line.ensures) (c.in_err-matches.ensures.usage e)) in
+    let none : c.in_err-matches.field-0.0 ≢ error_is.OutOfMemory → AsksForNone (codes "migrate") c.args.parts.now =
+    λ e j a. not_so_many c.in_ok-migrate_command.ensures c.as_slice.ensures.value c.in_ok-line.ensures migrate_taken (c.in_err-matches.ensures.usage e)
+    (asked_so_many (codes "migrate") c.args.parts.now j a) in
+    search rules
+
+pub returns-in_err-matches-clause-cause : goal.returns-in_err-matches-clause-cause
+returns-in_err-matches-clause-cause c =
+    let told : HasCause (codes "migrate") c.args.parts.now c.in_err-matches.field-0.0 =
+    wrong_count (codes "migrate") c.args.parts.now c.in_err-matches.field-0.0
+    (λ e. not_so_many c.in_ok-migrate_command.ensures c.as_slice.ensures.value c.in_ok-line.ensures migrate_taken (c.in_err-matches.ensures.usage e))
+    c.in_err-matches.ensures.count in
     search rules
 
 pub returns-in_err-input-clause-usage : goal.returns-in_err-input-clause-usage
 returns-in_err-input-clause-usage c =
     let m = (goal.at.returns-in_err-input-clause-usage c).In_ok-matches in
-    let none : c.in_err-input.field-0.0 ≢ error_is.OutOfMemory → (j : Job) → AsksFor (codes "migrate") c.args.parts.now j → ⊥ =
+    let none : c.in_err-input.field-0.0 ≢ error_is.OutOfMemory → AsksForNone (codes "migrate") c.args.parts.now =
     λ e. unfit m (λ first second apart. c.in_err-input.ensures.usage e first) in
     search rules
 
 pub returns-in_err-output-clause-usage : goal.returns-in_err-output-clause-usage
 returns-in_err-output-clause-usage c =
     let m = (goal.at.returns-in_err-output-clause-usage c).In_ok-matches in
-    let none : c.in_err-output.field-0.0 ≢ error_is.OutOfMemory → (j : Job) → AsksFor (codes "migrate") c.args.parts.now j → ⊥ =
+    let none : c.in_err-output.field-0.0 ≢ error_is.OutOfMemory → AsksForNone (codes "migrate") c.args.parts.now =
     λ e. unfit m (λ first second apart. c.in_err-output.ensures.usage e second) in
     search rules
 
@@ -74,34 +77,22 @@ returns-clause-job c =
 
 pub returns-then-has_options-clause-cause : goal.returns-then-has_options-clause-cause
 returns-then-has_options-clause-cause c =
-    as_cause (IsFaultOf (codes "migrate") c.args.parts.now) fault.OptionOfRun (apart _ _ refl, λ none. let bad = c.if-has_options.ensures.1 none in absurd cc)
-
-pub returns-in_err-matches-clause-cause : goal.returns-in_err-matches-clause-cause
-returns-in_err-matches-clause-cause c =
-    let told : (f : Fault) → c.in_err-matches.field-0.0 ≡ error_is.Refused f → IsFaultOf (codes "migrate") c.args.parts.now f =
-    λ f e. from_cause (IsFaultOf (codes "migrate") c.args.parts.now) c.in_err-matches.field-0.0 fault.Count c.in_err-matches.ensures.count
-    (count_migrate c.args.parts.now (app_of c.in_ok-migrate_command.field-0) (texts c.as_slice.result.now)
-    c.in_ok-migrate_command.ensures (ap texts c.as_slice.ensures.value ∙ c.in_ok-line.ensures) (c.in_err-matches.ensures.usage (no_room _ f e))) f e in
-    search rules
+    has_options (codes "migrate") c.args.parts.now (apart _ _ refl) (λ none. let bad = c.if-has_options.ensures.1 none in absurd cc)
 
 pub returns-in_err-input-clause-cause : goal.returns-in_err-input-clause-cause
 returns-in_err-input-clause-cause c =
     let m = (goal.at.returns-in_err-input-clause-cause c).In_ok-matches in
-    let told : (f : Fault) → c.in_err-input.field-0.0 ≡ error_is.Refused f → IsFaultOf (codes "migrate") c.args.parts.now f =
-    λ f e. from_cause (IsFaultOf (codes "migrate") c.args.parts.now) c.in_err-input.field-0.0 (fault.Empty 0) c.in_err-input.ensures.cause (
-      omega arith,
-      empty_argument c.args.parts.now (arguments m) 0 (word m (codes "input")) (found m) refl (c.in_err-input.ensures.usage (no_room _ f e)),
-    ) f e in
+    let told : HasCause (codes "migrate") c.args.parts.now c.in_err-input.field-0.0 =
+    empty_name (codes "migrate") c.args.parts.now c.in_err-input.field-0.0 (migrate_words (found_in m.in_ok-matches.matches)) 0 (word m (codes "input")) (found m) refl
+    (omega arith) c.in_err-input.ensures.usage c.in_err-input.ensures.cause in
     search rules
 
 pub returns-in_err-output-clause-cause : goal.returns-in_err-output-clause-cause
 returns-in_err-output-clause-cause c =
     let m = (goal.at.returns-in_err-output-clause-cause c).In_ok-matches in
-    let told : (f : Fault) → c.in_err-output.field-0.0 ≡ error_is.Refused f → IsFaultOf (codes "migrate") c.args.parts.now f =
-    λ f e. from_cause (IsFaultOf (codes "migrate") c.args.parts.now) c.in_err-output.field-0.0 (fault.Empty 1) c.in_err-output.ensures.cause (
-      omega arith,
-      empty_argument c.args.parts.now (arguments m) 1 (word m (codes "output")) (found m) refl (c.in_err-output.ensures.usage (no_room _ f e)),
-    ) f e in
+    let told : HasCause (codes "migrate") c.args.parts.now c.in_err-output.field-0.0 =
+    empty_name (codes "migrate") c.args.parts.now c.in_err-output.field-0.0 (migrate_words (found_in m.in_ok-matches.matches)) 1 (word m (codes "output")) (found m) refl
+    (omega arith) c.in_err-output.ensures.usage c.in_err-output.ensures.cause in
     search rules
 
 pub returns-then-eq-clause-cause : goal.returns-then-eq-clause-cause

@@ -1,26 +1,24 @@
-use Rattle.std.proofs.Common.{◌≡◌, ◌≢◌, ◌∙◌, List, ℕ, ap, refl, sym, codes, rules, subst}
+use Rattle.std.proofs.Common.{◌≢◌, ◌∙◌, ◌≤◌, List, ℕ, ap, length, refl, sym, codes, rules, subst}
 use Rattle.std.specs.Prelude.{slice_get}
-use Rattle.clap.specs.Words.{app_of}
+use Rattle.clap.specs.Words.{Row, Text}
 use Rattle.aftr_text.specs.Commands.{found_in, words_of}
-use Rattle.aftr_text.specs.Faults.{HasFallen, IsFaultOf}
-use Rattle.aftr_text.specs.Jobs.{AreRising, AreWorkers, AsksFor, IsLimit, windows_of}
-use Rattle.aftr_text.specs.Parts.{texts}
-use Rattle.aftr_text.specs.declared.jobs.Job.{Job}
+use Rattle.aftr_text.specs.Faults.{HasCause, HasFallen, IsFaultOf}
+use Rattle.aftr_text.specs.Jobs.{AreRising, AreWorkers, AsksForNone, IsLimit, windows_of}
 use Rattle.aftr_text.specs.declared.parts.Slot.TheVariants as slot_is
 use Rattle.aftr_text.specs.declared.jobs.LoadWords.{LoadWords}
 use Rattle.aftr_text.specs.declared.jobs.RunJob.{RunJob}
-use Rattle.aftr_text.specs.declared.faults.Fault.{Fault}
 use Rattle.aftr_text.specs.declared.faults.Fault.TheVariants as fault
 use Rattle.aftr_text.specs.declared.faults.JobError.TheVariants as error_is
-use Rattle.aftr_text.proofs.FaultLemmas.{as_cause, bad_load, from_cause, from_load, from_values, named_run, no_room}
-use Rattle.aftr_text.proofs.AskLemmas.{count_run, IsFound, IsMade, asked_run, no_run, refused_run, found_run, loads_asked, sound_as}
+use Rattle.aftr_text.proofs.AskLemmas.{IsFound, IsMade, asked_run, asked_so_many, finds, loads_asked, named_run, no_run, not_so_many, sound_as}
+use Rattle.aftr_text.proofs.FaultLemmas.{as_cause, bad_load, from_load, from_values, wrong_count}
+use Rattle.aftr_text.proofs.RunLemmas.{IsRead, run_found, run_taken}
 use Rattle.aftr_text.proofs.words.read_run.Goals as goal
 use Rattle.aftr_text.proofs.words.read_run.Goals.{In_ok-matches, In_ok-table}
 
 found : (c : In_ok-matches) → IsFound c.args.parts.now (found_in c.in_ok-matches.matches)
 found c =
-    found_run c.args.parts.now (app_of c.in_ok-run_command.field-0) (texts c.as_slice.result.now) c.in_ok-run_command.ensures
-    (ap texts c.as_slice.ensures.value ∙ c.in_ok-line.ensures) (found_in c.in_ok-matches.matches) c.in_ok-matches.ensures.taken c.in_ok-matches.ensures.found
+    finds c.in_ok-run_command.ensures c.as_slice.ensures.value c.in_ok-line.ensures (λ (args : List Text) (rows : List Row). IsRead args rows × (length args ≤ 260))
+    run_found c.in_ok-matches.ensures.taken c.in_ok-matches.ensures.found
 
 -- the job that was read
 abbrev run : In_ok-table → RunJob
@@ -48,14 +46,14 @@ made c = record {
 
 pub returns-in_err-matches-clause-usage : goal.returns-in_err-matches-clause-usage
 returns-in_err-matches-clause-usage c =
-    let none : c.in_err-matches.field-0.0 ≢ error_is.OutOfMemory → (j : Job) → AsksFor (codes "run") c.args.parts.now j → ⊥ =
-    λ e. no_run c.args.parts.now (refused_run c.args.parts.now (app_of c.in_ok-run_command.field-0) (texts c.as_slice.result.now)
-    c.in_ok-run_command.ensures (ap texts c.as_slice.ensures.value ∙ c.in_ok-line.ensures) (c.in_err-matches.ensures.usage e)) in
+    let none : c.in_err-matches.field-0.0 ≢ error_is.OutOfMemory → AsksForNone (codes "run") c.args.parts.now =
+    λ e j a. not_so_many c.in_ok-run_command.ensures c.as_slice.ensures.value c.in_ok-line.ensures run_taken (c.in_err-matches.ensures.usage e)
+    (asked_so_many (codes "run") c.args.parts.now j a) in
     search rules
 
 pub returns-in_err-workers-clause-usage : goal.returns-in_err-workers-clause-usage
 returns-in_err-workers-clause-usage c =
-    let none : c.in_err-workers.field-0.0 ≢ error_is.OutOfMemory → (j : Job) → AsksFor (codes "run") c.args.parts.now j → ⊥ =
+    let none : c.in_err-workers.field-0.0 ≢ error_is.OutOfMemory → AsksForNone (codes "run") c.args.parts.now =
     λ e. no_run c.args.parts.now (λ other a. c.in_err-workers.ensures.usage other.workers
     (subst (λ (g : List (List ℕ)). AreWorkers g other.workers) (sym c.workers.ensures) a.workers)) in
     search rules
@@ -64,7 +62,7 @@ pub returns-in_err-loads-clause-usage : goal.returns-in_err-loads-clause-usage
 returns-in_err-loads-clause-usage c =
     let rows = found_in c.in_ok-matches.matches in
     let there = found (goal.at.returns-in_err-loads-clause-usage c).In_ok-matches in
-    let none : c.in_err-loads.field-0.0 ≢ error_is.OutOfMemory → (j : Job) → AsksFor (codes "run") c.args.parts.now j → ⊥ =
+    let none : c.in_err-loads.field-0.0 ≢ error_is.OutOfMemory → AsksForNone (codes "run") c.args.parts.now =
     λ e. no_run c.args.parts.now (λ other a. c.in_err-loads.ensures.usage e other.loads a.loads (loads_asked c.args.parts.now rows there other a)) in
     search rules
 
@@ -97,30 +95,30 @@ returns-clause-job c =
 
 pub returns-in_err-matches-clause-cause : goal.returns-in_err-matches-clause-cause
 returns-in_err-matches-clause-cause c =
-    let told : (f : Fault) → c.in_err-matches.field-0.0 ≡ error_is.Refused f → IsFaultOf (codes "run") c.args.parts.now f =
-    λ f e. from_cause (IsFaultOf (codes "run") c.args.parts.now) c.in_err-matches.field-0.0 fault.Count c.in_err-matches.ensures.count
-    (count_run c.args.parts.now (app_of c.in_ok-run_command.field-0) (texts c.as_slice.result.now)
-    c.in_ok-run_command.ensures (ap texts c.as_slice.ensures.value ∙ c.in_ok-line.ensures) (c.in_err-matches.ensures.usage (no_room _ f e))) f e in
+    let told : HasCause (codes "run") c.args.parts.now c.in_err-matches.field-0.0 =
+    wrong_count (codes "run") c.args.parts.now c.in_err-matches.field-0.0
+    (λ e. not_so_many c.in_ok-run_command.ensures c.as_slice.ensures.value c.in_ok-line.ensures run_taken (c.in_err-matches.ensures.usage e))
+    c.in_err-matches.ensures.count in
     search rules
 
 pub returns-in_err-loads-clause-cause : goal.returns-in_err-loads-clause-cause
 returns-in_err-loads-clause-cause c =
     let rows = found_in c.in_ok-matches.matches in
     let there = found (goal.at.returns-in_err-loads-clause-cause c).In_ok-matches in
-    let told : (f : Fault) → c.in_err-loads.field-0.0 ≡ error_is.Refused f → IsFaultOf (codes "run") c.args.parts.now f =
+    let told : HasCause (codes "run") c.args.parts.now c.in_err-loads.field-0.0 =
     from_load (IsFaultOf (codes "run") c.args.parts.now) c.in_err-loads.field-0.0 (words_of rows (codes "loads")) c.in_err-loads.ensures.cause
     (λ at bad. (refl, bad_load c.args.parts.now rows there at bad)) in
     search rules
 
 pub returns-in_err-workers-clause-cause : goal.returns-in_err-workers-clause-cause
 returns-in_err-workers-clause-cause c =
-    let told : (f : Fault) → c.in_err-workers.field-0.0 ≡ error_is.Refused f → IsFaultOf (codes "run") c.args.parts.now f =
+    let told : HasCause (codes "run") c.args.parts.now c.in_err-workers.field-0.0 =
     from_values c.args.parts.now slot_is.Workers c.workers.result.now c.in_err-workers.field-0.0 c.workers.ensures c.in_err-workers.ensures.cause in
     search rules
 
 pub returns-in_err-errors-clause-cause : goal.returns-in_err-errors-clause-cause
 returns-in_err-errors-clause-cause c =
-    let told : (f : Fault) → c.in_err-errors.field-0.0 ≡ error_is.Refused f → IsFaultOf (codes "run") c.args.parts.now f =
+    let told : HasCause (codes "run") c.args.parts.now c.in_err-errors.field-0.0 =
     from_values c.args.parts.now slot_is.Errors c.errors.result.now c.in_err-errors.field-0.0 c.errors.ensures c.in_err-errors.ensures.cause in
     search rules
 
