@@ -1,12 +1,4 @@
 pub mod Appended
-pub mod Entries
-pub mod FailedCall
-pub mod Known
 pub mod First
-pub mod Contents
-pub mod Memory
 pub mod Numbers
-pub mod Outside
-pub mod Pieces
 pub mod Sums
-pub mod System

@@ -1,8 +1,8 @@
 -- What people are told of command words that ask for no job, and of a file or of standard output that failed. Each is one line that begins
 -- with two blanks. Ours. Arguments, loads and the words behind the command are counted from 0, and told from 1.
 use Rattle.std.specs.Prelude.{ℕ, ◌+◌, ◌==◌, List, [], ◌∷◌, ◌++◌, bytes_eq, codes, decimal, if◌then◌else◌, length, slice_get, unwrap_or, Option, Some, None}
-use Rattle.aftr_base.specs.declared.last_error.Call.{Call}
-use Rattle.aftr_base.specs.declared.last_error.Call.TheVariants as call
+use Rattle.aftr_io.specs.declared.last_error.Call.{Call}
+use Rattle.aftr_io.specs.declared.last_error.Call.TheVariants as call
 use Rattle.aftr_text.specs.Faults.{greatest_of, values_of}
 use Rattle.aftr_text.specs.Parts.{Parts, no_parts, parts_of}
 use Rattle.aftr_text.specs.declared.faults.Fault.{Fault}

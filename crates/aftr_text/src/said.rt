@@ -2,7 +2,8 @@
 ghost use Rattle.std.specs.Prelude.{◌≡◌, ℕ, List, IfOk, string_bytes};
 ghost use Rattle.aftr_text.specs.Messages.{failed_text, file_text, output_text, read_text};
 
-use aftr_base::{Call, LastError, OutOfMemory, Text};
+use aftr_base::{OutOfMemory, Text};
+use aftr_io::{Call, LastError};
 use std::alloc::Global;
 use std::io;
 

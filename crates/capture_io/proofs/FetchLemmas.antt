@@ -5,7 +5,7 @@ use Rattle.std.proofs.lemmas.Bool.{true≢false}
 use Rattle.std.proofs.lemmas.List.{append-nil, drop-drop, drop-take, length-append, length-drop, length-take, length-take-le, take-append-drop, take-take, take_all}
 use Rattle.std.proofs.lemmas.List.Edits.{take-paste}
 use Rattle.std.specs.List.{copy_within}
-use Rattle.aftr_base.specs.Contents.{Contents, content, Told}
+use Rattle.aftr_io.specs.Contents.{Contents, content, Told}
 use Rattle.capture_io.specs.Fronts.{IsStart}
 use Rattle.capture_io.specs.Windows.{Ahead, IsBehind, IsMore}
 

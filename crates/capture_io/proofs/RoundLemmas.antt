@@ -3,9 +3,9 @@ use Rattle.std.proofs.Common.{◌≡◌, ℕ, ◌+◌, ◌<◌, ◌≤◌, Bool,
 use Rattle.std.proofs.lemmas.Bool.{true≢false}
 use Rattle.std.proofs.lemmas.List.{length-map, length-take}
 use Rattle.aftr_base.specs.Numbers.{span}
-use Rattle.aftr_base.specs.Contents.{Contents, content, Told}
-use Rattle.aftr_base.specs.Outside.{OnlyReads, Outside}
-use Rattle.aftr_base.proofs.OutsideLemmas.{reads_wider}
+use Rattle.aftr_io.specs.Contents.{Contents, content, Told}
+use Rattle.aftr_io.specs.Outside.{OnlyReads, Outside}
+use Rattle.aftr_io.proofs.OutsideLemmas.{reads_wider}
 use Rattle.capture_io.specs.declared.forms.Next.TheVariants as next
 use Rattle.capture_io.specs.declared.forms.Rec.{Rec}
 use Rattle.capture_io.specs.declared.fronts.Taken.{Taken}

@@ -1,6 +1,6 @@
 -- Bytes that were read ahead of a file.
 use Rattle.std.specs.Prelude.{◌≡◌, ℕ, Bool, List, drop, take, Option}
-use Rattle.aftr_base.specs.Contents.{Contents, content, Told}
+use Rattle.aftr_io.specs.Contents.{Contents, content, Told}
 use Rattle.capture_io.specs.Fronts.{IsFront, IsStart}
 
 -- the bytes that were read and not used, and whether nothing stands behind them

@@ -1,7 +1,7 @@
 // Captures of the pcap format, read in rounds.
 ghost use Rattle.std.specs.Prelude.{◌≡◌, ◌+◌, ◌*◌, ◌^◌, ◌<◌, ◌≤◌, [], IfErr, IfOk, IsFalse, IsTrue, length, take, vec_capacity};
-ghost use Rattle.aftr_base.specs.Contents.{content, Told};
-ghost use Rattle.aftr_base.specs.Outside.{OnlyReads};
+ghost use Rattle.aftr_io.specs.Contents.{content, Told};
+ghost use Rattle.aftr_io.specs.Outside.{OnlyReads};
 ghost use Rattle.capture_io.specs.Answers.{is_read_fault};
 ghost use Rattle.capture_io.specs.Classic.{FetchReads, IsTaken, Opens};
 ghost use Rattle.capture_io.specs.Fronts.{front_in, is_more};
@@ -16,7 +16,8 @@ use crate::window::{ROOM, Window};
 use crate::{
     CaptureError, CaptureReader, Ending, FILE_HEADER_LEN, Form, Place, Records, Round, read_header,
 };
-use aftr_base::{Fault, Files, OutOfMemory};
+use aftr_base::OutOfMemory;
+use aftr_io::{Fault, Files};
 use std::alloc::Global;
 
 // A piece of so many bytes is still in a processor's second-level cache when its records are looked for, beside the bytes of the

@@ -3,7 +3,8 @@ ghost use Rattle.std.specs.Prelude.{◌≡◌};
 ghost use Rattle.capture_io.specs.Answers.{error_of};
 
 use crate::NgBad;
-use aftr_base::{Bytes, Fault};
+use aftr_base::Bytes;
+use aftr_io::Fault;
 use std::fmt;
 use thiserror::Error;
 

@@ -1,7 +1,7 @@
 // The file header of a capture.
 ghost use Rattle.std.specs.Prelude.{◌≡◌, ◌++◌, ◌<◌, ◌≤◌, IfErr, IfOk, IsTrue, length, take};
-ghost use Rattle.aftr_base.specs.Contents.{content, Told};
-ghost use Rattle.aftr_base.specs.Outside.{OnlyReads};
+ghost use Rattle.aftr_io.specs.Contents.{content, Told};
+ghost use Rattle.aftr_io.specs.Outside.{OnlyReads};
 ghost use Rattle.capture_io.specs.Answers.{Agrees, is_read_fault};
 ghost use Rattle.capture_io.specs.Header.{has_magic, header_in, is_known_link};
 ghost use Rattle.capture_io.specs.Refusals.{RefusesHeader};
@@ -9,7 +9,8 @@ ghost use Rattle.capture_io.specs.Written.{header_bytes};
 
 use crate::words::{half, word};
 use crate::{CaptureBad, CaptureError, Form};
-use aftr_base::{Files, OutOfMemory, fill};
+use aftr_base::OutOfMemory;
+use aftr_io::{Files, fill};
 use std::alloc::Global;
 
 /// How many bytes the file header has; the first record stands behind them.

@@ -1,7 +1,7 @@
 // The records of a capture.
 ghost use Rattle.std.specs.Prelude.{◌≡◌, ◌+◌, ◌^◌, ◌≤◌, IfOk, length, take, drop};
-ghost use Rattle.aftr_base.specs.Contents.{content, Told};
-ghost use Rattle.aftr_base.specs.Outside.{OnlyReads};
+ghost use Rattle.aftr_io.specs.Contents.{content, Told};
+ghost use Rattle.aftr_io.specs.Outside.{OnlyReads};
 ghost use Rattle.capture_io.specs.Answers.{Agrees, Continues, IsBeforeEnd, is_read_fault};
 ghost use Rattle.capture_io.specs.Head.{head_in};
 ghost use Rattle.capture_io.specs.Record.{IsBounded, nanoseconds, next_in};
@@ -9,7 +9,8 @@ ghost use Rattle.capture_io.specs.Written.{record_bytes};
 
 use crate::words::word;
 use crate::{CaptureBad, CaptureError, Form, Next, Rec};
-use aftr_base::{Bytes, Files, OutOfMemory, bytes_at, fill};
+use aftr_base::{Bytes, OutOfMemory};
+use aftr_io::{Files, bytes_at, fill};
 use std::alloc::Global;
 
 /// How many bytes a record's header has; its captured bytes stand behind them.

@@ -1,6 +1,6 @@
 // Captures of any format, read in rounds.
 ghost use Rattle.std.specs.Prelude.{◌≡◌, ℕ, ◌^◌, ◌≤◌, List, Option, IfOk};
-ghost use Rattle.aftr_base.specs.Contents.{content, Told};
+ghost use Rattle.aftr_io.specs.Contents.{content, Told};
 ghost use Rattle.capture_io.specs.declared.forms.Rec.{Rec as Record};
 ghost use Rattle.capture_io.specs.declared.forms.Form.{Form as CaptureForm};
 ghost use Rattle.capture_io.specs.declared.forms.CaptureBad.{CaptureBad as Refusal};
@@ -8,7 +8,8 @@ ghost use Rattle.capture_io.specs.Refusals.{EndsInRecords};
 ghost use Rattle.capture_io.specs.Rounds.{IsCount, IsPlaced, GoesOn, ReadsRound};
 
 use crate::{CaptureBad, Form, Records};
-use aftr_base::{Files, OutOfMemory};
+use aftr_base::OutOfMemory;
+use aftr_io::Files;
 use std::alloc::Global;
 
 /// How the records ended.

@@ -1,12 +1,13 @@
 // Bytes that were read of a file and are not used yet.
 ghost use Rattle.std.specs.Prelude.{◌≡◌, ℕ, ◌+◌, ◌-◌, ◌^◌, ◌<◌, ◌≤◌, [], false, if◌then◌else◌, IfOk, IsErr, IsFalse, All, List, drop, length, map, take};
-ghost use Rattle.aftr_base.specs.Contents.{content, Told};
-ghost use Rattle.aftr_base.specs.Outside.{OnlyReads, has_failed};
+ghost use Rattle.aftr_io.specs.Contents.{content, Told};
+ghost use Rattle.aftr_io.specs.Outside.{OnlyReads, has_failed};
 ghost use Rattle.capture_io.specs.Records.{IsWithin, placed};
 ghost use Rattle.capture_io.specs.Windows.{Ahead, IsBehind, IsMore};
 
 use crate::{Place, Records};
-use aftr_base::{Fault, Files, OutOfMemory};
+use aftr_base::OutOfMemory;
+use aftr_io::{Fault, Files};
 use std::alloc::Global;
 use std::marker::Model;
 use std::mem;

@@ -2,7 +2,7 @@
 use crate::captures::is_first;
 use crate::parts::parts_of;
 use crate::pipes::{Pipe, pipe_of};
-use aftr_base::QuietFiles;
+use aftr_io::QuietFiles;
 use capture_io::{CaptureError, Form, Next};
 use case_data::UP_LOWERED;
 use pcapng_io::{NgReader, is_ng, put_enhanced, put_section};

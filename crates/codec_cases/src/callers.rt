@@ -5,7 +5,8 @@ use crate::blocks::{HEAD, INTERFACE, SECTION, TAIL, joined};
 use crate::captures::{BY_SCAPY, BY_TEXT2PCAP};
 use crate::rounds::{SECOND, THIRD};
 use addr_text::{BadText, read_v6, write_v6};
-use aftr_base::{Fault, Files, MemFiles, OutOfMemory, V4, append_all, fill, sum16};
+use aftr_base::{OutOfMemory, V4, sum16};
+use aftr_io::{Fault, Files, MemFiles, append_all, fill};
 use capture_io::{
     CaptureBad, CaptureError, CaptureReader, ClassicReader, Ending, Frame, Next, Records, frame_of,
     next_record, read_header,

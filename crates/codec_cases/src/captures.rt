@@ -1,5 +1,6 @@
 // Captures that other tools wrote, frames, and what is written.
-use aftr_base::{OutOfMemory, QuietFiles};
+use aftr_base::OutOfMemory;
+use aftr_io::QuietFiles;
 use capture_io::{
     CaptureBad, CaptureError, Form, Frame, Next, frame_of, next_record, put_header, put_record,
     read_header, time_of,

@@ -1,9 +1,7 @@
 // Short stories of calls: which fail, what the files hold then, and how far the loops come.
 ghost use Rattle.std.specs.Prelude.{◌<◌, ◌≤◌, ◌^◌, length};
 
-use aftr_base::{
-    Fault, Files, MemFiles, MemSink, QuietFiles, RealFiles, append_all, fill, put_all,
-};
+use aftr_io::{Fault, Files, MemFiles, MemSink, QuietFiles, RealFiles, append_all, fill, put_all};
 use std::alloc::Global;
 use std::rt::Files as FileSystem;
 use std::test::Fail;

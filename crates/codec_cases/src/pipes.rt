@@ -1,5 +1,5 @@
 // Captures as a pipe gives them: each byte once and in order, in pieces of any size.
-use aftr_base::{Fault, Files, MemFiles};
+use aftr_io::{Fault, Files, MemFiles};
 use std::alloc::Global;
 use std::test::Fail;
 

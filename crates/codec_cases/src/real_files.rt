@@ -1,7 +1,7 @@
 // Calls of the system that fail, each in turn and at its worst place, and what is answered then and afterwards.
 use crate::outside::temporary;
 use crate::systems::story;
-use aftr_base::{Fault, Files, RealFiles, RealSink, append_all, fill, put_all};
+use aftr_io::{Fault, Files, RealFiles, RealSink, append_all, fill, put_all};
 use std::alloc::{Allocator, Global};
 use std::cell::Cell;
 use std::fmt::Display;

@@ -5,7 +5,7 @@ use crate::blocks::{joined, record_text};
 use crate::outside::number;
 use crate::parts::first_bytes;
 use crate::pipes::{Pipe, pipe_of};
-use aftr_base::Files;
+use aftr_io::Files;
 use capture_io::{CaptureError, CaptureReader, ClassicReader, Ending, Records, Written, piece_of};
 use case_data::CAPTURE;
 use pcapng_io::{NgReader, Reader};

@@ -2,9 +2,7 @@
 ghost use Rattle.std.specs.Prelude.{◌≤◌};
 
 use crate::outside::{answer, first_other, holds};
-use aftr_base::{
-    Call, Fault, Files, LastError, MemSystem, RealFiles, SystemFiles, append_all, fill,
-};
+use aftr_io::{Call, Fault, Files, LastError, MemSystem, RealFiles, SystemFiles, append_all, fill};
 use std::alloc::Global;
 use std::io::ErrorKind;
 use std::rt::Files as FileSystem;

@@ -3,7 +3,7 @@ use Rattle.std.proofs.Common.{◌≡◌, ℕ, ◌+◌, ◌-◌, ◌≤◌, List,
 use Rattle.std.proofs.lemmas.List.{length-append, take_all}
 use Rattle.std.proofs.Math.Seq.{take-append-add, take-append_seam}
 use borrow.Rule.Slice.PartMut.{put_mid}
-use Rattle.aftr_base.proofs.PieceLemmas.{front_over}
+use Rattle.aftr_base.proofs.FrontLemmas.{front_over}
 use Rattle.aftr_base.specs.declared.numbers.V4.{V4}
 use Rattle.aftr_base.specs.declared.numbers.V6.{V6}
 use Rattle.icmp_codec.specs.Message4.{icmp4_bytes}

@@ -1,5 +1,6 @@
 // The caller that the README of lwaftr_engine shows, and what it answers.
-use aftr_base::{Files, MemFiles, MemSink, OutOfMemory, Sink, Text};
+use aftr_base::{OutOfMemory, Text};
+use aftr_io::{Files, MemFiles, MemSink, Sink};
 use case_data::WHOLE_TABLE;
 use lwaftr_engine::{code, lwaftr, status_line};
 use std::alloc::Global;

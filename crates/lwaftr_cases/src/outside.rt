@@ -1,7 +1,7 @@
 // Files and a sink that a test looks at.
 ghost use Rattle.std.specs.Prelude.{min, take, length};
 
-use aftr_base::{Fault, Files, MemFiles, MemSink, Sink};
+use aftr_io::{Fault, Files, MemFiles, MemSink, Sink};
 use std::alloc::Global;
 
 /// Files in memory, and what is noted of their calls.

@@ -4,7 +4,7 @@ use crate::cases::{part, words_of};
 use crate::due::{RECORDS, TABLE, WORDS};
 use crate::outside::{Narrow, Watched};
 use crate::tables::table_text;
-use aftr_base::MemFiles;
+use aftr_io::MemFiles;
 use area_swap::History;
 use lwaftr_engine::{Status, lwaftr};
 use std::alloc::Global;

@@ -4,7 +4,7 @@ use Rattle.lwaftr_engine.proofs.Words.{AreApart, Bool, Breaks, CanGoOn, Ending, 
 use Rattle.lwaftr_engine.proofs.Words.{List, Moves, None, Ok, OthersKept, Outside, Pending, PutsAndReads, ReadsOf, Result, Rises, Round, Router, RunLaws, Setup}
 use Rattle.lwaftr_engine.proofs.Words.{Spot, StandsBetween, StaysOnDuty, Step, WentWell, [], ap, arith, drop, has_failed, is_cut, length, length-append, refl}
 use Rattle.lwaftr_engine.proofs.Words.{state_of, steps_of, subst, sym, ℕ, ◌++◌, ◌∙◌, ◌∷◌, ◌≡◌}
-use Rattle.aftr_base.specs.declared.outside.Fault.TheVariants as fault
+use Rattle.aftr_io.specs.declared.outside.Fault.TheVariants as fault
 use Rattle.lwaftr_engine.specs.Beside.{Asks, Exchange, Go, HaveBroken, HaveFetched, HaveJudged, HaveTaken, Standing, assignments, reached, reached_from}
 use Rattle.lwaftr_engine.specs.Beside.{reports}
 use Rattle.lwaftr_engine.specs.declared.beside.Assignment.{Assignment}

@@ -14,7 +14,7 @@ use Rattle.lwaftr_engine.proofs.Writing.{opening_front, opened}
 use Rattle.lwaftr_engine.proofs.Fronting.{at_finish, at_opening, at_rounds, first_points}
 use Rattle.lwaftr_engine.proofs.Courses.{bare}
 use Rattle.lwaftr_engine.proofs.Moving.{moves_by, moves_join, moves_none, moves_three}
-use Rattle.aftr_base.specs.declared.outside.Fault.TheVariants as fault
+use Rattle.aftr_io.specs.declared.outside.Fault.TheVariants as fault
 use Rattle.capture_io.specs.declared.rounds.Ending.TheVariants as ending
 
 -- a broken run, where the reader stands before the first record, under every list of tables of which the plan's words are

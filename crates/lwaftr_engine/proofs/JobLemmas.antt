@@ -7,7 +7,7 @@ use Rattle.lwaftr_engine.proofs.Words.{IsEarly, LeavesMade, ended_status, some_s
 use Rattle.lwaftr_engine.proofs.Words.{Standing, Interface, Tables, LeavesOpened, World}
 use Rattle.capture_io.specs.Classic.{IsOpened}
 use Rattle.lwaftr_engine.proofs.Moving.{told_moves}
-use Rattle.aftr_base.specs.declared.outside.Fault.TheVariants as fault
+use Rattle.aftr_io.specs.declared.outside.Fault.TheVariants as fault
 use Rattle.capture_io.specs.Header as classic_header
 use Rattle.capture_io.specs.declared.rounds.Ending.TheVariants as ending
 use Rattle.capture_io.specs.declared.written.Written.TheVariants as written

@@ -22,10 +22,10 @@ pub use Rattle.std.specs.Ordering.{eq_by_cmp, nat_cmp}
 pub use Rattle.std.specs.Prelude.{IfErr, OnOk, bytes_eq, min, replicate, slice_index_or, ◌&&◌, IfOk, IfSome, string_bytes}
 pub use Rattle.std.specs.List.{AllZip, Contains}
 pub use Rattle.std.specs.Option.{option_map}
-pub use Rattle.aftr_base.proofs.OutsideLemmas.{read_well}
-pub use Rattle.aftr_base.specs.Memory.{SinkInMemory}
-pub use Rattle.aftr_base.specs.Outside.{OnlyReads, OnlyWrites}
-pub use Rattle.aftr_base.specs.Pieces.{AppendedAll}
+pub use Rattle.aftr_io.proofs.OutsideLemmas.{read_well}
+pub use Rattle.aftr_io.specs.Memory.{SinkInMemory}
+pub use Rattle.aftr_io.specs.Outside.{OnlyReads, OnlyWrites}
+pub use Rattle.aftr_io.specs.Pieces.{AppendedAll}
 pub use Rattle.aftr_base.specs.declared.lists.OutOfMemory.{OutOfMemory}
 pub use Rattle.aftr_text.specs.Jobs.{AreWorkers, Asks, AsksRun, IsLimit, StandsOnce, names_of}
 pub use Rattle.aftr_text.specs.Parts.{Parts, texts}

@@ -5,7 +5,7 @@ use Rattle.std.specs.Option.{option_map}
 use Rattle.lwaftr_engine.specs.Words.{AreAllPoints, BindingTable, CaptureBad, Contents, Course, Fault, Form, HistoryValue, IsLimited, NamedSlot, Rec, Rises}
 use Rattle.lwaftr_engine.specs.Words.{Rose, RunJob, Slot, Window, Written, content, entries_of, in_force, initial_text, named, output_of, slot_text}
 use Rattle.lwaftr_engine.specs.Words.{summary_text, totals_of, verdicts_of, versions_of}
-use Rattle.aftr_base.specs.declared.outside.Fault.TheVariants as fault
+use Rattle.aftr_io.specs.declared.outside.Fault.TheVariants as fault
 use Rattle.lwaftr_engine.specs.Endings.{AreBefore, AreTables}
 use Rattle.lwaftr_engine.specs.Inputs.{Header, IsInput, header_of}
 use Rattle.lwaftr_engine.specs.Runs.{OthersKept}

@@ -4,7 +4,7 @@ use Rattle.std.specs.Prelude.{◌≡◌, ◌≤◌, ◌⊎◌}
 use Rattle.lwaftr_engine.specs.Words.{AreApart, AreRising, BindingTable, CaptureBad, CaptureError, Contents, Ending, Fault, Form, HistoryValue, IsCompiled}
 use Rattle.lwaftr_engine.specs.Words.{IsLoad, IsRate, IsWorkers, Load, Made, Rec, RunJob, Slot, Status, Tables, Window, Written, accepted, content}
 use Rattle.lwaftr_engine.specs.Words.{slots_from, windows_of}
-use Rattle.aftr_base.specs.declared.outside.Fault.TheVariants as fault
+use Rattle.aftr_io.specs.declared.outside.Fault.TheVariants as fault
 use Rattle.capture_io.specs.declared.forms.CaptureError.TheVariants as failure
 use Rattle.capture_io.specs.declared.rounds.Ending.TheVariants as ending
 use Rattle.lwaftr_engine.specs.Causes.{NoneOfFilesRose}

@@ -3,7 +3,7 @@ use Rattle.std.specs.Prelude.{Bool, Err, List, None, Ok, Option, Some, false, le
 use Rattle.std.specs.Option.{option_map}
 use Rattle.lwaftr_engine.specs.Words.{BindingTable, CaptureBad, Contents, HistoryValue, IsHistory, IsOfHeader, IsOfRecord, Moves, Rec, RunJob, Status}
 use Rattle.lwaftr_engine.specs.Words.{TableOf, Told, Totals, content, summary_text}
-use Rattle.aftr_base.specs.declared.outside.Fault.TheVariants as fault
+use Rattle.aftr_io.specs.declared.outside.Fault.TheVariants as fault
 use Rattle.lwaftr_engine.specs.Causes.{FailsBehind, FailsIn, HasCause, IsFault, NoneOfFilesRose}
 use Rattle.lwaftr_engine.specs.Endings.{AreTables, IsBadHeader, IsCutRun, IsUnread, IsUntouched, IsWholeRun, table_names}
 use Rattle.lwaftr_engine.specs.Fronts.{IsBrokenRun, stop_by}

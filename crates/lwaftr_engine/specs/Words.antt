@@ -1,10 +1,10 @@
 -- The names that the specs of this crate take from the crates below, and its own types.
 pub use Rattle.addr_text.specs.Canonical.{IsCanonical, groups_of}
-pub use Rattle.aftr_base.specs.Contents.{Contents, Moves, Told, Writes, content}
-pub use Rattle.aftr_base.specs.Outside.{FailsAt, Outside, Rises, Rose, has_failed}
+pub use Rattle.aftr_io.specs.Contents.{Contents, Moves, Told, Writes, content}
+pub use Rattle.aftr_io.specs.Outside.{FailsAt, Outside, Rises, Rose, has_failed}
 pub use Rattle.aftr_base.specs.declared.numbers.V4.{V4}
 pub use Rattle.aftr_base.specs.declared.numbers.V6.{V6}
-pub use Rattle.aftr_base.specs.declared.outside.Fault.{Fault}
+pub use Rattle.aftr_io.specs.declared.outside.Fault.{Fault}
 pub use Rattle.aftr_text.specs.Jobs.{AreApart, AreRising, IsLoad, IsRate, IsWorkers, windows_of}
 pub use Rattle.aftr_text.specs.Lines.{ended_text, initial_text, migrated_text, summary_text}
 pub use Rattle.aftr_text.specs.declared.jobs.LoadWords.{LoadWords}

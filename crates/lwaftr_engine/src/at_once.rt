@@ -17,7 +17,7 @@ ghost use Rattle.lwaftr_engine.specs.declared.status.Status.TheVariants as statu
 use crate::migrating::migrate;
 use crate::queries::{check_table, who_owns};
 use crate::status::Status;
-use aftr_base::{Files, Sink};
+use aftr_io::{Files, Sink};
 use aftr_text::{Job, RunJob, UsageError, read_words};
 use std::alloc::Global;
 

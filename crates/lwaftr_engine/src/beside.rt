@@ -9,7 +9,8 @@ ghost use Rattle.lwaftr_engine.specs.Underway.{CanGoOn, CanJudge, IsInHand};
 
 use crate::rounds::{Free, Pending, Router, UnderWay, judge, put_and_read};
 use crate::tasks::{Means, Task};
-use aftr_base::{Fault, Files, OutOfMemory};
+use aftr_base::OutOfMemory;
+use aftr_io::{Fault, Files};
 use capture_io::{CaptureReader, Records, Round};
 use hand_over::{Answerer, Asker, Protocol};
 use std::alloc::Global;

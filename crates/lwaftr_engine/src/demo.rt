@@ -1,6 +1,6 @@
 // The demonstration: a run over generated traffic.
 ghost use Rattle.std.specs.Prelude.{◌≡◌, ◌⊎◌, ◌≤◌, IfOk, None};
-ghost use Rattle.aftr_base.specs.Outside.{Outside};
+ghost use Rattle.aftr_io.specs.Outside.{Outside};
 ghost use Rattle.lwaftr_engine.specs.Causes.{HasOneCause};
 ghost use Rattle.lwaftr_engine.specs.Demos.{HasDemoHistory, IsDemoLine, half_way};
 ghost use Rattle.lwaftr_engine.specs.Questions.{Answers};
@@ -11,7 +11,8 @@ use crate::jobs::run_made;
 use crate::queries::put_line;
 use crate::status::Status;
 use crate::tasks::Means;
-use aftr_base::{MemSink, OutOfMemory, QuietFiles, Sink, Text};
+use aftr_base::{OutOfMemory, Text};
+use aftr_io::{MemSink, QuietFiles, Sink};
 use aftr_text::{LoadList, LoadWords, RunJob};
 use area_swap::History;
 use binding_rules::Table;

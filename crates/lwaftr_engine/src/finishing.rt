@@ -1,8 +1,8 @@
 // What a run writes when its records have ended.
 ghost use Rattle.std.specs.Option.{option_map};
 ghost use Rattle.std.specs.Prelude.{◌≡◌, ◌++◌, ◌<◌, ◌^◌, ◌≤◌, IfErr, IfOk, List, OnOk, drop, false, flat_map, length, string_bytes};
-ghost use Rattle.aftr_base.specs.Contents.{Moves};
-ghost use Rattle.aftr_base.specs.Outside.{has_failed};
+ghost use Rattle.aftr_io.specs.Contents.{Moves};
+ghost use Rattle.aftr_io.specs.Outside.{has_failed};
 ghost use Rattle.aftr_text.specs.Jobs.{AreApart};
 ghost use Rattle.aftr_text.specs.Lines.{ended_text};
 ghost use Rattle.capture_io.specs.declared.forms.Rec.{Rec as Record};
@@ -16,7 +16,8 @@ ghost use Rattle.run_output.specs.Versions.{load_lines};
 
 use crate::rounds::Progress;
 use crate::tasks::Task;
-use aftr_base::{Fault, Files, OutOfMemory, Sink, append_all, put_all};
+use aftr_base::OutOfMemory;
+use aftr_io::{Fault, Files, Sink, append_all, put_all};
 use aftr_text::{Totals, summary};
 use item_stage::Stage;
 use run_output::{push_ended_lines, push_last_versions};

@@ -1,6 +1,6 @@
 // The run that the command words ask for.
 ghost use Rattle.std.specs.Prelude.{◌≡◌, [], ◌∷◌, All, IfOk, None, length};
-ghost use Rattle.aftr_base.specs.Contents.{Moves, Told, content};
+ghost use Rattle.aftr_io.specs.Contents.{Moves, Told, content};
 ghost use Rattle.binding_rules.specs.Tables.{BindingTable};
 ghost use Rattle.lwaftr_engine.specs.Causes.{FailsIn, HasCause};
 ghost use Rattle.lwaftr_engine.specs.Loads.{AreFitFor};
@@ -15,7 +15,8 @@ use crate::run::run_capture;
 use crate::status::Status;
 use crate::table_file::{NoTable, table_in};
 use crate::tasks::{Means, Task};
-use aftr_base::{Fault, Files, OutOfMemory, Sink, WordList};
+use aftr_base::{OutOfMemory, WordList};
+use aftr_io::{Fault, Files, Sink};
 use aftr_text::RunJob;
 use area_swap::History;
 use binding_file::one_table;

@@ -1,12 +1,13 @@
 // The loads of a run, read from their files.
 ghost use Rattle.std.specs.Prelude.{◌≡◌, ◌≤◌, IfOk, map};
 ghost use Rattle.std.specs.List.{AllZip};
-ghost use Rattle.aftr_base.specs.Contents.{Told};
-ghost use Rattle.aftr_base.specs.Outside.{OnlyReads, has_failed};
+ghost use Rattle.aftr_io.specs.Contents.{Told};
+ghost use Rattle.aftr_io.specs.Outside.{OnlyReads, has_failed};
 ghost use Rattle.lwaftr_engine.specs.Loads.{AreFitFor, AreLoadsOf, HasWindowOf, IsFileOf, OnlyReadsAmong};
 
 use crate::table_file::{ENOUGH, file_front};
-use aftr_base::{Fault, Files, OutOfMemory};
+use aftr_base::OutOfMemory;
+use aftr_io::{Fault, Files};
 use aftr_text::LoadWords;
 use load_files::{LoadFile, loads_of};
 use reload_plan::Load;

@@ -1,7 +1,7 @@
 // A table file is written anew in the newer edition.
 ghost use Rattle.std.specs.Prelude.{◌≡◌, ◌≢◌, ◌≤◌, IfOk, Ok};
-ghost use Rattle.aftr_base.specs.Contents.{Moves, Told, content};
-ghost use Rattle.aftr_base.specs.Outside.{Rises};
+ghost use Rattle.aftr_io.specs.Contents.{Moves, Told, content};
+ghost use Rattle.aftr_io.specs.Outside.{Rises};
 ghost use Rattle.aftr_text.specs.Lines.{migrated_text};
 ghost use Rattle.binding_file.specs.Files.{TextOf};
 ghost use Rattle.binding_rules.specs.Tables.{BindingTable};
@@ -14,7 +14,8 @@ ghost use Rattle.lwaftr_engine.specs.Worlds.{world};
 use crate::queries::put_line;
 use crate::status::Status;
 use crate::table_file::{NoTable, table_in};
-use aftr_base::{Fault, Files, OutOfMemory, Sink, Text, append_all};
+use aftr_base::{OutOfMemory, Text};
+use aftr_io::{Fault, Files, Sink, append_all};
 use aftr_text::migrated_line;
 use binding_file::{one_table, write_table};
 use binding_rules::Table;

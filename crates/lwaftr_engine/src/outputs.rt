@@ -1,14 +1,14 @@
 // The outputs of a run as they are before the first record, and what is put behind them.
 ghost use Rattle.std.specs.Prelude.{◌≡◌, OnOk, IfErr, length};
-ghost use Rattle.aftr_base.specs.Contents.{Moves};
-ghost use Rattle.aftr_base.specs.Outside.{OnlyWrites, has_failed};
-ghost use Rattle.aftr_base.specs.Pieces.{AppendedAll};
+ghost use Rattle.aftr_io.specs.Contents.{Moves};
+ghost use Rattle.aftr_io.specs.Outside.{OnlyWrites, has_failed};
+ghost use Rattle.aftr_io.specs.Pieces.{AppendedAll};
 ghost use Rattle.aftr_text.specs.Jobs.{AreApart};
 ghost use Rattle.lwaftr_engine.specs.Runs.{OthersKept};
 ghost use Rattle.lwaftr_engine.specs.Writing.{Did, DidFront, making_steps, opening_steps, round_steps};
 ghost use Rattle.run_output.specs.Rendering.{lines_in, packets_in};
 
-use aftr_base::{Fault, Files, append_all};
+use aftr_io::{Fault, Files, append_all};
 use aftr_text::{RunJob, initial_line};
 use capture_io::Written;
 use run_output::Part;

@@ -1,7 +1,7 @@
 // Questions about a table file, each answered by one line.
 ghost use Rattle.std.specs.Prelude.{◌≡◌, ◌++◌, ℕ, ◌<◌, IfOk, codes, decimal, length};
-ghost use Rattle.aftr_base.specs.Contents.{Told, content};
-ghost use Rattle.aftr_base.specs.Outside.{Rises};
+ghost use Rattle.aftr_io.specs.Contents.{Told, content};
+ghost use Rattle.aftr_io.specs.Outside.{Rises};
 ghost use Rattle.binding_rules.specs.Bindings.{bound};
 ghost use Rattle.binding_rules.specs.Tables.{BindingTable};
 ghost use Rattle.binding_rules.specs.declared.binding.Want.TheVariants as want;
@@ -15,7 +15,8 @@ ghost use Rattle.table_words.specs.Layout.{AreCompiled, IsCompiled};
 use crate::status::Status;
 use crate::table_file::{NoTable, table_in};
 use addr_text::write_v6;
-use aftr_base::{Fault, Files, OutOfMemory, Sink, Text, V4, V6, put_all};
+use aftr_base::{OutOfMemory, Text, V4, V6};
+use aftr_io::{Fault, Files, Sink, put_all};
 use binding_file::one_table;
 use binding_rules::Want;
 use std::alloc::Global;

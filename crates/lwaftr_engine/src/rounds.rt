@@ -1,8 +1,8 @@
 // The records of a capture, taken in rounds: while one is judged, what the one before it writes is put into the outputs, and then
 // the next one is read.
 ghost use Rattle.std.specs.Prelude.{◌≡◌, ◌≤◌, ◌^◌, IfErr, IfOk, None, OnOk, Some};
-ghost use Rattle.aftr_base.specs.Contents.{Moves};
-ghost use Rattle.aftr_base.specs.Outside.{OnlyWrites, Rises, has_failed};
+ghost use Rattle.aftr_io.specs.Contents.{Moves};
+ghost use Rattle.aftr_io.specs.Outside.{OnlyWrites, Rises, has_failed};
 ghost use Rattle.aftr_text.specs.Jobs.{AreApart};
 ghost use Rattle.capture_io.specs.Refusals.{EndsInRecords};
 ghost use Rattle.capture_io.specs.Rounds.{is_cut};
@@ -19,7 +19,8 @@ use crate::known::run_laws;
 use crate::outputs::write_round;
 use crate::shift::{Shift, judge_round};
 use crate::tasks::{Means, Task};
-use aftr_base::{Fault, Files, OutOfMemory};
+use aftr_base::OutOfMemory;
+use aftr_io::{Fault, Files};
 use aftr_text::Totals;
 use capture_io::{CaptureReader, Ending, Records, Round};
 use error_limit::Limiter;

@@ -1,7 +1,7 @@
 // The run, from its table files to the summary.
 ghost use Rattle.std.specs.Prelude.{◌≡◌, ◌≤◌, All, IfOk, IfSome, None, Some, length};
-ghost use Rattle.aftr_base.specs.Contents.{Moves};
-ghost use Rattle.aftr_base.specs.Outside.{has_failed};
+ghost use Rattle.aftr_io.specs.Contents.{Moves};
+ghost use Rattle.aftr_io.specs.Outside.{has_failed};
 ghost use Rattle.aftr_text.specs.Jobs.{AreApart, IsRate, IsWorkers};
 ghost use Rattle.capture_io.specs.Refusals.{EndsInRecords};
 ghost use Rattle.capture_io.specs.Rounds.{is_cut};
@@ -20,7 +20,8 @@ use crate::outputs::open_outputs;
 use crate::rounds::{Free, Pending, Progress, Room, Router, run_records};
 use crate::shift::{begin_shift, end_shift};
 use crate::tasks::{Means, Task};
-use aftr_base::{Fault, Files, OutOfMemory, Sink};
+use aftr_base::OutOfMemory;
+use aftr_io::{Fault, Files, Sink};
 use aftr_text::NO_TOTALS;
 use area_swap::History;
 use capture_io::{CaptureReader, Ending, Form, Records};

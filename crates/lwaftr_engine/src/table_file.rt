@@ -1,11 +1,12 @@
 // A table, read from a file.
 ghost use Rattle.std.specs.Prelude.{◌≡◌, ◌<◌, ◌≤◌, ◌+◌, ◌^◌, IfOk, IfErr, Ok, length, take, drop};
-ghost use Rattle.aftr_base.specs.Contents.{content, Told};
-ghost use Rattle.aftr_base.specs.Outside.{OnlyReads, has_failed};
+ghost use Rattle.aftr_io.specs.Contents.{content, Told};
+ghost use Rattle.aftr_io.specs.Outside.{OnlyReads, has_failed};
 ghost use Rattle.binding_file.specs.Files.{TableOf};
 ghost use Rattle.lwaftr_engine.specs.Answered.{IsNoTable, is_unread};
 
-use aftr_base::{Bytes, Fault, Files, bytes_at};
+use aftr_base::Bytes;
+use aftr_io::{Fault, Files, bytes_at};
 use binding_file::{FileError, FileRefused, read_table};
 use binding_rules::Table;
 use std::alloc::Global;

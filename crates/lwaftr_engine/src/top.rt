@@ -17,7 +17,7 @@ use crate::demo::show_demo;
 use crate::jobs::run_job;
 use crate::status::Status;
 use crate::tasks::Means;
-use aftr_base::{Files, Sink};
+use aftr_io::{Files, Sink};
 use area_swap::History;
 use std::alloc::Global;
 use std::sync::Wait;

@@ -1,5 +1,6 @@
 // Which of the calls that failed last a status is about.
-use aftr_base::{Call, LastError, OutOfMemory, Text};
+use aftr_base::{OutOfMemory, Text};
+use aftr_io::{Call, LastError};
 use aftr_text::{file_line, output_line};
 use std::alloc::Global;
 use std::io;

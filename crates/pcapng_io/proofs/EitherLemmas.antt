@@ -3,7 +3,7 @@ use Rattle.std.proofs.Common.{◌≡◌, ℕ, ◌<◌, nat_lt, Bool, true, false
 use Rattle.std.proofs.lemmas.Bool.Decides.{nat_tests}
 use Rattle.std.proofs.lemmas.Grind.{common_steps}
 use Rattle.std.proofs.lemmas.List.{length-take}
-use Rattle.aftr_base.specs.Contents.{Contents, content, Told}
+use Rattle.aftr_io.specs.Contents.{Contents, content, Told}
 use Rattle.capture_io.specs.Classic as classic
 use Rattle.capture_io.specs.declared.classic.ClassicReader.{ClassicReader}
 use Rattle.capture_io.specs.declared.forms.CaptureBad.{CaptureBad}

@@ -1,9 +1,9 @@
 -- Which read failed, as the answers tell it.
 use Rattle.std.proofs.Common.{◌≡◌, ℕ, true, false, List, Result, Err, sym, subst}
-use Rattle.aftr_base.specs.declared.outside.Fault.{Fault}
-use Rattle.aftr_base.specs.declared.outside.Fault.TheVariants as fault
-use Rattle.aftr_base.specs.Outside.{OnlyReads, Outside, has_failed}
-use Rattle.aftr_base.proofs.OutsideLemmas.{reads_wider}
+use Rattle.aftr_io.specs.declared.outside.Fault.{Fault}
+use Rattle.aftr_io.specs.declared.outside.Fault.TheVariants as fault
+use Rattle.aftr_io.specs.Outside.{OnlyReads, Outside, has_failed}
+use Rattle.aftr_io.proofs.OutsideLemmas.{reads_wider}
 use Rattle.capture_io.specs.declared.forms.CaptureError.{CaptureError}
 use Rattle.capture_io.specs.declared.forms.CaptureError.TheVariants as error
 use Rattle.capture_io.specs.Answers.{error_of, is_read_fault}

@@ -1,7 +1,7 @@
 -- A long block, by its front and its end.
 use Rattle.std.proofs.Common.{◌≡◌, ℕ, ◌+◌, ◌-◌, ◌^◌, ◌<◌, ◌≤◌, ◌==◌, nat_lt, false, List, [], ◌∷◌, length, drop, Option, Some, None, Result, Ok, Err, refl, sym, ◌∙◌, ap, subst, arith}
 use Rattle.std.proofs.lemmas.Bool.Decides.{nat_tests}
-use Rattle.aftr_base.specs.Contents.{Contents, content}
+use Rattle.aftr_io.specs.Contents.{Contents, content}
 use Rattle.aftr_base.specs.First.{first_true}
 use Rattle.capture_io.specs.Answers.{Agrees}
 use Rattle.capture_io.specs.Fronts.{IsStart}

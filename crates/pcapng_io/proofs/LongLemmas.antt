@@ -3,7 +3,7 @@ use Rattle.std.proofs.Common.{◌≡◌, ℕ, ◌+◌, ◌-◌, ◌<◌, ◌≤�
 use Rattle.std.proofs.lemmas.List.{drop-drop, length-drop, length-take, take_rest}
 use Rattle.std.proofs.lemmas.Bool.{true≢false}
 use Rattle.std.proofs.lemmas.Bool.Decides.{nat_tests}
-use Rattle.aftr_base.specs.Contents.{Contents, content}
+use Rattle.aftr_io.specs.Contents.{Contents, content}
 use Rattle.aftr_base.specs.Numbers.{span}
 use Rattle.capture_io.specs.Fronts.{IsFront, IsStart}
 use Rattle.capture_io.proofs.LawLemmas.{front_behind}

@@ -3,10 +3,10 @@ use Rattle.std.proofs.Common.{◌≡◌, ℕ, ◌+◌, ◌^◌, ◌<◌, ◌≤�
 use Rattle.std.proofs.lemmas.List.{length-drop, length-take-le}
 use Rattle.std.proofs.lemmas.List.Elements.{All-nil, All-cons}
 use Rattle.std.proofs.lemmas.Bool.{true≢false}
-use Rattle.aftr_base.specs.Contents.{Contents, content, Told}
+use Rattle.aftr_io.specs.Contents.{Contents, content, Told}
 use Rattle.aftr_base.specs.Numbers.{span}
-use Rattle.aftr_base.specs.Outside.{OnlyReads, Outside}
-use Rattle.aftr_base.proofs.OutsideLemmas.{reads_wider}
+use Rattle.aftr_io.specs.Outside.{OnlyReads, Outside}
+use Rattle.aftr_io.proofs.OutsideLemmas.{reads_wider}
 use Rattle.capture_io.specs.declared.forms.CaptureBad.{CaptureBad}
 use Rattle.capture_io.specs.declared.forms.CaptureError.{CaptureError}
 use Rattle.capture_io.specs.declared.forms.CaptureError.TheVariants as error

@@ -1,7 +1,7 @@
 -- A round, from the packets that were found.
 use Rattle.std.proofs.Common.{◌≡◌, ℕ, ◌<◌, Bool, false, List, drop, map, All, Option, Some, None, sym, subst}
-use Rattle.aftr_base.specs.Contents.{Contents, content, Told}
-use Rattle.aftr_base.specs.Outside.{OnlyReads, Outside}
+use Rattle.aftr_io.specs.Contents.{Contents, content, Told}
+use Rattle.aftr_io.specs.Outside.{OnlyReads, Outside}
 use Rattle.capture_io.specs.declared.forms.Rec.{Rec}
 use Rattle.capture_io.specs.declared.records.Place.{Place}
 use Rattle.capture_io.specs.declared.rounds.Round.{Round}

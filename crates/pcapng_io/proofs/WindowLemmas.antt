@@ -2,10 +2,10 @@
 use Rattle.std.proofs.Common.{◌≡◌, ℕ, ◌+◌, ◌-◌, ◌^◌, ◌<◌, ◌≤◌, Bool, true, false, if◌then◌else◌, List, [], ◌++◌, length, drop, map, All, Option, Some, None, Err, refl, sym, ◌∙◌, ap, subst, arith}
 use Rattle.std.proofs.lemmas.List.{length-map}
 use Rattle.std.proofs.lemmas.Bool.{true≢false}
-use Rattle.aftr_base.specs.Contents.{Contents, content, Told}
-use Rattle.aftr_base.specs.declared.outside.Fault.{Fault}
-use Rattle.aftr_base.specs.declared.outside.Fault.TheVariants as fault
-use Rattle.aftr_base.specs.Outside.{OnlyReads, Outside, has_failed}
+use Rattle.aftr_io.specs.Contents.{Contents, content, Told}
+use Rattle.aftr_io.specs.declared.outside.Fault.{Fault}
+use Rattle.aftr_io.specs.declared.outside.Fault.TheVariants as fault
+use Rattle.aftr_io.specs.Outside.{OnlyReads, Outside, has_failed}
 use Rattle.capture_io.specs.declared.records.Place.{Place}
 use Rattle.capture_io.specs.declared.rounds.Ending.{Ending}
 use Rattle.capture_io.specs.declared.rounds.Ending.TheVariants as end

@@ -1,6 +1,6 @@
 -- Blocks at places of a file.
 use Rattle.std.specs.Prelude.{◌≡◌, ℕ, ◌+◌, ◌^◌, ◌<◌, ◌≤◌, List, drop, Option, Ok}
-use Rattle.aftr_base.specs.Contents.{Contents, content, Told}
+use Rattle.aftr_io.specs.Contents.{Contents, content, Told}
 use Rattle.capture_io.specs.declared.forms.CaptureError.{CaptureError}
 use Rattle.capture_io.specs.declared.forms.CaptureError.TheVariants as error
 use Rattle.pcapng_io.specs.declared.block.Block.{Block}

@@ -2,7 +2,7 @@
 use Rattle.std.specs.Prelude.{◌≡◌, ℕ, ◌+◌, ◌-◌, ◌<◌, ◌≤◌, ◌==◌, nat_lt, Bool, not, List, [], ◌∷◌, length, drop, Option, Some, None, Result, Ok, Err}
 use Rattle.aftr_base.specs.First.{first_true}
 use Rattle.aftr_base.specs.Numbers.{span}
-use Rattle.aftr_base.specs.Contents.{Contents, content, Told}
+use Rattle.aftr_io.specs.Contents.{Contents, content, Told}
 use Rattle.capture_io.specs.Fronts.{IsFront}
 use Rattle.capture_io.specs.Words.{word_at}
 use Rattle.capture_io.specs.declared.forms.CaptureBad.{CaptureBad}

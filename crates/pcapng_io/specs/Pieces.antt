@@ -1,8 +1,8 @@
 -- The whole blocks at the front of a piece of a file, and the packets in them.
 use Rattle.std.specs.Prelude.{◌≡◌, ℕ, ◌+◌, ◌-◌, ◌^◌, ◌<◌, ◌≤◌, Bool, false, List, [], length, get_or, drop, map, All, Option, Result, Ok, Err}
 use Rattle.aftr_base.specs.declared.lists.OutOfMemory.{OutOfMemory}
-use Rattle.aftr_base.specs.Contents.{Contents, content, Told}
-use Rattle.aftr_base.specs.Outside.{OnlyReads, Outside}
+use Rattle.aftr_io.specs.Contents.{Contents, content, Told}
+use Rattle.aftr_io.specs.Outside.{OnlyReads, Outside}
 use Rattle.capture_io.specs.declared.forms.Rec.{Rec}
 use Rattle.capture_io.specs.declared.records.Place.{Place}
 use Rattle.capture_io.specs.declared.rounds.Ending.{Ending}

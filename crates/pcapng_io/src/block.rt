@@ -1,7 +1,7 @@
 // Blocks, and what is known in front of one.
 ghost use Rattle.std.specs.Prelude.{◌≡◌, ◌+◌, ◌^◌, ◌<◌, ◌≤◌, All, IfErr, IfOk, length};
-ghost use Rattle.aftr_base.specs.Contents.{Told};
-ghost use Rattle.aftr_base.specs.Outside.{OnlyReads};
+ghost use Rattle.aftr_io.specs.Contents.{Told};
+ghost use Rattle.aftr_io.specs.Outside.{OnlyReads};
 ghost use Rattle.capture_io.specs.Answers.{Agrees, is_read_fault};
 ghost use Rattle.pcapng_io.specs.Answers.{RefusesBlock};
 ghost use Rattle.pcapng_io.specs.Blocks.{block_in};
@@ -14,7 +14,7 @@ use crate::fronts::{Sight, quick_sight_of};
 use crate::interface::Interface;
 use crate::long::{MOST_KEPT, read_long};
 use crate::walk::len_of;
-use aftr_base::Files;
+use aftr_io::Files;
 use capture_io::{CaptureBad, CaptureError, Window};
 use std::alloc::Global;
 

@@ -1,14 +1,15 @@
 // A reader of a capture of either format.
 ghost use Rattle.std.specs.Prelude.{◌≡◌, IfErr, IfOk};
-ghost use Rattle.aftr_base.specs.Contents.{content, Told};
-ghost use Rattle.aftr_base.specs.Outside.{OnlyReads};
+ghost use Rattle.aftr_io.specs.Contents.{content, Told};
+ghost use Rattle.aftr_io.specs.Outside.{OnlyReads};
 ghost use Rattle.capture_io.specs.Answers.{is_read_fault};
 ghost use Rattle.capture_io.specs.Refusals.{RefusesHeader};
 ghost use Rattle.pcapng_io.specs.Either.{IsFresh, IsInHead, OpensEither, written_as};
 
 use crate::NgReader;
 use crate::reader::begins_section;
-use aftr_base::{Files, OutOfMemory, fill};
+use aftr_base::OutOfMemory;
+use aftr_io::{Files, fill};
 use capture_io::{
     CaptureError, CaptureReader, ClassicReader, Form, Records, Round, Window, Written,
 };

@@ -1,7 +1,7 @@
 // Blocks that are longer than what is kept of one: their rest is read and let go.
 ghost use Rattle.std.specs.Prelude.{◌≡◌, ℕ, ◌+◌, ◌-◌, ◌^◌, ◌<◌, ◌≤◌, All, IfErr, IfOk, IsFalse, Ok, drop, false, length};
-ghost use Rattle.aftr_base.specs.Contents.{Told};
-ghost use Rattle.aftr_base.specs.Outside.{OnlyReads, has_failed};
+ghost use Rattle.aftr_io.specs.Contents.{Told};
+ghost use Rattle.aftr_io.specs.Outside.{OnlyReads, has_failed};
 ghost use Rattle.capture_io.specs.Answers.{Agrees, is_read_fault};
 ghost use Rattle.pcapng_io.specs.declared.fronts.Front.TheVariants as front;
 ghost use Rattle.pcapng_io.specs.Answers.{IsOfBlock, RefusesBlock};
@@ -17,7 +17,8 @@ use crate::block::{Block, Known, Sought};
 use crate::frame::{Frame, INTERFACE, head_of};
 use crate::fronts::body_of_fields;
 use crate::interface::{Interface, Walked, block_of, start_of, walk_options};
-use aftr_base::{Fault, Files, OutOfMemory};
+use aftr_base::OutOfMemory;
+use aftr_io::{Fault, Files};
 use capture_io::{CaptureBad, CaptureError, NgBad, Window, word};
 use std::alloc::Global;
 

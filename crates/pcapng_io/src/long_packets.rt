@@ -10,7 +10,8 @@ use crate::interface::Interface;
 use crate::long::read_long;
 use crate::pieces::{Search, Taken, pass, place_of};
 use crate::walk::{behind_packet, behind_passed};
-use aftr_base::{Files, OutOfMemory};
+use aftr_base::OutOfMemory;
+use aftr_io::Files;
 use capture_io::{CaptureError, Ending, Place, Window};
 use std::alloc::Global;
 

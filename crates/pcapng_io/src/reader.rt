@@ -1,7 +1,7 @@
 // A reader of one pcapng file.
 ghost use Rattle.std.specs.Prelude.{◌≡◌, ◌+◌, ◌^◌, ◌<◌, ◌≤◌, [], ◌∷◌, IfErr, IfOk, IsSome, drop, length, take};
-ghost use Rattle.aftr_base.specs.Contents.{content, Told};
-ghost use Rattle.aftr_base.specs.Outside.{OnlyReads};
+ghost use Rattle.aftr_io.specs.Contents.{content, Told};
+ghost use Rattle.aftr_io.specs.Outside.{OnlyReads};
 ghost use Rattle.capture_io.specs.Answers.{Agrees, is_read_fault};
 ghost use Rattle.capture_io.specs.Refusals.{RefusesHeader};
 ghost use Rattle.capture_io.specs.declared.forms.CaptureError.TheVariants as error;
@@ -17,7 +17,7 @@ use crate::frame::SECTION;
 use crate::interface::Interface;
 use crate::record::find_record;
 use crate::walk::behind_passed;
-use aftr_base::{Files, fill};
+use aftr_io::{Files, fill};
 use capture_io::{CaptureError, Form, MOST_PIECE, Next, PLAIN_IP, Window, word};
 use std::alloc::Global;
 use std::marker::Model;

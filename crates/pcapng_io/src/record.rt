@@ -1,7 +1,7 @@
 // The next packet, with its bytes.
 ghost use Rattle.std.specs.Prelude.{◌≡◌, ◌+◌, ◌^◌, ◌<◌, ◌≤◌, IfOk, IfSome, length, take};
-ghost use Rattle.aftr_base.specs.Contents.{Told};
-ghost use Rattle.aftr_base.specs.Outside.{OnlyReads};
+ghost use Rattle.aftr_io.specs.Contents.{Told};
+ghost use Rattle.aftr_io.specs.Outside.{OnlyReads};
 ghost use Rattle.capture_io.specs.Answers.{is_read_fault};
 ghost use Rattle.pcapng_io.specs.Answers.{IsBeforePacket, IsFound, IsSoundFound};
 ghost use Rattle.pcapng_io.specs.Blocks.{record_of};
@@ -13,7 +13,8 @@ ghost use Rattle.capture_io.specs.Windows.{IsAtFront};
 use crate::block::{Known, Packet};
 use crate::interface::Interface;
 use crate::walk::{behind_packet, find_packet};
-use aftr_base::{Bytes, Files, OutOfMemory};
+use aftr_base::{Bytes, OutOfMemory};
+use aftr_io::Files;
 use capture_io::{CaptureError, Rec, Window};
 use std::alloc::Global;
 

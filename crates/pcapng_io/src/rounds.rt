@@ -15,7 +15,8 @@ use crate::interface::Interface;
 use crate::long::MOST_KEPT;
 use crate::long_packets::{Long, take_long};
 use crate::pieces::{Search, Taken, take_blocks};
-use aftr_base::{Fault, Files, OutOfMemory};
+use aftr_base::OutOfMemory;
+use aftr_io::{Fault, Files};
 use capture_io::{CaptureReader, Ending, Form, Place, Records, Round, Window, fitting, piece_of};
 use std::alloc::Global;
 

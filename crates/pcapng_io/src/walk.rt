@@ -1,7 +1,7 @@
 // From block to block.
 ghost use Rattle.std.specs.Prelude.{◌≡◌, ◌+◌, ◌^◌, ◌<◌, ◌≤◌, IfOk, IfSome, drop, length, take};
-ghost use Rattle.aftr_base.specs.Contents.{content, Told};
-ghost use Rattle.aftr_base.specs.Outside.{OnlyReads};
+ghost use Rattle.aftr_io.specs.Contents.{content, Told};
+ghost use Rattle.aftr_io.specs.Outside.{OnlyReads};
 ghost use Rattle.capture_io.specs.Answers.{is_read_fault};
 ghost use Rattle.pcapng_io.specs.Answers.{IsBeforePacket, IsSighted, IsSoundSight};
 ghost use Rattle.pcapng_io.specs.Blocks.{interfaces_after, known_after, known_behind, size_of};
@@ -12,7 +12,8 @@ ghost use Rattle.capture_io.specs.Windows.{IsAtFront};
 
 use crate::block::{Block, Known, Packet, Passed, read_block};
 use crate::interface::Interface;
-use aftr_base::{Files, OutOfMemory};
+use aftr_base::OutOfMemory;
+use aftr_io::Files;
 use capture_io::{CaptureError, Window};
 use std::alloc::Global;
 

@@ -1,6 +1,7 @@
 // The callers that the READMEs of reload_plan, load_files, error_limit, traffic_gen and aftr_text show, and what they answer.
 use crate::plans::words_of;
-use aftr_base::{Bytes, Fault, Files, MemFiles, OutOfMemory, Text, append_all};
+use aftr_base::{Bytes, OutOfMemory, Text};
+use aftr_io::{Fault, Files, MemFiles, append_all};
 use aftr_text::{
     Job, JobError, Totals, fault_line, push_point_line, push_verdict_line, read_job, summary,
     verdict_line,

@@ -1,5 +1,5 @@
 // What people are told of a call of the system that failed.
-use aftr_base::{Call, LastError};
+use aftr_io::{Call, LastError};
 use aftr_text::{file_line, output_line};
 use std::io;
 use std::io::ErrorKind;

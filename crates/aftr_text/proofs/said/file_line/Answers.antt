@@ -1,6 +1,6 @@
 use Rattle.std.proofs.Common.{◌≡◌, ℕ, List, ap, ◌∙◌}
-use Rattle.aftr_base.specs.FailedCall.{FailedCall}
-use Rattle.aftr_base.specs.declared.last_error.Call.{Call}
+use Rattle.aftr_io.specs.FailedCall.{FailedCall}
+use Rattle.aftr_io.specs.declared.last_error.Call.{Call}
 use Rattle.aftr_text.specs.Messages.{file_text}
 use Rattle.aftr_text.proofs.said.file_line.Goals as goal
 

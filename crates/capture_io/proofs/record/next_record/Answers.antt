@@ -1,8 +1,8 @@
 use Rattle.std.proofs.Common.{◌≡◌, ℕ, refl, ◌+◌, ◌<◌, Ok, Err, List, length, take, drop, sym, ◌∙◌, ap, arith}
 use Rattle.std.proofs.lemmas.Result.{err_from_is_err_and}
 use Rattle.std.proofs.lemmas.Bool.Decides.{nat_tests}
-use Rattle.aftr_base.proofs.OutsideLemmas.{read_well}
-use Rattle.aftr_base.specs.Contents.{content, Told}
+use Rattle.aftr_io.proofs.OutsideLemmas.{read_well}
+use Rattle.aftr_io.specs.Contents.{content, Told}
 use Rattle.capture_io.specs.Head.{head_in}
 use Rattle.capture_io.proofs.AnswerLemmas.{continued_told, cut_told, failed_inside, in_bytes, in_header, refused_told, told_same, whole_told}
 use Rattle.capture_io.proofs.record.next_record.Given.{Over}

@@ -2,7 +2,7 @@ use Rattle.lwaftr_engine.proofs.Words.{Err, [], world, ◌≡◌, read_well}
 use Rattle.lwaftr_engine.proofs.RunLemmas.{MadeRun, keeps_run, keeps_unread}
 use Rattle.lwaftr_engine.proofs.LoadLemmas.{read_all}
 use Rattle.lwaftr_engine.proofs.jobs.run_job.Goals as goal
-use Rattle.aftr_base.specs.declared.outside.Fault.TheVariants as fault
+use Rattle.aftr_io.specs.declared.outside.Fault.TheVariants as fault
 
 pub returns-in-Err-Failed : goal.returns-in-Err-Failed
 returns-in-Err-Failed g c =

@@ -1,5 +1,5 @@
 use Rattle.lwaftr_engine.proofs.Words.{List, ap, arith, ℕ, ◌++◌, ◌∙◌}
-use Rattle.aftr_base.proofs.OutsideLemmas.{read_well}
+use Rattle.aftr_io.proofs.OutsideLemmas.{read_well}
 use Rattle.lwaftr_engine.proofs.FrontLemmas.{front_longer}
 use Rattle.lwaftr_engine.proofs.table_file.file_front.Goals as goal
 

@@ -1,8 +1,8 @@
 -- What the front says is said of the file, and the bytes behind it are those of the block that stands there.
 use Rattle.std.proofs.Common.{Err, ◌≡◌, ◌^◌, ◌<◌, drop, length, refl, ◌∙◌, ap, subst, arith}
 use Rattle.std.proofs.lemmas.Result.{err_from_is_err_and}
-use Rattle.aftr_base.specs.Contents.{Told}
-use Rattle.aftr_base.specs.Outside.{Outside}
+use Rattle.aftr_io.specs.Contents.{Told}
+use Rattle.aftr_io.specs.Outside.{Outside}
 use Rattle.pcapng_io.specs.declared.block.Block.{Block}
 use Rattle.pcapng_io.specs.declared.fronts.Sight.{Sight}
 use Rattle.pcapng_io.specs.declared.fronts.Sight.TheVariants as sight

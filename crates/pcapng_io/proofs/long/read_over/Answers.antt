@@ -1,7 +1,7 @@
 -- The bytes in front are let go, and then those that are there are the last four, or nothing stands behind them.
 use Rattle.std.proofs.Common.{◌+◌, length, refl, ◌∙◌, ap, arith}
-use Rattle.aftr_base.specs.Outside.{Outside}
-use Rattle.aftr_base.proofs.OutsideLemmas.{read_well}
+use Rattle.aftr_io.specs.Outside.{Outside}
+use Rattle.aftr_io.proofs.OutsideLemmas.{read_well}
 use Rattle.pcapng_io.proofs.LongLemmas.{all_passed, at_end, end_there, with_more, with_passed, with_then}
 use Rattle.pcapng_io.proofs.long.read_over.Goals as goal
 

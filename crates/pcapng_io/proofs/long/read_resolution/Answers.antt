@@ -1,7 +1,7 @@
 -- The options that are there, and then those behind them, or the block's end.
 use Rattle.std.proofs.Common.{◌≡◌, ◌+◌, ◌-◌, drop, length, Ok, Err, refl, sym, ◌∙◌, ap, arith}
-use Rattle.aftr_base.specs.Outside.{Outside}
-use Rattle.aftr_base.proofs.OutsideLemmas.{read_well}
+use Rattle.aftr_io.specs.Outside.{Outside}
+use Rattle.aftr_io.proofs.OutsideLemmas.{read_well}
 use Rattle.pcapng_io.specs.Long.{tail_of}
 use Rattle.pcapng_io.proofs.LongLemmas.{walk_cut, walk_more, walk_over, with_begins, with_both, with_first, with_joined, with_more, with_passed, with_three}
 use Rattle.pcapng_io.proofs.long.read_resolution.Goals as goal

@@ -1,7 +1,7 @@
 -- What was taken ends the search, or it goes on with more bytes.
 use Rattle.std.proofs.Common.{◌≡◌, ◌+◌, true, length, Ok, Some, refl, sym, subst, ◌∙◌, ap, arith}
-use Rattle.aftr_base.specs.Outside.{Outside}
-use Rattle.aftr_base.proofs.OutsideLemmas.{read_well, reads_then}
+use Rattle.aftr_io.specs.Outside.{Outside}
+use Rattle.aftr_io.proofs.OutsideLemmas.{read_well, reads_then}
 use Rattle.capture_io.specs.declared.rounds.Ending.TheVariants as end
 use Rattle.capture_io.specs.Rounds.{is_cut}
 use Rattle.pcapng_io.specs.declared.long_packets.Long.{Long}

@@ -1,8 +1,8 @@
 use Rattle.std.proofs.Common.{◌≡◌, ℕ, ◌+◌, ◌<◌, ◌≤◌, false, List, drop, length, All, Option, Ok, Err, refl, sym, ◌∙◌, ap, subst, arith}
 use Rattle.std.proofs.lemmas.Result.{err_from_is_err_and}
-use Rattle.aftr_base.specs.Contents.{Told}
-use Rattle.aftr_base.specs.Outside.{OnlyReads, Outside}
-use Rattle.aftr_base.proofs.OutsideLemmas.{read_well}
+use Rattle.aftr_io.specs.Contents.{Told}
+use Rattle.aftr_io.specs.Outside.{OnlyReads, Outside}
+use Rattle.aftr_io.proofs.OutsideLemmas.{read_well}
 use Rattle.capture_io.specs.Windows.{IsAtFront}
 use Rattle.pcapng_io.specs.declared.block.Block.{Block}
 use Rattle.pcapng_io.specs.declared.block.Block.TheVariants as block

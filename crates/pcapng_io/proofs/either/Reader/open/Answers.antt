@@ -1,6 +1,6 @@
 use Rattle.std.proofs.Common.{ℕ, true, false, take, Err, refl, ◌∙◌, ap, arith}
 use Rattle.std.proofs.lemmas.Result.{err_from_is_err_and}
-use Rattle.aftr_base.proofs.OutsideLemmas.{read_well}
+use Rattle.aftr_io.proofs.OutsideLemmas.{read_well}
 use Rattle.capture_io.specs.declared.classic.ClassicReader.{ClassicReader}
 use Rattle.pcapng_io.specs.declared.either.Reader.{Reader}
 use Rattle.pcapng_io.specs.Standing.{Standing}

@@ -1,5 +1,5 @@
 use Rattle.std.proofs.Common.{◌≡◌, List, drop, Ok, sym, ap, subst}
-use Rattle.aftr_base.specs.Contents.{content, Told}
+use Rattle.aftr_io.specs.Contents.{content, Told}
 use Rattle.capture_io.specs.declared.forms.Next.TheVariants as next
 use Rattle.pcapng_io.specs.declared.interface.Interface.{Interface}
 use Rattle.pcapng_io.specs.Seen.{Seen, seen_by}

@@ -1,7 +1,7 @@
 use Rattle.std.proofs.Common.{[], ◌∷◌, Ok, Err, refl, ◌∙◌, ap, arith}
 use Rattle.std.proofs.lemmas.Result.{err_from_is_err_and}
-use Rattle.aftr_base.specs.Outside.{Outside}
-use Rattle.aftr_base.proofs.OutsideLemmas.{read_well}
+use Rattle.aftr_io.specs.Outside.{Outside}
+use Rattle.aftr_io.proofs.OutsideLemmas.{read_well}
 use Rattle.pcapng_io.specs.declared.block.Block.{Block}
 use Rattle.pcapng_io.specs.declared.block.Block.TheVariants as block
 use Rattle.pcapng_io.specs.Blocks.{known_after}

@@ -1,0 +1,6 @@
+mod ContentLemmas
+mod HandleLemmas
+pub mod OutsideLemmas
+mod PieceLemmas
+mod ShelfLemmas
+mod WindowLemmas
