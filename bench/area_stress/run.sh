@@ -8,21 +8,13 @@ top="$(cd "$here/../.." && pwd)"
 work=/tmp/area_stress_bench
 repository="$work/repository"
 bench="$repository/crates/stress_bench"
-mkdir -p "$bench"
-cp "$top/HANDLES" "$repository/"
-for name in aftr_base swap_core area_swap; do
-    rm -rf "$repository/crates/$name"
-    cp -r "$top/crates/$name" "$repository/crates/"
-done
-rm -rf "$bench/src" "$bench/proofs"
-mkdir -p "$bench/src"
+"$here/../repository.py" "$repository" "$top" stress_bench aftr_base swap_core area_swap
 cp "$here/program/main.rt.txt" "$bench/src/main.rt"
 for file in "$here"/program/*.antt.txt; do
     name="$(basename "$file" .antt.txt)"
     mkdir -p "$bench/proofs/$name"
     cp "$file" "$bench/proofs/$name/Invariants.antt"
 done
-printf 'aftr_base:\nswap_core: aftr_base\narea_swap: aftr_base swap_core atomic_table\nstress_bench: aftr_base swap_core area_swap\n' > "$repository/crates.txt"
 rm -f "$bench/out/stress_bench"
 (cd "$bench" && ${RT:-rt} run > "$work/build.txt" 2>&1) || true
 [ -x "$bench/out/stress_bench" ] || { tail "$work/build.txt"; exit 1; }

@@ -9,16 +9,8 @@ top="$(cd "${1:-$here/../..}" && pwd)"
 work=/tmp/capture_records_bench
 repository="$work/repository"
 crate="$repository/crates/records_bench"
-mkdir -p "$crate"
-cp "$top/HANDLES" "$repository/"
-rm -rf "$crate/src" "$crate/proofs"
-for name in aftr_base capture_io pcapng_io; do
-    rm -rf "$repository/crates/$name"
-    cp -r "$top/crates/$name" "$repository/crates/"
-    grep "^$name:" "$top/crates.txt"
-done > "$repository/crates.txt"
-echo "records_bench: aftr_base capture_io pcapng_io" >> "$repository/crates.txt"
-mkdir -p "$crate/src" "$crate"/proofs/count_{records,packets,rounds}
+"$here/../repository.py" "$repository" "$top" records_bench aftr_base aftr_io capture_io pcapng_io
+mkdir -p "$crate"/proofs/count_{records,packets,rounds}
 cp "$here/program/main.rt.txt" "$crate/src/main.rt"
 cp "$here/program/Invariants.antt.txt" "$crate/proofs/count_records/Invariants.antt"
 cp "$here/program/PacketsInvariants.antt.txt" "$crate/proofs/count_packets/Invariants.antt"

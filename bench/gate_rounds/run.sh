@@ -8,18 +8,8 @@ top="$(cd "$here/../.." && pwd)"
 work=/tmp/gate_rounds_bench
 repository="$work/repository"
 bench="$repository/crates/gate_bench"
-mkdir -p "$bench"
-cp "$top/HANDLES" "$repository/"
-below="aftr_base port_set ip_codec icmp_codec capture_io binding_rules swap_core area_swap table_words icmp_errors port_locate icmp_relay verdict_core ipv6_chain reassembly_lane item_stage worker_gate"
-: > "$repository/crates.txt"
-for name in $below; do
-    rm -rf "$repository/crates/$name"
-    cp -r "$top/crates/$name" "$repository/crates/"
-    grep "^$name:" "$top/crates.txt" >> "$repository/crates.txt"
-done
-echo "gate_bench: aftr_base ip_codec binding_rules swap_core area_swap table_words item_stage worker_gate" >> "$repository/crates.txt"
-rm -rf "$bench/src" "$bench/proofs"
-mkdir -p "$bench/src" "$bench/proofs/judge_all"
+"$here/../repository.py" "$repository" "$top" gate_bench aftr_base ip_codec binding_rules swap_core area_swap table_words item_stage worker_gate
+mkdir -p "$bench/proofs/judge_all"
 cp "$here/program/main.rt.txt" "$bench/src/main.rt"
 cp "$here/program/judge_all.antt.txt" "$bench/proofs/judge_all/Invariants.antt"
 rm -f "$bench/out/gate_bench"

@@ -9,18 +9,8 @@ top="$(cd "$here/../.." && pwd)"
 work=/tmp/gate_stress_bench
 repository="$work/repository"
 bench="$repository/crates/stress_bench"
-mkdir -p "$bench"
-cp "$top/HANDLES" "$repository/"
-below="aftr_base port_set ip_codec icmp_codec capture_io binding_rules swap_core area_swap table_words icmp_errors port_locate icmp_relay verdict_core ipv6_chain reassembly_lane item_stage worker_gate"
-: > "$repository/crates.txt"
-for name in $below; do
-    rm -rf "$repository/crates/$name"
-    cp -r "$top/crates/$name" "$repository/crates/"
-    grep "^$name:" "$top/crates.txt" >> "$repository/crates.txt"
-done
-echo "stress_bench: aftr_base ip_codec verdict_core binding_rules swap_core area_swap table_words item_stage worker_gate" >> "$repository/crates.txt"
-rm -rf "$bench/src" "$bench/proofs"
-mkdir -p "$bench/src" "$bench/proofs/run_rounds" "$bench/proofs/plan_of"
+"$here/../repository.py" "$repository" "$top" stress_bench aftr_base ip_codec verdict_core binding_rules swap_core area_swap table_words item_stage worker_gate
+mkdir -p "$bench/proofs/run_rounds" "$bench/proofs/plan_of"
 cp "$here/program/main.rt.txt" "$bench/src/main.rt"
 cp "$here/program/run_rounds.antt.txt" "$bench/proofs/run_rounds/Invariants.antt"
 cp "$here/program/plan_of.antt.txt" "$bench/proofs/plan_of/Invariants.antt"

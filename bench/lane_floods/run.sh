@@ -7,15 +7,8 @@ here="$(cd "$(dirname "$0")" && pwd)"
 top="$(cd "${1:-$here/../..}" && pwd)"
 work="/tmp/lane_floods_bench$(echo "$top" | tr / _)"
 repository="$work/repository"
-mkdir -p "$repository/crates"
-cp "$top/HANDLES" "$repository/"
-for crate in aftr_base reassembly_lane; do
-    rm -rf "$repository/crates/$crate"
-    cp -r "$top/crates/$crate" "$repository/crates/"
-done
-mkdir -p "$repository/crates/floods_bench/src"
+"$here/../repository.py" "$repository" "$top" floods_bench aftr_base reassembly_lane
 cp "$here/program/main.rt.txt" "$repository/crates/floods_bench/src/main.rt"
-printf 'aftr_base:\nreassembly_lane: aftr_base\nfloods_bench: aftr_base reassembly_lane\n' > "$repository/crates.txt"
 program="$repository/crates/floods_bench/out/floods_bench"
 rm -f "$program"
 (cd "$repository/crates/floods_bench" && rt run > "$work/build.txt" 2>&1) || true

@@ -1,5 +1,5 @@
 #!/usr/bin/env bash
-# Times the real files of aftr_base beside cp, over 200 MB, and sum16 beside the plain loop in C, over 100 MB: builds the
+# Times the real files of aftr_io next to cp, over 200 MB, and sum16 of aftr_base next to the plain loop in C, over 100 MB: builds the
 # program in a temporary repository, which proves it first, and runs it.
 #     bench/rattle_base/run.sh
 set -e
@@ -7,12 +7,8 @@ here="$(cd "$(dirname "$0")" && pwd)"
 top="$(cd "$here/../.." && pwd)"
 work=/tmp/aftr_base_bench
 repository="$work/repository"
-mkdir -p "$repository/crates/base_bench/src"
-cp -r "$top/HANDLES" "$repository/"
-rm -rf "$repository/crates/aftr_base"
-cp -r "$top/crates/aftr_base" "$repository/crates/"
+"$here/../repository.py" "$repository" "$top" base_bench aftr_base aftr_io
 cp "$here/main.rt.txt" "$repository/crates/base_bench/src/main.rt"
-printf 'aftr_base:\nbase_bench: aftr_base\n' > "$repository/crates.txt"
 [ -f "$work/in" ] || head -c 209715200 /dev/urandom > "$work/in"
 cat "$work/in" > /dev/null
 (cd "$repository/crates/base_bench" && rt run)

@@ -8,22 +8,11 @@ here="$(cd "$(dirname "$0")" && pwd)"
 top="$(cd "${1:-$here/../..}" && pwd)"
 work="/tmp/sent_costs_bench$(echo "$top" | tr / _)"
 repository="$work/repository"
-mkdir -p "$repository/crates"
-cp "$top/HANDLES" "$repository/"
-crates="aftr_base port_set binding_rules table_words ip_codec icmp_codec capture_io icmp_errors port_locate icmp_relay verdict_core
-    fragmenter softwire_encap packet_render"
-for crate in $crates; do
-    rm -rf "$repository/crates/$crate"
-    (cd "$top/crates" && tar --exclude="$crate/out" --exclude="$crate/must-fail" -cf - "$crate") | tar -C "$repository/crates" -xf -
-done
 bench="$repository/crates/costs_bench"
-mkdir -p "$bench/src" "$bench/proofs/verdict"
+"$here/../repository.py" "$repository" "$top" costs_bench aftr_base binding_rules table_words ip_codec capture_io verdict_core packet_render
+mkdir -p "$bench/proofs/verdict"
 cp "$here/program/main.rt.txt" "$bench/src/main.rt"
 cp "$here/program/Invariants.antt.txt" "$bench/proofs/verdict/Invariants.antt"
-for crate in $crates; do
-    grep "^$crate:" "$top/crates.txt"
-done > "$repository/crates.txt"
-echo "costs_bench: aftr_base binding_rules table_words ip_codec capture_io verdict_core packet_render" >> "$repository/crates.txt"
 program="$bench/out/costs_bench"
 rm -f "$program"
 (cd "$bench" && rt run > "$work/build.txt" 2>&1) || true

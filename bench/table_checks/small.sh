@@ -8,18 +8,7 @@ here="$(cd "$(dirname "$0")" && pwd)"
 top="$(cd "${1:-$here/../..}" && pwd)"
 work="/tmp/table_checks_small$(echo "$top" | tr / _)"
 repository="$work/repository"
-mkdir -p "$repository/crates"
-cp "$top/HANDLES" "$repository/"
-names="aftr_base addr_text port_set binding_rules binding_file"
-for crate in $names; do
-    rm -rf "$repository/crates/$crate"
-    (cd "$top/crates" && tar --exclude="$crate/out" --exclude="$crate/must-fail" -cf - "$crate") | tar -C "$repository/crates" -xf -
-done
-for crate in $names; do
-    grep "^$crate:" "$top/crates.txt"
-done > "$repository/crates.txt"
-echo 'check_alone: aftr_base binding_rules binding_file' >> "$repository/crates.txt"
-mkdir -p "$repository/crates/check_alone/src"
+"$here/../repository.py" "$repository" "$top" check_alone aftr_base aftr_io binding_rules binding_file
 cp "$here/program/main.rt.txt" "$repository/crates/check_alone/src/main.rt"
 program="$repository/crates/check_alone/out/check_alone"
 rm -f "$program"

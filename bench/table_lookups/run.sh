@@ -7,17 +7,10 @@ here="$(cd "$(dirname "$0")" && pwd)"
 top="$(cd "${1:-$here/../..}" && pwd)"
 work="/tmp/table_lookups_bench$(echo "$top" | tr / _)"
 repository="$work/repository"
-mkdir -p "$repository/crates"
-cp "$top/HANDLES" "$repository/"
-for crate in aftr_base port_set binding_rules table_words; do
-    rm -rf "$repository/crates/$crate"
-    cp -r "$top/crates/$crate" "$repository/crates/"
-done
-mkdir -p "$repository/crates/lookups_bench/src" "$repository/crates/lookups_bench/proofs/found_in"
+"$here/../repository.py" "$repository" "$top" lookups_bench aftr_base binding_rules table_words
+mkdir -p "$repository/crates/lookups_bench/proofs/found_in"
 cp "$here/program/main.rt.txt" "$repository/crates/lookups_bench/src/main.rt"
 cp "$here/program/Invariants.antt.txt" "$repository/crates/lookups_bench/proofs/found_in/Invariants.antt"
-sed -n '/^\(aftr_base\|port_set\|binding_rules\|table_words\):/p' "$top/crates.txt" > "$repository/crates.txt"
-echo "lookups_bench: aftr_base binding_rules table_words" >> "$repository/crates.txt"
 program="$repository/crates/lookups_bench/out/lookups_bench"
 rm -f "$program"
 (cd "$repository/crates/lookups_bench" && rt run > "$work/build.txt" 2>&1) || true

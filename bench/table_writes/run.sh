@@ -8,18 +8,13 @@ top="$(cd "$here/../.." && pwd)"
 work=/tmp/table_writes_bench
 repository="$work/repository"
 bench="$repository/crates/writes_bench"
-mkdir -p "$bench"
-cp "$top/HANDLES" "$repository/"
-rm -rf "$repository/crates/aftr_base" "$repository/crates/swap_core" "$repository/crates/area_swap" "$bench/src" "$bench/proofs"
-cp -r "$top/crates/aftr_base" "$top/crates/swap_core" "$top/crates/area_swap" "$repository/crates/"
-mkdir -p "$bench/src"
+"$here/../repository.py" "$repository" "$top" writes_bench aftr_base swap_core area_swap
 cp "$here/program/main.rt.txt" "$bench/src/main.rt"
 for file in "$here"/program/*.antt.txt; do
     name="$(basename "$file" .antt.txt)"
     mkdir -p "$bench/proofs/$name"
     cp "$file" "$bench/proofs/$name/Invariants.antt"
 done
-printf 'aftr_base:\nswap_core: aftr_base\narea_swap: aftr_base swap_core atomic_table\nwrites_bench: aftr_base swap_core area_swap\n' > "$repository/crates.txt"
 rm -f "$bench/out/writes_bench"
 (cd "$bench" && ${RT:-rt} run > "$work/build.txt" 2>&1) || true
 [ -x "$bench/out/writes_bench" ] || { tail "$work/build.txt"; exit 1; }

@@ -7,19 +7,8 @@ here="$(cd "$(dirname "$0")" && pwd)"
 top="$(cd "${1:-$here/../..}" && pwd)"
 work="/tmp/cut_packets_bench$(echo "$top" | tr / _)"
 repository="$work/repository"
-mkdir -p "$repository/crates"
-cp "$top/HANDLES" "$repository/"
-crates="aftr_base ip_codec fragmenter"
-for crate in $crates; do
-    rm -rf "$repository/crates/$crate"
-    cp -r "$top/crates/$crate" "$repository/crates/"
-done
-mkdir -p "$repository/crates/cut_packets/src"
+"$here/../../bench/repository.py" "$repository" "$top" cut_packets aftr_base ip_codec fragmenter
 cp "$here/program/main.rt.txt" "$repository/crates/cut_packets/src/main.rt"
-for crate in $crates; do
-    grep "^$crate:" "$top/crates.txt"
-done > "$repository/crates.txt"
-echo "cut_packets: aftr_base ip_codec fragmenter" >> "$repository/crates.txt"
 : > "$work/packets.txt"
 # A run may write a megabyte.
 for word in 6-1280 6-1287 6-1288 6-1500 4-576 4-577 4-583 4-584 longest; do

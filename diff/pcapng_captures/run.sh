@@ -13,14 +13,8 @@ work="/tmp/pcapng_captures_bench"
 repository="$work/repository"
 crate="$repository/crates/pcapng_captures"
 program="$crate/out/pcapng_captures"
-mkdir -p "$crate/src" "$crate/proofs/tell" "$work/files"
-cp "$top/HANDLES" "$repository/"
-for name in aftr_base capture_io pcapng_io; do
-    rm -rf "$repository/crates/$name"
-    cp -r "$top/crates/$name" "$repository/crates/"
-    grep "^$name:" "$top/crates.txt"
-done > "$repository/crates.txt"
-echo "pcapng_captures: aftr_base capture_io pcapng_io" >> "$repository/crates.txt"
+"$here/../../bench/repository.py" "$repository" "$top" pcapng_captures aftr_base aftr_io capture_io pcapng_io
+mkdir -p "$crate/proofs/tell" "$work/files"
 if [ "$2" = far ]; then
     cp "$here/program/far.rt.txt" "$repository/crates/pcapng_io/src/far.rt"
     printf '\n#[cfg(test)]\nmod far;\n' >> "$repository/crates/pcapng_io/src/lib.rt"

@@ -8,20 +8,8 @@ here="$(cd "$(dirname "$0")" && pwd)"
 top="$(cd "${1:-$here/../..}" && pwd)"
 work="/tmp/sent_packets_bench$(echo "$top" | tr / _)"
 repository="$work/repository"
-mkdir -p "$repository/crates"
-cp "$top/HANDLES" "$repository/"
-crates="aftr_base port_set binding_rules table_words ip_codec icmp_codec capture_io icmp_errors port_locate icmp_relay verdict_core
-    fragmenter softwire_encap packet_render"
-for crate in $crates; do
-    rm -rf "$repository/crates/$crate"
-    (cd "$top/crates" && tar --exclude=out -cf - "$crate") | tar -C "$repository/crates" -xf -
-done
-mkdir -p "$repository/crates/sent_packets/src"
+"$here/../../bench/repository.py" "$repository" "$top" sent_packets aftr_base ip_codec icmp_codec capture_io softwire_encap verdict_core packet_render
 cp "$here/program/main.rt.txt" "$repository/crates/sent_packets/src/main.rt"
-for crate in $crates; do
-    grep "^$crate:" "$top/crates.txt"
-done > "$repository/crates.txt"
-echo "sent_packets: aftr_base ip_codec icmp_codec capture_io softwire_encap verdict_core packet_render" >> "$repository/crates.txt"
 for form in classic blocks; do
     (cd "$repository/crates/sent_packets" && rt try --seconds 600 -- "$form" > "$work/$form.txt" 2> "$work/build.txt")
     python3 -c 'import sys; print(open(sys.argv[1]).read().split("\n")[0])' "$work/$form.txt" \
