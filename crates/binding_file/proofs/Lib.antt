@@ -20,3 +20,6 @@ mod Puts
 mod LineLemmas
 mod Troubles
 mod FirstKeys
+mod PlainLines
+mod PlainSteps
+mod PlainTrees

@@ -88,3 +88,30 @@ table_file bytes ms t small d h valid = then_ok (fits bytes) bytes _ _ (fits_sma
 
 pub text_file : (bytes : List ℕ) (t : BindingTable) → length bytes ≤ 16777216 → TextOf bytes (Ok t) → TableOf bytes (Ok t)
 text_file bytes t small h = then_ok (fits bytes) bytes _ _ (fits_small bytes small) h
+
+-- the same of what a text says before the rules of tables
+pub says_document : (bytes : List ℕ) (r : FileRefused) → IsDocument bytes (Err r) → Says bytes (Err r)
+says_document bytes r d = record { gives = Err r; given = d; rest = refl }
+
+pub says_tree : (bytes : List ℕ) (ms : Members) (r : Result BindingTable FileRefused) → IsDocument bytes (Ok ms) → IsTree ms r → Says bytes r
+says_tree bytes ms r d h = record { gives = Ok ms; given = d; rest = h }
+
+pub cause_says : (S : Type 0) (f : S → BindingTable) (bytes : List ℕ) (e : FileError) → length bytes ≤ 16777216 → IsRead f (Says bytes) (Err e) → IsFileCause bytes e
+cause_says S f bytes (file_error.Refused r) small h = refused_text bytes r small h
+cause_says S f bytes file_error.OutOfMemory small h = tt
+
+pub cause_rules_said : (bytes : List ℕ) (t : BindingTable) (e : TableError) → length bytes ≤ 16777216 → Says bytes (Ok t) → IsCause t.edition t.softwire t.bindings e → IsFileCause bytes (file_error_of e)
+cause_rules_said bytes t (table_error.Refused q) small h k = then_ok (fits bytes) bytes _ _ (fits_small bytes small) (record { gives = Ok t; given = h; rest = (q, refl, k) })
+cause_rules_said bytes t table_error.OutOfMemory small h k = tt
+
+pub table_said : (bytes : List ℕ) (t : BindingTable) → length bytes ≤ 16777216 → Says bytes (Ok t) → IsValid t → TableOf bytes (Ok t)
+table_said bytes t small h valid = then_ok (fits bytes) bytes _ _ (fits_small bytes small) (record { gives = Ok t; given = h; rest = (refl, valid) })
+
+pub read_document : (S : Type 0) (f : S → BindingTable) (bytes : List ℕ) (e : FileError) → IsRead (λ (t : Document). table_view t) (IsDocument bytes) (Err e) → IsRead f (Says bytes) (Err e)
+read_document S f bytes (file_error.Refused r) d = says_document bytes r d
+read_document S f bytes file_error.OutOfMemory d = tt
+
+pub read_tree : (S : Type 0) (f : S → BindingTable) (bytes : List ℕ) (ms : Members) (r : Result S FileError) → IsDocument bytes (Ok ms) → IsRead f (IsTree ms) r → IsRead f (Says bytes) r
+read_tree S f bytes ms (Ok s) d h = says_tree bytes ms (Ok (f s)) d h
+read_tree S f bytes ms (Err (file_error.Refused r)) d h = says_tree bytes ms (Err r) d h
+read_tree S f bytes ms (Err file_error.OutOfMemory) d h = tt

@@ -7,3 +7,6 @@ pub mod FirstLines
 pub mod Bounds
 pub mod Lines
 pub mod UnknownKeys
+pub mod Plain
+pub mod PlainBlocks
+pub mod PlainHeads

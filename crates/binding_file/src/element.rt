@@ -23,13 +23,13 @@ pub(crate) const BINDING_NAMES: [Name; 5] = [
 
 /// What stands at each key of a binding, and whether there is another key.
 #[derive(Clone, Copy)]
-struct Fields<'a> {
-    b4: Option<&'a Value>,
-    ipv4: Option<&'a Value>,
-    offset: Option<&'a Value>,
-    length: Option<&'a Value>,
-    psid: Option<&'a Value>,
-    has_other: bool,
+pub(crate) struct Fields<'a> {
+    pub b4: Option<&'a Value>,
+    pub ipv4: Option<&'a Value>,
+    pub offset: Option<&'a Value>,
+    pub length: Option<&'a Value>,
+    pub psid: Option<&'a Value>,
+    pub has_other: bool,
 }
 
 /// The binding of the element that has this place in the array.
@@ -42,7 +42,7 @@ pub(crate) fn element_of(at: u32, value: &Value) -> Result<Binding, FileRefused>
     }
 }
 
-fn binding_of(at: u32, fields: Fields<'_>) -> Result<Binding, FileRefused>
+pub(crate) fn binding_of(at: u32, fields: Fields<'_>) -> Result<Binding, FileRefused>
     ensures { IsBindingFrom at fields.entry result }
 {
     let b4 = address6_of(fields.b4, Place::Binding { at, name: Name::B4 })?;

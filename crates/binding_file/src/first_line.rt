@@ -32,7 +32,7 @@ pub(crate) fn first_place(text: &str) -> usize
 }
 
 #[tactic(auto, using(crate::proofs::FirstLineLemmas::bom_boundary), unfolding(crate::specs::FirstLines::skip_bom))]
-fn skip_bom(text: &str) -> &str
+pub(crate) fn skip_bom(text: &str) -> &str
     ensures { result.now ≡ parse.skip_bom text.now }
 {
     if first(text) == 0xEF && byte_at(text, 1) == 0xBB && byte_at(text, 2) == 0xBF {
@@ -146,7 +146,7 @@ fn after_atom(alloc: Global, text: &str) -> Result<Option<&str>, OutOfMemory>
 }
 
 // Whether nothing is left of the line but blanks and a comment.
-fn ends_line(text: &str) -> bool
+pub(crate) fn ends_line(text: &str) -> bool
     ensures { result ≡ parse.ends_line (lexical.skip_ws text.now) }
 {
     let end = skip_ws(text);

@@ -3,7 +3,7 @@ ghost use Rattle.std.specs.Prelude.{◌≡◌, ◌<◌, ◌≤◌, true, false, 
 ghost use Rattle.toml.specs.View.{view, table_view, items_view};
 ghost use Rattle.binding_rules.specs.Tables.{binding_table};
 ghost use Rattle.binding_file.specs.Files.{top_edition, settings_of, port_set_of, elements_of, are_tables, IsSoftwire};
-ghost use Rattle.binding_file.specs.Files.{IsElement, AreBindings, IsDocument, IsTree, TableOf, IsFileCause, most_bytes};
+ghost use Rattle.binding_file.specs.Files.{IsElement, AreBindings, IsDocument, IsTree, Says, TableOf, IsFileCause, most_bytes};
 ghost use Rattle.binding_file.specs.Costs.{is_held_back, most_free};
 ghost use Rattle.binding_file.specs.FirstLines.{begins_toml, IsNotToml};
 ghost use Rattle.binding_file.specs.Lines.{binding_count};
@@ -18,8 +18,9 @@ use crate::keys::{
     address4_at, address6_at, byte_at, flag_at, has_other, member_at, number_at, required, table_at,
 };
 use crate::names::{Name, Place};
+use crate::plain::plain_tree;
 use crate::refusals::{FileError, FileRefused};
-use aftr_base::{V4, V6};
+use aftr_base::{OutOfMemory, V4, V6};
 use binding_rules::{Binding, Edition, Softwire, Table, table_of};
 use std::alloc::Global;
 use std::str;
@@ -81,10 +82,32 @@ fn read_text(alloc: Global, text: &str) -> Result<Table, FileError>
     if is_held_back(text.as_bytes()) {
         return Err(unread(alloc, text));
     }
-    let document = document_of(alloc, text)?;
-    let spelled = tree_of(alloc, &document)?;
-    drop(document);
+    let spelled = spelled_of(alloc, text)?;
     Ok(table_of(alloc, spelled.edition, spelled.softwire, spelled.bindings)?)
+}
+
+/// What a text says, before the rules of tables: read line by line where it has the plain form, else by the document's tree.
+fn spelled_of(alloc: Global, text: &str) -> Result<Spelled, FileError>
+    requires utf8 { IsUtf8 text.now }
+    ensures read { IsRead (λ s. binding_table s.edition s.softwire s.bindings.items) (Says text.now) result }
+    ensures few { IfOk result (λ s. vec_len s.bindings ≤ most_bytes) }
+    ensures no_line { begins_toml text.now ≡ false → IsNotToml result }
+{
+    match plain_tree(alloc, text) {
+        Ok(Some(spelled)) => Ok(spelled),
+        Ok(None) => whole_tree(alloc, text),
+        Err(OutOfMemory) => Err(FileError::OutOfMemory),
+    }
+}
+
+fn whole_tree(alloc: Global, text: &str) -> Result<Spelled, FileError>
+    requires utf8 { IsUtf8 text.now }
+    ensures read { IsRead (λ s. binding_table s.edition s.softwire s.bindings.items) (Says text.now) result }
+    ensures few { IfOk result (λ s. vec_len s.bindings ≤ most_bytes) }
+    ensures no_line { begins_toml text.now ≡ false → IsNotToml result }
+{
+    let document = document_of(alloc, text)?;
+    tree_of(alloc, &document)
 }
 
 /// The answer to a text that is held back.
@@ -101,10 +124,10 @@ fn unread(alloc: Global, text: &str) -> FileError
 
 /// What a tree says, before the rules of tables.
 #[derive(Drop)]
-struct Spelled {
-    edition: Edition,
-    softwire: Softwire,
-    bindings: Vec<Binding>,
+pub(crate) struct Spelled {
+    pub edition: Edition,
+    pub softwire: Softwire,
+    pub bindings: Vec<Binding>,
 }
 
 pub(crate) fn document_of(alloc: Global, text: &str) -> Result<toml::Table, FileError>
@@ -150,7 +173,7 @@ fn edition_of(document: &toml::Table) -> Result<Edition, FileRefused>
     Ok(edition)
 }
 
-fn softwire_of(table: &toml::Table) -> Result<Softwire, FileRefused>
+pub(crate) fn softwire_of(table: &toml::Table) -> Result<Softwire, FileRefused>
     ensures { IsSoftwire (table_view table.now) result }
 {
     let aftr = address6_at(table, Place::Softwire(Name::Aftr))?;
