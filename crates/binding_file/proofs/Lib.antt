@@ -1,25 +1,10 @@
 mod Elements
 mod FirstRefusals
-mod Trees
+pub mod Trees
 mod Members
 mod Written
 mod Unique
-mod Looks
-mod FewerMarks
 mod Walks
-mod Skips
-mod Texts
-mod Escapes
-mod FirstLineLemmas
-mod Passing
-mod LineTexts
-mod KeyWalks
-mod ValueWalks
-mod LineWalks
-mod Puts
-mod LineLemmas
-mod Troubles
-mod FirstKeys
 mod PlainLines
 mod PlainSteps
 mod PlainTrees

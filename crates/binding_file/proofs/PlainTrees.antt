@@ -13,8 +13,8 @@ use Rattle.toml.specs.Parse.{line, lines, skip_bom, parse_document}
 use Rattle.toml.specs.Tables.{Node, Nodes, no_nodes, node, value, key_value, std_table, define, along_header, along_dots, at_key, get_node, insert, close, close_node}
 use Rattle.toml.proofs.Turns.{document_some}
 use Rattle.binding_file.specs.Files.{edition_from, top_edition, top_names, IsSoftwire, AreBindings, AreElements, are_tables, IsTree, Says}
-use Rattle.binding_file.specs.FirstLines.{begins_toml}
-use Rattle.binding_file.proofs.FirstLineLemmas.{no_tree}
+use Rattle.table_costs.specs.FirstLines.{begins_toml}
+use Rattle.table_costs.proofs.FirstLineLemmas.{no_tree}
 use Rattle.binding_file.specs.Keys.{has_other, Then}
 use Rattle.binding_file.specs.Names.{key_of}
 use Rattle.binding_file.specs.Parts.{with_member}
@@ -117,6 +117,3 @@ mark_short text = shorter_by _ text
 
 pub says_plain : (text : List ℕ) (t : BindingTable) → IsUtf8 text → IsPlainTree text t → Says text (Ok t)
 says_plain text t utf8 plain = record { gives = Ok plain.ms; given = (utf8, plain.document); rest = plain.tree }
-
-pub plain_begins : (text : List ℕ) (t : BindingTable) → IsPlainTree text t → begins_toml text ≡ false → ⊥
-plain_begins text t plain never = no_tree text plain.ms plain.document never

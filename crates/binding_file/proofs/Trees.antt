@@ -1,5 +1,5 @@
 -- The tree that the writer makes, and the first refusals of the reader.
-use Rattle.std.proofs.Common.{IsUtf8, ◌≡◌, ℕ, ◌+◌, ◌≤◌, ◌<◌, length, BTreeMap, String, Global, List, [], ◌∷◌, ◌++◌, true, Result, Ok, Err, refl, sym, subst, arith}
+use Rattle.std.proofs.Common.{IsUtf8, ◌∙◌, false, Bool, ◌≡◌, ℕ, ◌+◌, ◌≤◌, ◌<◌, length, BTreeMap, String, Global, List, [], ◌∷◌, ◌++◌, true, Result, Ok, Err, refl, sym, subst, arith}
 use Rattle.std.proofs.lemmas.Bool.Decides.{nat_tests}
 use Rattle.binding_rules.specs.Tables.{BindingTable, IsValid}
 use Rattle.binding_rules.specs.declared.binding.Binding.{Binding}
@@ -14,6 +14,9 @@ use Rattle.binding_file.specs.declared.refusals.FileError.TheVariants as file_er
 use Rattle.binding_rules.specs.declared.refused.TableError.{TableError}
 use Rattle.binding_rules.specs.declared.refused.TableError.TheVariants as table_error
 use Rattle.binding_rules.specs.Refusals.{IsCause}
+use Rattle.table_costs.specs.Costs.{is_too_costly}
+use Rattle.table_costs.specs.FirstLines.{IsTooCostly, begins_toml}
+use Rattle.table_costs.proofs.FirstLineLemmas.{no_document}
 use Rattle.toml.specs.View.{table_view}
 use Rattle.toml.specs.declared.value.Value.{Value}
 
@@ -58,54 +61,50 @@ fits_small bytes small = grind (arith, nat_tests)
 pub cause_big : (bytes : List ℕ) → 16777216 < length bytes → TableOf bytes (Err refused.TooBig)
 cause_big bytes big = let e : fits bytes ≡ Err refused.TooBig = grind (arith, nat_tests) in then_err BindingTable (fits bytes) refused.TooBig _ e
 
-pub refused_text : (bytes : List ℕ) (r : FileRefused) → length bytes ≤ 16777216 → Says bytes (Err r) → TableOf bytes (Err r)
-refused_text bytes r small said = then_ok (fits bytes) bytes _ _ (fits_small bytes small) (record { gives = Err r; given = said; rest = refl })
+-- a text within the size that is not too costly has the answer of what it spells
+pub text_answer : (bytes : List ℕ) (r : Result BindingTable FileRefused) → length bytes ≤ 16777216 → (IsTooCostly bytes → ⊥) → TextOf bytes r → TableOf bytes r
+text_answer bytes r small cheap h = then_ok (fits bytes) bytes _ _ (fits_small bytes small) (record { gives = Ok bytes; given = (refl, cheap); rest = h })
+
+pub affordable : (bytes : List ℕ) (b : Bool) → b ≡ is_too_costly bytes → b ≡ false → IsTooCostly bytes → ⊥
+affordable bytes b is cheap costly = let both : true ≡ false = sym costly.costly ∙ (sym is ∙ cheap) in absurd cc
+
+pub cause_costly : (bytes : List ℕ) → length bytes ≤ 16777216 → IsTooCostly bytes → TableOf bytes (Err refused.TooCostly)
+cause_costly bytes small costly =
+    then_ok (fits bytes) bytes _ _ (fits_small bytes small) (record { gives = Err refused.TooCostly; given = (refl, costly); rest = refl })
+
+pub refused_text : (bytes : List ℕ) (r : FileRefused) → length bytes ≤ 16777216 → (IsTooCostly bytes → ⊥) → Says bytes (Err r) → TableOf bytes (Err r)
+refused_text bytes r small cheap said = text_answer bytes (Err r) small cheap (record { gives = Err r; given = said; rest = refl })
+
+-- a text that does not begin as TOML, whatever it would cost
+pub cause_no_line : (bytes : List ℕ) → length bytes ≤ 16777216 → begins_toml bytes ≡ false → TableOf bytes (Err refused.NotToml)
+cause_no_line bytes small never =
+    refused_text bytes refused.NotToml small (λ costly. let no : true ≡ false = sym costly.begins ∙ never in absurd cc)
+    (record { gives = Err refused.NotToml; given = (refl, λ utf8. no_document bytes never); rest = refl })
 
 -- bytes that are no UTF-8 are no document
 pub cause_no_text : (bytes : List ℕ) → length bytes ≤ 16777216 → (IsUtf8 bytes → ⊥) → TableOf bytes (Err refused.NotToml)
-cause_no_text bytes small never = refused_text bytes refused.NotToml small (record { gives = Err refused.NotToml; given = (refl, λ is. absurd (never is)); rest = refl })
-
-pub cause_document : (bytes : List ℕ) (e : FileError) → length bytes ≤ 16777216 → IsRead (λ (t : Document). table_view t) (IsDocument bytes) (Err e) → IsFileCause bytes e
-cause_document bytes (file_error.Refused r) small h = refused_text bytes r small (record { gives = Err r; given = h; rest = refl })
-cause_document bytes file_error.OutOfMemory small h = tt
-
-pub cause_tree : (S : Type 0) (f : S → BindingTable) (bytes : List ℕ) (ms : Members) (e : FileError) → length bytes ≤ 16777216 → IsDocument bytes (Ok ms) → IsRead f (IsTree ms) (Err e) → IsFileCause bytes e
-cause_tree S f bytes ms (file_error.Refused r) small d h = refused_text bytes r small (record { gives = Ok ms; given = d; rest = h })
-cause_tree S f bytes ms file_error.OutOfMemory small d h = tt
-
-said : (bytes : List ℕ) (ms : Members) (t : BindingTable) → IsDocument bytes (Ok ms) → IsTree ms (Ok t) → Says bytes (Ok t)
-said bytes ms t d h = record { gives = Ok ms; given = d; rest = h }
-
-pub cause_rules : (bytes : List ℕ) (ms : Members) (t : BindingTable) (e : TableError) → length bytes ≤ 16777216 → IsDocument bytes (Ok ms) → IsTree ms (Ok t) → IsCause t.edition t.softwire t.bindings e → IsFileCause bytes (file_error_of e)
-cause_rules bytes ms t (table_error.Refused q) small d h k = then_ok (fits bytes) bytes _ _ (fits_small bytes small) (record { gives = Ok t; given = said bytes ms t d h; rest = (q, refl, k) })
-cause_rules bytes ms t table_error.OutOfMemory small d h k = tt
+cause_no_text bytes small never = refused_text bytes refused.NotToml small (λ costly. never costly.utf8) (record { gives = Err refused.NotToml; given = (refl, λ is. absurd (never is)); rest = refl })
 
 pub table_text : (bytes : List ℕ) (ms : Members) (t : BindingTable) → IsDocument bytes (Ok ms) → IsTree ms (Ok t) → IsValid t → TextOf bytes (Ok t)
-table_text bytes ms t d h valid = record { gives = Ok t; given = said bytes ms t d h; rest = (refl, valid) }
+table_text bytes ms t d h valid = record { gives = Ok t; given = record { gives = Ok ms; given = d; rest = h }; rest = (refl, valid) }
 
-pub table_file : (bytes : List ℕ) (ms : Members) (t : BindingTable) → length bytes ≤ 16777216 → IsDocument bytes (Ok ms) → IsTree ms (Ok t) → IsValid t → TableOf bytes (Ok t)
-table_file bytes ms t small d h valid = then_ok (fits bytes) bytes _ _ (fits_small bytes small) (table_text bytes ms t d h valid)
-
-pub text_file : (bytes : List ℕ) (t : BindingTable) → length bytes ≤ 16777216 → TextOf bytes (Ok t) → TableOf bytes (Ok t)
-text_file bytes t small h = then_ok (fits bytes) bytes _ _ (fits_small bytes small) h
-
--- the same of what a text says before the rules of tables
+-- what a text says before the rules of tables
 pub says_document : (bytes : List ℕ) (r : FileRefused) → IsDocument bytes (Err r) → Says bytes (Err r)
 says_document bytes r d = record { gives = Err r; given = d; rest = refl }
 
 pub says_tree : (bytes : List ℕ) (ms : Members) (r : Result BindingTable FileRefused) → IsDocument bytes (Ok ms) → IsTree ms r → Says bytes r
 says_tree bytes ms r d h = record { gives = Ok ms; given = d; rest = h }
 
-pub cause_says : (S : Type 0) (f : S → BindingTable) (bytes : List ℕ) (e : FileError) → length bytes ≤ 16777216 → IsRead f (Says bytes) (Err e) → IsFileCause bytes e
-cause_says S f bytes (file_error.Refused r) small h = refused_text bytes r small h
-cause_says S f bytes file_error.OutOfMemory small h = tt
+pub cause_says : (S : Type 0) (f : S → BindingTable) (bytes : List ℕ) (e : FileError) → length bytes ≤ 16777216 → (IsTooCostly bytes → ⊥) → IsRead f (Says bytes) (Err e) → IsFileCause bytes e
+cause_says S f bytes (file_error.Refused r) small cheap h = refused_text bytes r small cheap h
+cause_says S f bytes file_error.OutOfMemory small cheap h = tt
 
-pub cause_rules_said : (bytes : List ℕ) (t : BindingTable) (e : TableError) → length bytes ≤ 16777216 → Says bytes (Ok t) → IsCause t.edition t.softwire t.bindings e → IsFileCause bytes (file_error_of e)
-cause_rules_said bytes t (table_error.Refused q) small h k = then_ok (fits bytes) bytes _ _ (fits_small bytes small) (record { gives = Ok t; given = h; rest = (q, refl, k) })
-cause_rules_said bytes t table_error.OutOfMemory small h k = tt
+pub cause_rules_said : (bytes : List ℕ) (t : BindingTable) (e : TableError) → length bytes ≤ 16777216 → (IsTooCostly bytes → ⊥) → Says bytes (Ok t) → IsCause t.edition t.softwire t.bindings e → IsFileCause bytes (file_error_of e)
+cause_rules_said bytes t (table_error.Refused q) small cheap h k = text_answer bytes (Err (refused.Rules q)) small cheap (record { gives = Ok t; given = h; rest = (q, refl, k) })
+cause_rules_said bytes t table_error.OutOfMemory small cheap h k = tt
 
-pub table_said : (bytes : List ℕ) (t : BindingTable) → length bytes ≤ 16777216 → Says bytes (Ok t) → IsValid t → TableOf bytes (Ok t)
-table_said bytes t small h valid = then_ok (fits bytes) bytes _ _ (fits_small bytes small) (record { gives = Ok t; given = h; rest = (refl, valid) })
+pub table_said : (bytes : List ℕ) (t : BindingTable) → length bytes ≤ 16777216 → (IsTooCostly bytes → ⊥) → Says bytes (Ok t) → IsValid t → TableOf bytes (Ok t)
+table_said bytes t small cheap h valid = text_answer bytes (Ok t) small cheap (record { gives = Ok t; given = h; rest = (refl, valid) })
 
 pub read_document : (S : Type 0) (f : S → BindingTable) (bytes : List ℕ) (e : FileError) → IsRead (λ (t : Document). table_view t) (IsDocument bytes) (Err e) → IsRead f (Says bytes) (Err e)
 read_document S f bytes (file_error.Refused r) d = says_document bytes r d

@@ -5,7 +5,7 @@ use Rattle.addr_text.specs.Ipv6.{IsV6Text}
 use Rattle.binding_rules.specs.Tables.{BindingTable, binding_table}
 use Rattle.toml.specs.Data.{Data, Members, Items, no_items, item, as_table}
 use Rattle.binding_file.specs.Keys.{Then, After, of_kind, table_at, text_at, IsAddress6, IsAddress4, IsAddress6At, IsAddress4At}
-use Rattle.binding_file.specs.Files.{top_edition, elements_of, settings_of, port_set_of, IsSoftwire, IsBinding, IsElement, AreElements, AreBindings, IsTree, IsDocument, Says, IsJudged, TextOf, TableOf, fits}
+use Rattle.binding_file.specs.Files.{top_edition, elements_of, settings_of, port_set_of, IsSoftwire, IsBinding, IsElement, AreElements, AreBindings, IsTree, IsDocument, Says, IsJudged, TextOf, TableOf, AnswerOf, IsAffordable, fits}
 use Rattle.binding_file.specs.declared.names.Name.TheVariants as name
 use Rattle.binding_file.specs.declared.names.Place.{Place}
 use Rattle.binding_file.specs.declared.names.Place.TheVariants as place
@@ -104,7 +104,13 @@ judged_unique t (Ok u) (Err f) h k = absurd (h.1 k.0 k.2.applies)
 judged_unique t (Err e) (Ok v) h k = absurd (k.1 h.0 h.2.applies)
 judged_unique t (Err e) (Err f) h k = ap Err (h.1 ∙ (ap (λ rule. refused.Rules rule) (one_first t.edition t.softwire t.bindings h.0 k.0 h.2 k.2) ∙ sym k.1))
 
+affordable_unique : (bytes : List ℕ) → Unique (IsAffordable bytes)
+affordable_unique bytes (Ok x) (Ok y) h k = ap Ok (h.0 ∙ sym k.0)
+affordable_unique bytes (Ok x) (Err f) h k = absurd (h.1 k.1)
+affordable_unique bytes (Err e) (Ok y) h k = absurd (k.1 h.1)
+affordable_unique bytes (Err e) (Err f) h k = ap Err (h.0 ∙ sym k.0)
+
 pub one_answer : One6 → One4 → (bytes : List ℕ) → Unique (TableOf bytes)
 one_answer six four bytes =
-    then_unique (fits bytes) (λ text r. TextOf text r)
-    (λ text. after_unique (Says text) (λ t r. IsJudged t r) (says_unique six four text) judged_unique)
+    then_unique (fits bytes) (λ text r. AnswerOf text r) (λ text. after_unique (IsAffordable text) (λ t r. TextOf t r) (affordable_unique text)
+    (λ t. after_unique (Says t) (λ table r. IsJudged table r) (says_unique six four t) judged_unique))

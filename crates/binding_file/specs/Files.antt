@@ -13,6 +13,7 @@ use Rattle.binding_rules.specs.declared.settings.Softwire.{Softwire}
 use Rattle.binding_rules.specs.declared.refused.Refused.{Refused}
 use Rattle.toml.specs.Data.{Data, as_integer, as_array, as_table, Items, no_items, item, Members}
 use Rattle.toml.specs.Parse.{parse_document}
+use Rattle.table_costs.specs.FirstLines.{IsTooCostly}
 use Rattle.binding_file.specs.Keys.{◌>>=◌, Then, After, member_at, required, of_kind, table_at, number_at, flag_at, IsAddress6At, IsAddress4At, known}
 use Rattle.binding_file.specs.declared.names.Name.{Name}
 use Rattle.binding_file.specs.declared.names.Name.TheVariants as name
@@ -142,7 +143,7 @@ abbrev pub IsJudged : BindingTable → Result BindingTable FileRefused → Type 
 IsJudged t (Ok u) = (u ≡ t) × IsValid t
 IsJudged t (Err e) = (rule : Refused) × (e ≡ refused.Rules rule) × IsFirstRefusal t.edition t.softwire t.bindings rule
 
--- the table that a text spells, whatever its size, or its first refusal
+-- the table that a text spells, whatever its size and its cost, or its first refusal
 abbrev pub TextOf : List ℕ → Result BindingTable FileRefused → Type 0
 TextOf bytes r = After (Says bytes) (λ t. IsJudged t r) r
 
@@ -153,9 +154,18 @@ most_bytes = 16777216
 abbrev pub fits : List ℕ → Result (List ℕ) FileRefused
 fits bytes = if nat_lt most_bytes (length bytes) then Err refused.TooBig else Ok bytes
 
+-- the text, where it does not cost too much to read
+abbrev pub IsAffordable : List ℕ → Result (List ℕ) FileRefused → Type 0
+IsAffordable bytes (Ok text) = (text ≡ bytes) × (IsTooCostly bytes → ⊥)
+IsAffordable bytes (Err e) = (e ≡ refused.TooCostly) × IsTooCostly bytes
+
+-- the answer to a text within the size: the table that it spells, or its first refusal
+abbrev pub AnswerOf : List ℕ → Result BindingTable FileRefused → Type 0
+AnswerOf bytes r = After (IsAffordable bytes) (λ text. TextOf text r) r
+
 -- the table that a file spells, or its first refusal
 abbrev pub TableOf : List ℕ → Result BindingTable FileRefused → Type 0
-TableOf bytes r = Then (fits bytes) (λ text. TextOf text r) r
+TableOf bytes r = Then (fits bytes) (λ text. AnswerOf text r) r
 
 -- an error other than want of memory is the first refusal
 abbrev pub IsFileCause : List ℕ → FileError → Type 0

@@ -2,11 +2,6 @@ pub mod Names
 pub mod Keys
 pub mod Files
 pub mod Parts
-pub mod Costs
-pub mod FirstLines
-pub mod Bounds
-pub mod Lines
-pub mod UnknownKeys
 pub mod Plain
 pub mod PlainBlocks
 pub mod PlainHeads

@@ -60,6 +60,7 @@ refused_text (refused.Address place) = codes "address " ++ place_text place
 refused_text (refused.Range place) = codes "range " ++ place_text place
 refused_text (refused.Rules rule) = codes "rules " ++ rule_text rule
 refused_text refused.Version = codes "version"
+refused_text refused.TooCostly = codes "too-costly"
 
 -- the same in the line of a load: a rule of tables stands without the word `rules` before it
 abbrev pub load_text : FileRefused → List ℕ
@@ -77,3 +78,4 @@ file_refusal_number (refused.Address place) = 6
 file_refusal_number (refused.Range place) = 7
 file_refusal_number (refused.Rules rule) = 8
 file_refusal_number refused.Version = 9
+file_refusal_number refused.TooCostly = 10

@@ -14,8 +14,7 @@ use Rattle.binding_rules.specs.declared.refused.TableError.TheVariants as table_
 use Rattle.toml.specs.Data.{Data, array, table, depth, members_depth, as_str, as_table, Items, no_items, item, Members, no_members, member, get_member}
 use Rattle.toml.specs.View.{view}
 use Rattle.toml.specs.declared.value.Value.{Value}
-use Rattle.binding_file.specs.Costs.{ends_header, header_weight, most_header, seen, weight}
-use Rattle.binding_file.specs.declared.costs.Part.TheVariants as part
+use Rattle.table_costs.specs.declared.parts.Part.TheVariants as part
 use Rattle.aftr_base.specs.declared.numbers.V4.{V4}
 use Rattle.aftr_base.specs.declared.numbers.V6.{V6}
 use Rattle.binding_file.specs.declared.element.Fields.{Fields}
@@ -134,11 +133,3 @@ pub record IsSoftwireData (d : Data) (s : Softwire) : Type 0 where
   pub is : d ≡ table members
   pub spelled : IsSoftwire members (Ok s)
   pub flat : members_depth members ≡ 0
-
--- how much a header weighs once this byte is passed, its bracket included
-abbrev pub header_after : ℕ → ℕ → ℕ
-header_after header b = if b == 91 then 1 else if ends_header b || header == 0 then 0 else header + weight b
-
--- a header that begins here weighs little
-abbrev pub IsShortHeader : List ℕ → Type 0
-IsShortHeader bytes = header_weight (seen part.Plain bytes) ≤ most_header

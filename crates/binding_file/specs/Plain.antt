@@ -5,6 +5,7 @@ use Rattle.std.specs.declared.alloc.Global.{Global}
 use Rattle.toml_parser.specs.Lexical.{Read}
 use Rattle.toml.specs.Data.{Data, table, array, Items, Members, member, no_members}
 use Rattle.toml.specs.Parse.{line, lines}
+pub use Rattle.toml.specs.Parse.{atom, key_equals}
 use Rattle.toml.specs.Tables.{Document, Expression, Nodes, no_nodes, node, value, open_table, open_array, header, key_value}
 use Rattle.toml.specs.View.{view}
 use Rattle.toml.specs.declared.value.Value.{Value}

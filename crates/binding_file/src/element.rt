@@ -13,7 +13,7 @@ use binding_rules::Binding;
 use toml::{Table, Value};
 
 /// The keys of a binding.
-pub(crate) const BINDING_NAMES: [Name; 5] = [
+pub const BINDING_NAMES: [Name; 5] = [
     Name::B4,
     Name::Ipv4,
     Name::Offset,

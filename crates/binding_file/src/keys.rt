@@ -2,7 +2,6 @@
 ghost use Rattle.std.specs.Prelude.{◌≡◌, ◌≤◌, IfOk, option_map};
 ghost use Rattle.toml.specs.View.{view, table_view};
 ghost use Rattle.binding_file.specs.Keys.{member_at, required, table_at, number_at, flag_at, IsAddress6At, IsAddress4At, is_one_of, has_other};
-ghost use Rattle.binding_file.specs.UnknownKeys.{other_key};
 ghost use Rattle.binding_file.specs.Parts.{value_or_refusal, data_of, text_from, number_from, IsAddress6From, IsAddress4From};
 
 use crate::names::{Name, Place};
@@ -28,7 +27,7 @@ pub(crate) fn required(table: &Table, place: Place) -> Result<&Value, FileRefuse
     }
 }
 
-pub(crate) fn table_at(table: &Table, place: Place) -> Result<&Table, FileRefused>
+pub fn table_at(table: &Table, place: Place) -> Result<&Table, FileRefused>
     ensures { value_or_refusal (λ t. table_view t.now) result ≡ table_at (table_view table.now) place }
 {
     match required(table, place)?.as_table() {
@@ -147,7 +146,8 @@ pub(crate) fn flag_at(table: &Table, place: Place, default: bool) -> Result<bool
     }
 }
 
-fn is_one_of(names: &[Name], key: &str) -> bool
+/// Whether a key is that of one of these names.
+pub fn is_one_of(names: &[Name], key: &str) -> bool
     ensures { result ≡ is_one_of names.now key.now }
 {
     names.iter().any(|name| name.key() == key)
@@ -158,16 +158,4 @@ pub(crate) fn has_other(names: &[Name], table: &Table) -> bool
     ensures { result ≡ has_other names.now (table_view table.now) }
 {
     table.keys().any(|key| !is_one_of(names, key.as_str()))
-}
-
-/// The first key of the table that is none of these.
-pub(crate) fn other_key<'a>(names: &[Name], table: &'a Table) -> Option<&'a str>
-    ensures { option_map (λ k. k.now) result ≡ other_key names.now (table_view table.now) }
-{
-    'keys: for (key, _) in table {
-        if !is_one_of(names, key.as_str()) {
-            return Some(key.as_str());
-        }
-    }
-    None
 }

@@ -2,32 +2,26 @@
 //! the reader reads as the same table. TOML itself is read and printed by `toml`.
 #![tactic(auto)]
 
-mod about;
-mod costs;
 mod element;
-mod first_line;
-mod glances;
-mod headers;
 mod keys;
 mod laws;
-mod lines;
 mod names;
 mod plain;
 mod plain_blocks;
 mod plain_lines;
 mod reading;
 mod refusals;
-mod trouble;
-mod unknown_keys;
 mod writing;
 
-pub use about::line_of;
 pub use binding_rules::Refused;
-pub use costs::is_held_back;
-pub use laws::{light_texts, one_table};
-pub use lines::Lines;
+pub use element::BINDING_NAMES;
+pub use keys::{is_one_of, table_at};
+pub use laws::one_table;
 pub use names::{Name, Place};
-pub use reading::{MOST_FILE_BYTES, read_table};
+pub use plain::plain_tree;
+pub use reading::{
+    MOST_FILE_BYTES, SOFTWIRE_NAMES, Spelled, TOP_NAMES, document_of, elements_of, read_table, tree_of,
+};
 pub use refusals::{FileError, FileRefused, LoadText, RuleText};
-pub use unknown_keys::{KeyPlace, UnknownKey, unknown_key};
+pub use table_costs::is_too_costly;
 pub use writing::write_table;

@@ -6,7 +6,6 @@ ghost use Rattle.binding_rules.specs.Tables.{binding_table};
 ghost use Rattle.binding_file.specs.Files.{most_bytes};
 ghost use Rattle.binding_file.specs.PlainHeads.{IsEditionLine, AreSettings, AreMembers, IsPlainTree};
 
-use crate::first_line::skip_bom;
 use crate::keys::member_at;
 use crate::names::{Name, Place};
 use crate::plain_blocks::{bindings_at, name_in};
@@ -16,11 +15,12 @@ use crate::writing::put;
 use aftr_base::OutOfMemory;
 use binding_rules::{Edition, Softwire};
 use std::alloc::Global;
+use table_costs::skip_bom;
 use toml::Table;
 use toml_parser::text::{first, skip_blank};
 
 /// What a text of the plain form says; nothing where it has another form, or says no table.
-pub(crate) fn plain_tree(alloc: Global, text: &str) -> Result<Option<Spelled>, OutOfMemory>
+pub fn plain_tree(alloc: Global, text: &str) -> Result<Option<Spelled>, OutOfMemory>
     ensures read { IfOk result (λ o. IfSome o (λ s. IsPlainTree text.now (binding_table s.edition s.softwire s.bindings.items))) }
     ensures few { IfOk result (λ o. IfSome o (λ s. vec_len s.bindings ≤ most_bytes)) }
 {

@@ -6,9 +6,9 @@ ghost use Rattle.toml.specs.Tables.{array_table, std_table};
 ghost use Rattle.toml.specs.View.{view};
 ghost use Rattle.binding_file.specs.Plain.{ReadsOne, IsShorter, pair_view, ReadsHeader};
 
-use crate::first_line::ends_line;
 use aftr_base::OutOfMemory;
 use std::alloc::Global;
+use table_costs::ends_line;
 use toml::Value;
 use toml_parser::text::{first, skip, skip_ws};
 use toml_parser::{Key, ParseError, Scalar, dotted_key, quoted, starts_string, unquoted};
@@ -35,7 +35,7 @@ pub(crate) fn pair_at(
 }
 
 // A key alone and `=`, and what stands behind them.
-#[tactic(auto, unfolding(crate::specs::FirstLines::key_equals))]
+#[tactic(auto, unfolding(crate::specs::Plain::key_equals))]
 fn key_at(alloc: Global, text: &str) -> Result<Option<(String, &str)>, OutOfMemory>
     ensures reads { IfOk result (λ o. ReadsOne (λ k. ([], string_bytes k)) o (parse.key_equals text.now)) }
     ensures shorter { IfOk result (IsShorter text.now) }
@@ -59,7 +59,7 @@ fn opens(value: &str) -> bool
     matches!(first(value), b'[' | b'{')
 }
 
-#[tactic(auto, unfolding(crate::specs::FirstLines::atom))]
+#[tactic(auto, unfolding(crate::specs::Plain::atom))]
 fn atom_at(alloc: Global, text: &str) -> Result<Option<(Value, &str)>, OutOfMemory>
     ensures reads { IfOk result (λ o. ReadsOne view o (parse.atom text.now)) }
     ensures shorter { IfOk result (IsShorter text.now) }

@@ -1,19 +1,15 @@
 // Reads a table file: the document's tree first, then the keys in their order, then the rules of tables.
-ghost use Rattle.std.specs.Prelude.{◌≡◌, ◌<◌, ◌≤◌, true, false, length, Err, IfOk, IfErr, IsUtf8, vec_len, ◌⊎◌};
+ghost use Rattle.std.specs.Prelude.{◌≡◌, ◌<◌, ◌≤◌, true, length, Err, IfOk, IfErr, IsUtf8, vec_len};
 ghost use Rattle.toml.specs.View.{view, table_view, items_view};
 ghost use Rattle.binding_rules.specs.Tables.{binding_table};
 ghost use Rattle.binding_file.specs.Files.{top_edition, settings_of, port_set_of, elements_of, are_tables, IsSoftwire};
 ghost use Rattle.binding_file.specs.Files.{IsElement, AreBindings, IsDocument, IsTree, Says, TableOf, IsFileCause, most_bytes};
-ghost use Rattle.binding_file.specs.Costs.{is_held_back, most_free};
-ghost use Rattle.binding_file.specs.FirstLines.{begins_toml, IsNotToml};
-ghost use Rattle.binding_file.specs.Lines.{binding_count};
+ghost use Rattle.table_costs.specs.Costs.{is_too_costly};
 ghost use Rattle.binding_file.specs.Parts.{IsRead, value_or_refusal};
 ghost use Rattle.binding_file.specs.declared.refusals.FileError.TheVariants as file_error;
 ghost use Rattle.binding_file.specs.declared.refusals.FileRefused.TheVariants as refused;
 
-use crate::costs::is_held_back;
 use crate::element::element_of;
-use crate::first_line::begins_toml;
 use crate::keys::{
     address4_at, address6_at, byte_at, flag_at, has_other, member_at, number_at, required, table_at,
 };
@@ -24,14 +20,17 @@ use aftr_base::{OutOfMemory, V4, V6};
 use binding_rules::{Binding, Edition, Softwire, Table, table_of};
 use std::alloc::Global;
 use std::str;
+use table_costs::{begins_toml, is_too_costly};
 use toml::Value;
 
 /// The most bytes of a table file. One with more is refused as `TooBig`.
 pub const MOST_FILE_BYTES: usize = 16_777_216;
 
-pub(crate) const TOP_NAMES: [Name; 3] = [Name::Version, Name::Softwire, Name::Binding];
+/// The keys at the top.
+pub const TOP_NAMES: [Name; 3] = [Name::Version, Name::Softwire, Name::Binding];
 
-pub(crate) const SOFTWIRE_NAMES: [Name; 9] = [
+/// The keys of the settings.
+pub const SOFTWIRE_NAMES: [Name; 9] = [
     Name::Aftr,
     Name::Own,
     Name::Mtu6,
@@ -43,23 +42,17 @@ pub(crate) const SOFTWIRE_NAMES: [Name; 9] = [
     Name::ErrorsDown,
 ];
 
-/// The table that a file spells. A refusal is the first in this order: `TooBig`; `NotToml`; of the key `version`
-/// `Missing`, `Kind`, `Version`; `UnknownKey` at the top; of `softwire` `Missing`, `Kind`, then its keys in the order of
-/// `Name`, each with `Missing`, `Kind` and then `Address` or `Range`, then `UnknownKey` in it; `Kind` of `binding` where it
-/// is no array of tables; then each of its elements in order, its keys like those of `softwire`; and last the first
-/// refusal by the rules of tables. `OutOfMemory` comes where the allocator has no room for the document, the bindings or
-/// the test of the rules, and for a text that begins with a line of TOML and is held back: one of more than 131,072 bytes with more than 1,048,576 of the bytes
-/// `.`, `=`, `[`, `{` outside of comments and quoted texts, or a header of more weight than 96 (a byte weighs 1, a dot 8, blanks
-/// nothing), as no table of bindings has.
+/// The table that a file spells. A refusal is the first in this order: `TooBig`; `NotToml` of a text that is not UTF-8 or whose first line is
+/// no TOML; `TooCostly` (see `is_too_costly`); `NotToml` of any other text; of the key `version` `Missing`, `Kind`, `Version`;
+/// `UnknownKey` at the top; of `softwire` `Missing`, `Kind`, then its keys in the order of `Name`, each with `Missing`, `Kind` and
+/// then `Address` or `Range`, then `UnknownKey` in it; `Kind` of `binding` if it is no array of tables; then each of its elements in
+/// order, its keys like those of `softwire`; and last the first refusal by the rules of tables. `OutOfMemory` comes if the allocator
+/// has no room for the document, the bindings or the test of the rules.
 pub fn read_table(alloc: Global, text: &[u8]) -> Result<Table, FileError>
     ensures table { IfOk result (λ t. TableOf text.now (Ok t)) }
     ensures cause { IfErr result (IsFileCause text.now) }
     ensures too_big { most_bytes < length text.now → result ≡ Err (file_error.Refused refused.TooBig) }
     ensures no_text { length text.now ≤ most_bytes → (IsUtf8 text.now → ⊥) → result ≡ Err (file_error.Refused refused.NotToml) }
-    ensures no_line { length text.now ≤ most_bytes → begins_toml text.now ≡ false → IsNotToml result }
-    ensures held_back { length text.now ≤ most_bytes → IsUtf8 text.now → begins_toml text.now ≡ true → is_held_back text.now ≡ true →
-        result ≡ Err file_error.OutOfMemory }
-    ensures small { length text.now ≤ most_free → is_held_back text.now ≡ false }
 {
     if text.len() > MOST_FILE_BYTES {
         return Err(FileError::Refused(FileRefused::TooBig));
@@ -70,28 +63,25 @@ pub fn read_table(alloc: Global, text: &[u8]) -> Result<Table, FileError>
     }
 }
 
-// The same of a text within the size.
+// The table of a text within the size.
 fn read_text(alloc: Global, text: &str) -> Result<Table, FileError>
     requires size { length text.now ≤ most_bytes }
     requires utf8 { IsUtf8 text.now }
     ensures table { IfOk result (λ t. TableOf text.now (Ok t)) }
     ensures cause { IfErr result (IsFileCause text.now) }
-    ensures no_line { begins_toml text.now ≡ false → IsNotToml result }
-    ensures held_back { begins_toml text.now ≡ true → is_held_back text.now ≡ true → result ≡ Err file_error.OutOfMemory }
 {
-    if is_held_back(text.as_bytes()) {
-        return Err(unread(alloc, text));
+    if is_too_costly(text.as_bytes()) {
+        return Err(costly_error(alloc, text));
     }
     let spelled = spelled_of(alloc, text)?;
     Ok(table_of(alloc, spelled.edition, spelled.softwire, spelled.bindings)?)
 }
 
-/// What a text says, before the rules of tables: read line by line where it has the plain form, else by the document's tree.
+/// What a text says, before the rules of tables: read line by line if it has the plain form, else by the document's tree.
 fn spelled_of(alloc: Global, text: &str) -> Result<Spelled, FileError>
     requires utf8 { IsUtf8 text.now }
     ensures read { IsRead (λ s. binding_table s.edition s.softwire s.bindings.items) (Says text.now) result }
     ensures few { IfOk result (λ s. vec_len s.bindings ≤ most_bytes) }
-    ensures no_line { begins_toml text.now ≡ false → IsNotToml result }
 {
     match plain_tree(alloc, text) {
         Ok(Some(spelled)) => Ok(spelled),
@@ -104,36 +94,37 @@ fn whole_tree(alloc: Global, text: &str) -> Result<Spelled, FileError>
     requires utf8 { IsUtf8 text.now }
     ensures read { IsRead (λ s. binding_table s.edition s.softwire s.bindings.items) (Says text.now) result }
     ensures few { IfOk result (λ s. vec_len s.bindings ≤ most_bytes) }
-    ensures no_line { begins_toml text.now ≡ false → IsNotToml result }
 {
     let document = document_of(alloc, text)?;
     tree_of(alloc, &document)
 }
 
-/// The answer to a text that is held back.
-fn unread(alloc: Global, text: &str) -> FileError
-    ensures no_line { begins_toml text.now ≡ false → (result ≡ file_error.Refused refused.NotToml) ⊎ (result ≡ file_error.OutOfMemory) }
-    ensures line { begins_toml text.now ≡ true → result ≡ file_error.OutOfMemory }
-    ensures cause { (result ≡ file_error.OutOfMemory) ⊎ ((result ≡ file_error.Refused refused.NotToml) × (begins_toml text.now ≡ false)) }
+/// The refusal of a text that costs too much.
+fn costly_error(alloc: Global, text: &str) -> FileError
+    requires size { length text.now ≤ most_bytes }
+    requires utf8 { IsUtf8 text.now }
+    requires costly { is_too_costly text.now ≡ true }
+    ensures { IsFileCause text.now result }
 {
     match begins_toml(alloc, text) {
+        Ok(true) => FileError::Refused(FileRefused::TooCostly),
         Ok(false) => FileError::Refused(FileRefused::NotToml),
-        _ => FileError::OutOfMemory,
+        Err(OutOfMemory) => FileError::OutOfMemory,
     }
 }
 
 /// What a tree says, before the rules of tables.
 #[derive(Drop)]
-pub(crate) struct Spelled {
+pub struct Spelled {
     pub edition: Edition,
     pub softwire: Softwire,
     pub bindings: Vec<Binding>,
 }
 
-pub(crate) fn document_of(alloc: Global, text: &str) -> Result<toml::Table, FileError>
+/// The document that a text is.
+pub fn document_of(alloc: Global, text: &str) -> Result<toml::Table, FileError>
     requires { IsUtf8 text.now }
     ensures read { IsRead (λ t. table_view t) (IsDocument text.now) result }
-    ensures no_line { begins_toml text.now ≡ false → IsNotToml result }
 {
     match toml::table_from_str(alloc, text) {
         Ok(document) => Ok(document),
@@ -142,7 +133,8 @@ pub(crate) fn document_of(alloc: Global, text: &str) -> Result<toml::Table, File
     }
 }
 
-fn tree_of(alloc: Global, document: &toml::Table) -> Result<Spelled, FileError>
+/// What a document says, before the rules of tables.
+pub fn tree_of(alloc: Global, document: &toml::Table) -> Result<Spelled, FileError>
     ensures read { IsRead (λ s. binding_table s.edition s.softwire s.bindings.items) (IsTree (table_view document.now)) result }
     ensures few { IfOk result (λ s. vec_len s.bindings ≤ most_bytes) }
 {
@@ -204,7 +196,7 @@ fn settings_of(table: &toml::Table, aftr: V6, own: V4) -> Result<Softwire, FileR
 }
 
 /// The elements of `binding`, none where the key is not there.
-pub(crate) fn elements_of(document: &toml::Table) -> Result<&[Value], FileRefused>
+pub fn elements_of(document: &toml::Table) -> Result<&[Value], FileRefused>
     ensures { value_or_refusal (λ values. items_view values.now) result ≡ elements_of (table_view document.now) }
 {
     let place = Place::Top(Name::Binding);
@@ -214,16 +206,6 @@ pub(crate) fn elements_of(document: &toml::Table) -> Result<&[Value], FileRefuse
     match value.as_array() {
         Some(array) if are_tables(array) => Ok(array),
         _ => Err(FileRefused::Kind(place)),
-    }
-}
-
-/// How many bindings a document has.
-pub(crate) fn binding_count(document: &toml::Table) -> usize
-    ensures { result ≡ binding_count (table_view document.now) }
-{
-    match elements_of(document) {
-        Ok(values) => values.len(),
-        Err(_) => 0,
     }
 }
 

@@ -26,13 +26,15 @@ pub enum FileRefused {
     Rules(Refused),
     /// The version is neither 1 nor 2.
     Version,
+    /// The file would cost too much to read: see `is_too_costly`.
+    TooCostly,
 }
 
 impl FileRefused {
     ghost use Rattle.std.specs.Prelude.{◌≡◌};
     ghost use Rattle.binding_file.specs.Names.{file_refusal_number};
 
-    /// The number of the cause, from 1 to 9 in the order written here.
+    /// The number of the cause, from 1 to 10 in the order written here.
     pub fn number(&self) -> u8
         ensures { result ≡ file_refusal_number self.now }
     {
@@ -46,6 +48,7 @@ impl FileRefused {
             FileRefused::Range(_) => 7,
             FileRefused::Rules(_) => 8,
             FileRefused::Version => 9,
+            FileRefused::TooCostly => 10,
         }
     }
 }
@@ -70,6 +73,7 @@ impl fmt::Display for FileRefused {
                 write!(f, "rules {rule}")
             }
             FileRefused::Version => f.write_str("version"),
+            FileRefused::TooCostly => f.write_str("too-costly"),
         }
     }
 }

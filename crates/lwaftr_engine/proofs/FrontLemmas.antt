@@ -1,7 +1,7 @@
 -- The front of a file, joined from pieces; and that the front of a table file says what the file says.
 use Rattle.lwaftr_engine.proofs.Words.{◌≡◌, ℕ, ◌+◌, ◌<◌, nat_lt, Bool, true, if◌then◌else◌, List, ◌++◌, length, length-take, take, drop, Option, Some, None}
 use Rattle.lwaftr_engine.proofs.Words.{Result, Ok, Err, sym, ◌∙◌, ap, inl, inr, subst, arith, length-append, take-add, cases_lt, nat_tests, take_all}
-use Rattle.lwaftr_engine.proofs.Words.{FileError, IsFileCause, TableOf, TextOf, fits, most_bytes, Then, FileRefused, BindingTable, Contents, content, Told}
+use Rattle.lwaftr_engine.proofs.Words.{AnswerOf, FileError, IsFileCause, TableOf, fits, most_bytes, Then, FileRefused, BindingTable, Contents, content, Told}
 use Rattle.lwaftr_engine.proofs.Moving.{told_by}
 use Rattle.binding_file.specs.declared.refusals.FileError.TheVariants as file_error
 use Rattle.binding_file.specs.declared.refusals.FileRefused.TheVariants as refused
@@ -29,7 +29,7 @@ pub table_of_front : (bytes : List ℕ) (r : Result BindingTable FileRefused) �
 table_of_front bytes r says = elim (cases_lt 16777216 (length bytes)) [
   | inl long ↦
       let cut : 16777216 < length (take 16777217 bytes) = omega (arith, long, length-take 16777217 bytes) in
-      subst (λ f. Then f (λ text. TextOf text r) r) (fits_big (take 16777217 bytes) cut ∙ sym (fits_big bytes long)) says
+      subst (λ f. Then f (λ text. AnswerOf text r) r) (fits_big (take 16777217 bytes) cut ∙ sym (fits_big bytes long)) says
   | inr short ↦ subst (λ b. TableOf b r) (take_all 16777217 bytes (omega (arith, short))) says
 ]
 

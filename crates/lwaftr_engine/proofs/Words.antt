@@ -31,7 +31,7 @@ pub use Rattle.aftr_text.specs.Jobs.{AreWorkers, Asks, AsksRun, IsLimit, StandsO
 pub use Rattle.aftr_text.specs.Parts.{Parts, texts}
 pub use Rattle.area_swap.specs.declared.areas.Areas.{Areas}
 pub use Rattle.area_swap.specs.declared.board.View.{View}
-pub use Rattle.binding_file.specs.Files.{IsFileCause, fits, most_bytes}
+pub use Rattle.binding_file.specs.Files.{AnswerOf, IsFileCause, fits, most_bytes}
 pub use Rattle.binding_file.specs.Keys.{Then}
 pub use Rattle.binding_file.specs.declared.refusals.FileError.{FileError}
 pub use Rattle.capture_io.specs.Answers.{is_read_fault}

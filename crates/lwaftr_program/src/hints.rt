@@ -9,6 +9,9 @@ pub(crate) fn hint_for(refused: &FileRefused) -> &'static str {
             "  a table file is TOML in UTF-8: look for a missing quote, a key given twice, or an integer beyond 2^63 - 1\n"
         }
         FileRefused::Version => "  the key version has to be 1 or 2\n",
+        FileRefused::TooCostly => {
+            "  it would cost too much to read: see What reading costs in FORMATS.md, and look for brackets that are not closed\n"
+        }
         FileRefused::Range(place) => range_hint(place.name()),
         FileRefused::Rules(Refused::Mtu) => "  mtu6 has to be 1280 to 65535, mtu4 576 to 65535\n",
         FileRefused::Rules(Refused::Hop) => range_hint(Name::HopLimit),

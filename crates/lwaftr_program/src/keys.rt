@@ -2,8 +2,9 @@
 use crate::naming::push_shown;
 use crate::tables::push_lines;
 use aftr_base::OutOfMemory;
-use binding_file::{FileRefused, KeyPlace, UnknownKey, line_of, unknown_key};
+use binding_file::FileRefused;
 use std::alloc::Global;
+use table_hints::{KeyPlace, UnknownKey, line_of, unknown_key};
 
 /// The lines of a refusal; of an unknown key that of its binding, and below it the key and its table. The last line is not ended.
 pub(crate) fn push_about(

@@ -1,5 +1,5 @@
-// What is told of table files below the status line, for which they are read once more: which lines and which key a refusal is about, which
-// loads were refused, and which table is held back for its cost. A file that is none by now, or is too big, is not looked at.
+// What is told of table files below the status line, for which they are read once more: which lines and which key a refusal is about, and
+// which loads were refused. A file that is none by now, or is too big, is not looked at.
 ghost use Rattle.std.specs.Prelude.{◌≡◌, [], IfOk};
 ghost use Rattle.lwaftr_engine.specs.declared.status.Status.TheVariants as status_is;
 
@@ -9,11 +9,12 @@ use crate::loads::push_loads;
 use crate::naming::table_name;
 use aftr_base::{OutOfMemory, Text};
 use aftr_text::{Job, read_job};
-use binding_file::{FileError, FileRefused, Lines, MOST_FILE_BYTES, is_held_back, read_table};
+use binding_file::{FileRefused, MOST_FILE_BYTES};
 use lwaftr_engine::Status;
 use std::alloc::Global;
 use std::fs;
 use std::rt::Files;
+use table_hints::Lines;
 
 /// The lines below the status line that tell of table files. The words are those behind the program's name.
 pub fn table_lines<R: Files + Alloc<A = Global>>(
@@ -36,11 +37,7 @@ pub fn table_lines<R: Files + Alloc<A = Global>>(
                 push_loads(rt, alloc, &mut text, &run)?;
             }
         }
-        Status::OutOfMemory => {
-            if let Ok(job) = read_job(alloc, words) {
-                push_held_back(rt, alloc, &mut text, &job)?;
-            }
-        }
+        Status::OutOfMemory => text.push_str("  memory was wanted\n")?,
         _ => {}
     }
     Ok(Text::of(text))
@@ -89,68 +86,5 @@ pub(crate) fn push_lines(
         Some(Lines::Through(first, last)) => format!(in alloc; ", lines {first} to {last}")?,
     };
     text.push_str(told.as_str())?;
-    Ok(())
-}
-
-// Which table is held back for its cost, or that memory was wanted.
-fn push_held_back<R: Files + Alloc<A = Global>>(
-    rt: &R,
-    alloc: Global,
-    text: &mut String,
-    job: &Job,
-) -> Result<(), OutOfMemory> {
-    let mut all_seen = true;
-    if let Some(name) = table_name(job) {
-        match cost_of(rt, alloc, name) {
-            Cost::HeldBack => return push_costly(text, name),
-            Cost::Unknown => all_seen = false,
-            Cost::Read => {}
-        }
-    }
-    if let Job::Run(run) = job {
-        'loads: for load in run.loads.as_slice() {
-            match cost_of(rt, alloc, load.name.as_str()) {
-                Cost::HeldBack => return push_costly(text, load.name.as_str()),
-                Cost::Unknown => all_seen = false,
-                Cost::Read => {}
-            }
-        }
-    }
-    if all_seen {
-        text.push_str("  memory was wanted\n")?;
-    } else {
-        text.push_str(
-            "  memory was wanted, or a table file would cost too much to read: see What reading costs in FORMATS.md\n",
-        )?;
-    }
-    Ok(())
-}
-
-enum Cost {
-    Read,
-    HeldBack,
-    Unknown,
-}
-
-// Whether a file is held back for its cost. A text that is, and is answered otherwise, was refused for what it begins with.
-fn cost_of<R: Files + Alloc<A = Global>>(rt: &R, alloc: Global, name: &str) -> Cost {
-    let Some(bytes) = bytes_of(rt, name) else {
-        return Cost::Unknown;
-    };
-    if !is_held_back(&bytes) {
-        return Cost::Read;
-    }
-    match read_table(alloc, &bytes) {
-        Err(FileError::OutOfMemory) => Cost::HeldBack,
-        _ => Cost::Read,
-    }
-}
-
-fn push_costly(text: &mut String, name: &str) -> Result<(), OutOfMemory> {
-    text.push_str("  ")?;
-    text.push_str(name)?;
-    text.push_str(
-        " would cost too much to read, and is held back: see What reading costs in FORMATS.md\n",
-    )?;
     Ok(())
 }

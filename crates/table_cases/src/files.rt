@@ -322,7 +322,7 @@ const LAST_IDENTIFIER: Place = Place::Binding {
 };
 
 // The refusals, with their texts, by their numbers from 1 on.
-const REFUSALS: [(FileRefused, &str); 9] = [
+const REFUSALS: [(FileRefused, &str); 10] = [
     (FileRefused::TooBig, "too-big"),
     (FileRefused::NotToml, "not-toml"),
     (
@@ -341,6 +341,7 @@ const REFUSALS: [(FileRefused, &str); 9] = [
         "rules too-many 65537",
     ),
     (FileRefused::Version, "version"),
+    (FileRefused::TooCostly, "too-costly"),
 ];
 
 // Whether a refusal has this number and this text.

@@ -11,7 +11,7 @@ mod counted;
 #[cfg(test)]
 mod files;
 #[cfg(test)]
-mod held_back;
+mod costly;
 #[cfg(test)]
 mod lines;
 #[cfg(test)]

@@ -1,9 +1,10 @@
 // The lines that the refusals of files are about.
 use crate::files::spelled;
 use aftr_base::OutOfMemory;
-use binding_file::{FileError, FileRefused, Lines, line_of, read_table};
+use binding_file::{FileError, FileRefused, read_table};
 use std::alloc::Global;
 use std::test::Fail;
+use table_hints::{Lines, line_of};
 
 // A line has a file, its refusal and its lines. `|` ends a line of the file.
 const FILES: &str = "= ~ not-toml ~ line 1

@@ -1,9 +1,9 @@
 // The first key of a file that its table does not have.
 use crate::files::spelled;
 use aftr_base::OutOfMemory;
-use binding_file::{KeyPlace, Lines, UnknownKey, unknown_key};
 use std::alloc::Global;
 use std::test::Fail;
+use table_hints::{KeyPlace, Lines, UnknownKey, unknown_key};
 
 // A line has a file, as `files` spells it, and the key, its table, and the line of that table where it is a binding.
 const FILES: &str = "version = 1 ~ none

@@ -1,4 +1,4 @@
-use Rattle.binding_file.proofs.Trees.{text_file}
+use Rattle.binding_file.proofs.Trees.{text_answer}
 use Rattle.binding_file.proofs.Unique.{one_answer}
 use Rattle.binding_file.proofs.laws.one_table.Goals as goal
 
@@ -6,4 +6,4 @@ pub returns-clause-answer : goal.returns-clause-answer
 returns-clause-answer c = one_answer c.one_address.ensures.v6 c.one_address.ensures.v4
 
 pub returns-clause-text : goal.returns-clause-text
-returns-clause-text c = text_file
+returns-clause-text c = text_answer

@@ -1,9 +1,0 @@
-use Rattle.std.proofs.Common.{◌≡◌, length}
-use Rattle.binding_file.specs.Lines.{behind_blanks}
-use Rattle.binding_file.proofs.headers.behind_blanks.Given as goal
-
-abbrev pub invariant-blanks : goal.invariant-blanks
-invariant-blanks l = behind_blanks l.rest ≡ behind_blanks l.text
-
-abbrev pub decreases-blanks : goal.decreases-blanks
-decreases-blanks l = length l.rest

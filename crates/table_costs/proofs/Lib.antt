@@ -1,0 +1,4 @@
+mod FewerMarks
+pub mod FirstLineLemmas
+mod Looks
+mod Skips

@@ -1,0 +1,4 @@
+mod FirstKeys
+mod LineLemmas
+mod RereadingLemmas
+mod Troubles
