@@ -5,7 +5,7 @@
 
 Each seed makes one file: a good table, one that is aimed at a refusal, a damaged one, or one of these with some bytes or lines changed. Both
 programs are asked to `check` it; their exit codes and what they print have to be the same. A file that either of them refuses as
-`too-costly` is counted apart. Where Python's TOML reader takes a file, neither may say `not-toml`. The folder of a file that differs is
+`too-costly` is not compared. If Python's TOML reader takes a file, neither may say `not-toml`. The folder of a file that differs is
 kept and named."""
 import collections
 import os
@@ -69,16 +69,24 @@ def file_of(seed):
 
 
 def answer_of(program, name):
-    done = subprocess.run([program, "check", name], capture_output=True)
+    done = subprocess.run([program, "check", name], stdout=subprocess.PIPE, stderr=subprocess.STDOUT)
     return done.returncode, done.stdout.split(b"\n")[0]
+
+
+def fits(value):
+    """Whether each integer in it has 64 bits; Python reads longer ones too."""
+    if isinstance(value, dict):
+        return all(map(fits, value.values()))
+    if isinstance(value, list):
+        return all(map(fits, value))
+    return not isinstance(value, int) or -(2**63) <= value < 2**63
 
 
 def is_toml(text):
     try:
-        tomllib.loads(text.decode())
+        return fits(tomllib.loads(text.decode()))
     except (ValueError, RecursionError):
         return False
-    return True
 
 
 def main():
