@@ -9,6 +9,7 @@ use Rattle.atomic_table.specs.Table as acts
 use Rattle.swap_core.specs.Plans.{Tables, AreAlike, stale, table, width, window}
 use Rattle.swap_core.specs.States.{count_of, spare, next_table, with_desk, written, published}
 use Rattle.swap_core.specs.Sound.{Sound, IsWriting, IsAtWork}
+use Rattle.swap_core.specs.declared.actors.Actor.{Actor}
 use Rattle.swap_core.specs.declared.actors.DeskState.{DeskState}
 use Rattle.swap_core.specs.declared.actors.DeskState.TheVariants.{Resting, Ready, Writing}
 use Rattle.swap_core.proofs.Laws.{few_records, few_versions}
@@ -21,7 +22,7 @@ use Rattle.area_swap.specs.Views.{now_of, packed, unpacked, reading, next_of, sp
 use Rattle.area_swap.specs.Rule.{Ruled, IsLawfulView, ShowsWords}
 use Rattle.area_swap.specs.SeatSteps.{Seated, FoundDue, FoundWord, Passed, ReadClaims, Wrote, Published}
 use Rattle.area_swap.proofs.Packing.{up_to, laid_now, laid_row}
-use Rattle.area_swap.proofs.Keeping.{same_actors, same_words, shows_desk, fits, seat_step, moment_after}
+use Rattle.area_swap.proofs.Keeping.{hand_of, same_actors, same_words, shows_desk, fits, seat_step, moment_after}
 use Rattle.area_swap.proofs.Learning.{sees_word, sees_claims, unpacks}
 use Rattle.area_swap.proofs.WorkerSteps.{read_now}
 
@@ -42,13 +43,15 @@ module _ (p : Tables) (s : State (Unit {0}) View) (r : Ruled p s) (id : ℕ) (v 
   spare_is = ap (λ (n : ℕ). (n + 1) % 2) knows_version
 
   -- a view of the desk, whose other parts stay, fits
-  fits_desk : (now : Seen) (w : View) → IsUpTo (now_of r.core) now → w.plan ≡ v.plan → w.actor ≡ v.actor → w.share ≡ v.share
+  fits_desk : (now : Seen) (w : View) → IsUpTo (now_of r.core) now → w.plan ≡ v.plan → w.actor ≡ v.actor → hand_of w ≡ hand_of v
       → w.has_desk ≡ v.has_desk → w.seen ≡ v.seen → w.prior ≡ v.prior → IsLawfulView p now w
-  fits_desk now w later plan actor share desk seen prior =
+  fits_desk now w later plan actor hand desk seen prior =
       let f = fits p s r id v at in
       record {
         same_plan = λ _. plan ∙ f.same_plan (inr has);
-        unshared = λ none. actor ∙ f.unshared (sym share ∙ none);
+        unshared = λ none. actor ∙ f.unshared (sym (ap (λ (h : ℕ × ℕ). h.0) hand) ∙ none);
+        rightless = λ none. ap (λ (h : ℕ × ℕ). h.1) hand ∙ f.rightless (sym (ap (λ (h : ℕ × ℕ). h.0) hand) ∙ none);
+        undrawn = λ none. ap (λ (x : Actor). x.draws) actor ∙ f.undrawn (sym (ap (λ (h : ℕ × ℕ). h.1) hand) ∙ none);
         seen = record {
           version = omega (arith, ap (λ (t : Seen). t.version) seen, f.seen.version, later.version);
           records = omega (arith, ap (λ (t : Seen). t.records) seen, f.seen.records, later.records);
@@ -79,7 +82,7 @@ module _ (p : Tables) (s : State (Unit {0}) View) (r : Ruled p s) (id : ℕ) (v 
       (due_sound r.core r.sound (subst Still shown.0 still) (subst More plans more) (subst Reached plans reached)) refl
       (same_words p s r id v at version_place) (same_actors p s r id v at) refl (λ _. (refl, shown.1)) (λ lacks. not_false lacks)
       (up_to (now_of r.core)) refl
-      (record { same_plan = f.same_plan; unshared = f.unshared; seen = up_to (now_of r.core); prior = f.seen }))
+      (record { same_plan = f.same_plan; unshared = f.unshared; rightless = f.rightless; undrawn = f.undrawn; seen = up_to (now_of r.core); prior = f.seen }))
 
   -- the claims on the spare area are read, and there are some
   claimed_now : (i n : ℕ)

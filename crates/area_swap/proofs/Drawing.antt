@@ -1,5 +1,5 @@
 -- What the steps of a draw make of the seat, from what each of them told.
-use Rattle.std.proofs.Common.{◌≡◌, ◌≢◌, ℕ, ◌+◌, ◌-◌, ◌%◌, ◌<◌, ◌≤◌, min, subst, sym, refl, ap, ◌∙◌, arith, inl, inr}
+use Rattle.std.proofs.Common.{◌≡◌, ◌≢◌, ℕ, ◌+◌, ◌-◌, ◌%◌, ◌<◌, ◌≤◌, min, [], subst, sym, refl, ap, ◌∙◌, arith, inl, inr}
 use Rattle.swap_core.specs.Plans.{Tables, limit}
 use Rattle.swap_core.specs.States.{consecutive}
 use Rattle.swap_core.specs.declared.actors.ActorState.TheVariants.{Idle, Holds}
@@ -11,7 +11,7 @@ use Rattle.area_swap.specs.Views.{packed, unpacked, reading, taking, held_versio
 use Rattle.area_swap.specs.Rule.{Sees}
 use Rattle.area_swap.specs.Answers.{HasDrawn, IsNotHeld, IsAtEnd, IsAtLimit, HasLost, RunDrawn, Drawn, one_of}
 use Rattle.area_swap.specs.SeatSteps.{Stepped, Seated, Glanced, Drew}
-use Rattle.area_swap.specs.Values.{HoldsAtMost, HoldsOne}
+use Rattle.area_swap.specs.Values.{HoldsAtMost, HoldsOne, HoldsStill, IsRowOf, IsWorker}
 
 pub pack_unpack : (n : ℕ) → packed (unpacked n) ≡ n
 pack_unpack n = omega arith
@@ -33,6 +33,9 @@ module _ {st1 : Stepped} {m0 m1 : Seated} {n1 : ℕ} (k1 : Glanced st1 m0 n1 m1)
 
   pub glanced_plan : m1.0.plan ≡ m0.0.plan
   glanced_plan = ap (λ (m : Seated). m.0.plan) glanced_view
+
+  pub glanced_right : 0 < m0.0.right → 0 < m1.0.right
+  glanced_right l = let P : Seated → Type 0 = λ m. 0 < m.0.right in subst P (sym glanced_view) l
 
   pub glanced_share : 0 < m0.0.share → 0 < m1.0.share
   glanced_share l = let P : Seated → Type 0 = λ m. 0 < m.0.share in subst P (sym glanced_view) l
@@ -160,6 +163,30 @@ module _ {st1 : Stepped} {m0 m1 : Seated} {n1 : ℕ} (k1 : Glanced st1 m0 n1 m1)
           later = later;
           drawn = glanced_sees.drawn;
         })
+
+    -- the seat is a worker's, and holds what it held
+    pub lost_again : (held row : ℕ) → n2 ≢ st2.first → IsWorker m0.0 → HoldsAtMost held m0.0 → m0.1 ≡ [] → IsRowOf held row m0.0
+        → IsWorker m2.0 × HoldsAtMost held m2.0 × (m2.1 ≡ []) × IsRowOf held row m2.0
+    lost_again held row missed w holds bare begins =
+        let P : Seated → Type 0 = λ m. IsWorker m.0 × HoldsAtMost held m.0 × (m.1 ≡ []) × IsRowOf held row m.0 in
+        subst P (sym (lost_view missed)) (record { shared = w.shared; no_desk = w.no_desk }, holds, bare, begins)
+
+    pub taken_again : (held row count : ℕ) → st2.first ≡ n1 → st2.second ≡ n1 + count → n2 ≡ n1 → IsWorker m0.0 → HoldsAtMost held m0.0
+        → m0.1 ≡ [] → IsRowOf held row m0.0 → IsWorker m2.0 × HoldsAtMost held m2.0 × (m2.1 ≡ []) × IsRowOf held row m2.0
+    taken_again held row count first second hit w holds bare begins =
+        let P : Seated → Type 0 = λ m. IsWorker m.0 × HoldsAtMost held m.0 × (m.1 ≡ []) × IsRowOf held row m.0 in
+        subst P (sym (taken_view count first second hit)) (record { shared = w.shared; no_desk = w.no_desk }, holds, bare, begins)
+
+    pub lost_still : n2 ≢ st2.first → HoldsOne m0.0 → HoldsStill m0.0 m2.0
+    lost_still missed holds =
+        let P : Seated → Type 0 = λ m. HoldsStill m0.0 m.0 in
+        subst P (sym (lost_view missed)) (record { holds = holds; version = refl; table = refl; share = refl; right = refl })
+
+    pub taken_still : (count : ℕ) → st2.first ≡ n1 → st2.second ≡ n1 + count → n2 ≡ n1 → HoldsOne m0.0 → HoldsStill m0.0 m2.0
+    taken_still count first second hit holds =
+        let P : Seated → Type 0 = λ m. HoldsStill m0.0 m.0 in
+        subst P (sym (taken_view count first second hit))
+        (record { holds = holds; version = refl; table = refl; share = refl; right = refl })
 
 -- the state of a holding seat, by the version that it keeps
 pub holds_it : (v : View) (held : ℕ) → HoldsAtMost held v → HoldsOne v → v.actor.state ≡ Holds (held % 2) held

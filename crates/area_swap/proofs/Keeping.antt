@@ -16,7 +16,7 @@ use Rattle.aftr_base.proofs.TotalLemmas.{sum_kept}
 use Rattle.area_swap.specs.declared.answers.Seen.{Seen}
 use Rattle.area_swap.specs.declared.board.View.{View}
 use Rattle.area_swap.specs.Views.{now_of, IsUpTo}
-use Rattle.area_swap.specs.Rule.{Ruled, IsLawfulView, Moment, ShowsDesk, ShowsWords, actor_of, share_of}
+use Rattle.area_swap.specs.Rule.{Ruled, IsLawfulView, Moment, ShowsDesk, ShowsWords, actor_of, right_of, share_of}
 use Rattle.area_swap.proofs.Packing.{up_to_then}
 
 bool_cases : (P : Type 0) (b : Bool) → (b ≡ true → P) → (b ≡ false → P) → P
@@ -74,10 +74,14 @@ desk_after views state next points later id v w h at keeps with without =
           | inr k ↦ h.alone i u k.1 t
         ]
 
+-- what no step of a seat changes: its share, and its part in the right to draw
+abbrev pub hand_of : View → ℕ × ℕ
+hand_of v = (v.share, v.right)
+
 -- what held of a view holds of it later
 pub fits_later : (p : Tables) (now next : Seen) (v : View) → IsUpTo now next → IsLawfulView p now v → IsLawfulView p next v
 fits_later p now next v l f =
-    record { same_plan = f.same_plan; unshared = f.unshared; seen = up_to_then v.seen now next f.seen l; prior = f.prior }
+    record { same_plan = f.same_plan; unshared = f.unshared; rightless = f.rightless; undrawn = f.undrawn; seen = up_to_then v.seen now next f.seen l; prior = f.prior }
 
 module _ (p : Tables) (s : State (Unit {0}) View) (r : Ruled p s) (id : ℕ) (v : View) (at : get_elem? s.views id ≡ some v) where
   -- the seat is an actor
@@ -107,9 +111,9 @@ module _ (p : Tables) (s : State (Unit {0}) View) (r : Ruled p s) (id : ℕ) (v 
       → set r.core.actors id w.actor ≡ c.actors → w.has_desk ≡ v.has_desk
       → (v.has_desk ≡ true → (w.desk ≡ c.desk) × (w.points ≡ c.points))
       → (v.has_desk ≡ false → (r.core.desk ≡ c.desk) × (r.core.points ≡ c.points))
-      → IsUpTo (now_of r.core) (now_of c) → w.share ≡ v.share → IsLawfulView p (now_of c) w
+      → IsUpTo (now_of r.core) (now_of c) → hand_of w ≡ hand_of v → IsLawfulView p (now_of c) w
       → Ruled p (record { words = set s.words i x; homes = s.homes; views = set s.views id w })
-  seat_step i x w c sound plan words actors keeps with without later share fit =
+  seat_step i x w c sound plan words actors keeps with without later hand fit =
       record {
         core = c;
         sound = sound;
@@ -117,7 +121,8 @@ module _ (p : Tables) (s : State (Unit {0}) View) (r : Ruled p s) (id : ℕ) (v 
         words = words;
         actors = map-set actor_of s.views id w ∙ ap (λ (l : List Actor). set l id w.actor) r.actors ∙ actors;
         desk = desk_after s.views r.core.desk c.desk r.core.points c.points id v w r.desk at keeps with without;
-        shares = sum_kept share_of s.views id v w at share ∙ r.shares;
+        shares = sum_kept share_of s.views id v w at (ap (λ (h : ℕ × ℕ). h.0) hand) ∙ r.shares;
+        rights = sum_kept right_of s.views id v w at (ap (λ (h : ℕ × ℕ). h.1) hand) ∙ r.rights;
         each = each;
       }
     where

@@ -1,5 +1,5 @@
 -- What a board under the rule tells a seat that reads the version word.
-use Rattle.std.proofs.Common.{◌≡◌, ℕ, ◌+◌, ◌<◌, ◌≤◌, ◌≢◌, ◌⊎◌, Bool, true, false, cond, nat_le, List, length, map, slice_index, sum_by, subst, sym, ap, ◌∙◌, arith, inl, inr}
+use Rattle.std.proofs.Common.{◌≡◌, ℕ, ◌+◌, ◌<◌, ◌≤◌, ◌≢◌, ◌⊎◌, Bool, true, false, cond, nat_le, List, [], ◌==◌, count_by, length, map, slice_index, sum_by, subst, sym, ap, ◌∙◌, arith, inl, inr}
 use mathlib.Core.Option.{some}
 use lib.ListN.{get_elem?}
 use Rattle.std.proofs.lemmas.Bool.{cases_lt}
@@ -18,7 +18,7 @@ use Rattle.swap_core.proofs.Laws.{weight}
 use Rattle.area_swap.specs.Places.{version_place, claims_place}
 use Rattle.area_swap.specs.declared.board.View.{View}
 use Rattle.area_swap.specs.Views.{now_of, unpacked, spare_of}
-use Rattle.area_swap.specs.Rule.{Ruled, Sees, SeesClaims, IsDrawnBy, actor_of, share_of}
+use Rattle.area_swap.specs.Rule.{Ruled, Sees, SeesClaims, IsDrawnBy, actor_of, right_of, share_of}
 use Rattle.area_swap.proofs.Members.{map_at, sum_map, sum_below, sum_alone, two_parts}
 use Rattle.area_swap.proofs.Packing.{unpack_packed}
 use Rattle.area_swap.proofs.Keeping.{actor_at, shows_desk, ruled_as, fits}
@@ -78,6 +78,39 @@ module _ (p : Tables) (s : State (Unit {0}) View) (r : Ruled p s) where
         (λ j y n e. ap (λ (x : Actor). times number x) (others_new whole j y n e)))
         ∙ r.sound.each_once number
 
+    -- beside the whole right to draw nobody has drawn anything
+    others_undrawn : v.right ≡ 65536 → (j : ℕ) (y : Actor) → j ≢ id → IsActor r.core j y → y.draws ≡ []
+    others_undrawn whole j y n e =
+        let Q : List Actor → Type 0 = λ l. get_elem? l j ≡ some y in
+        let m : (u : View) × (get_elem? s.views j ≡ some u) × (actor_of u ≡ y) =
+        map_at actor_of s.views j y (subst Q (sym r.actors) e) in
+        let both : right_of v + right_of m.0 ≤ sum_by right_of s.views =
+        two_parts right_of s.views id j v m.0 (λ k. n (sym k)) at m.1 in
+        let none : m.0.right ≡ 0 = omega (arith, r.rights) in
+        ap (λ (x : Actor). x.draws) (sym m.2) ∙ (r.each j m.0 m.1).undrawn none
+
+    pub drew_all_now : v.right ≡ 65536 → length v.actor.draws ≡ r.core.records
+    drew_all_now whole =
+        sym (sum_alone draw_count r.core.actors id v.actor (actor_at p s r id v at)
+        (λ j y n e. ap (λ (l : List (ℕ × ℕ)). length l) (others_undrawn whole j y n e)))
+        ∙ r.sound.all_drawn
+
+    pub drew_each_now : v.right ≡ 65536 → (number : ℕ) → times number v.actor ≡ once_below number r.core.records
+    drew_each_now whole number =
+        sym (sum_alone (times number) r.core.actors id v.actor (actor_at p s r id v at)
+        (λ j y n e. ap (λ (l : List (ℕ × ℕ)). count_by (λ (d : ℕ × ℕ). d.0 == number) l) (others_undrawn whole j y n e)))
+        ∙ r.sound.each_once number
+
+    -- who has the whole share has that right
+    pub whole_right_now : v.share ≡ 65536 → v.right ≡ 65536
+    whole_right_now whole =
+        sym (sum_alone right_of s.views id v at (λ j y n e.
+        (let both : share_of v + share_of y ≤ sum_by share_of s.views =
+        two_parts share_of s.views id j v y (λ k. n (sym k)) at e in
+        let none : y.share ≡ 0 = omega (arith, r.shares) in
+        (r.each j y e).rightless none)))
+        ∙ r.rights
+
     older : (d : ℕ × ℕ) → IsDrawRight r.core d → IsDrawnBy (now_of r.core) d
     older d right =
         let below : in_force r.core.points d.0 ≤ length r.core.points =
@@ -111,6 +144,9 @@ module _ (p : Tables) (s : State (Unit {0}) View) (r : Ruled p s) where
               (r.sound.under id v.actor (actor_at p s r id v at));
           all_drawn = draws_all;
           each_once = draws_each;
+          drew_all = drew_all_now;
+          drew_each = drew_each_now;
+          whole_right = whole_right_now;
           planned = subst Planned plans r.sound.planned;
           there = subst There plans r.sound.there;
           within = subst Within plans r.sound.within;

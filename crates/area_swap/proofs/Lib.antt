@@ -3,6 +3,7 @@ pub mod Apart
 pub mod Packing
 pub mod Keeping
 pub mod Learning
+pub mod ReadLemmas
 pub mod WorkerSteps
 pub mod Opening
 pub mod SeatMoves

@@ -105,6 +105,7 @@ module _ (p : Tables) (plan : IsPlan p) where
               same_points = refl;
             };
         shares = refl;
+        rights = refl;
         each = each;
       }
     where
@@ -121,7 +122,7 @@ module _ (p : Tables) (plan : IsPlan p) where
       each i v at =
           let P : View → Type 0 = λ u. IsLawfulView p (now_of (opening p 1)) u in
           subst P (first_only i v at).1
-          (record { same_plan = λ _. refl; unshared = λ e. absurd (omega arith); seen = up_to (now_of (opening p 1)); prior = up_to (now_of (opening p 1)) })
+          (record { same_plan = λ _. refl; unshared = λ e. absurd (omega arith); rightless = λ e. absurd (omega arith); undrawn = λ _. refl; seen = up_to (now_of (opening p 1)); prior = up_to (now_of (opening p 1)) })
 
 -- so the words are made
 pub filled : (p : Tables) (w0 w1 w2 w3 t : List ℕ) (front count n0 n2 : ℕ) → w0 ≡ [] → n0 ≡ 0 → front ≡ row_place (width p) 0

@@ -16,8 +16,8 @@ use Rattle.aftr_base.proofs.TotalLemmas.{sum_changed}
 use Rattle.swap_core.proofs.Laws.{newcomer_sound, merged_sound}
 use Rattle.area_swap.specs.declared.answers.Seen.{Seen}
 use Rattle.area_swap.specs.declared.board.View.{View}
-use Rattle.area_swap.specs.Views.{now_of, first_view, worker_view, desk_view, kept_half, new_half, together, with_desk_of, spent_view, latest, IsUpTo}
-use Rattle.area_swap.specs.Rule.{Ruled, Moment, IsLawfulView, ShowsDesk, actor_of, share_of}
+use Rattle.area_swap.specs.Views.{now_of, first_view, worker_view, desk_view, kept_half, new_half, kept_lending, lent_half, together, with_desk_of, spent_view, latest, IsUpTo}
+use Rattle.area_swap.specs.Rule.{Ruled, Moment, IsLawfulView, ShowsDesk, actor_of, right_of, share_of}
 use Rattle.area_swap.proofs.Opening.{opens, first_words}
 use Rattle.area_swap.proofs.Members.{at_end}
 use Rattle.area_swap.proofs.Keeping.{actor_at, desk_after, has_desk_of}
@@ -44,11 +44,11 @@ desk_stays views state points u h lacks =
 
 module _ (p : Tables) (s : State (Unit {0}) View) (r : Ruled p s) (id : ℕ) (v left right : View) (at : get_elem? s.views id ≡ some v) where
   -- a seat is cut in two: the second has drawn nothing and claimed nothing
-  cuts : left.actor ≡ v.actor → right.actor ≡ newcomer → left.share + right.share ≡ v.share
+  cuts : left.actor ≡ v.actor → right.actor ≡ newcomer → left.share + right.share ≡ v.share → left.right + right.right ≡ v.right
       → ShowsDesk (set s.views id left ++ right ∷ []) r.core.desk r.core.points
       → IsLawfulView p (now_of r.core) left → IsLawfulView p (now_of r.core) right
       → Ruled p (record { words = s.words; homes = s.homes; views = set s.views id left ++ right ∷ [] })
-  cuts same new shares desk fits_left fits_right =
+  cuts same new shares rights desk fits_left fits_right =
       record {
         core = joined_by_newcomer r.core;
         sound = newcomer_sound r.core r.sound;
@@ -57,6 +57,7 @@ module _ (p : Tables) (s : State (Unit {0}) View) (r : Ruled p s) (id : ℕ) (v 
         actors = map-append actor_of (set s.views id left) (right ∷ []) ∙ both;
         desk = desk;
         shares = sum_by_push share_of (set s.views id left) right ∙ total;
+        rights = sum_by_push right_of (set s.views id left) right ∙ total_right;
         each = each;
       }
     where
@@ -73,6 +74,12 @@ module _ (p : Tables) (s : State (Unit {0}) View) (r : Ruled p s) (id : ℕ) (v 
           let change : sum_by share_of (set s.views id left) + v.share ≡ sum_by share_of s.views + left.share =
           sum_changed share_of s.views id v left at in
           omega (arith, r.shares)
+
+      total_right : sum_by right_of (set s.views id left) + right.right ≡ 65536
+      total_right =
+          let change : sum_by right_of (set s.views id left) + v.right ≡ sum_by right_of s.views + left.right =
+          sum_changed right_of s.views id v left at in
+          omega (arith, r.rights)
 
       each : (i : ℕ) (u : View) → get_elem? (set s.views id left ++ right ∷ []) i ≡ some u → IsLawfulView p (now_of r.core) u
       each i u e =
@@ -91,21 +98,33 @@ pub halves_keep : (p : Tables) (id : ℕ) (v : View) → v.plan ≡ p → 0 < v.
     → Splits (Ruled p) id v (kept_half v) (new_half v)
 halves_keep p id v plan shared even lacks s r at =
     let f : IsLawfulView p (now_of r.core) v = r.each id v at in
-    cuts p s r id v (kept_half v) (new_half v) at refl refl (omega arith)
+    cuts p s r id v (kept_half v) (new_half v) at refl refl (omega arith) (omega arith)
     (desk_stays (set s.views id (kept_half v)) r.core.desk r.core.points (new_half v)
     (desk_after s.views r.core.desk r.core.desk r.core.points r.core.points id v (kept_half v) r.desk at refl
     (λ has. absurd (let e : true ≡ false = sym has ∙ lacks in cc)) (λ _. (refl, refl))) lacks)
-    (record { same_plan = λ _. plan; unshared = λ none. absurd (omega arith); seen = f.seen; prior = f.prior })
-    (record { same_plan = λ _. plan; unshared = λ _. refl; seen = f.seen; prior = f.prior })
+    (record { same_plan = λ _. plan; unshared = λ none. absurd (omega arith); rightless = λ none. absurd (omega arith); undrawn = λ none. f.undrawn (omega arith); seen = f.seen; prior = f.prior })
+    (record { same_plan = λ _. plan; unshared = λ _. refl; rightless = λ none. absurd (omega arith); undrawn = λ _. refl; seen = f.seen; prior = f.prior })
+
+-- a seat for one who holds and never draws is taken from a worker's
+pub lending_keeps : (p : Tables) (id : ℕ) (v : View) → v.plan ≡ p → 0 < v.share → v.share % 2 ≡ 0 → v.has_desk ≡ false
+    → Splits (Ruled p) id v (kept_lending v) (lent_half v)
+lending_keeps p id v plan shared even lacks s r at =
+    let f : IsLawfulView p (now_of r.core) v = r.each id v at in
+    cuts p s r id v (kept_lending v) (lent_half v) at refl refl (omega arith) (omega arith)
+    (desk_stays (set s.views id (kept_lending v)) r.core.desk r.core.points (lent_half v)
+    (desk_after s.views r.core.desk r.core.desk r.core.points r.core.points id v (kept_lending v) r.desk at refl
+    (λ has. absurd (let e : true ≡ false = sym has ∙ lacks in cc)) (λ _. (refl, refl))) lacks)
+    (record { same_plan = λ _. plan; unshared = λ none. absurd (omega arith); rightless = λ none. absurd (omega arith); undrawn = f.undrawn; seen = f.seen; prior = f.prior })
+    (record { same_plan = λ _. plan; unshared = λ _. refl; rightless = λ _. refl; undrawn = λ _. refl; seen = f.seen; prior = f.prior })
 
 -- the desk's seat is taken from the first
 pub desk_apart : (p : Tables) (id : ℕ) (v : View) → v.plan ≡ p → 0 < v.share → v.has_desk ≡ true
     → Splits (Ruled p) id v (worker_view v) (desk_view v)
 desk_apart p id v plan shared has s r at =
     let f : IsLawfulView p (now_of r.core) v = r.each id v at in
-    cuts p s r id v (worker_view v) (desk_view v) at refl refl (omega arith) shown
-    (record { same_plan = λ _. plan; unshared = λ none. absurd (omega arith); seen = f.seen; prior = f.prior })
-    (record { same_plan = λ _. plan; unshared = λ _. refl; seen = f.seen; prior = f.prior })
+    cuts p s r id v (worker_view v) (desk_view v) at refl refl (omega arith) (omega arith) shown
+    (record { same_plan = λ _. plan; unshared = λ none. absurd (omega arith); rightless = λ none. absurd (omega arith); undrawn = f.undrawn; seen = f.seen; prior = f.prior })
+    (record { same_plan = λ _. plan; unshared = λ _. refl; rightless = λ _. refl; undrawn = λ _. refl; seen = f.seen; prior = f.prior })
   where
     others : (i : ℕ) (u : View) → get_elem? (set s.views id (worker_view v)) i ≡ some u → u.has_desk ≡ true → ⊥
     others i u e t =
@@ -143,6 +162,8 @@ spent_fits p now =
     record {
       same_plan = λ seated. elim seated [ inl l ↦ absurd (omega arith) | inr e ↦ absurd (let is : false ≡ true = e in cc) ];
       unshared = λ _. refl;
+      rightless = λ _. refl;
+      undrawn = λ _. refl;
       seen = record { version = omega arith; records = omega arith };
       prior = record { version = omega arith; records = omega arith };
     }
@@ -150,10 +171,10 @@ spent_fits p now =
 module _ (p : Tables) (s : State (Unit {0}) View) (r : Ruled p s) (id other : ℕ) (v w both : View) (at : get_elem? s.views id ≡ some v) (apart : other ≢ id) (there : get_elem? s.views other ≡ some w) where
   -- one seat takes in another, whose draws move behind its own
   merges : v.actor.state ≡ Idle → w.actor.state ≡ Idle
-      → both.actor ≡ record { state = v.actor.state; draws = v.actor.draws ++ w.actor.draws } → both.share ≡ v.share + w.share
+      → both.actor ≡ record { state = v.actor.state; draws = v.actor.draws ++ w.actor.draws } → both.share ≡ v.share + w.share → both.right ≡ v.right + w.right
       → IsLawfulView p (now_of r.core) both → ShowsDesk (set (set s.views id both) other spent_view) r.core.desk r.core.points
       → Ruled p (record { words = s.words; homes = s.homes; views = set (set s.views id both) other spent_view })
-  merges idle other_idle actor share fit desk =
+  merges idle other_idle actor share right fit desk =
       record {
         core = merged r.core id v.actor other w.actor;
         sound = merged_sound r.core id other v.actor w.actor r.sound (λ e. apart (sym e)) (actor_at p s r id v at) idle (actor_at p s r other w there) other_idle;
@@ -162,6 +183,7 @@ module _ (p : Tables) (s : State (Unit {0}) View) (r : Ruled p s) (id other : �
         actors = map-set actor_of (set s.views id both) other spent_view ∙ actors;
         desk = desk;
         shares = total;
+        rights = total_right;
         each = each;
       }
     where
@@ -180,6 +202,15 @@ module _ (p : Tables) (s : State (Unit {0}) View) (r : Ruled p s) (id other : �
           let second : sum_by share_of (set (set s.views id both) other spent_view) + w.share ≡ sum_by share_of (set s.views id both) + 0 =
           sum_changed share_of (set s.views id both) other w spent_view still in
           omega (arith, r.shares)
+
+      total_right : sum_by right_of (set (set s.views id both) other spent_view) ≡ 65536
+      total_right =
+          let still : get_elem? (set s.views id both) other ≡ some w = at_set_else s.views id other both w apart there in
+          let first : sum_by right_of (set s.views id both) + v.right ≡ sum_by right_of s.views + both.right =
+          sum_changed right_of s.views id v both at in
+          let second : sum_by right_of (set (set s.views id both) other spent_view) + w.right ≡ sum_by right_of (set s.views id both) + 0 =
+          sum_changed right_of (set s.views id both) other w spent_view still in
+          omega (arith, r.rights)
 
       each : (i : ℕ) (u : View) → get_elem? (set (set s.views id both) other spent_view) i ≡ some u → IsLawfulView p (now_of r.core) u
       each i u e =
@@ -233,6 +264,14 @@ up_to_latest s t now h k = record { version = omega (arith, h.version, k.version
 below_latest : (a s t : Seen) → IsUpTo a s → IsUpTo a (latest s t)
 below_latest a s t h = record { version = omega (arith, h.version); records = omega (arith, h.records) }
 
+-- two seats without a part in the right to draw have drawn nothing
+both_undrawn : (v w : View) → (v.right ≡ 0 → v.actor.draws ≡ []) → (w.right ≡ 0 → w.actor.draws ≡ []) → v.right + w.right ≡ 0
+    → v.actor.draws ++ w.actor.draws ≡ []
+both_undrawn v w f g none =
+    let first : v.actor.draws ≡ [] = f (omega arith) in
+    let second : w.actor.draws ≡ [] = g (omega arith) in
+    ap (λ (l : List (ℕ × ℕ)). l ++ w.actor.draws) first ∙ second
+
 -- a worker's seat is joined into another
 pub together_keeps : (p : Tables) (id : ℕ) (v : View) (other : ℕ) (w : View) → v.plan ≡ p → 0 < v.share
     → v.actor.state ≡ Idle → w.actor.state ≡ Idle → v.has_desk ≡ false → w.has_desk ≡ false
@@ -241,10 +280,12 @@ together_keeps p id v other w plan shared idle other_idle lacks w_lacks s r at a
     let there' : get_elem? s.views other ≡ some w = sym (set_else s.views id other (together v w) apart) ∙ there in
     let f : IsLawfulView p (now_of r.core) v = r.each id v at in
     let g : IsLawfulView p (now_of r.core) w = r.each other w there' in
-    merges p s r id other v w (together v w) at apart there' idle other_idle refl refl
+    merges p s r id other v w (together v w) at apart there' idle other_idle refl refl refl
     (record {
       same_plan = λ _. plan;
       unshared = λ none. absurd (omega arith);
+      rightless = λ none. absurd (omega arith);
+      undrawn = λ none. both_undrawn v w f.undrawn g.undrawn none;
       seen = up_to_latest v.seen w.seen (now_of r.core) f.seen g.seen;
       prior = below_latest v.prior v.seen w.seen f.prior;
     })
@@ -258,10 +299,12 @@ with_desk_keeps p id v other w plan shared idle other_idle lacks w_has s r at ap
     let there' : get_elem? s.views other ≡ some w = sym (set_else s.views id other (with_desk_of v w) apart) ∙ there in
     let f : IsLawfulView p (now_of r.core) v = r.each id v at in
     let g : IsLawfulView p (now_of r.core) w = r.each other w there' in
-    merges p s r id other v w (with_desk_of v w) at apart there' idle other_idle refl refl
+    merges p s r id other v w (with_desk_of v w) at apart there' idle other_idle refl refl refl
     (record {
       same_plan = λ _. plan;
       unshared = λ none. absurd (omega arith);
+      rightless = λ none. absurd (omega arith);
+      undrawn = λ none. both_undrawn v w f.undrawn g.undrawn none;
       seen = up_to_latest v.seen w.seen (now_of r.core) f.seen g.seen;
       prior = below_latest v.prior v.seen w.seen f.prior;
     })

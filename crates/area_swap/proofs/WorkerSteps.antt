@@ -30,12 +30,12 @@ module _ (p : Tables) (s : State (Unit {0}) View) (r : Ruled p s) (id : ℕ) (v 
   fits_reading : IsLawfulView p (now_of r.core) (reading v (now_of r.core))
   fits_reading =
       let f = fits p s r id v at in
-      record { same_plan = f.same_plan; unshared = f.unshared; seen = up_to (now_of r.core); prior = f.seen }
+      record { same_plan = f.same_plan; unshared = f.unshared; rightless = f.rightless; undrawn = f.undrawn; seen = up_to (now_of r.core); prior = f.seen }
 
   -- a view with a share fits, whatever its actor does
   fits_acting : (now : Seen) (w : View) (x : ActorState) → 0 < w.share → IsLawfulView p now w → IsLawfulView p now (acting w x)
   fits_acting now w x shared f =
-      record { same_plan = f.same_plan; unshared = λ none. absurd (omega arith); seen = f.seen; prior = f.prior }
+      record { same_plan = f.same_plan; unshared = λ none. absurd (omega arith); rightless = f.rightless; undrawn = f.undrawn; seen = f.seen; prior = f.prior }
 
   -- the version word is read, and the machine stays
   pub read_now : Ruled p (record { words = set s.words version_place (slice_index s.words version_place); homes = s.homes; views = set s.views id (reading v (unpacked (slice_index s.words version_place))) })
@@ -114,7 +114,7 @@ module _ (p : Tables) (s : State (Unit {0}) View) (r : Ruled p s) (id : ℕ) (v 
       let f = fits p s r id v at in
       seat_step p s r id v at i (slice_index s.words i) (record v { reads = v.reads + 1 }) r.core r.sound refl (same_words p s r id v at i)
       (same_actors p s r id v at) refl (shows_desk p s r id v at) (λ _. (refl, refl)) (up_to (now_of r.core)) refl
-      (record { same_plan = f.same_plan; unshared = f.unshared; seen = f.seen; prior = f.prior })
+      (record { same_plan = f.same_plan; unshared = f.unshared; rightless = f.rightless; undrawn = f.undrawn; seen = f.seen; prior = f.prior })
 
   -- and is the word of the held table
   word_is : (a w : ℕ) → v.plan ≡ p → v.actor.state ≡ Holds a w → (j : ℕ) → j < length (table v.plan w)
@@ -132,10 +132,10 @@ module _ (p : Tables) (s : State (Unit {0}) View) (r : Ruled p s) (id : ℕ) (v 
       subst Word plans here
 
   -- the next numbers are the seat's
-  draw_now : (old count a : ℕ) → 0 < v.share → slice_index s.words version_place ≡ old → v.actor.state ≡ Holds a r.core.version
+  draw_now : (old count a : ℕ) → 0 < v.share → 0 < v.right → slice_index s.words version_place ≡ old → v.actor.state ≡ Holds a r.core.version
       → r.core.records + count ≤ limit r.core.plan r.core.version
       → Ruled p (record { words = set s.words version_place (old + count); homes = s.homes; views = set s.views id (taking (reading v (unpacked (slice_index s.words version_place))) (consecutive (unpacked (slice_index s.words version_place)).records count (unpacked (slice_index s.words version_place)).version)) })
-  draw_now old count a shared found holds room =
+  draw_now old count a shared may found holds room =
       let P : Seen → Type 0 =
       λ t. Ruled p (record { words = set s.words version_place (old + count); homes = s.homes; views = set s.views id (taking (reading v t) (consecutive t.records count t.version)) }) in
       let f = fits p s r id v at in
@@ -146,7 +146,7 @@ module _ (p : Tables) (s : State (Unit {0}) View) (r : Ruled p s) (id : ℕ) (v 
       (several_drawn r.core id v.actor count) (several_sound r.core id count a v.actor r.sound (actor_at p s r id v at) holds room) refl
       (laid_now s.words _ _ _ _ r.words (old + count) (now_of (several_drawn r.core id v.actor count)) word)
       refl refl (shows_desk p s r id v at) (λ _. (refl, refl)) more refl
-      (record { same_plan = f.same_plan; unshared = λ none. absurd (omega arith); seen = more; prior = f.seen }))
+      (record { same_plan = f.same_plan; unshared = λ none. absurd (omega arith); rightless = f.rightless; undrawn = λ none. absurd (omega arith); seen = more; prior = f.seen }))
 
 module _ (p : Tables) (slots id : ℕ) (me : Seated) (same : me.0.plan ≡ p) where
   pub glances : Allows (Ruled p) slots id me version_place (λ n. n) (Glanced (step slots version_place 0 0 none) me)
@@ -275,10 +275,10 @@ module _ (p : Tables) (slots id : ℕ) (me : Seated) (same : me.0.plan ≡ p) wh
         },
       )
 
-  pub draws : (old count a : ℕ) → 0 < me.0.share → packed me.0.seen ≡ old → me.0.seen.records < 4294967296
+  pub draws : (old count a : ℕ) → 0 < me.0.share → 0 < me.0.right → packed me.0.seen ≡ old → me.0.seen.records < 4294967296
       → me.0.actor.state ≡ Holds a me.0.seen.version → me.0.seen.records + count ≤ limit me.0.plan me.0.seen.version
       → Allows (Ruled p) slots id me version_place (λ n. either (eqb n old) (old + count) n) (Drew (step slots version_place old (old + count) none) me)
-  draws old count a shared saw small holds room s r deep at range =
+  draws old count a shared may saw small holds room s r deep at range =
       elim (cases_eq (slice_index s.words version_place) old) [
         | inl e ↦
             let same_now : me.0.seen ≡ now_of r.core =
@@ -292,7 +292,7 @@ module _ (p : Tables) (slots id : ℕ) (me : Seated) (same : me.0.plan ≡ p) wh
             let more : old + count - old ≡ count = omega arith in
             let Q : ℕ → Type 0 = λ k. Ruled p (record { words = set s.words version_place (old + count); homes = s.homes; views = set s.views id (v k) }) in
             let ruled : Ruled p (record { words = set s.words version_place (old + count); homes = s.homes; views = set s.views id (v (old + count - old)) }) =
-            subst Q (sym more) (draw_now p s r id me.0 at old count a shared e in_force in_core) in
+            subst Q (sym more) (draw_now p s r id me.0 at old count a shared may e in_force in_core) in
             let P : ℕ → Type 0 = λ x. Ruled p (record { words = set s.words version_place x; homes = s.homes; views = set s.views id (v (old + count - old)) }) in
             let test : eqb (slice_index s.words version_place) old ≡ true = eq-eqb (slice_index s.words version_place) old e in
             let wrote : either (eqb (slice_index s.words version_place) old) (old + count) (slice_index s.words version_place) ≡ old + count =

@@ -30,6 +30,9 @@ actor_of v = v.actor
 abbrev pub share_of : View → ℕ
 share_of v = v.share
 
+abbrev pub right_of : View → ℕ
+right_of v = v.right
+
 -- one seat has the desk, and its view has the desk's state and the points
 pub record ShowsDesk (views : List View) (state : DeskState) (points : List ℕ) : Type 0 where
   pub seat : ℕ
@@ -41,14 +44,20 @@ pub record ShowsDesk (views : List View) (state : DeskState) (points : List ℕ)
   pub same_points : view.points ≡ points
 
 -- What holds of each view. All seats in use know the plan. A view without a share has claimed nothing and drawn nothing:
--- it is the desk's, or that of a seat that was joined into another.
+-- it is the desk's, or that of a seat that was joined into another. A view without a right to draw has drawn nothing. What was
+-- seen last, and before that, is no later than what is.
 pub record IsLawfulView (plan : Tables) (now : Seen) (v : View) : Type 0 where
   pub same_plan : IsSeated v → v.plan ≡ plan
   pub unshared : v.share ≡ 0 → v.actor ≡ newcomer
+  pub rightless : v.share ≡ 0 → v.right ≡ 0
+  pub undrawn : v.right ≡ 0 → v.actor.draws ≡ []
   pub seen : IsUpTo v.seen now
   pub prior : IsUpTo v.prior v.seen
 
--- The words and views show a state of the machine, which is sound: each view is an actor, and one of them the desk's.
+-- The words and views show a state of the machine, which is sound: each view is an actor, and one of them the desk's. All
+-- shares add up to 65,536, and so do all parts of the right to draw. A count of claims cannot wrap, since each claim is that of
+-- a seat with a share. At the opening everything that the first seat knows is 0 (`first_view`). Of the words it says nothing
+-- about reads, looks and counts: these numbers are tied to the records of specs/SeatSteps alone.
 pub record Ruled (p : Tables) (s : State Unit View) : Type 0 where
   pub core : CoreState
   pub sound : Sound core
@@ -57,6 +66,7 @@ pub record Ruled (p : Tables) (s : State Unit View) : Type 0 where
   pub actors : map actor_of s.views ≡ core.actors
   pub desk : ShowsDesk s.views core.desk core.points
   pub shares : sum_by share_of s.views ≡ 65536
+  pub rights : sum_by right_of s.views ≡ 65536
   pub each : (i : ℕ) (v : View) → get_elem? s.views i ≡ some v → IsLawfulView p (now_of core) v
 
 -- A moment at which the rule held and a seat had this view.
@@ -80,6 +90,10 @@ pub record Sees (v : View) (now : Seen) : Type 0 where
   -- Who has the whole share has drawn all numbers, each once.
   pub all_drawn : v.share ≡ 65536 → length v.actor.draws ≡ now.records
   pub each_once : v.share ≡ 65536 → (number : ℕ) → times number v.actor ≡ once_below number now.records
+  -- So has a seat with all of the right to draw, whatever other seats hold. The whole share includes that right.
+  pub drew_all : v.right ≡ 65536 → length v.actor.draws ≡ now.records
+  pub drew_each : v.right ≡ 65536 → (number : ℕ) → times number v.actor ≡ once_below number now.records
+  pub whole_right : v.share ≡ 65536 → v.right ≡ 65536
   pub planned : IsPlan v.plan
   pub there : now.version < length v.plan.tables
   pub within : now.records ≤ limit v.plan now.version

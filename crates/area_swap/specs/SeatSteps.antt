@@ -1,5 +1,24 @@
 -- What each kind of step does to the seat that takes it, and tells it: of the step, the seat before, the word that it
--- found and the seat after.
+-- found (`n`) and the seat after. No clause of a call says that what was read is a load of this call: these records do, with
+-- src/plays.rt, and a reviewer has to read them.
+--
+-- Each kind of step keeps the rule, since the machine of swap_core takes a step or stands still; that the state it reaches is
+-- sound is a law of swap_core. The lemmas of proofs/WorkerSteps, DeskSteps and SeatMoves show which step it is:
+--   load of the version word, to know it         read_now: none
+--   first look of a claim                        look_now: looked
+--   add 1 to the claims on an area               enter_now: entered
+--   second look of a claim                       confirm_now: confirmed; read_now if the version moved: none
+--   subtract 1 from the claims                   leave_now: gone
+--   load of a word of the held area              read_word_now: none
+--   compare-exchange of the version word         draw_now: several_drawn; read_now if it lost: none
+--   the desk's load of the version word          ready_now: ready; read_now: none
+--   the desk's load of the claims                free_now: writing; claimed_now: none
+--   load of the word behind words that stand     pass_now: one write for each word passed over
+--   load of a word of the spare area             write_now: written, if the word stands there; other_now: none
+--   store of a word of the spare area            write_now: written
+--   add 2^32 to the version word                 publish_now: published
+--   splitting a seat, and lending one            cuts: joined_by_newcomer
+--   joining two seats                            merges: merged
 use Rattle.std.specs.Prelude.{◌≡◌, ◌≢◌, ℕ, ◌+◌, ◌-◌, ◌%◌, ◌<◌, ◌≤◌, [], ◌∷◌, ◌++◌, length, slice_index}
 use Rattle.atomic_table.specs.Table.{Me, Step}
 use Rattle.swap_core.specs.Plans.{table, width, window}

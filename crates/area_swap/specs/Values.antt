@@ -32,15 +32,24 @@ IsIdle v = v.actor.state ≡ Idle
 abbrev pub HoldsOne : View → Type 0
 HoldsOne v = v.actor.state ≡ Holds (held_version v % 2) (held_version v)
 
--- it holds the version that it held, and has its share
+-- it holds the version that it held, and has its share and its right to draw
 pub record HoldsStill (v w : View) : Type 0 where
   pub holds : HoldsOne w
   pub version : held_version w ≡ held_version v
   pub table : held_table w ≡ held_table v
   pub share : w.share ≡ v.share
+  pub right : w.right ≡ v.right
 
 abbrev pub HasWholeShare : View → Type 0
 HasWholeShare v = v.share ≡ 65536
+
+-- it has some part of the right to draw
+abbrev pub MayDraw : View → Type 0
+MayDraw v = 0 < v.right
+
+-- it has all of the right to draw: no other seat draws
+abbrev pub DrawsAlone : View → Type 0
+DrawsAlone v = v.right ≡ 65536
 
 -- the four phases of the desk
 abbrev pub IsResting : View → Type 0

@@ -1,5 +1,5 @@
 -- What a seat knows, and how each of its moves changes that.
-use Rattle.std.specs.Prelude.{◌≡◌, ℕ, ◌+◌, ◌*◌, ◌/◌, ◌%◌, ◌<◌, ◌≤◌, ◌⊎◌, true, false, List, [], ◌++◌, length, max}
+use Rattle.std.specs.Prelude.{◌≡◌, ℕ, ◌+◌, ◌-◌, ◌*◌, ◌/◌, ◌%◌, ◌<◌, ◌≤◌, ◌⊎◌, true, false, List, [], ◌++◌, length, max}
 use Rattle.swap_core.specs.Plans.{Tables, stale, table, width}
 use Rattle.swap_core.specs.States.{CoreState, newcomer, in_state}
 use Rattle.swap_core.specs.declared.actors.ActorState.{ActorState}
@@ -43,6 +43,7 @@ first_view plan =
       plan = plan;
       actor = newcomer;
       share = 65536;
+      right = 65536;
       reads = 0;
       seen = nothing_seen;
       prior = nothing_seen;
@@ -59,7 +60,7 @@ abbrev pub worker_view : View → View
 worker_view v = record v { has_desk = false }
 
 abbrev pub desk_view : View → View
-desk_view v = record v { share = 0; actor = newcomer }
+desk_view v = record v { share = 0; right = 0; actor = newcomer }
 
 -- what is left of a seat that was joined into another
 abbrev pub spent_view : View
@@ -68,6 +69,7 @@ spent_view =
       plan = record { tables = []; windows = [] };
       actor = newcomer;
       share = 0;
+      right = 0;
       reads = 0;
       seen = nothing_seen;
       prior = nothing_seen;
@@ -100,10 +102,17 @@ taking v news = record v { actor = record { state = v.actor.state; draws = v.act
 
 -- a seat with half of the share, and the new seat with the other half
 abbrev pub kept_half : View → View
-kept_half v = record v { share = v.share / 2 }
+kept_half v = record v { share = v.share / 2; right = v.right - v.right / 2 }
 
 abbrev pub new_half : View → View
-new_half v = record v { share = v.share / 2; actor = newcomer; reads = 0 }
+new_half v = record v { share = v.share / 2; right = v.right / 2; actor = newcomer; reads = 0 }
+
+-- a seat that keeps half of its share and all of its right to draw, and the seat that is lent: it has the other half, and may not draw
+abbrev pub kept_lending : View → View
+kept_lending v = record v { share = v.share / 2 }
+
+abbrev pub lent_half : View → View
+lent_half v = record v { share = v.share / 2; right = 0; actor = newcomer; reads = 0 }
 
 -- a seat that another was joined into
 abbrev pub together : View → View → View
@@ -111,6 +120,7 @@ together v w =
     record v {
       actor = record { state = v.actor.state; draws = v.actor.draws ++ w.actor.draws };
       share = v.share + w.share;
+      right = v.right + w.right;
       reads = v.reads + w.reads;
       seen = latest v.seen w.seen;
       looks = max v.looks w.looks;

@@ -13,6 +13,8 @@ pub struct View {
     pub actor: Actor,
     /// Its share of 65,536: who has all of it works alone.
     pub share: u64,
+    /// Its part of 65,536 in the right to draw. A seat with no part has drawn nothing, and one with all of it has drawn every number.
+    pub right: u64,
     /// How many words of the areas it has read.
     pub reads: u64,
     /// The version word as it was read last, and the reading before that.

@@ -141,6 +141,17 @@ impl Split<View> for Halves {
     ghost right = { new_half };
 }
 
+/// A seat that never draws is split off a worker's.
+pub struct Lending;
+
+impl Split<View> for Lending {
+    ghost use Rattle.area_swap.specs.Views.{kept_lending, lent_half};
+
+    ghost left = { kept_lending };
+
+    ghost right = { lent_half };
+}
+
 /// A worker's seat is joined into another.
 pub struct Together;
 

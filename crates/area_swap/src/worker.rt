@@ -4,14 +4,16 @@ ghost use Rattle.swap_core.specs.Sound.{once_below, times};
 ghost use Rattle.swap_core.specs.declared.actors.ActorState.TheVariants.{Idle};
 ghost use Rattle.area_swap.specs.Answers.{Claimed, Drawn, RunDrawn};
 ghost use Rattle.area_swap.specs.Rule.{Moment, Sees};
-ghost use Rattle.area_swap.specs.Values.{HasWholeShare, HoldsOne, HoldsStill, IsIdle, IsOf, IsWorker};
-ghost use Rattle.area_swap.specs.Views.{acting, held_row, held_table, held_version, kept_half, new_half, reading, together, unpacked};
+ghost use Rattle.area_swap.specs.Values.{HasWholeShare, HoldsOne, HoldsStill, IsIdle, IsOf, IsWorker, MayDraw};
+ghost use Rattle.area_swap.specs.Views.{acting, held_row, held_table, held_version, kept_half, kept_lending, lent_half, new_half, reading, together, unpacked};
 
 use crate::answers::{Claim, Draw, DrawRun, Seen};
 use crate::areas::Areas;
 use crate::board::Place;
 use crate::places::{FIRST_ROW, VERSION_PLACE, claims_at, row_at};
-use crate::plays::{Confirm, Enter, Exchange, Glance, Halves, Leave, Look, ReadWord, Together};
+use crate::plays::{
+    Confirm, Enter, Exchange, Glance, Halves, Leave, Lending, Look, ReadWord, Together,
+};
 use std::marker::Model;
 
 /// A right to work on the areas, for one thread at a time. Its share, its draws and its readings take no memory: contracts
@@ -133,6 +135,18 @@ impl Areas {
         WorkerSeat::at(self.table.shared.split_seat::<Halves>(&mut seat.place))
     }
 
+    /// Splits off a seat that may hold tables but never draws: it gets half of the share. This seat keeps its right to draw.
+    pub fn lend(&self, seat: &mut WorkerSeat) -> WorkerSeat
+        requires areas { IsOf self.now seat.old }
+        requires idle { IsIdle seat.old.known }
+        requires even { seat.old.known.share % 2 ≡ 0 }
+        ensures areas { IsOf self.now seat.new × IsOf self.now result }
+        ensures kept { seat.new.known ≡ kept_lending seat.old.known }
+        ensures new { result.known ≡ lent_half seat.old.known }
+    {
+        WorkerSeat::at(self.table.shared.split_seat::<Lending>(&mut seat.place))
+    }
+
     /// Joins another seat into this one: the shares are added, and the draws of the other follow those of this one.
     pub fn join(&self, seat: &mut WorkerSeat, other: WorkerSeat)
         requires areas { IsOf self.now seat.old }
@@ -204,10 +218,11 @@ impl Areas {
             .load::<ReadWord>(&mut seat.place, row + j as usize)
     }
 
-    /// Tries to draw the next number of a record, under the held version. One exchange is tried.
+    /// Tries to draw the next number of a record, under the held version. One exchange is tried. A seat of `lend` may not draw.
     pub fn draw(&self, seat: &mut WorkerSeat, end: u32) -> Draw
         requires areas { IsOf self.now seat.old }
         requires holding { HoldsOne seat.old.known }
+        requires may_draw { MayDraw seat.old.known }
         ensures areas { IsOf self.now seat.new }
         ensures holding { HoldsStill seat.old.known seat.new.known }
         ensures drawn { Drawn result self.now.plan end (held_version seat.old.known) seat.old.known seat.new.known }
@@ -221,6 +236,7 @@ impl Areas {
     pub fn draw_run(&self, seat: &mut WorkerSeat, end: u32, most: u32) -> DrawRun
         requires areas { IsOf self.now seat.old }
         requires holding { HoldsOne seat.old.known }
+        requires may_draw { MayDraw seat.old.known }
         requires some_one { 1 ≤ most }
         ensures areas { IsOf self.now seat.new }
         ensures holding { HoldsStill seat.old.known seat.new.known }

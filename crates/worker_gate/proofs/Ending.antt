@@ -99,7 +99,7 @@ pub record KeepsDraws (v w : View) : Type 0 where
   pub later : IsUpTo v.seen w.seen
   pub same_reads : w.reads ≡ v.reads
 
-pub begun : (u v w x : View) (now : Seen) → v ≡ reading u now → IsUpTo u.seen now → w ≡ record v { share = w.share } → DrawsNothing w x → KeepsDraws u x
+pub begun : (u v w x : View) (now : Seen) → v ≡ reading u now → IsUpTo u.seen now → w ≡ record v { share = w.share; right = w.right } → DrawsNothing w x → KeepsDraws u x
 begun u v w x now read later split nothing =
     let seen : w.seen ≡ now = ap (λ (y : View). y.seen) split ∙ ap (λ (y : View). y.seen) read in
     let P : Seen → Type 0 = λ s. IsUpTo u.seen s in
@@ -118,6 +118,7 @@ read_again u v w now read later nothing =
       later = upto_on u.seen v.seen w.seen (subst P (sym seen) later) nothing.later;
       same_reads = nothing.same_reads ∙ ap (λ (y : View). y.reads) read;
       same_share = nothing.same_share ∙ ap (λ (y : View). y.share) read;
+      same_right = nothing.same_right ∙ ap (λ (y : View). y.right) read;
     }
 
 module _ (p : Tables) (items : List Item) (start end records : ℕ) (u v w x : View) (sheets : List Sheet) (places : List Place) (first : KeepsDraws u v)

@@ -1,5 +1,5 @@
 -- Workers hired from one seat.
-use Rattle.std.proofs.Common.{◌≡◌, ℕ, ◌+◌, ◌-◌, ◌*◌, ◌/◌, ◌%◌, ◌^◌, ◌<◌, ◌≤◌, List, [], ◌∷◌, ◌++◌, All, length, map, ap, subst, sym, ◌∙◌, add-one, arith}
+use Rattle.std.proofs.Common.{◌≡◌, ℕ, zero, suc, ◌+◌, ◌-◌, ◌*◌, ◌/◌, ◌%◌, ◌^◌, ◌<◌, ◌≤◌, List, [], ◌∷◌, ◌++◌, All, length, map, ap, subst, sym, refl, ◌∙◌, add-one, arith}
 use Rattle.std.proofs.Math.Nat.{pow-succ'}
 use Rattle.std.proofs.lemmas.List.Elements.{All-nil}
 use Rattle.std.proofs.lemmas.List.Sums.{sum_by_push}
@@ -18,6 +18,10 @@ use Rattle.worker_gate.specs.Gathering.{HasJudged, IsAtHand, shares}
 power_more : (m : ℕ) → 2 ^ (m + 1) ≡ 2 * 2 ^ m
 power_more m = ap (λ (k : ℕ). 2 ^ k) (add-one m) ∙ pow-succ' 2 m
 
+pub some_power : (m : ℕ) → 0 < 2 ^ m
+some_power zero = let one : 2 ^ 0 ≡ 1 = refl in omega (arith, one)
+some_power (suc m) = omega (arith, pow-succ' 2 m, some_power m)
+
 pub halved : (share n : ℕ) → share ≡ 2 ^ (16 - n) → n < 16 → (share % 2 ≡ 0) × (share / 2 ≡ 2 ^ (16 - (n + 1)))
 halved share n is few =
     let m : ℕ = 16 - (n + 1) in
@@ -28,7 +32,7 @@ halved share n is few =
 
 -- A worker that has drawn nothing.
 
-module _ (areas : AreasValue) (start end : ℕ) (v : View) (w : Worker) (known : w.seat.known ≡ new_half v) (none : w.outcomes.items ≡ []) (next : w.next ≡ start) where
+module _ (areas : AreasValue) (start end : ℕ) (v : View) (w : Worker) (known : w.seat.known ≡ new_half v) (none : w.outcomes.items ≡ []) (next : w.next ≡ start) (may : 0 < w.seat.known.right) where
   no_draws : w.seat.known.actor.draws ≡ []
   no_draws = ap (λ (x : View). x.actor.draws) known
 
@@ -44,6 +48,7 @@ module _ (areas : AreasValue) (start end : ℕ) (v : View) (w : Worker) (known :
         work =
             record {
               its_areas = its;
+              may_draw = may;
               reached = λ now later drawn. omega (arith, later.records, same_records, seen, next);
               from = first;
               until = omega (arith, next, range);
@@ -64,7 +69,10 @@ pub shares_more : (workers : List Worker) (w : Worker) → shares (workers ++ w 
 shares_more workers w = sum_by_push (λ (x : Worker). x.seat.known.share) workers w
 
 -- the seat that is split off from, again
-pub still_same : (u v w : View) → v ≡ record u { share = v.share } → w ≡ kept_half v → w ≡ record u { share = w.share }
+pub still_same : (u v w : View) → v ≡ record u { share = v.share; right = v.right } → w ≡ kept_half v
+    → w ≡ record u { share = w.share; right = w.right }
 still_same u v w same half =
     let share : w.share ≡ v.share / 2 = ap (λ (x : View). x.share) half in
-    half ∙ ap (λ (x : View). record x { share = v.share / 2 }) same ∙ ap (λ (n : ℕ). record u { share = n }) (sym share)
+    let right : w.right ≡ v.right - v.right / 2 = ap (λ (x : View). x.right) half in
+    half ∙ ap (λ (x : View). record x { share = v.share / 2; right = v.right - v.right / 2 }) same
+    ∙ (λ i. record u { share = (sym share) i; right = (sym right) i })

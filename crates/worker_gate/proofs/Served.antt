@@ -9,7 +9,8 @@ use Rattle.swap_core.specs.Plans.{Tables, limit}
 use Rattle.swap_core.specs.States.{consecutive}
 use Rattle.area_swap.specs.declared.answers.Seen.{Seen}
 use Rattle.area_swap.specs.declared.board.View.{View}
-use Rattle.area_swap.specs.Reading.{OnlyReads, reads_nothing, reads_on}
+use Rattle.area_swap.proofs.ReadLemmas.{reads_nothing, reads_on}
+use Rattle.area_swap.specs.Reading.{OnlyReads}
 use Rattle.area_swap.specs.Rule.{IsDrawnBy}
 use Rattle.area_swap.specs.Values.{AreasValue, SeatValue, IsIdle, IsOf}
 use Rattle.area_swap.specs.Views.{IsUpTo, held_version}
@@ -145,6 +146,7 @@ nothing_on u v w m n =
       later = upto_on u.seen v.seen w.seen m.later n.later;
       same_reads = n.same_reads ∙ m.same_reads;
       same_share = n.same_share ∙ m.same_share;
+      same_right = n.same_right ∙ m.same_right;
     }
 
 -- a step of the seat by which nothing was drawn
@@ -170,6 +172,7 @@ pub nothing_work : (areas : AreasValue) (start end : ℕ) (v : Worker) (s : Seat
 nothing_work areas start end v s its n h =
     record {
       its_areas = its;
+      may_draw = (let P : ℕ → Type 0 = λ k. 0 < k in subst P (sym n.same_right) h.may_draw);
       reached = λ now later drawn.
           h.reached now (upto_on v.seat.known.seen s.known.seen now n.later later)
           (let P : List (ℕ × ℕ) → Type 0 = λ l. All (IsDrawnBy now) l in subst P n.draws drawn);
@@ -239,6 +242,9 @@ run_work p items areas start end first count version v w s h t its k =
     let many : length w.outcomes.items ≡ length v.outcomes.items + count = put_length p items start first count version (record v { seat = s }) w k in
     record {
       its_areas = its;
+      may_draw =
+          (let P : ℕ → Type 0 = λ n. 0 < n in
+          subst P (sym (ap (λ (x : SeatValue). x.known.right) k.only_reads.rest ∙ t.same_right)) h.may_draw);
       reached = λ now later drawn.
           last_drawn D first count (held_version v.seat.known) now t.some_one
           (let P : List (ℕ × ℕ) → Type 0 = λ l. All (IsDrawnBy now) l in subst P draws drawn);
@@ -281,6 +287,7 @@ read_work areas start end v s only h =
     let P : SeatValue → Type 0 = λ x. MustReach x.known v.next in
     record {
       its_areas = read_areas areas v.seat s only h.its_areas;
+      may_draw = (let Q : SeatValue → Type 0 = λ x. 0 < x.known.right in subst Q (sym only.rest) h.may_draw);
       reached = subst P (sym only.rest) h.reached;
       from = h.from;
       until = h.until;

@@ -34,6 +34,7 @@ held_is version v w h =
             later = upto_on v.seen w.prior w.seen h.earlier h.later;
             same_reads = ap (λ (x : View). x.reads) h.after;
             same_share = ap (λ (x : View). x.share) h.after;
+            same_right = ap (λ (x : View). x.right) h.after;
           };
       holds = h.holds;
       held = h.held;
@@ -49,6 +50,7 @@ moved_is before now v w idle h =
             later = upto_on v.seen w.prior w.seen h.earlier h.later;
             same_reads = ap (λ (x : View). x.reads) h.after;
             same_share = ap (λ (x : View). x.share) h.after;
+            same_right = ap (λ (x : View). x.right) h.after;
           };
       idle = ap (λ (x : View). x.actor.state) h.after ∙ idle;
     }
@@ -71,6 +73,7 @@ run_is p end most number count v w h =
       drawn = h.drawn;
       later = (let P : Seen → Type 0 = λ s. IsUpTo v.seen s in subst P h.same h.earlier);
       same_reads = ap (λ (x : View). x.reads) h.after;
+      same_right = ap (λ (x : View). x.right) h.after;
     }
 
 pub lost_is : (p : Tables) (end saw found held : ℕ) (v w : View) → HasLost p end saw found held v w → DrawsNothing v w
@@ -80,6 +83,7 @@ lost_is p end saw found held v w h =
       later = upto_on v.seen w.prior w.seen h.earlier h.later;
       same_reads = ap (λ (x : View). x.reads) h.after;
       same_share = ap (λ (x : View). x.share) h.after;
+      same_right = ap (λ (x : View). x.right) h.after;
     }
 
 pub not_held_is : (now held : ℕ) (v w : View) → IsNotHeld now held v w → DrawsNothing v w
@@ -89,6 +93,7 @@ not_held_is now held v w h =
       later = h.sees.later;
       same_reads = ap (λ (x : View). x.reads) h.after;
       same_share = ap (λ (x : View). x.share) h.after;
+      same_right = ap (λ (x : View). x.right) h.after;
     }
 
 -- a reading of the version word that finds the held version in force
@@ -106,6 +111,7 @@ at_end_is end v w h =
             later = h.sees.later;
             same_reads = ap (λ (x : View). x.reads) h.after;
             same_share = ap (λ (x : View). x.share) h.after;
+            same_right = ap (λ (x : View). x.right) h.after;
           };
       ended = record { stopped = h.reached; drawn = subst P (sym draws) h.sees.drawn };
       in_force = still_held v w h.after h.in_force;
@@ -124,6 +130,7 @@ at_limit_is p end records v w plan h =
             later = h.sees.later;
             same_reads = ap (λ (x : View). x.reads) h.after;
             same_share = ap (λ (x : View). x.share) h.after;
+            same_right = ap (λ (x : View). x.right) h.after;
           };
       ended =
           record {
@@ -140,6 +147,7 @@ left_is v w e =
       later = (let P : View → Type 0 = λ x. IsUpTo v.seen x.seen in subst P (sym e) (upto_same v.seen));
       same_reads = ap (λ (x : View). x.reads) e;
       same_share = ap (λ (x : View). x.share) e;
+      same_right = ap (λ (x : View). x.right) e;
     }
 
 pub left_last : (v w : View) → HoldsLast v → w ≡ acting v Idle → HeldLast w
@@ -195,7 +203,7 @@ asked_once items start number version i before after is less asked =
     let at_most : before + cond (asks (Some i)) 1 0 ≤ after = asks_or_not i before after less asked in
     omega (arith, one, this, at_most)
 
-item_is : (xs : Option Item) (i j : Item) → xs ≡ Some i → xs ≡ Some j → j ≡ i
+pub item_is : (xs : Option Item) (i j : Item) → xs ≡ Some i → xs ≡ Some j → j ≡ i
 item_is xs i j e f = ap (λ (o : Option Item). unwrap_or o i) (sym f ∙ e)
 
 pub judged_is : (areas : AreasValue) (items : List Item) (start number version : ℕ) (s : SeatValue) (i : Item) (v : Verdict) → IsOf areas s

@@ -10,7 +10,7 @@ use Rattle.area_swap.specs.declared.answers.Seen.{Seen}
 use Rattle.area_swap.specs.declared.board.View.{View}
 use Rattle.area_swap.specs.Reading.{OnlyReads}
 use Rattle.area_swap.specs.Rule.{IsDrawnBy, Moment}
-use Rattle.area_swap.specs.Values.{AreasValue, SeatValue, HoldsOne, IsOf}
+use Rattle.area_swap.specs.Values.{AreasValue, SeatValue, HoldsOne, IsOf, MayDraw}
 use Rattle.area_swap.specs.Views.{IsUpTo, acting, held_table, held_version}
 use Rattle.table_words.specs.Layout.{IsCompiled, AreCompiled}
 use Rattle.verdict_core.specs.declared.verdicts.Verdict.{Verdict}
@@ -28,6 +28,7 @@ MustReach v next = (now : Seen) → IsUpTo v.seen now → All (IsDrawnBy now) v.
 -- for their outcomes.
 pub record CanServe (areas : AreasValue) (start end : ℕ) (w : Worker) : Type 0 where
   pub its_areas : IsOf areas w.seat
+  pub may_draw : MayDraw w.seat.known
   pub reached : MustReach w.seat.known w.next
   pub from : start ≤ w.next
   pub until : w.next ≤ end

@@ -16,6 +16,7 @@ pub record DrawsNothing (v w : View) : Type 0 where
   pub later : IsUpTo v.seen w.seen
   pub same_reads : w.reads ≡ v.reads
   pub same_share : w.share ≡ v.share
+  pub same_right : w.right ≡ v.right
 
 pub record HasHeld (version : ℕ) (v w : View) : Type 0 where
   pub nothing : DrawsNothing v w
@@ -40,6 +41,7 @@ pub record HasTakenRun (end first count : ℕ) (v w : View) : Type 0 where
   pub drawn : All (IsDrawnBy w.seen) v.actor.draws
   pub later : IsUpTo v.seen w.seen
   pub same_reads : w.reads ≡ v.reads
+  pub same_right : w.right ≡ v.right
 
 pub record HasStoppedNow (why : Stop) (end : ℕ) (v w : View) : Type 0 where
   pub nothing : DrawsNothing v w

@@ -4,7 +4,7 @@ ghost use Rattle.binding_rules.specs.declared.settings.Softwire.{Softwire};
 ghost use Rattle.table_words.specs.Layout.{AreCompiled};
 ghost use Rattle.swap_core.specs.declared.actors.ActorState.TheVariants.{Idle};
 ghost use Rattle.area_swap.specs.Rule.{Moment};
-ghost use Rattle.area_swap.specs.Values.{HoldsOne, HoldsStill, IsIdle, IsOf};
+ghost use Rattle.area_swap.specs.Values.{HoldsOne, HoldsStill, IsIdle, IsOf, MayDraw};
 ghost use Rattle.area_swap.specs.Views.{acting, held_table};
 ghost use Rattle.worker_gate.specs.Serving.{IsHolding};
 ghost use Rattle.worker_gate.specs.Turns.{DrawsNothing, HasTried, HasTurned};
@@ -43,6 +43,7 @@ pub(crate) fn try_claim(areas: &Areas, seat: &mut WorkerSeat) -> Option<u32>
 pub(crate) fn take_run(areas: &Areas, seat: &mut WorkerSeat, end: u32, most: u32) -> Turn
     requires areas { IsOf areas.now seat.old }
     requires holding { HoldsOne seat.old.known }
+    requires may_draw { MayDraw seat.old.known }
     requires some_one { 1 ≤ most }
     ensures areas { IsOf areas.now seat.new }
     ensures holding { HoldsStill seat.old.known seat.new.known }

@@ -1,6 +1,6 @@
 // The workers of a round: hired from one seat, and taken apart again.
 ghost use Rattle.std.specs.Prelude.{◌≡◌, ℕ, ◌+◌, ◌-◌, ◌<◌, ◌≤◌, List, [], All, length, vec_capacity};
-ghost use Rattle.area_swap.specs.Values.{HasWholeShare, IsIdle, IsOf};
+ghost use Rattle.area_swap.specs.Values.{DrawsAlone, HasWholeShare, IsIdle, IsOf};
 ghost use Rattle.ip_codec.specs.declared.items.Item.{Item};
 ghost use Rattle.worker_gate.specs.Gathering.{AreNoted, Gathered, HasJudged, HasRoom, IsAtHand, shares};
 
@@ -20,6 +20,7 @@ pub(crate) fn hire(
     requires areas { IsOf areas.now seat.old }
     requires idle { IsIdle seat.old.known }
     requires whole { HasWholeShare seat.old.known }
+    requires alone { DrawsAlone seat.old.known }
     requires seen { start ≤ seat.old.known.seen.records }
     requires range { start ≤ end }
     requires few { length sheets.old.items ≤ 16 }
@@ -27,7 +28,7 @@ pub(crate) fn hire(
     requires none { workers.old.items ≡ [] }
     requires places { length sheets.old.items ≤ vec_capacity workers.old }
     ensures areas { IsOf areas.now seat.new }
-    ensures seat { seat.new.known ≡ record seat.old.known { share = seat.new.known.share } }
+    ensures seat { seat.new.known ≡ record seat.old.known { share = seat.new.known.share; right = seat.new.known.right } }
     ensures whole { seat.new.known.share + shares workers.new.items ≡ 65536 }
     ensures sheets { (sheets.new.items ≡ []) × (vec_capacity sheets.new ≡ vec_capacity sheets.old) }
     ensures workers { (length workers.new.items ≡ length sheets.old.items) × (vec_capacity workers.new ≡ vec_capacity workers.old) }

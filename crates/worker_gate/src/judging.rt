@@ -29,7 +29,8 @@ pub struct HeldArea<'a> {
 impl<'a> Words for HeldArea<'a> {
     ghost use Rattle.std.proofs.Common.{◌∙◌};
     ghost use Rattle.std.specs.Prelude.{Some, refl};
-    ghost use Rattle.area_swap.specs.Reading.{OnlyReads, reads_nothing, reads_on};
+    ghost use Rattle.area_swap.proofs.ReadLemmas.{reads_nothing, reads_on};
+    ghost use Rattle.area_swap.specs.Reading.{OnlyReads};
     ghost use Rattle.area_swap.specs.Views.{held_table};
 
     ghost list = { λ h. held_table h.seat.now.known };

@@ -7,7 +7,7 @@ use Rattle.worker_gate.specs.declared.crew.Sheet.{Sheet}
 use Rattle.worker_gate.specs.declared.worker.Worker.{Worker}
 use Rattle.worker_gate.specs.Gathering.{HasJudged, HasRoom, IsAtHand, shares}
 use Rattle.worker_gate.proofs.Hands.{one_longer}
-use Rattle.worker_gate.proofs.Hired.{halved, hired_at_hand, hired_judged, shares_more, still_same}
+use Rattle.worker_gate.proofs.Hired.{halved, hired_at_hand, hired_judged, shares_more, some_power, still_same}
 use Rattle.worker_gate.proofs.gathering.hire.Goals as goal
 
 pub split-part-requires-clause-even : goal.split-part-requires-clause-even
@@ -37,12 +37,17 @@ sheets-preserved c =
     let E : Sheet → Type 0 = λ s. c.args.end - c.args.start ≤ s.outcomes.room in
     let enough : All E c.pop.new.self.items × E c.in-Some.sheet =
     All-pop E c.sheets.sheets.items c.pop.new.self.items (Some c.in-Some.sheet) c.in-Some.ensures.items c.sheets.invariant.enough in
+    let some_share : 0 < c.sheets.seat.known.share / 2 =
+    (let P : ℕ → Type 0 = λ n. 0 < n in subst P (sym half.1) (some_power (16 - (length c.sheets.workers.items + 1)))) in
+    let may : 0 < w.seat.known.right =
+    omega (arith, ap (λ (v : View). v.right) own_view, c.sheets.invariant.rights, some_share) in
     let seen : c.args.start ≤ c.sheets.seat.known.seen.records =
     omega (arith, c.requires.seen, ap (λ (v : View). v.seen.records) c.sheets.invariant.seat) in
     let room : c.args.end - c.args.start ≤ w.outcomes.room = omega (arith, enough.1, own_room) in
     record {
       areas = c.split-part.ensures.areas.0;
       seat = still_same c.args.seat.now.known c.sheets.seat.known c.split-part.new.seat.known c.sheets.invariant.seat c.split-part.ensures.kept;
+      rights = omega (arith, ap (λ (v : View). v.right) c.split-part.ensures.kept, c.sheets.invariant.rights, kept, half.0);
       halves = kept ∙ half.1 ∙ ap (λ (n : ℕ). 2 ^ (16 - n)) (sym long);
       whole = omega (arith, kept, given, half.0, parts, c.sheets.invariant.whole);
       many = omega (arith, long, c.in-Some.ensures.cases, c.sheets.invariant.many);
@@ -65,12 +70,12 @@ sheets-preserved c =
           subst L (sym items)
           (All-push P c.sheets.workers.items w c.sheets.invariant.at_hand
           (hired_at_hand c.args.areas.now c.args.start c.args.end c.sheets.seat.known w own_view own_outcomes
-          c.of-worker.ensures.next own_areas seen c.requires.range room)));
+          c.of-worker.ensures.next may own_areas seen c.requires.range room)));
       judged = λ list.
           (let P : Worker → Type 0 = λ x. HasJudged c.args.areas.now.plan list c.args.start x in
           let L : List Worker → Type 0 = λ l. All P l in
           subst L (sym items)
           (All-push P c.sheets.workers.items w (c.sheets.invariant.judged list)
           (hired_judged c.args.areas.now c.args.start c.args.end c.sheets.seat.known w own_view own_outcomes
-          c.of-worker.ensures.next c.args.areas.now.plan list)));
+          c.of-worker.ensures.next may c.args.areas.now.plan list)));
     }

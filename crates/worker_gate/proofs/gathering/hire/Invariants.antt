@@ -9,7 +9,8 @@ abbrev pub invariant-sheets : goal.invariant-sheets
 invariant-sheets l =
     record {
       areas : IsOf l.areas l.seat;
-      seat : l.seat.known ≡ record l.initial.seat.known { share = l.seat.known.share };
+      seat : l.seat.known ≡ record l.initial.seat.known { share = l.seat.known.share; right = l.seat.known.right };
+      rights : l.seat.known.right ≡ l.seat.known.share;
       halves : l.seat.known.share ≡ 2 ^ (16 - length l.workers.items);
       whole : l.seat.known.share + shares l.workers.items ≡ 65536;
       many : length l.sheets.items + length l.workers.items ≡ length l.initial.sheets.items;

@@ -1,5 +1,6 @@
 use Rattle.std.proofs.Common.{◌≡◌, ℕ, ◌≤◌, ap, sym, ◌∙◌, arith}
 use Rattle.swap_core.specs.Sound.{once_below, times}
+use Rattle.area_swap.specs.declared.board.View.{View}
 use Rattle.worker_gate.specs.Gathering.{Gathered}
 use Rattle.worker_gate.specs.Turns.{DrawsNothing}
 use Rattle.worker_gate.proofs.Ending.{KeepsDraws, begun, read_again, round_is, round_placed}
@@ -9,6 +10,10 @@ use Rattle.worker_gate.proofs.rounds.run.Goals as goal
 pub passes-requires-clause-round : goal.passes-requires-clause-round
 passes-requires-clause-round g c κs within = λ k d less.
     record { at_hand = c.hire.ensures.at_hand k d less; judged = c.hire.ensures.judged (g.S.RoundItems.items c.args.task.now.items.now) k d less; compiled = c.requires.compiled }
+
+pub hire-requires-clause-alone : goal.hire-requires-clause-alone
+hire-requires-clause-alone g c =
+    ap (λ (v : View). v.right) c.see.ensures.seat ∙ c.see.ensures.sees.whole_right c.requires.whole
 
 pub gather-requires-clause-at_hand : goal.gather-requires-clause-at_hand
 gather-requires-clause-at_hand g c = λ k d less. (c.passes.ensures.round k d less).at_hand
