@@ -11,7 +11,7 @@ use Rattle.worker_gate.specs.Outcomes.{draw_of}
 use Rattle.worker_gate.specs.Rounds.{IsRound}
 
 -- what holds of all draws holds of one among those in the middle
-in_the_middle : {A : Type 0} (P : A → Type 0) (front middle back : List A) (x : A) → All P ((front ++ middle) ++ back) → Contains middle x → P x
+pub in_the_middle : {A : Type 0} (P : A → Type 0) (front middle back : List A) (x : A) → All P ((front ++ middle) ++ back) → Contains middle x → P x
 in_the_middle P front middle back x all (k, inside, is) =
     let place : length front + k < length (front ++ middle) = omega (arith, length-append front middle) in
     let whole : length front + k < length ((front ++ middle) ++ back) = omega (arith, length-append (front ++ middle) back) in

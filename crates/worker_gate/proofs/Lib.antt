@@ -1,10 +1,14 @@
 pub mod Counts
+pub mod DrawingLemmas
 pub mod Ending
 pub mod Gathered
 pub mod Hands
 pub mod Hired
 pub mod InForce
+pub mod Judged
+pub mod LawLemmas
 pub mod Placed
 pub mod Points
 pub mod Served
 pub mod Trying
+pub mod WholeLemmas

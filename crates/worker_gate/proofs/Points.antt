@@ -1,15 +1,15 @@
 -- Points that come one after another.
-use Rattle.std.proofs.Common.{◌≡◌, ℕ, ◌+◌, ◌<◌, ◌≤◌, inr, Bool, true, false, List, [], ◌++◌, All, length, ap, subst, refl, sym, ◌∙◌, arith, length-append}
+use Rattle.std.proofs.Common.{◌≡◌, ℕ, ◌+◌, ◌<◌, ◌≤◌, inl, inr, Bool, true, false, List, [], ◌++◌, All, length, ap, subst, refl, sym, ◌∙◌, arith, length-append}
 use Rattle.std.specs.Bool.{MatchBool}
 use Rattle.std.proofs.lemmas.List.{append-nil, append_assoc}
 use Rattle.swap_core.specs.Plans.{Tables, window}
 use Rattle.area_swap.specs.declared.answers.Seen.{Seen}
 use Rattle.area_swap.specs.declared.board.View.{View}
-use Rattle.area_swap.specs.Answers.{LaterDue, NoneDue, NowDue}
+use Rattle.area_swap.specs.Answers.{IsClaimed, LaterDue, NoneDue, NowDue}
 use Rattle.area_swap.specs.Rule.{IsDrawnBy, Sees}
 use Rattle.area_swap.specs.Values.{IsDesk}
 use Rattle.area_swap.specs.Views.{reading}
-use Rattle.worker_gate.specs.Reloading.{HasCountedLong, HasMorePoints, HasNoneLeft, HasReachedEnd, HasStood, HasTurns, IsSettled, OpensBehind, StandsAtLimit, WaitsFor}
+use Rattle.worker_gate.specs.Reloading.{HasCountedLong, HasMorePoints, HasNoneLeft, HasReachedEnd, HasStood, HasTurns, IsPutOff, IsSettled, OpensBehind, StandsAtLimit, WaitsFor}
 
 pub points_none : (v : View) → HasMorePoints 0 v v
 points_none v = record { news = []; points = sym (append-nil v.points); many = refl; same_plan = refl }
@@ -138,3 +138,45 @@ settled_later p records earliest s t v w now read sees version due desk plan few
 
 pub is_not : (b : Bool) (A B : Type 0) → b ≡ false → B → MatchBool b A B
 is_not b A B is h = let P : Bool → Type 0 = λ t. MatchBool t A B in subst P (sym is) h
+
+-- A single try put no table into force.
+
+points_read : (u w : View) → w ≡ reading u w.seen → HasMorePoints 0 u w
+points_read u w after =
+    record {
+      news = [];
+      points = ap (λ (x : View). x.points) after ∙ sym (append-nil u.points);
+      many = refl;
+      same_plan = ap (λ (x : View). x.plan) after;
+    }
+
+pub none_put : (p : Tables) (u w : View) → NoneDue p u w → IsDesk w → w.plan ≡ p → HasMorePoints 0 u w × IsPutOff u w
+none_put p u w due desk plan = (points_read u w due.after, inl (none_left p u w due desk plan))
+
+pub later_put : (p : Tables) (records earliest : ℕ) (u w : View) → LaterDue p records earliest u w → IsDesk w → w.plan ≡ p
+    → HasMorePoints 0 u w × IsPutOff u w
+later_put p records earliest u w due desk plan =
+    let more : w.looks ≡ u.looks + 1 = ap (λ (x : View). x.looks) due.after in (
+      points_read u w due.after,
+      inr (inl (record { rests = due.rests; looked = omega (arith, more); waits = waits_for p records earliest u w due desk plan })),
+    )
+
+pub claimed_put : (p : Tables) (count : ℕ) (u v w : View) → NowDue p u v → IsClaimed count v w → HasMorePoints 0 u w × IsPutOff u w
+claimed_put p count u v w due k =
+    let found : w.counted ≡ count = ap (λ (x : View). x.counted) k.after in
+    let more : w.counts ≡ v.counts + 1 = ap (λ (x : View). x.counts) k.after in
+    let same : v.counts ≡ u.counts = ap (λ (x : View). x.counts) due.after in (
+      record {
+        news = [];
+        points =
+            ap (λ (x : View). x.points) k.after ∙ ap (λ (x : View). x.points) due.after ∙ sym (append-nil u.points);
+        many = refl;
+        same_plan = ap (λ (x : View). x.plan) k.after ∙ ap (λ (x : View). x.plan) due.after;
+      },
+      inr (inr
+          (record {
+            ready = ap (λ (x : View). x.desk) k.after ∙ ap (λ (x : View). x.desk) due.after;
+            claimed = omega (arith, found, k.some_one);
+            counted = omega (arith, more, same);
+          })),
+    )

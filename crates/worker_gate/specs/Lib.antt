@@ -1,6 +1,9 @@
 pub mod Crews
+pub mod Drawing
 pub mod Failures
 pub mod Gathering
+pub mod Holders
+pub mod Judging
 pub mod Laws
 pub mod OutcomeLists
 pub mod Outcomes
@@ -8,3 +11,4 @@ pub mod Reloading
 pub mod Rounds
 pub mod Serving
 pub mod Turns
+pub mod WholeRounds

@@ -63,6 +63,21 @@ pub record HasCountedLong (before v : View) : Type 0 where
 abbrev pub IsReloaded : ℕ → View → View → Type 0
 IsReloaded end before v = HasNoneLeft v ⊎ (HasReachedEnd end before v ⊎ (HasLookedLong before v ⊎ HasCountedLong before v))
 
+-- Why a single try put no table into force: by a reading of this try, the next table waits for more records; or, by a count of this
+-- try, somebody claimed the spare area.
+pub record HasLooked (before v : View) : Type 0 where
+  pub rests : IsResting v
+  pub looked : before.looks < v.looks
+  pub waits : WaitsFor v v.seen.records
+
+pub record HasCounted (before v : View) : Type 0 where
+  pub ready : IsReady v
+  pub claimed : 1 ≤ v.counted
+  pub counted : before.counts < v.counts
+
+abbrev pub IsPutOff : View → View → Type 0
+IsPutOff before v = HasNoneLeft v ⊎ (HasLooked before v ⊎ HasCounted before v)
+
 -- There is a next table, and its window opens at this number of records or behind it.
 pub record OpensBehind (end : ℕ) (v : View) : Type 0 where
   pub rests : IsResting v

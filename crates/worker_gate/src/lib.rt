@@ -4,8 +4,11 @@
 
 mod claims;
 mod crew;
+mod drawing;
 mod gate;
 mod gathering;
+mod holders;
+mod judge;
 mod judging;
 mod laws;
 mod outcome_list;
@@ -15,16 +18,23 @@ mod rounds;
 mod serving;
 mod settling;
 mod task;
+mod whole;
 mod worker;
 
 pub use crew::{Crew, Outcomes};
+pub use drawing::{RoundDraw, draw_for};
 pub use gate::{Gate, OpenGate, SparingGate};
+pub use holders::{FreeSeat, HeldSeat, lend, take_back};
+pub use judge::Judge;
 pub use judging::HeldArea;
-pub use laws::outcomes_are_in_force;
+pub use laws::{
+    drawn_are_in_force, outcomes_are_in_force, rounds_give_outcomes, wholes_are_rounds,
+};
 pub use outcomes::{Outcome, Stop};
-pub use reloading::reload;
+pub use reloading::{put_due, reload};
 pub use rounds::round;
 pub use serving::serve;
 pub use settling::settle;
 pub use task::Work;
+pub use whole::judge_whole;
 pub use worker::{Worker, WorkerError};

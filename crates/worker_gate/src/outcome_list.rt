@@ -38,7 +38,7 @@ impl Model for OutcomeList {
 }
 
 impl OutcomeList {
-    ghost use Rattle.std.specs.Prelude.{◌≡◌, ◌+◌, ◌<◌, ◌≤◌, [], IfOk, Some, length, map, slice_get};
+    ghost use Rattle.std.specs.Prelude.{◌≡◌, ◌+◌, ◌<◌, ◌≤◌, [], ◌∷◌, ◌++◌, IfOk, Some, length, map, slice_get};
     ghost use Rattle.binding_rules.specs.Tables.{BindingTable};
     ghost use Rattle.ip_codec.specs.Seen.{seen};
     ghost use Rattle.table_words.specs.Layout.{IsCompiled, AreCompiled};
@@ -65,6 +65,16 @@ impl OutcomeList {
     {
         self.outcomes.clear();
         self.numbers.clear();
+    }
+
+    /// One more for the end.
+    pub(crate) fn push(&mut self, outcome: Outcome)
+        requires room { length self.old.items < self.old.room }
+        ensures items { self.new.items ≡ self.old.items ++ outcome ∷ [] }
+        ensures room { self.new.room ≡ self.old.room }
+    {
+        self.numbers.push_reserved(outcome.number);
+        self.outcomes.push_reserved(outcome);
     }
 
     /// One more for the end, of the record that was drawn, with the verdict on its item under the held table, whose settings are handed in. A verdict has

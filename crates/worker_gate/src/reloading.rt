@@ -2,7 +2,7 @@
 ghost use Rattle.std.specs.Prelude.{◌≡◌, ◌+◌, ◌<◌, ◌≤◌, ◌⊎◌, true};
 ghost use Rattle.std.specs.Bool.{MatchBool};
 ghost use Rattle.area_swap.specs.Values.{IsClear, IsDesk, IsOf, IsReady, IsResting};
-ghost use Rattle.worker_gate.specs.Reloading.{CanReload, HasCountedLong, HasMorePoints, HasTurns, IsOver, IsReloaded, KeepsPoints, StandsAtLimit};
+ghost use Rattle.worker_gate.specs.Reloading.{CanReload, HasCountedLong, HasMorePoints, HasTurns, IsOver, IsPutOff, IsReloaded, KeepsPoints, StandsAtLimit};
 
 use area_swap::{Areas, Desk, Due, Quiet};
 use std::thread::yield_now;
@@ -168,5 +168,32 @@ pub(crate) fn reload_beside(areas: &Areas, desk: &mut Desk, end: u32)
     let mut looks = LOOKS;
     'tables: while put_beside(areas, desk, end, looks) {
         looks = LAST_LOOKS;
+    }
+}
+
+/// Puts the next table into force, if it is due and nobody claims its area. The answer is whether it did. It tries once and never
+/// waits: a seat may hold that area until it has judged a whole round. If it put no table into force, either none is left, or the next
+/// one waits for more records, or somebody claims its area.
+pub fn put_due(areas: &Areas, desk: &mut Desk) -> bool
+    requires desk { CanReload areas.now desk.old }
+    ensures desk { CanReload areas.now desk.new }
+    ensures is_desk { IsDesk desk.new.known }
+    ensures next { MatchBool result (HasMorePoints 1 desk.old.known desk.new.known)
+        (HasMorePoints 0 desk.old.known desk.new.known × IsPutOff desk.old.known desk.new.known) }
+{
+    match areas.due(desk) {
+        Due::None => return false,
+        Due::Later {
+            records: _,
+            earliest: _,
+        } => return false,
+        Due::Now => {}
+    }
+    match areas.quiet(desk) {
+        Quiet::Claimed { count: _ } => false,
+        Quiet::Free => {
+            put_in_force(areas, desk);
+            true
+        }
     }
 }
