@@ -1,6 +1,6 @@
 // The callers that the READMEs of swap_core, area_swap and hand_over show, and what they answer.
 ghost use Rattle.std.specs.Thread.{IsSync};
-ghost use Rattle.area_swap.specs.Values.{IsIdle, IsOf};
+ghost use Rattle.area_swap.specs.Values.{IsIdle, IsOf, MayDraw};
 ghost use Rattle.swap_core.specs.Plans.{IsTableSize};
 
 use crate::words::table;
@@ -36,11 +36,12 @@ fn first_draw(alloc: Global, first: WordList, second: WordList) -> Result<Took, 
     core.step(Step::Draw { who: 3 })
 }
 
-/// Draws up to 64 numbers of records below `end` under the table in force. It answers the first of them, how many they are, and the
-/// first word of the table; nothing where the claim or the draw has to be tried again, or no record is left.
+/// Draws up to 64 numbers of records below `end` under the table in force. The answer is the first of them, how many they are, and the
+/// first word of the table; it is nothing if the claim or the draw has to be tried again, or no record is left.
 fn draw_some(areas: &Areas, seat: &mut WorkerSeat, end: u32) -> Option<(u32, u32, u64)>
     requires areas { IsOf areas.now seat.old }
     requires idle { IsIdle seat.old.known }
+    requires may_draw { MayDraw seat.old.known }
 {
     let Claim::Held { .. } = areas.claim(seat) else {
         return None;

@@ -8,6 +8,8 @@ mod areas;
 #[cfg(test)]
 mod callers;
 #[cfg(test)]
+mod lending;
+#[cfg(test)]
 mod machine;
 #[cfg(test)]
 mod seats;

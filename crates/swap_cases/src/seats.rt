@@ -1,19 +1,20 @@
 // As many seats as the shares allow, under two versions, joined again.
 ghost use Rattle.std.specs.Prelude.{◌≡◌, ◌<◌, ◌⊎◌};
-ghost use Rattle.area_swap.specs.Values.{IsIdle, IsOf, IsReady, IsResting};
+ghost use Rattle.area_swap.specs.Values.{IsIdle, IsOf, IsReady, IsResting, MayDraw};
 
 use crate::words::table;
 use area_swap::{Areas, Claim, Desk, DrawRun, Due, Quiet, WorkerSeat, prepare};
 use std::test::Fail;
 use swap_core::{Plan, Window};
 
-// Three numbers for the seat; false where it did not get them.
-fn draw_three(areas: &Areas, seat: &mut WorkerSeat) -> bool
+/// Draws three numbers. The answer is whether the seat got them.
+pub fn draw_three(areas: &Areas, seat: &mut WorkerSeat) -> bool
     requires areas { IsOf areas.now seat.old }
     requires idle { IsIdle seat.old.known }
+    requires may_draw { MayDraw seat.old.known }
     ensures areas { IsOf areas.now seat.new }
     ensures idle { IsIdle seat.new.known }
-    ensures share { seat.new.known.share ≡ seat.old.known.share }
+    ensures share { (seat.new.known.share ≡ seat.old.known.share) × (seat.new.known.right ≡ seat.old.known.right) }
 {
     let Claim::Held { .. } = areas.claim(seat) else {
         return false;
@@ -23,8 +24,8 @@ fn draw_three(areas: &Areas, seat: &mut WorkerSeat) -> bool
     matches!(drawn, DrawRun::Taken { count: 3, .. })
 }
 
-// Puts the next table into force, if it is time, the table is due and its area is free.
-fn publish_next(areas: &Areas, desk: &mut Desk, is_time: bool)
+/// Puts the next table into force, if it is time, the table is due and its area is free.
+pub fn publish_next(areas: &Areas, desk: &mut Desk, is_time: bool)
     requires areas { IsOf areas.now desk.old }
     requires phase { IsResting desk.old.known ⊎ IsReady desk.old.known }
     ensures areas { IsOf areas.now desk.new }
@@ -47,11 +48,11 @@ fn draw_by_all(areas: &Areas, seat: &mut WorkerSeat, desk: &mut Desk, share: u64
     requires areas { IsOf areas.now seat.old × IsOf areas.now desk.old }
     requires idle { IsIdle seat.old.known }
     requires phase { IsResting desk.old.known ⊎ IsReady desk.old.known }
-    requires share { seat.old.known.share ≡ share }
+    requires share { (seat.old.known.share ≡ share) × (seat.old.known.right ≡ share) }
     requires some { 0 < share }
     ensures areas { IsOf areas.now seat.new × IsOf areas.now desk.new }
     ensures idle { IsIdle seat.new.known }
-    ensures share { seat.new.known.share ≡ share }
+    ensures share { (seat.new.known.share ≡ share) × (seat.new.known.right ≡ share) }
     ensures phase { IsResting desk.new.known ⊎ IsReady desk.new.known }
 {
     publish_next(areas, desk, share == 256);

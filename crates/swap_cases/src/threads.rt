@@ -1,7 +1,7 @@
 // Seats in threads of their own, beside one another and the desk.
 ghost use Rattle.std.specs.Prelude.{◌≡◌, ℕ, ◌%◌, ◌<◌, ◌≤◌, ◌⊎◌, List, All, length};
 ghost use Rattle.std.specs.Thread.{IsSync};
-ghost use Rattle.area_swap.specs.Values.{HoldsOne, IsIdle, IsOf, IsReady, IsResting};
+ghost use Rattle.area_swap.specs.Values.{HoldsOne, IsIdle, IsOf, IsReady, IsResting, MayDraw};
 ghost use Rattle.area_swap.specs.Views.{held_table};
 
 use crate::words::table;
@@ -42,11 +42,13 @@ fn draw_on(
 ) -> bool
     requires areas { IsOf areas.now seat.old }
     requires holding { HoldsOne seat.old.known }
+    requires may_draw { MayDraw seat.old.known }
     requires some { 0 < long }
     requires long { long ≤ length (held_table seat.old.known) }
     ensures areas { IsOf areas.now seat.new }
     ensures holding { HoldsOne seat.new.known }
     ensures share { seat.new.known.share ≡ seat.old.known.share }
+    ensures right { seat.new.known.right ≡ seat.old.known.right }
 {
     'turns: for _ in 0..TURNS {
         match areas.draw(seat, end) {
@@ -70,6 +72,7 @@ fn draw_on(
 fn draw_all(areas: &Areas, mut seat: WorkerSeat, long: u32, end: u32) -> (WorkerSeat, Done)
     requires areas { IsOf areas.now seat }
     requires idle { IsIdle seat.known }
+    requires may_draw { MayDraw seat.known }
     requires some { 0 < long }
     requires long { All (λ (words : List ℕ). long ≤ length words) areas.now.plan.tables }
     ensures areas { IsOf areas.now result.0 }
@@ -106,7 +109,7 @@ fn by_two<R: Threads + Sync>(
     requires idle { IsIdle seat.known }
     requires some { 0 < long }
     requires long { All (λ (words : List ℕ). long ≤ length words) areas.now.plan.tables }
-    requires even { seat.known.share % 2 ≡ 0 }
+    requires even { (seat.known.share % 2 ≡ 0) × (2 ≤ seat.known.right) }
     ensures areas { IsOf areas.now result.0 }
     ensures idle { IsIdle result.0.known }
     ensures share { result.0.known.share ≡ seat.known.share }
@@ -115,11 +118,11 @@ fn by_two<R: Threads + Sync>(
     let (mut one, two) = join(
         rt,
         || -> (WorkerSeat, Done)
-            requires { IsOf areas.now seat × (IsIdle seat.known × ((0 < long) × All (λ (words : List ℕ). long ≤ length words) areas.now.plan.tables)) }
+            requires { IsOf areas.now seat × (IsIdle seat.known × (MayDraw seat.known × ((0 < long) × All (λ (words : List ℕ). long ≤ length words) areas.now.plan.tables))) }
             ensures { IsOf areas.entry.now result.0 × (IsIdle result.0.known × (result.0.known.share ≡ seat.known.share)) }
         { draw_all(areas, seat, long, end) },
         || -> (WorkerSeat, Done)
-            requires { IsOf areas.now other × (IsIdle other.known × ((0 < long) × All (λ (words : List ℕ). long ≤ length words) areas.now.plan.tables)) }
+            requires { IsOf areas.now other × (IsIdle other.known × (MayDraw other.known × ((0 < long) × All (λ (words : List ℕ). long ≤ length words) areas.now.plan.tables))) }
             ensures { IsOf areas.entry.now result.0 × (IsIdle result.0.known × (result.0.known.share ≡ other.known.share)) }
         { draw_all(areas, other, long, end) },
     );
@@ -139,7 +142,7 @@ fn by_four<R: Threads + Sync>(
     requires idle { IsIdle seat.known }
     requires some { 0 < long }
     requires long { All (λ (words : List ℕ). long ≤ length words) areas.now.plan.tables }
-    requires fourfold { seat.known.share % 4 ≡ 0 }
+    requires fourfold { (seat.known.share % 4 ≡ 0) × (4 ≤ seat.known.right) }
     ensures areas { IsOf areas.now result.0 }
     ensures idle { IsIdle result.0.known }
     ensures share { result.0.known.share ≡ seat.known.share }
@@ -148,13 +151,13 @@ fn by_four<R: Threads + Sync>(
     let (mut one, two) = join(
         rt,
         || -> (WorkerSeat, Done)
-            requires { IsSync R.row × (IsOf areas.now seat × (IsIdle seat.known × ((seat.known.share % 2 ≡ 0)
-                × ((0 < long) × All (λ (words : List ℕ). long ≤ length words) areas.now.plan.tables)))) }
+            requires { IsSync R.row × (IsOf areas.now seat × (IsIdle seat.known × ((seat.known.share % 2 ≡ 0) × ((2 ≤ seat.known.right)
+                × ((0 < long) × All (λ (words : List ℕ). long ≤ length words) areas.now.plan.tables))))) }
             ensures { IsOf areas.entry.now result.0 × (IsIdle result.0.known × (result.0.known.share ≡ seat.known.share)) }
         { by_two(rt, areas, seat, long, end) },
         || -> (WorkerSeat, Done)
-            requires { IsSync R.row × (IsOf areas.now other × (IsIdle other.known × ((other.known.share % 2 ≡ 0)
-                × ((0 < long) × All (λ (words : List ℕ). long ≤ length words) areas.now.plan.tables)))) }
+            requires { IsSync R.row × (IsOf areas.now other × (IsIdle other.known × ((other.known.share % 2 ≡ 0) × ((2 ≤ other.known.right)
+                × ((0 < long) × All (λ (words : List ℕ). long ≤ length words) areas.now.plan.tables))))) }
             ensures { IsOf areas.entry.now result.0 × (IsIdle result.0.known × (result.0.known.share ≡ other.known.share)) }
         { by_two(rt, areas, other, long, end) },
     );
@@ -198,7 +201,7 @@ fn by_five<R: Threads + Sync>(
     requires idle { IsIdle seat.known }
     requires some { 0 < long }
     requires long { All (λ (words : List ℕ). long ≤ length words) areas.now.plan.tables }
-    requires fourfold { seat.known.share % 4 ≡ 0 }
+    requires fourfold { (seat.known.share % 4 ≡ 0) × (4 ≤ seat.known.right) }
     requires resting { IsResting desk.known }
     ensures areas { IsOf areas.now result.0 × IsOf areas.now result.2 }
     ensures idle { IsIdle result.0.known }
@@ -207,8 +210,8 @@ fn by_five<R: Threads + Sync>(
     let (drawn, desk) = join(
         rt,
         || -> (WorkerSeat, Done)
-            requires { IsSync R.row × (IsOf areas.now seat × (IsIdle seat.known × ((seat.known.share % 4 ≡ 0)
-                × ((0 < long) × All (λ (words : List ℕ). long ≤ length words) areas.now.plan.tables)))) }
+            requires { IsSync R.row × (IsOf areas.now seat × (IsIdle seat.known × ((seat.known.share % 4 ≡ 0) × ((4 ≤ seat.known.right)
+                × ((0 < long) × All (λ (words : List ℕ). long ≤ length words) areas.now.plan.tables))))) }
             ensures { IsOf areas.entry.now result.0 × (IsIdle result.0.known × (result.0.known.share ≡ seat.known.share)) }
         { by_four(rt, areas, seat, long, end) },
         || -> Desk

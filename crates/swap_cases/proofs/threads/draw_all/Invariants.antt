@@ -8,4 +8,5 @@ invariant-turns l =
       areas : IsOf l.areas l.seat;
       idle : IsIdle l.seat.known;
       share : l.seat.known.share ≡ l.initial.seat.known.share;
+      right : l.seat.known.right ≡ l.initial.seat.known.right;
     }

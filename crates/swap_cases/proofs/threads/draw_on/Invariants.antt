@@ -10,4 +10,5 @@ invariant-turns l =
       holding : HoldsOne l.seat.known;
       long : l.long ≤ length (held_table l.seat.known);
       share : l.seat.known.share ≡ l.initial.seat.known.share;
+      right : l.seat.known.right ≡ l.initial.seat.known.right;
     }
