@@ -56,6 +56,78 @@ impl Gate for Behind {
     }
 }
 
+/// Holds each record until a note is made, for a limited number of turns, and notes whether they ran out.
+#[derive(Drop)]
+pub struct UntilTold {
+    told: AtomicUsize,
+    late: AtomicUsize,
+}
+
+impl UntilTold {
+    pub fn new() -> UntilTold {
+        UntilTold {
+            told: AtomicUsize::new(0),
+            late: AtomicUsize::new(0),
+        }
+    }
+
+    /// Makes the note.
+    pub fn tell(&self) {
+        self.told.store(1, SeqCst);
+    }
+
+    /// Whether the turns ran out.
+    pub fn was_late(&self) -> bool {
+        self.late.load(SeqCst) != 0
+    }
+}
+
+impl Gate for UntilTold {
+    fn pass(&self, _number: u32, _version: u32) {
+        if !comes(&self.told, 100_000_000) {
+            self.late.store(1, SeqCst);
+        }
+    }
+}
+
+/// Holds each record until a number of records have come, for a limited number of turns, and notes whether they ran out.
+#[derive(Drop)]
+pub struct Meeting {
+    count: usize,
+    came: AtomicUsize,
+    late: AtomicUsize,
+}
+
+impl Meeting {
+    pub fn of(count: usize) -> Meeting {
+        Meeting {
+            count,
+            came: AtomicUsize::new(0),
+            late: AtomicUsize::new(0),
+        }
+    }
+
+    /// Whether the turns ran out.
+    pub fn was_late(&self) -> bool {
+        self.late.load(SeqCst) != 0
+    }
+}
+
+impl Gate for Meeting {
+    fn pass(&self, _number: u32, _version: u32) {
+        self.came.fetch_add(1, SeqCst);
+        for turn in 0..100_000_000 {
+            if self.came.load(SeqCst) >= self.count {
+                return;
+            }
+            if turn % 64 == 0 {
+                yield_now();
+            }
+        }
+        self.late.store(1, SeqCst);
+    }
+}
+
 /// Holds each record of version 0, but record 0, until a record of version 1 has passed, for so many turns.
 #[derive(Drop)]
 pub struct UntilTheNext {

@@ -35,24 +35,27 @@ pub const OUTER: Outer = Outer {
     dst: AFTR,
 };
 
-/// Whether this is the outcome of the subscriber's packet with this number: below `second` it goes out under the first table, and
-/// from there on it is dropped under the second.
-pub fn is_judged(outcome: &Outcome, number: u32, second: u32) -> bool {
-    let expected = if number < second {
-        Outcome {
-            number,
-            version: 0,
-            verdict: Verdict::Outward { mtu: 1500 },
-        }
+/// Whether this is the outcome of the subscriber's packet with this number under this version: the packet goes out under the tables with
+/// even numbers, and is dropped under the others.
+pub fn is_judged_under(outcome: &Outcome, number: u32, version: u32) -> bool {
+    let verdict = if version % 2 == 0 {
+        Verdict::Outward { mtu: 1500 }
     } else {
-        Outcome {
-            number,
-            version: 1,
-            verdict: Verdict::Drop {
-                why: Rule::NoBinding,
-                reply: Reply::Silent,
-            },
+        Verdict::Drop {
+            why: Rule::NoBinding,
+            reply: Reply::Silent,
         }
     };
-    *outcome == expected
+    *outcome
+        == Outcome {
+            number,
+            version,
+            verdict,
+        }
+}
+
+/// Whether this is the outcome of the subscriber's packet with this number: below `second` it is judged under the first table, and from
+/// there on under the second.
+pub fn is_judged(outcome: &Outcome, number: u32, second: u32) -> bool {
+    is_judged_under(outcome, number, u32::from(number >= second))
 }

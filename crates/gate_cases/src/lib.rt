@@ -17,4 +17,6 @@ mod reloads;
 #[cfg(test)]
 mod rounds;
 #[cfg(test)]
+mod whole_rounds;
+#[cfg(test)]
 mod workers;
