@@ -1,6 +1,7 @@
 pub mod Firsts
 pub mod Gone
 pub mod Greatest
+pub mod Having
 pub mod Keys
 pub mod Laws
 pub mod Leasts

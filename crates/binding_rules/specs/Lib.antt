@@ -4,3 +4,4 @@ pub mod Refusals
 pub mod Scans
 pub mod Tables
 pub mod Steps
+pub mod Owning

@@ -10,6 +10,7 @@ mod conflicts;
 mod counter;
 mod lookup;
 mod owners;
+mod owning;
 mod places;
 mod ports;
 mod refused;
@@ -18,6 +19,7 @@ mod table;
 
 pub use binding::{Binding, Want};
 pub use lookup::find;
+pub use owning::ownership;
 pub use refused::{Refused, TableError};
 pub use settings::{Edition, LEAST_MTU4, LEAST_MTU6, Softwire};
 pub use table::{Table, table_of};
