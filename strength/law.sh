@@ -86,7 +86,7 @@ for edit in "$@"; do
         status=1
     elif grep -q '^only=' "$copy/told"; then
         echo "$label: refused by $crate::$law"
-        grep -m 3 'error' "$copy/told" | cut -c 1-400
+        grep -m 3 ': error' "$copy/told" | cut -c 1-400
     else
         echo "$label: not tried"
         tail -n 3 "$copy/told"

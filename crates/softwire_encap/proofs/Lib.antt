@@ -2,3 +2,4 @@ mod FrontLemmas
 pub mod Laws
 mod PassingLemmas
 mod TunnelLemmas
+pub mod PlaceLemmas

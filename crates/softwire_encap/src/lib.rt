@@ -3,7 +3,9 @@
 #![tactic(auto)]
 
 mod passing;
+mod places;
 mod tunnel;
 
 pub use passing::{lower, lowered_header, push_lowered};
+pub use places::tunnels_stand;
 pub use tunnel::{encap, push_tunnel_head, push_tunnelled, tunnel_view};
