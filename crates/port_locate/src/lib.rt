@@ -3,5 +3,7 @@
 #![tactic(auto)]
 
 mod keys;
+mod places;
 
 pub use keys::{Key, Keys, Wants, key_down, key_up, keys_of, quoted_destination, quoted_source};
+pub use places::ports_are_read;
