@@ -1,3 +1,5 @@
+pub mod Alike
+pub mod Backs
 pub mod Delivering
 pub mod Firsts
 pub mod Going
@@ -5,9 +7,14 @@ pub mod Good
 pub mod Items
 pub mod Joins
 pub mod Looks
+pub mod Members
+pub mod MessageNames
+pub mod Naming
 pub mod Owned
 pub mod Passing
 pub mod Permits
 pub mod Quoting
+pub mod Receivers
 pub mod Relaying
 pub mod Sending
+pub mod Telling

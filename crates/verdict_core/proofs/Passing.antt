@@ -24,7 +24,7 @@ use Rattle.verdict_core.specs.declared.verdicts.Reply.TheVariants as reply
 use Rattle.verdict_core.specs.declared.verdicts.Verdict.{Verdict}
 use Rattle.verdict_core.specs.declared.verdicts.Verdict.TheVariants as verdict
 use Rattle.verdict_core.proofs.Firsts.{Parts, by_silence, is_silent, or_true, parted, so_behind}
-use Rattle.verdict_core.proofs.Going.{address_bound, address_known}
+use Rattle.verdict_core.proofs.Receivers.{address_bound, address_known}
 use Rattle.verdict_core.proofs.Items.{fine}
 use Rattle.verdict_core.proofs.Relaying.{relays_all}
 

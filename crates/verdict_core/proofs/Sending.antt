@@ -11,12 +11,14 @@ use Rattle.ip_codec.specs.declared.packet4.Ip4Bad.{Ip4Bad}
 use Rattle.ip_codec.specs.declared.rules.Rule.{Rule}
 use Rattle.port_locate.specs.Keys.{downstream_key}
 use Rattle.verdict_core.specs.Access.{Forbids, Forbidden, Forwards, IsForwarded, Permits, Refused, is_forbidding, is_refusal}
+use Rattle.verdict_core.specs.Named.{IsDroppedBy, IsFirst, KeepsUp, up_order}
 use Rattle.verdict_core.specs.Lines.{Kind, Passing, Stopping, Line, verdict_in}
 use Rattle.verdict_core.specs.Verdicts.{access_lines, hairpin_lines, is_bound_address, lines, onward_lines, outward_lines, owner_end, onward_refusals, up_lines}
 use Rattle.verdict_core.specs.declared.verdicts.Reply.{Reply}
 use Rattle.verdict_core.specs.declared.verdicts.Verdict.{Verdict}
 use Rattle.verdict_core.specs.declared.verdicts.Verdict.TheVariants as verdict
 use Rattle.verdict_core.proofs.Firsts.{Parts, decided_by, parted}
+use Rattle.verdict_core.proofs.Naming.{up_named}
 use Rattle.verdict_core.proofs.Permits.{may_send, one_packet, permitted_none}
 
 -- dropped by such a rule
@@ -124,13 +126,15 @@ outcome t outer inner v lawful is = by_reading (ip4_of inner) refl is
 pub not_forwarded : (v : Verdict) (why : Rule) (told : Reply) → v ≡ verdict.Drop why told → IsForwarded v → ⊥
 not_forwarded v why told is goes = subst (λ (w : Verdict). IsForwarded w) is goes
 
-module _ (t : BindingTable) (outer : Outer) (inner : List ℕ) (v : Verdict) where
-  -- what forbids is what decides
-  forbidding : (o : IsLetOn t outer inner v) (why : Rule) (f : Forbids t outer inner why) → v ≡ verdict.Drop why f.told
+module _ (t : BindingTable) (lawful : IsLawful t) (outer : Outer) (inner : List ℕ) (v : Verdict) where
+  -- what forbids is what decides, and the other way round
+  forbidding : (o : IsLetOn t outer inner v) (why : Rule) → Forbids t outer inner why → IsDroppedBy v why
   forbidding o why f =
       let same : f.packet ≡ o.packet = one_packet inner o.packet f.packet o.read f.read in
-      let both : ◌≡◌ {A = Option Verdict} (Some v) (Some (verdict.Drop why f.told)) =
-      sym o.first ∙ ap (λ (p : Packet4). verdict_in (onward_lines t outer p)) (sym same) ∙ f.first in cc
+      ((up_named t lawful o.packet outer).by v o.first why).1 (subst (λ (p : Packet4). IsFirst (KeepsUp t p) up_order why) same f.first)
+
+  forbidden_then : (o : IsLetOn t outer inner v) (why : Rule) → IsDroppedBy v why → Forbids t outer inner why
+  forbidden_then o why d = record { packet = o.packet; read = o.read; first = ((up_named t lawful o.packet outer).by v o.first why).0 d }
 
   led : IsLetOn t outer inner v → IsDropBy is_forbidding v ⊎ IsForwarded v
   led o = led_by (onward_lines t outer o.packet) v (onward_as_kind t outer o.packet) o.first
@@ -144,24 +148,24 @@ module _ (t : BindingTable) (outer : Outer) (inner : List ℕ) (v : Verdict) whe
       by_way : IsDropBy is_forbidding v ⊎ IsForwarded v → IsForwarded v ↔ (Permits t outer inner × ((why : Rule) → Forbids t outer inner why → ⊥))
       by_way (inl d) = (
         λ goes. absurd (not_forwarded v d.0 d.1.1.0 d.1.1.1 goes),
-        λ right. absurd (right.1 d.0 (record { packet = o.packet; read = o.read; told = d.1.1.0; first = o.first ∙ ap Some d.1.1.1 })),
+        λ right. absurd (right.1 d.0 (forbidden_then o d.0 d.1.1)),
       )
-      by_way (inr goes) = (λ _. (o.permitted, λ why f. not_forwarded v why f.told (forbidding o why f) goes), λ _. goes)
+      by_way (inr goes) = (λ _. (o.permitted, λ why f. let d = forbidding o why f in not_forwarded v why d.0 d.1 goes), λ _. goes)
 
   forbidden_by : IsDenied t outer inner v ⊎ IsLetOn t outer inner v → Permits t outer inner → (why : Rule) → Forbids t outer inner why →
       (is_forbidding why ≡ true) × ((told : Reply) × (v ≡ verdict.Drop why told))
   forbidden_by (inl d) permitted why f = absurd (d.not_permitted permitted)
   forbidden_by (inr o) permitted why f = by_way (led o)
     where
-      is : v ≡ verdict.Drop why f.told
+      is : IsDroppedBy v why
       is = forbidding o why f
 
       by_way : IsDropBy is_forbidding v ⊎ IsForwarded v → (is_forbidding why ≡ true) × ((told : Reply) × (v ≡ verdict.Drop why told))
       by_way (inl d) =
-          let both : verdict.Drop why f.told ≡ verdict.Drop d.0 d.1.1.0 = sym is ∙ d.1.1.1 in
+          let both : verdict.Drop why is.0 ≡ verdict.Drop d.0 d.1.1.0 = sym is.1 ∙ d.1.1.1 in
           let same : d.0 ≡ why = cc in
-          (ap (λ (r : Rule). is_forbidding r) (sym same) ∙ d.1.0, (f.told, is))
-      by_way (inr goes) = absurd (not_forwarded v why f.told is goes)
+          (ap (λ (r : Rule). is_forbidding r) (sym same) ∙ d.1.0, is)
+      by_way (inr goes) = absurd (not_forwarded v why is.0 is.1 goes)
 
   refused_by_rule : IsDenied t outer inner v ⊎ IsLetOn t outer inner v → (Permits t outer inner → ⊥) →
       (why : Rule) × ((is_refusal why ≡ true) × ((told : Reply) × (v ≡ verdict.Drop why told)))
@@ -169,7 +173,7 @@ module _ (t : BindingTable) (outer : Outer) (inner : List ℕ) (v : Verdict) whe
   refused_by_rule (inr o) not_permitted = absurd (not_permitted o.permitted)
 
 pub forwards : (t : BindingTable) (i : Item) (v : Verdict) → IsLawful t → verdict_in (lines t i) ≡ Some v → Forwards t i v
-forwards t (item.Up outer inner) v lawful is = forwards_by t outer inner v (outcome t outer inner v lawful is)
+forwards t (item.Up outer inner) v lawful is = forwards_by t lawful outer inner v (outcome t outer inner v lawful is)
 forwards t (item.Down packet) v lawful is = tt
 forwards t (item.OtherIp6 dst) v lawful is = tt
 forwards t (item.Icmp6 src dst message) v lawful is = tt
@@ -177,7 +181,7 @@ forwards t item.Held v lawful is = tt
 forwards t (item.Bad why) v lawful is = tt
 
 pub forbidden : (t : BindingTable) (i : Item) (v : Verdict) → IsLawful t → verdict_in (lines t i) ≡ Some v → Forbidden t i v
-forbidden t (item.Up outer inner) v lawful is = forbidden_by t outer inner v (outcome t outer inner v lawful is)
+forbidden t (item.Up outer inner) v lawful is = forbidden_by t lawful outer inner v (outcome t outer inner v lawful is)
 forbidden t (item.Down packet) v lawful is = tt
 forbidden t (item.OtherIp6 dst) v lawful is = tt
 forbidden t (item.Icmp6 src dst message) v lawful is = tt
@@ -185,7 +189,7 @@ forbidden t item.Held v lawful is = tt
 forbidden t (item.Bad why) v lawful is = tt
 
 pub refused : (t : BindingTable) (i : Item) (v : Verdict) → IsLawful t → verdict_in (lines t i) ≡ Some v → Refused t i v
-refused t (item.Up outer inner) v lawful is = refused_by_rule t outer inner v (outcome t outer inner v lawful is)
+refused t (item.Up outer inner) v lawful is = refused_by_rule t lawful outer inner v (outcome t outer inner v lawful is)
 refused t (item.Down packet) v lawful is = tt
 refused t (item.OtherIp6 dst) v lawful is = tt
 refused t (item.Icmp6 src dst message) v lawful is = tt

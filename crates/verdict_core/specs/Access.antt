@@ -1,7 +1,6 @@
 -- Who may send, who receives, and whom errors reach: the tunnel's address, the IPv4 address and the port of a subscriber stand
 -- in one binding (RFC 7596, section 6.2; RFC 2473, section 8).
-use Rattle.std.specs.Prelude.{◌≡◌, ℕ, ◌+◌, ◌≤◌, ◌↔◌, Bool, false, true, List, [], ◌∷◌, Some, None, Ok}
-use Rattle.std.specs.List.{Any}
+use Rattle.std.specs.Prelude.{◌≡◌, ℕ, ◌≤◌, ◌↔◌, Bool, false, true, List, [], ◌∷◌, None, Ok}
 use Rattle.aftr_base.specs.declared.numbers.V6.{V6}
 use Rattle.binding_rules.specs.Bindings.{bound}
 use Rattle.binding_rules.specs.Tables.{BindingTable}
@@ -10,7 +9,7 @@ use Rattle.binding_rules.specs.declared.binding.Want.{Want}
 use Rattle.icmp_codec.specs.Message6.{Message6, icmp6_of}
 use Rattle.icmp_relay.specs.Quotes.{TunnelQuote, quote_of}
 use Rattle.icmp_errors.specs.Answers.{gets_answer}
-use Rattle.ip_codec.specs.Packet4.{Packet4, ip4_of, packet_len}
+use Rattle.ip_codec.specs.Packet4.{Packet4, ip4_of}
 use Rattle.ip_codec.specs.declared.items.Item.{Item}
 use Rattle.ip_codec.specs.declared.items.Item.TheVariants as item
 use Rattle.ip_codec.specs.declared.items.Outer.{Outer}
@@ -20,8 +19,9 @@ use Rattle.port_locate.specs.Keys.{downstream_key, upstream_key}
 use Rattle.port_locate.specs.declared.keys.Key.TheVariants as key
 use Rattle.verdict_core.specs.Answers.{relayed}
 use Rattle.verdict_core.specs.Fitting.{HasPacket}
-use Rattle.verdict_core.specs.Lines.{verdict_in}
-use Rattle.verdict_core.specs.Verdicts.{is_bound_address, is_tunnel_error, onward_lines, owner_end, quoted_destination, quoted_source}
+use Rattle.verdict_core.specs.Named.{IsFirst, KeepsUp, up_order}
+pub use Rattle.verdict_core.specs.Owners.{FitsNetwork, FitsTunnel, HasReceiver, IsSubscriberAddress}
+use Rattle.verdict_core.specs.Verdicts.{is_bound_address, is_tunnel_error, owner_end, quoted_destination, quoted_source}
 use Rattle.verdict_core.specs.declared.verdicts.Path.{Path}
 use Rattle.verdict_core.specs.declared.verdicts.Path.TheVariants as path
 use Rattle.verdict_core.specs.declared.verdicts.Reply.{Reply}
@@ -45,13 +45,11 @@ pub record Permits (t : BindingTable) (outer : Outer) (inner : List ℕ) : Type 
   pub key : upstream_key packet ≡ key.At want
   pub sender : IsOwner t packet.src want outer.src.0
 
--- a named rule keeps the packet although its sender may send: of the lines behind those on who may send, that rule's is the
--- first whose condition is true
+-- a named rule keeps the packet although its sender may send: it is the first one that holds
 pub record Forbids (t : BindingTable) (outer : Outer) (inner : List ℕ) (why : Rule) : Type 0 where
   pub packet : Packet4
   pub read : ip4_of inner ≡ Ok packet
-  pub told : Reply
-  pub first : verdict_in (onward_lines t outer packet) ≡ Some (verdict.Drop why told)
+  pub first : IsFirst (KeepsUp t packet) up_order why
 
 -- the packet goes on, out or back to a subscriber
 abbrev pub IsForwarded : Verdict → Type 0
@@ -111,25 +109,6 @@ pub record GoesTo (t : BindingTable) (i : Item) (end : V6) : Type 0 where
 abbrev pub Delivers : BindingTable → Item → Verdict → Type 0
 Delivers t i (verdict.Inward from to hop mtu back) = GoesTo t i to
 Delivers t i _ = Unit {0}
-
--- some binding has the address, whatever it owns there
-abbrev pub IsSubscriberAddress : BindingTable → ℕ → Type 0
-IsSubscriberAddress t address = Any (λ b. b.v4.0 ≡ address) t.bindings
-
--- exactly one binding has the packet's destination and owns the port there, or whatever else the packet asks for
-pub record HasReceiver (t : BindingTable) (p : Packet4) : Type 0 where
-  pub want : Want
-  pub key : downstream_key p ≡ key.At want
-  pub binding : Binding
-  pub owner : bound t.bindings (record { 0 = p.dst }) want ≡ binding ∷ []
-
--- it may be cut, or a tunnel packet of 40 bytes more is no larger than the subscribers' network takes (RFC 2473, section 7.2)
-abbrev pub FitsTunnel : BindingTable → Packet4 → Type 0
-FitsTunnel t p = p.df ≡ true → packet_len p + 40 ≤ t.softwire.mtu6
-
--- it may be cut, or is no larger than the IPv4 network takes (RFC 1191, section 4)
-abbrev pub FitsNetwork : BindingTable → Packet4 → Type 0
-FitsNetwork t p = p.df ≡ true → packet_len p ≤ t.softwire.mtu4
 
 -- from subscriber to subscriber (RFC 7596, section 6.2)
 pub record IsFreeBack (t : BindingTable) (p : Packet4) : Type 0 where

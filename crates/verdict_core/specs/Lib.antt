@@ -1,6 +1,12 @@
 pub mod Access
 pub mod Answers
+pub mod Back
 pub mod Bounds
 pub mod Fitting
 pub mod Lines
+pub mod Named
+pub mod NamedMessages
+pub mod Others
+pub mod Owners
+pub mod Told
 pub mod Verdicts

@@ -12,5 +12,5 @@ mod upstream;
 mod verdicts;
 
 pub use judging::{judge, judge_into};
-pub use laws::access;
+pub use laws::{access, drops_are_named, others_stay, replies_are_due, replies_go_back};
 pub use verdicts::{Path, Reply, Verdict};
