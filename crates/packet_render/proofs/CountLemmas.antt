@@ -57,13 +57,13 @@ some_in from to hop mtu number p alone true long =
     let L : List (List ℕ) → Type 0 = λ l. 1 ≤ length l in subst L (sym (inward-cut p mtu alone from to hop number (ltb-true mtu (40 + packet_len p) long))) (some_pieces (room6 mtu) (piece6 (tunnelled from to hop (lowered p)) number) 0 (lowered p) some)
 
 -- the packet that the item has
-packet_is : (i : Item) (p : Packet4) → HasPacket i p → packet_of_item i ≡ Some p
+pub packet_is : (i : Item) (p : Packet4) → HasPacket i p → packet_of_item i ≡ Some p
 packet_is i p has = ap (λ (bytes : Option (List ℕ)). option_and_then (λ b. if_ok (ip4_of b)) bytes) has.1 ∙ ap if_ok has.2
 
 many_made : {A : Type 0} (some : Option A) (a : A) (packets : A → List (List ℕ)) → some ≡ Some a → length (made_of some packets) ≡ length (packets a)
 many_made {A = A} some a packets is = ap (λ (o : Option A). length (made_of o packets)) is
 
-one_policy : (i : Item) (from to : V6) (hop : ℕ) (p : Packet4) → IsUp i → length (policies i from to hop p) ≡ 1
+pub one_policy : (i : Item) (from to : V6) (hop : ℕ) (p : Packet4) → IsUp i → length (policies i from to hop p) ≡ 1
 one_policy (item.Up outer inner) from to hop p up = refl
 one_policy (item.Down packet) from to hop p up = absurd up
 one_policy (item.OtherIp6 dst) from to hop p up = absurd up
@@ -72,7 +72,7 @@ one_policy item.Held from to hop p up = absurd up
 one_policy (item.Bad why) from to hop p up = absurd up
 
 -- the tunnel packet that the item quotes
-quote_is : (i : Item) → IsRelayable i → (quote : TunnelQuote) × (quote_of_item i ≡ Some quote)
+pub quote_is : (i : Item) → IsRelayable i → (quote : TunnelQuote) × (quote_of_item i ≡ Some quote)
 quote_is (item.Icmp6 src dst message) quotes = (
   quotes.quote,
   ap (λ (read : Result Message6 IcmpBad). option_and_then (λ m. if_ok (quote_of m.rest)) (if_ok read)) quotes.read

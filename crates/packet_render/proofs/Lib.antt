@@ -1,3 +1,10 @@
+mod ByteLemmas
+mod CameLemmas
 mod CountLemmas
+mod EndLemmas
+mod PieceLemmas
+mod PrivateLemmas
 mod PushLemmas
+mod ReplyLemmas
+mod RightLemmas
 mod SentLemmas

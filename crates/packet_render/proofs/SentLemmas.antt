@@ -16,7 +16,7 @@ use Rattle.softwire_encap.specs.Tunnel.{tunnelled, with_body, wrapped}
 use Rattle.softwire_encap.proofs.Laws.{like_old}
 
 module _ (p : Packet4) (mtu : ℕ) (is : ip4_of (p.header ++ p.payload) ≡ Ok p) where
-  passed-len : packet_len (passed p) ≡ packet_len p
+  pub passed-len : packet_len (passed p) ≡ packet_len p
   passed-len = ap (λ n. n + length p.payload) (like_old p is).header_len
 
   pub outward-whole : packet_len p ≤ mtu → outward mtu p ≡ lowered p ∷ []
@@ -38,7 +38,7 @@ module _ (p : Packet4) (mtu : ℕ) (is : ip4_of (p.header ++ p.payload) ≡ Ok p
       ∙ same-pieces
 
   module _ (from to : V6) (hop number : ℕ) where
-    wrapped-len : length (wrapped from to hop (lowered p)) ≡ 40 + packet_len p
+    pub wrapped-len : length (wrapped from to hop (lowered p)) ≡ 40 + packet_len p
     wrapped-len = omega (arith, (like_old p is).len)
 
     pub inward-whole : 40 + packet_len p ≤ mtu → inward from to hop mtu number p ≡ wrapped from to hop (lowered p) ∷ []

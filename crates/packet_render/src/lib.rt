@@ -9,5 +9,8 @@ mod rendering;
 mod replying;
 mod stamps;
 
-pub use laws::forwarded_is_sent;
+pub use laws::{
+    bytes_are_enough, errors_are_private, forwarded_is_sent, replies_say_why, sent_is_what_came,
+    sent_rightly, tunnels_are_private,
+};
 pub use rendering::{MOST_PACKETS, push_forwarded, push_packets};

@@ -7,7 +7,7 @@ use Rattle.aftr_base.proofs.SumLemmas.{checksum-sealed}
 use Rattle.ip_codec.specs.Packet4.{Packet4, ip4_of, fields4, total_len_of}
 use Rattle.ip_codec.proofs.Laws.{span-append}
 use Rattle.ip_codec.proofs.Laws.{ip4_of-Ok, ip4_of-joined, ip4_of-shaped}
-use Rattle.softwire_encap.specs.Passing.{lowered_header, lowered, passed}
+use Rattle.softwire_encap.specs.Passing.{lowered_header, lowered, lowered_ttl, passed}
 
 -- the first four of a list, and the rest
 pub record IsFour (l : List ℕ) : Type 0 where
@@ -84,14 +84,14 @@ ip4_of-lowered packet is =
     let new = lowered_header packet in
     let spelt = ip4_of-Ok (header ++ payload) packet is in
     let shaped = ip4_of-shaped (header ++ payload) packet is in
-    let same = kept header payload (packet.ttl - 1) shaped.least_header in
+    let same = kept header payload (lowered_ttl packet) shaped.least_header in
     let first : slice_index new 0 ≡ slice_index (header ++ payload) 0 =
     same.first ∙ sym (get_or_append_left header payload 0 0 (omega (arith, shaped.least_header))) in
     let total : total_len_of new ≡ total_len_of (header ++ payload) =
     same.total ∙ ap big_endian (sym (span-append header payload 2 2 (omega (arith, shaped.least_header)))) in
     let total_is : total_len_of new ≡ length new + length payload =
     total ∙ sym shaped.total_len ∙ ap (λ n. n + length payload) (sym same.len) in
-    let changed : Packet4 → Packet4 = λ p. record p { ttl = packet.ttl - 1; header = new } in
+    let changed : Packet4 → Packet4 = λ p. record p { ttl = lowered_ttl packet; header = new } in
     ip4_of-joined new payload (omega (arith, same.len, shaped.least_header))
     (ap (λ n. n / 16) first ∙ spelt.version)
     (ap (λ n. 4 * (n % 16)) first ∙ sym shaped.header_len ∙ sym same.len)
@@ -112,7 +112,7 @@ like_old packet is =
     let payload = packet.payload in
     let new = lowered_header packet in
     let shaped = ip4_of-shaped (header ++ payload) packet is in
-    let same = kept header payload (packet.ttl - 1) shaped.least_header in
+    let same = kept header payload (lowered_ttl packet) shaped.least_header in
     let first : slice_index (lowered packet) 1 ≡ slice_index new 1 = get_or_append_left new payload 0 1 (omega (arith, same.len, shaped.least_header)) in
     let own : packet.tos ≡ slice_index header 1 = ap (λ (p : Packet4). p.tos) (fields-own packet is) in
     record {
