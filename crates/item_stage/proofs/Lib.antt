@@ -1,8 +1,11 @@
 mod HeadLemmas
+mod KeyLemmas
+mod LaneLemmas
 mod LookLemmas
 mod MarkLemmas
 mod OrderLemmas
 mod RowLemmas
 mod RunLemmas
+mod SourceLemmas
 mod StepLemmas
 mod WholeLemmas

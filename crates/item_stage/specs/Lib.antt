@@ -8,6 +8,7 @@ pub mod Ordered
 pub mod Packets
 pub mod Rejoined
 pub mod Shown
+pub mod Sources
 pub mod Stages
 pub mod Turns
 pub mod Waiting

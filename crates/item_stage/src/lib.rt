@@ -7,6 +7,7 @@ mod alone;
 mod entries;
 mod joining;
 mod keys;
+mod laws;
 mod looking;
 mod marks;
 mod packets;
@@ -18,5 +19,6 @@ mod stage;
 mod turns;
 
 pub use entries::Entry;
+pub use laws::one_way;
 pub use rounds::{Items, RoundItems};
 pub use stage::Stage;
