@@ -7,5 +7,6 @@ mod MarkLemmas
 mod OutLemmas
 mod PartLemmas
 mod RoundLemmas
+mod StrangerLemmas
 mod SomeLemmas
 mod VersionLemmas

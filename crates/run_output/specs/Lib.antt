@@ -5,3 +5,4 @@ pub mod Limiting
 pub mod Outputs
 pub mod Rendering
 pub mod Versions
+pub mod Strangers

@@ -1,5 +1,6 @@
 // What follows from the definitions for whoever runs rounds, as laws: nothing is done here.
 ghost use Rattle.run_output.specs.Laws.{CountsAreTotals, LimitsAreSome, LimitsBegin, LoadLinesJoin, RoundsJoin};
+ghost use Rattle.run_output.specs.Strangers.{OutputsStay, OutputsStayUnlimited, StrangersAreTreatedAlike};
 
 /// The limit keeps back the same errors of a run's first records, whatever comes behind them.
 pub fn limits_begin()
@@ -24,4 +25,13 @@ pub fn counts_are_totals()
 /// The lines of the first loads, and those of the next ones.
 pub fn load_lines_join()
     ensures { LoadLinesJoin }
+{}
+
+/// A change of the tables touches nobody else. In two runs over one capture, a record that names only addresses with the same set of
+/// bindings in both has the same verdict and the same packets, if the limit on errors treats it alike. If all records are such, the
+/// captures that are written are the same bytes. Without a limit on errors, the tables alone decide.
+pub fn strangers_stay()
+    ensures alike { StrangersAreTreatedAlike }
+    ensures outputs { OutputsStay }
+    ensures unlimited { OutputsStayUnlimited }
 {}

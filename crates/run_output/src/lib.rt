@@ -11,7 +11,9 @@ mod rendering;
 mod rounds;
 mod versions;
 
-pub use laws::{counts_are_totals, limits_are_some, limits_begin, load_lines_join, rounds_join};
+pub use laws::{
+    counts_are_totals, limits_are_some, limits_begin, load_lines_join, rounds_join, strangers_stay,
+};
 pub use limits::new_limit;
 pub use lines::push_ended_lines;
 pub use parts::{Part, Rendered};
