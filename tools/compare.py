@@ -4,8 +4,8 @@
 The two captures may have unlike link types, of these: 1 (Ethernet), 12, 14, 101, 228, 229 (plain IP), 0, 108 (loopback), 113 and 276 (Linux
 cooked). What stands in a frame behind the end of its packet is not compared, and the packets may stand in another order within a window. It
 names the packets of OURS that are missing in THEIRS, those of THEIRS that are not in OURS, and those that differ, with the fields that do;
-with `--verdicts` each with its record's number and line: OURS is then read twice, so it is no pipe. Exit code 0 where nothing differs, 1
-where something does, 2 where a word is not understood, a file cannot be read, or VERDICTS tells of another number of packets than OURS has.
+with `--verdicts` each with its record's number and line: OURS is then read twice, so it is no pipe. VERDICTS that tells of another number of
+packets than OURS has is rejected.
 
 Fields: version, length, tos, id, flags, offset, ttl, checksum, source, destination, options, protocol, label, fragment (the place of an IPv6
 fragment), fragment-id (its identification), and port-source, port-destination, payload; those of the header inside a tunnel begin with
@@ -16,9 +16,8 @@ import collections
 import functools
 import ipaddress
 import struct
-import sys
 
-from lwaftr_tools import captures, packets, verdicts
+from lwaftr_tools import captures, command, packets, verdicts
 
 FIELDS = (
     "version", "length", "tos", "id", "flags", "offset", "ttl", "checksum", "source", "destination", "options", "protocol", "label",
@@ -68,7 +67,8 @@ def _fields(data, front, found):
             found[front + "fragment"], found[front + "fragment-id"] = place, number
             protocol, rest, is_first = rest[0], rest[8:], place >> 3 == 0
         found[front + "protocol"] = protocol
-        if protocol == 4 and is_first:
+        # a packet in the one in a tunnel is what that one carries
+        if protocol == 4 and is_first and not front:
             _fields(rest, "in-", found)
             return
     else:
@@ -184,8 +184,8 @@ class Report:
 
     def say(self, kind, text):
         self.counts[kind] += 1
-        if self.counts.total() <= self.most:
-            print(f"{kind}: {text}")
+        if sum(self.counts.values()) <= self.most:
+            command.say(f"{kind}: {text}\n")
 
 
 def told(packet):
@@ -263,27 +263,23 @@ def compare(words):
                 late_mine, late_other = [], []
     settle(late_mine + list(mine.waiting.values()), late_other + list(other.waiting.values()), names, report)
     totals = ", ".join(f"{report.counts[it]} {it}" for it in ("differs", "missing there", "not ours"))
-    print(f"{counts[0]} packets of ours, {counts[1]} of theirs: {matched} the same, {totals}")
-    return 1 if report.counts else 0
+    command.say(f"{counts[0]} packets of ours, {counts[1]} of theirs: {matched} the same, {totals}\n")
+    return command.REFUSED if report.counts else command.DONE
 
 
 def main():
-    it = argparse.ArgumentParser(description=__doc__, formatter_class=argparse.RawDescriptionHelpFormatter)
-    it.add_argument("ours", metavar="OURS")
-    it.add_argument("theirs", metavar="THEIRS")
-    it.add_argument("--verdicts", help="VERDICTS of the run that wrote OURS")
+    it = command.Parser(__doc__)
+    it.add_argument("ours", metavar="OURS", type=command.source, help="OUT of a run of this router")
+    it.add_argument("theirs", metavar="THEIRS", type=command.source, help="what another router sent for the same input")
+    it.add_argument("--verdicts", metavar="VERDICTS", type=command.source, help="VERDICTS of the run that wrote OURS")
     it.add_argument("--ignore", type=ignored, default=set(), metavar="FIELDS", help="fields that are not compared, with commas between")
-    it.add_argument("--window", type=int, default=20000, help="how many packets a packet may be late (20000)")
-    it.add_argument("--most", type=int, default=100, help="how many differences are printed (100); all are counted")
+    it.add_argument("--window", type=command.from_one, default=20000, metavar="N", help="how many packets a packet may be late (20000)")
+    it.add_argument("--most", type=command.from_zero, default=100, metavar="N", help="how many differences are printed (100); all are counted")
     words = it.parse_args()
-    try:
-        if words.verdicts:
-            check(words.ours, words.verdicts)
-        sys.exit(compare(words))
-    except (captures.CaptureError, verdicts.VerdictsError, OSError, IndexError, struct.error) as error:
-        print(f"compare.py: {error}", file=sys.stderr)
-        sys.exit(2)
+    if words.verdicts:
+        check(words.ours, words.verdicts)
+    return compare(words)
 
 
 if __name__ == "__main__":
-    main()
+    command.run(main)

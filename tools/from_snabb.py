@@ -8,15 +8,21 @@ and the binding table: `softwire` with `ipv4`, `psid`, `b4-ipv6` (or `b4`), `br-
 `psid-length`, `reserved-ports-bit-count` or `shift`. All else is named on standard error as left out, with its line; so is what says
 something else than a statement before it.
 
-A router of this kind has one tunnel address: with several, `--aftr` says which one's subscribers are carried."""
+A router of this kind has one tunnel address: with several, `--aftr` says which one's subscribers are carried. A setting that the file does
+not give has Snabb's default, not that of a table: each is named on standard error with the option that gives another value. The program judges
+the table: if it is refused, the line of the configuration is named and nothing is written."""
+import bisect
 import collections
-import ipaddress
 
-from lwaftr_tools import converting, tables, yang
+from lwaftr_tools import addresses, command, converting, tables, yang
 
 ROOT = ("softwire-config", "lwaftr", "configuration")
 EXTERNAL = {"ip": "own", "mtu": "mtu4", "allow-incoming-icmp": "icmp_in", "generate-icmp-errors": "errors_down"}
 INTERNAL = {"ip": "aftr", "mtu": "mtu6", "hop-limit": "hop_limit", "hairpinning": "hairpin", "generate-icmp-errors": "errors_up"}
+# the defaults of Snabb's model of configurations (snabb-softwire-v2.yang)
+DEFAULTS = {
+    "mtu6": 1500, "mtu4": 1460, "hop_limit": 255, "hairpin": True, "icmp_in": True, "errors_up": True, "errors_down": True,
+}
 WHY = {
     "error-rate-limiting": "say it by `lwaftr run --errors N`",
     "reassembly": "this router's limits are fixed: 256 datagrams of 256 fragments a lane, 60 seconds",
@@ -43,10 +49,10 @@ def number(node):
         raise yang.YangError(node.line, str(error)) from None
 
 
-def address(kind, node, word=None):
+def address(read, node, word=None):
     """The address of a statement, or of a word of it."""
     try:
-        return kind(node.value if word is None else word)
+        return read(node.value if word is None else word)
     except ValueError as error:
         raise yang.YangError(node.line, f"{node.name}: {error}") from None
 
@@ -82,7 +88,7 @@ def interface(node, names, found, notes):
         if not name:
             continue
         if name in ("aftr", "own"):
-            value = address(ipaddress.IPv6Address if name == "aftr" else ipaddress.IPv4Address, it, it.value.split("/")[0])
+            value = address(addresses.ipv6 if name == "aftr" else addresses.ipv4, it, it.value.split("/")[0])
         else:
             value = number(it) if name in converting.SETTINGS else flag(it)
         if found.setdefault(name, value) != value:
@@ -113,20 +119,38 @@ def shape(node, notes):
     return (16 - length - bits if said and said.name == "shift" else bits), length
 
 
-def maps(table, notes):
-    """The shapes that the older form gives to addresses."""
-    found = {}
-    for node in table.all("psid-map"):
-        unread(node, ("addr", "end-addr", *SHAPE), notes)
-        first = int(address(ipaddress.IPv4Address, wanted(node, "addr")))
-        last = int(address(ipaddress.IPv4Address, node.one("end-addr"))) if node.one("end-addr") else first
-        if last < first:
-            raise yang.YangError(node.line, f"psid-map: end-addr {node.one('end-addr').value} is below addr {node.one('addr').value}")
-        its = shape(node, notes)
-        for at in range(first, last + 1):
-            if found.setdefault(ipaddress.IPv4Address(at), its) != its:
-                raise yang.YangError(node.line, f"psid-map: another one gives {ipaddress.IPv4Address(at)} another shape")
-    return found
+class Maps:
+    """The shapes that the older form gives to ranges of addresses."""
+
+    def __init__(self, table, notes):
+        found = []
+        for node in table.all("psid-map"):
+            unread(node, ("addr", "end-addr", *SHAPE), notes)
+            first = int(address(addresses.ipv4, wanted(node, "addr")))
+            last = int(address(addresses.ipv4, node.one("end-addr"))) if node.one("end-addr") else first
+            if last < first:
+                raise yang.YangError(node.line, f"psid-map: end-addr {node.one('end-addr').value} is below addr {node.one('addr').value}")
+            found.append((first, last, shape(node, notes), node))
+        self.ranges = []
+        for first, last, its, node in sorted(found, key=lambda it: it[0]):
+            if self.ranges and first <= self.ranges[-1][1]:
+                self._join(first, last, its, node)
+            else:
+                self.ranges.append((first, last, its, node))
+        self.firsts = [it[0] for it in self.ranges]
+
+    def _join(self, first, last, its, node):
+        """Adds a range that overlaps the one before it, which has to give the same shape."""
+        before = self.ranges[-1]
+        if before[2] != its:
+            late = max(node, before[3], key=lambda it: it.line)
+            raise yang.YangError(late.line, f"psid-map: another one gives {addresses.ipv4_of(first)} another shape")
+        self.ranges[-1] = before[0], max(before[1], last), its, before[3]
+
+    def shape_of(self, ipv4):
+        """The shape of an address; that of a whole one if no range has it."""
+        at = bisect.bisect(self.firsts, int(ipv4)) - 1
+        return self.ranges[at][2] if at >= 0 and int(ipv4) <= self.ranges[at][1] else (0, 0)
 
 
 def tunnel(node, listed, notes):
@@ -135,7 +159,7 @@ def tunnel(node, listed, notes):
     if not said:
         return listed[0] if listed else None
     if said.name == "br-address":
-        return address(ipaddress.IPv6Address, said)
+        return address(addresses.ipv6, said)
     place = number(said)
     if not 0 <= place < len(listed):
         raise yang.YangError(said.line, f"br {place}: the list of br-address has {len(listed)}, counted from 0")
@@ -147,55 +171,57 @@ KNOWN = ("ipv4", "psid", "b4-ipv6", "b4", "br-address", "br", "port-set", "paddi
 
 def softwires(table, notes):
     """Each softwire with its line, its tunnel address and its binding."""
-    listed = [address(ipaddress.IPv6Address, it) for it in table.all("br-address")]
-    of_map = maps(table, notes)
+    listed = [address(addresses.ipv6, it) for it in table.all("br-address")]
+    of_map = Maps(table, notes)
     for node in table.all("softwire"):
         unread(node, KNOWN, notes)
         b4 = either(node, ("b4-ipv6", "b4"), notes)
         if not b4 or not node.one("ipv4"):
             notes.left_out(node.line, "softwire", "it has no b4-ipv6 or no ipv4")
             continue
-        ipv4 = address(ipaddress.IPv4Address, node.one("ipv4"))
+        ipv4 = address(addresses.ipv4, node.one("ipv4"))
         ports = node.one("port-set")
         if ports:
             unread(ports, SHAPE, notes)
-        offset, length = shape(ports, notes) if ports else of_map.get(ipv4, (0, 0))
+        offset, length = shape(ports, notes) if ports else of_map.shape_of(ipv4)
         psid = number(node.one("psid")) if node.one("psid") else 0
-        yield node.line, tunnel(node, listed, notes), tables.Binding(address(ipaddress.IPv6Address, b4), ipv4, offset, length, psid)
+        yield node.line, tunnel(node, listed, notes), tables.Binding(address(addresses.ipv6, b4), ipv4, offset, length, psid)
     unread(table, ("softwire", "psid-map", "br-address"), notes)
 
 
+def read(text, notes, found):
+    """The softwires of a configuration; its settings go into `found`."""
+    top = yang.read(text)
+    root = next((it for name in ROOT for it in top.all(name)), top)
+    for it in top.inside if root is not top else []:
+        if it is not root:
+            notes.left_out(it.line, it.name, f"the statement that is read is {root.name} of line {root.line}")
+    table = next(iter(root.all("binding-table")), None)
+    interfaces(root, table, found, notes)
+    if not table:
+        raise command.Refused(f"{notes.file}: there is no binding-table")
+    return list(softwires(table, notes))
+
+
 def main():
-    words = converting.settings(converting.parser(__doc__, "CONFIG")).parse_args()
+    words = converting.parsed(converting.settings(converting.parser(__doc__, "CONFIG")))
     notes, found = converting.Notes(words.file), {}
-    text = converting.text_of(words.file)
     try:
-        top = yang.read(text)
-        root = next((it for name in ROOT for it in top.all(name)), top)
-        for it in top.inside if root is not top else []:
-            if it is not root:
-                notes.left_out(it.line, it.name, f"the statement that is read is {root.name} of line {root.line}")
-        table = next(iter(root.all("binding-table")), None)
-        interfaces(root, table, found, notes)
-        wires = list(softwires(table, notes)) if table else converting.fail(f"{words.file}: there is no binding-table")
+        wires = read(command.text_of(words.file), notes, found)
     except yang.YangError as error:
-        converting.fail(f"{words.file}:{error.line}: {error}")
-    counts = collections.Counter(aftr for _, aftr, _ in wires if aftr)
-    aftr = words.aftr or (counts.most_common(1)[0][0] if len(counts) == 1 else None)
-    if counts and not aftr:
-        said = ", ".join(f"{it} with {count}" for it, count in counts.most_common())
-        converting.fail(f"several tunnel addresses ({said}): say by --aftr which one's subscribers are carried")
+        raise converting.SourceError(words.file, error.line, error) from None
+    aftr = converting.one_tunnel(words, collections.Counter(it for _, it, _ in wires if it))
     if aftr:
         found["aftr"] = aftr
-    notes.not_said(words, found)
+    notes.not_said(words, found, DEFAULTS, "Snabb's default ")
     kept = []
     for line, its, binding in wires:
         if its and its != aftr:
             notes.left_out(line, f"softwire of {binding.b4}", f"its tunnel address is {its}")
         else:
-            kept.append(binding)
-    converting.put(words.output, tables.text(tables.Table(converting.softwire(words, found), kept)))
+            kept.append((line, binding))
+    converting.put_table(words, converting.softwire(words, {**DEFAULTS, **found}), kept)
 
 
 if __name__ == "__main__":
-    main()
+    command.run(main)

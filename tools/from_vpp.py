@@ -5,11 +5,13 @@ Read are `map add domain ip4-pfx A/32 ip6-pfx P ip6-src T [ea-bits-len 0] [psid-
 rule index D psid S ip6-dst B` (domains are counted from 0, in the order of their lines), and `map params icmp source-address A`.
 A domain with a whole address (psid-len 0) and an `ip6-pfx` of 128 bits is one binding by itself. What VPP has no words for
 (`own` where no source address is given, the errors, the hairpin) is said by options. All else is named on standard error as left
-out, with its line: domains of MAP-E (ea-bits-len above 0, an IPv4 prefix) among it."""
+out, with its line: domains of MAP-E (ea-bits-len above 0, an IPv4 prefix) among it. A command that deletes (`map del ..`, `map add rule ..
+del`) is rejected, since VPP gives the numbers of deleted domains away again: write the commands of what stays. The program judges the
+table: if it is refused, the line of the commands is named and nothing is written."""
 import collections
 import ipaddress
 
-from lwaftr_tools import converting, tables
+from lwaftr_tools import addresses, command, converting, tables
 
 
 def pairs(words):
@@ -41,7 +43,7 @@ class Domain:
         self.line, self.rules = line, 0
         self.ipv4 = ipaddress.IPv4Network(keys["ip4-pfx"]).network_address
         self.ip6 = ipaddress.IPv6Network(wanted(keys, "ip6-pfx"))
-        self.aftr = ipaddress.IPv6Address(wanted(keys, "ip6-src").split("/")[0])
+        self.aftr = addresses.ipv6(wanted(keys, "ip6-src").split("/")[0])
         self.offset, self.length = number(keys, "psid-offset"), number(keys, "psid-len")
         self.mtu = number(keys, "mtu") or None
         if self.length == 0:
@@ -76,14 +78,16 @@ class Commands:
         self.domains, self.bindings, self.own, self.notes = [], [], None, notes
 
     def take(self, line, words):
+        if words[:2] == ["map", "del"] or (words[:1] == ["map"] and "del" in words[3:]):
+            raise ValueError("a command that deletes is not read: write the commands of what stays")
         if words[:3] == ["map", "add", "domain"]:
             self.domains.append(domain(line, pairs(words[3:]), self.notes))
-        elif words[:3] == ["map", "add", "rule"] and "del" not in words:
+        elif words[:3] == ["map", "add", "rule"]:
             self.rule(line, pairs(words[3:]))
         elif words[:4] == ["map", "params", "icmp", "source-address"]:
             keys = pairs(words[3:])
             unknown(line, keys, ("source-address",), self.notes)
-            self.own = ipaddress.IPv4Address(wanted(keys, "source-address"))
+            self.own = addresses.ipv4(wanted(keys, "source-address"))
         else:
             self.notes.left_out(line, " ".join(words))
 
@@ -97,8 +101,8 @@ class Commands:
             self.notes.left_out(line, "rule", f"its domain {index} is")
             return
         of.rules += 1
-        b4 = ipaddress.IPv6Address(wanted(keys, "ip6-dst").split("/")[0])
-        psid = converting.number("psid", wanted(keys, "psid"), 0)
+        b4 = addresses.ipv6(wanted(keys, "ip6-dst").split("/")[0])
+        psid = converting.number("psid", wanted(keys, "psid"))
         self.bindings.append((line, of, tables.Binding(b4, of.ipv4, of.offset, of.length, psid)))
 
     def domains_without_rules(self):
@@ -123,35 +127,31 @@ def read(text, notes):
             if words:
                 commands.take(line, words)
         except ValueError as error:
-            converting.fail(f"{notes.file}:{line}: {error}")
+            raise converting.SourceError(notes.file, line, error) from None
     commands.domains_without_rules()
     return sorted(commands.bindings, key=lambda it: it[0]), commands.own
 
 
 def main():
-    words = converting.settings(converting.parser(__doc__, "COMMANDS")).parse_args()
+    words = converting.parsed(converting.settings(converting.parser(__doc__, "COMMANDS")))
     notes = converting.Notes(words.file)
-    found, own = read(converting.text_of(words.file), notes)
-    counts = collections.Counter(of.aftr for _, of, _ in found)
-    if len(counts) > 1 and not words.aftr:
-        said = ", ".join(f"{it} with {count}" for it, count in counts.most_common())
-        converting.fail(f"several tunnel addresses ({said}): say by --aftr which one's subscribers are carried")
-    aftr = words.aftr or next(iter(counts), None)
+    found, own = read(command.text_of(words.file), notes)
+    aftr = converting.one_tunnel(words, collections.Counter(of.aftr for _, of, _ in found))
     said = {name: it for name, it in (("aftr", aftr), ("own", own)) if it}
     kept, mtus = [], {}
     for line, of, binding in found:
         if of.aftr != aftr:
             notes.left_out(line, f"binding of {binding.b4}", f"its tunnel address is {of.aftr}")
         else:
-            kept.append(binding)
+            kept.append((line, binding))
             mtus.setdefault(of.mtu, of.line)
     if len(mtus) == 1 and None not in mtus:
         said["mtu6"] = next(iter(mtus))
     elif len(mtus) > 1:
         notes.left_out(max(mtus.values()), "mtu", f"domains say several ({', '.join(map(str, mtus))}): give --mtu6")
-    notes.not_said(words, said)
-    converting.put(words.output, tables.text(tables.Table(converting.softwire(words, said), kept)))
+    notes.not_said(words, said, {})
+    converting.put_table(words, converting.softwire(words, said), kept)
 
 
 if __name__ == "__main__":
-    main()
+    command.run(main)

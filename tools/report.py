@@ -8,15 +8,13 @@ With IN the course is told over capture time, and subscribers can be named: of a
 the IPv4 network by the owner of its destination under TABLE. The report is text on standard output; PAGE is one page for a browser with
 nothing beside it, PICTURE its pictures alone (both want matplotlib, Debian's python3-matplotlib). Memory does not grow with the run: of
 subscribers the 65,536 that were seen most are kept, in which case their counts are said to be at least so many."""
-import argparse
 import base64
 import collections
 import html
 import io
 import re
-import sys
 
-from lwaftr_tools import captures, packets, tables, verdicts
+from lwaftr_tools import captures, command, packets, tables, verdicts
 
 PARTS = 240
 MOST_NAMES = 65536
@@ -50,13 +48,13 @@ class Names:
 
     def add(self, name, kind):
         if name not in self.found and len(self.found) >= 2 * MOST_NAMES:
-            kept = sorted(self.found.items(), key=lambda it: -it[1].total())
+            kept = sorted(self.found.items(), key=lambda it: -sum(it[1].values()))
             self.lost += len(kept) - MOST_NAMES
             self.found = dict(kept[:MOST_NAMES])
         self.found.setdefault(name, collections.Counter())[kind] += 1
 
     def most(self, count):
-        return sorted(self.found.items(), key=lambda it: (-it[1].total(), it[0]))[:count]
+        return sorted(self.found.items(), key=lambda it: (-sum(it[1].values()), it[0]))[:count]
 
 
 class Report:
@@ -127,6 +125,8 @@ def read(words):
             report.came[report.version] = (report.records - 1, place)
         if kind not in verdicts.OUTCOMES:
             report.names.add(subscriber(record, table), kind)
+    if records is not None and next(records, None) is not None:
+        raise verdicts.VerdictsError(f"{words.verdicts} has lines of {report.records} records, and {words.input} has more records")
     return report
 
 
@@ -137,7 +137,7 @@ def share(count, of):
 def versions(path):
     """The lines of VERSIONS."""
     with open(path, encoding="utf-8", errors="replace", newline="\n") as file:
-        lines = [line.rstrip("\n") for line in file]
+        lines = [command.readable(line.rstrip("\n")) for line in file]
     for number, line in enumerate(lines, 1):
         if not VERSION.fullmatch(line):
             raise verdicts.VerdictsError(f"{path}:{number}: this is no line of VERSIONS; a capture is given by --in")
@@ -157,7 +157,7 @@ def text(report, versions_lines, count):
         said = "at least so many" if report.names.lost else "all of them"
         lines += ["", f"Most drops ({said})"]
         for name, kinds in report.names.most(count):
-            lines.append(f"  {kinds.total():>10,}  {name}: " + ", ".join(f"{kind} {number:,}" for kind, number in kinds.most_common()))
+            lines.append(f"  {sum(kinds.values()):>10,}  {name}: " + ", ".join(f"{kind} {number:,}" for kind, number in kinds.most_common()))
     return "\n".join(lines) + "\n"
 
 
@@ -222,37 +222,30 @@ def want_pictures():
     try:
         import matplotlib  # noqa: F401
     except ImportError:
-        sys.exit("report.py: --html and --png want matplotlib (Debian: apt-get install python3-matplotlib); no file was touched")
-
-
-def put(path, data):
-    with open(path, "wb") as file:
-        file.write(data)
+        raise command.Unusable("--html and --png want matplotlib (Debian: apt-get install python3-matplotlib); no file was touched") from None
 
 
 def main():
-    it = argparse.ArgumentParser(description=__doc__, formatter_class=argparse.RawDescriptionHelpFormatter)
-    it.add_argument("verdicts", metavar="VERDICTS")
-    it.add_argument("versions", metavar="VERSIONS", nargs="?")
-    it.add_argument("--in", dest="input", metavar="IN")
-    it.add_argument("--table", metavar="TABLE")
-    it.add_argument("--most", type=int, default=20, help="how many subscribers are named (20)")
-    it.add_argument("--html", metavar="PAGE")
-    it.add_argument("--png", metavar="PICTURE")
+    it = command.Parser(__doc__)
+    it.add_argument("verdicts", metavar="VERDICTS", type=command.source, help="VERDICTS of a run")
+    it.add_argument("versions", metavar="VERSIONS", nargs="?", type=command.source, help="VERSIONS of the run")
+    it.add_argument("--in", dest="input", metavar="IN", type=command.source, help="the capture of the run")
+    it.add_argument("--table", metavar="TABLE", type=command.source, help="the table by which owners are named")
+    it.add_argument("--most", type=command.from_zero, default=20, metavar="N", help="how many subscribers are named (20)")
+    it.add_argument("--html", metavar="PAGE", help="the page that is written")
+    it.add_argument("--png", metavar="PICTURE", help="the picture that is written (wants matplotlib)")
     words = it.parse_args()
+    command.keep_apart([words.verdicts, words.versions, words.input, words.table], [words.html, words.png])
     if words.html or words.png:
         want_pictures()
-    try:
-        lines = versions(words.versions) if words.versions else []
-        report = read(words)
-        sys.stdout.write(text(report, lines, words.most))
-        if words.html:
-            put(words.html, page(report, lines, words.most, words.verdicts).encode("utf-8"))
-        if words.png:
-            put(words.png, pictures(report, "png"))
-    except (tables.TableError, captures.CaptureError, verdicts.VerdictsError, OSError) as error:
-        sys.exit(f"report.py: {error}")
+    lines = versions(words.versions) if words.versions else []
+    report = read(words)
+    command.say(text(report, lines, words.most))
+    if words.html:
+        command.put(words.html, page(report, lines, words.most, words.verdicts))
+    if words.png:
+        command.put(words.png, pictures(report, "png"))
 
 
 if __name__ == "__main__":
-    main()
+    command.run(main)

@@ -1,7 +1,7 @@
 #!/usr/bin/env python3
 """A table as a configuration of Snabb's lwaftr: the binding table and the settings of both interfaces. Devices, neighbours and
 queues are not in a table: they are to be added."""
-from lwaftr_tools import converting, tables
+from lwaftr_tools import addresses, command, converting, tables
 
 
 def flag(value):
@@ -14,21 +14,19 @@ def text(table):
     lines += [f"    allow-incoming-icmp {flag(keys.icmp_in)};", f"    generate-icmp-errors {flag(keys.errors_down)};", "  }"]
     lines += ["  internal-interface {", f"    ip {keys.aftr};", f"    mtu {keys.mtu6};", f"    hop-limit {keys.hop_limit};"]
     lines += [f"    hairpinning {flag(keys.hairpin)};", f"    generate-icmp-errors {flag(keys.errors_up)};", "  }", "  binding-table {"]
-    for it in table.bindings:
+    aftr = str(keys.aftr)
+    for b4, ipv4, offset, length, psid in table.bindings:
         lines.append(
-            f"    softwire {{ ipv4 {it.ipv4}; psid {it.psid}; b4-ipv6 {it.b4}; br-address {keys.aftr}; "
-            f"port-set {{ psid-length {it.length}; reserved-ports-bit-count {it.offset}; }} }}"
+            f"    softwire {{ ipv4 {ipv4}; psid {psid}; b4-ipv6 {addresses.shown(b4)}; br-address {aftr}; "
+            f"port-set {{ psid-length {length}; reserved-ports-bit-count {offset}; }} }}"
         )
     return "\n".join([*lines, "  }", "}", ""])
 
 
 def main():
-    words = converting.parser(__doc__, "TABLE").parse_args()
-    try:
-        converting.put(words.output, text(tables.read(words.file)))
-    except tables.TableError as error:
-        converting.fail(str(error))
+    words = converting.parsed(converting.parser(__doc__, "TABLE"))
+    command.put(words.output, text(tables.read(words.file)))
 
 
 if __name__ == "__main__":
-    main()
+    command.run(main)

@@ -8,32 +8,25 @@ With VERDICTS of a run the line is taken from there; without it the program is r
 that goes again. What is said of owners and causes is by TABLE: with several tables in a run, give the one that the line's second number
 names. Of a fragment that makes a datagram whole the verdict is the datagram's, which is put together of the records before it. IN and
 VERDICTS are read more than once, so they are no pipes; nor is TABLE without VERDICTS."""
-import argparse
 import contextlib
+import datetime
 import os
-import subprocess
-import sys
 import tempfile
 
-from lwaftr_tools import captures, fragments, packets, rules, tables, verdicts
-
-
-def fail(text):
-    print(f"why.py: {text}", file=sys.stderr)
-    sys.exit(2)
+from lwaftr_tools import captures, command, fragments, packets, rules, tables, verdicts
 
 
 @contextlib.contextmanager
 def verdicts_of(capture, table):
     """The path of VERDICTS of a run of the program."""
     with tempfile.TemporaryDirectory() as folder:
-        words = ["run", os.path.abspath(capture), f"{folder}/out", f"{folder}/verdicts", f"{folder}/versions", os.path.abspath(table)]
-        ran = subprocess.run([tables.PROGRAM, *words], capture_output=True, encoding="utf-8", errors="replace")
-        if ran.returncode:
-            print(f"why.py: {ran.stderr.strip() or f'the program ended with {ran.returncode}'}", file=sys.stderr)
-        if not os.path.exists(f"{folder}/verdicts"):
-            sys.exit(2)
-        yield f"{folder}/verdicts"
+        files = [f"{folder}/{it}" for it in ("out", "verdicts", "versions")]
+        code, said = tables.ran("run", os.path.abspath(capture), *files, os.path.abspath(table))
+        if code:
+            command.warn(f"{command.tool_name()}: {said or f'the program ended with {code}'}")
+        if not os.path.exists(files[1]):
+            raise command.Unusable(f"the program made no VERDICTS of {capture}")
+        yield files[1]
 
 
 def line_of(path, number, name):
@@ -41,14 +34,14 @@ def line_of(path, number, name):
     for words in verdicts.of_records(path):
         if words[0] == str(number):
             return words
-    fail(f"{name} has no line of record {number}")
+    raise command.Unusable(f"{name} has no line of record {number}")
 
 
 def record_of(capture, number):
     for it in captures.records(capture):
         if it.number == number:
             return it
-    fail(f"{capture} has no record {number}")
+    raise command.Unusable(f"{capture} has no record {number}")
 
 
 def head4(packet):
@@ -74,15 +67,21 @@ def message_kind(packet):
     return f" type {packet.payload[0]} code {packet.payload[1]}" if len(packet.payload) > 1 else ""
 
 
-def headers(packet):
+# how many headers are shown, each inside the one before it
+MOST_HEADERS = 6
+
+
+def headers(packet, most=MOST_HEADERS):
     """The headers of a packet, of what it carries and of what it quotes, each a line that stands further in than the one before it."""
+    if most == 0:
+        return ["and more"]
     if isinstance(packet, packets.Ip4):
         quote = packets.quoted(packet)
-        return [head4(packet), *(further(headers(quote), "quotes ") if quote else [])]
+        return [head4(packet), *(further(headers(quote, most - 1), "quotes ") if quote else [])]
     inner, quote = packets.inside(packet), packets.quoted6(packet)
     if inner:
-        return [head6(packet), *further(headers(inner))]
-    return [head6(packet), *(further(headers(quote), "quotes ") if quote else [])]
+        return [head6(packet), *further(headers(inner, most - 1))]
+    return [head6(packet), *(further(headers(quote, most - 1), "quotes ") if quote else [])]
 
 
 def further(lines, front=""):
@@ -118,6 +117,15 @@ ALONE = {
 }
 
 
+def held_until_when(words, path):
+    """What became of the datagram that begins with a held record, by the lines `expired` and `unfinished`."""
+    for line in verdicts.lines(path):
+        if line[0] in verdicts.DATAGRAMS and line[1] == words[0]:
+            when = "it was given up after 60 seconds" if line[0] == "expired" else "it was not whole at the end of the capture"
+            return f"a fragment that waits for the rest of its datagram, which never came: {when}"
+    return ALONE["held"]
+
+
 def whole_of(capture, path, record):
     """The packet that the verdict of a record is of."""
     data = packets.strip(record.link, record.bytes)
@@ -127,9 +135,11 @@ def whole_of(capture, path, record):
     return fragments.Whole(packet, [record.number], record.number) if packet else None
 
 
-def cause_of(words, table, whole):
+def cause_of(words, table, whole, path):
     """The cause of a verdict, where the table gives this verdict; else what the table gives."""
     told = verdicts.outcome(words)
+    if told == "held":
+        return held_until_when(words, path)
     if told in ALONE:
         return ALONE[told]
     if not whole:
@@ -140,10 +150,19 @@ def cause_of(words, table, whole):
     return f"under this table record {words[0]} would be {found}: is it the table of the line's second number ({words[1]})?"
 
 
+def time_of(record):
+    """The time of a record as a date (UTC) and a number of seconds."""
+    seconds, rest = divmod(record.time, 1_000_000_000)
+    if seconds >= 1 << 32:
+        return f"at {seconds}.{rest:09} s"
+    date = datetime.datetime.fromtimestamp(seconds, datetime.timezone.utc)
+    return f"{date:%Y-%m-%d %H:%M:%S}.{rest:09} UTC ({seconds}.{rest:09})"
+
+
 def explain(table, record, words, path):
     """Prints what is said of a record: the table, the record, the words of the command, the path of VERDICTS."""
     line, packet = line_of(path, record.number, words.verdicts or "the run"), packets.of_record(record)
-    said = [f"record {record.number} (packet {record.number + 1} of tcpdump): {len(record.bytes)} bytes"]
+    said = [f"record {record.number} (packet {record.number + 1} of tcpdump): {len(record.bytes)} bytes, {time_of(record)}"]
     said += further(headers(packet)) if packet else []
     whole = None if verdicts.outcome(line) in ALONE else whole_of(words.input, path, record)
     if whole and len(whole.records) > 1:
@@ -153,27 +172,24 @@ def explain(table, record, words, path):
     ends = ip4_of(packet) if packet else None
     if ends:
         said += [f"  source: {rules.owner(table, ends.source, ends, 0)}", f"  destination: {rules.owner(table, ends.destination, ends, 1)}"]
-    said.append(f"why: {cause_of(line, table, whole)}")
-    print("\n".join(said))
+    said.append(f"why: {cause_of(line, table, whole, path)}")
+    command.say("\n".join(said) + "\n")
 
 
 def main():
-    it = argparse.ArgumentParser(description=__doc__, formatter_class=argparse.RawDescriptionHelpFormatter)
-    it.add_argument("input", metavar="IN")
-    it.add_argument("table", metavar="TABLE")
-    it.add_argument("number", metavar="N", type=int)
+    it = command.Parser(__doc__)
+    it.add_argument("input", metavar="IN", help="the capture")
+    it.add_argument("table", metavar="TABLE", help="the table that was in force")
+    it.add_argument("number", metavar="N", type=command.from_zero, help="the record, counted from 0")
     it.add_argument("--verdicts", metavar="VERDICTS", help="VERDICTS of a run over IN")
     words = it.parse_args()
     for path in (words.input, words.verdicts or words.table):
         if os.path.exists(path) and not os.path.isfile(path):
-            fail(f"{path} is no plain file: it is to be read more than once")
-    try:
-        table, record = tables.read(words.table), record_of(words.input, words.number)
-        with contextlib.nullcontext(words.verdicts) if words.verdicts else verdicts_of(words.input, words.table) as path:
-            explain(table, record, words, path)
-    except (tables.TableError, captures.CaptureError, verdicts.VerdictsError, OSError) as error:
-        fail(str(error))
+            raise command.Unusable(f"{path} is no plain file: it is to be read more than once")
+    table, record = tables.read(words.table), record_of(words.input, words.number)
+    with contextlib.nullcontext(words.verdicts) if words.verdicts else verdicts_of(words.input, words.table) as path:
+        explain(table, record, words, path)
 
 
 if __name__ == "__main__":
-    main()
+    command.run(main)

@@ -1,8 +1,10 @@
 """Captures of the classic form and of pcapng, record by record, in memory that does not grow."""
 import struct
 
+from . import command
 
-class CaptureError(Exception):
+
+class CaptureError(command.Unusable):
     """A file that is no capture, or breaks off, and where."""
 
 
@@ -15,6 +17,10 @@ class Record:
         self.number, self.time, self.link, self.bytes = number, time, link, data
 
 
+# the most captured bytes of a record, as the program takes them
+MOST_BYTES = 262_144
+# how much of an interface block is looked at for its options
+MOST_OPTIONS = 65_536
 MAGICS = {0xA1B2C3D4: 1000, 0xA1B23C4D: 1}
 
 
@@ -40,6 +46,18 @@ def _exactly(file, count, place):
     return data
 
 
+def _pass_over(file, count, place):
+    """Reads bytes that nobody wants, a piece at a time."""
+    while count > 0:
+        count -= len(_exactly(file, min(count, MOST_BYTES), place))
+
+
+def _within_limit(size, place):
+    if size > MOST_BYTES:
+        raise CaptureError(f"the record at byte {place} says that it has {size} bytes, and {MOST_BYTES} are the most")
+    return size
+
+
 def _classic(file, head):
     for order in "<>":
         scale = MAGICS.get(struct.unpack(order + "I", head)[0]) if len(head) == 4 else None
@@ -56,7 +74,7 @@ def _classic(file, head):
         if len(data) < 16:
             raise CaptureError(f"cut header at byte {place}")
         seconds, fraction, size, _ = header.unpack(data)
-        yield Record(number, seconds * 1_000_000_000 + fraction * scale, link, _exactly(file, size, place))
+        yield Record(number, seconds * 1_000_000_000 + fraction * scale, link, _exactly(file, _within_limit(size, place), place))
         number, place = number + 1, place + 16 + size
 
 
@@ -81,34 +99,57 @@ def _size(data, order, place):
     return size
 
 
+class _Section:
+    """A section of a pcapng file: its byte order, its interfaces, and the time of the last packet in front of it."""
+
+    def __init__(self, order, last):
+        self.order, self.last, self.interfaces = order, last, []
+
+    def add_interface(self, body):
+        link, _, limit = struct.unpack_from(self.order + "HHI", body)
+        self.interfaces.append((link, _resolution(body[8:], self.order), limit))
+
+    def packet(self, kind, head, room, place):
+        """Link type, time and captured length of a packet block; `room` is how many bytes stand behind its head."""
+        if kind == SIMPLE:
+            link, _, limit = self.interfaces[0]
+            whole = struct.unpack(self.order + "I", head)[0]
+            return link, self.last, _within_limit(min(whole, limit or whole, room), place)
+        at, high, low, captured, _ = struct.unpack(self.order + "IIIII", head)
+        link, ticks, _ = self.interfaces[at]
+        self.last = (high << 32 | low) * 1_000_000_000 // ticks
+        return link, self.last, min(_within_limit(captured, place), room)
+
+
+INTERFACE, SIMPLE, ENHANCED = 1, 3, 6
+HEADS = {SIMPLE: 4, ENHANCED: 20}
+
+
 def _blocks(file, head):
-    order, interfaces, number, place, last = "<", [], 0, 0, 0
+    section, number, place = _Section("<", 0), 0, 0
     while head:
         if len(head) < 4:
             raise CaptureError(f"cut block at byte {place}")
         if head == b"\x0a\x0d\x0d\x0a":
             rest = _exactly(file, 8, place)
-            order = "<" if rest[4:] == b"\x4d\x3c\x2b\x1a" else ">"
-            size = _size(rest[:4], order, place)
-            _exactly(file, size - 12, place)
-            interfaces = []
+            section = _Section("<" if rest[4:] == b"\x4d\x3c\x2b\x1a" else ">", section.last)
+            size = _size(rest[:4], section.order, place)
+            _pass_over(file, size - 12, place)
         else:
-            kind = struct.unpack(order + "I", head)[0]
-            size = _size(_exactly(file, 4, place), order, place)
-            body = _exactly(file, size - 8, place)[:-4]
-            if kind == 1:
-                interfaces.append((struct.unpack_from(order + "H", body)[0], _resolution(body[8:], order), struct.unpack_from(order + "I", body, 4)[0]))
-            elif kind == 6:
-                at, high, low, captured = struct.unpack_from(order + "IIII", body)
-                link, ticks, _ = interfaces[at]
-                last = (high << 32 | low) * 1_000_000_000 // ticks
-                yield Record(number, last, link, body[20 : 20 + captured])
-                number += 1
-            elif kind == 3:
-                link, _, limit = interfaces[0]
-                whole = struct.unpack_from(order + "I", body)[0]
-                yield Record(number, last, link, body[4 : 4 + min(whole, limit or whole)])
-                number += 1
+            kind = struct.unpack(section.order + "I", head)[0]
+            size = _size(_exactly(file, 4, place), section.order, place)
+            left = size - 12
+            if kind in HEADS:
+                front = _exactly(file, min(HEADS[kind], left), place)
+                left -= len(front)
+                link, time, count = section.packet(kind, front, left, place)
+                yield Record(number, time, link, _exactly(file, count, place))
+                number, left = number + 1, left - count
+            elif kind == INTERFACE:
+                body = _exactly(file, min(left, MOST_OPTIONS), place)
+                left -= len(body)
+                section.add_interface(body)
+            _pass_over(file, left + 4, place)
         place += size
         head = file.read(4)
 

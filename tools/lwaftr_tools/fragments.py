@@ -1,5 +1,7 @@
 """Datagrams put together of the records of a capture. The lines of the run's VERDICTS tell which fragments wait, and which datagrams were
 given up or refused."""
+from __future__ import annotations
+
 import dataclasses
 import struct
 

@@ -1,4 +1,6 @@
 """What a record carries: the frame, the tunnel packet, the packet inside, its ports. Nothing is checked but lengths."""
+from __future__ import annotations
+
 import dataclasses
 import ipaddress
 import struct

@@ -1,10 +1,12 @@
 """The lines of VERDICTS, as words."""
+from . import command
+
 
 OUTCOMES = ("up", "down", "hairpin", "held", "drop")
 DATAGRAMS = ("expired", "unfinished")
 
 
-class VerdictsError(Exception):
+class VerdictsError(command.Unusable):
     """A file that is no VERDICTS, or not those that are wanted, and why."""
 
 
@@ -18,10 +20,18 @@ def lines(path):
             yield words
 
 
+# no number of a run has more digits
+MOST_DIGITS = 10
+
+
+def is_number(word):
+    return word.isdigit() and len(word) <= MOST_DIGITS
+
+
 def is_line(words):
     if len(words) == 2:
-        return words[0] in DATAGRAMS and words[1].isdigit()
-    return len(words) > 3 and words[0].isdigit() and words[1].isdigit() and words[2] in OUTCOMES and words[-1].isdigit()
+        return words[0] in DATAGRAMS and is_number(words[1])
+    return len(words) > 3 and is_number(words[0]) and is_number(words[1]) and words[2] in OUTCOMES and is_number(words[-1])
 
 
 def of_records(path):

@@ -10,7 +10,13 @@ class YangError(Exception):
         self.line = line
 
 
+# how deep statements may be nested: a configuration of Snabb has six levels
+MOST_DEEP = 64
+
+
 class Node:
+    __slots__ = ("name", "value", "line", "inside")
+
     def __init__(self, name, value, line):
         self.name, self.value, self.line, self.inside = name, value, line, []
 
@@ -58,6 +64,8 @@ def read(text):
         if value == "{":
             if not words:
                 raise YangError(line, "no word stands in front of {")
+            if len(open_nodes) > MOST_DEEP:
+                raise YangError(line, f"statements are nested more than {MOST_DEEP} deep")
             open_nodes.append(node)
         elif value == "}":
             if len(open_nodes) == 1:
