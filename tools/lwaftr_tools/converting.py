@@ -37,7 +37,8 @@ def parsed(it):
     return words
 
 
-def _address(read):
+def address_word(read):
+    """The reader of an option that is an address."""
     def of_word(word):
         try:
             return read(word)
@@ -49,8 +50,8 @@ def _address(read):
 
 def settings(it):
     """The options for settings that the other format lacks, or that are to be others."""
-    it.add_argument("--aftr", metavar="IPV6", type=_address(addresses.ipv6), help="the router's end of the tunnels; only its subscribers are carried")
-    it.add_argument("--own", metavar="IPV4", type=_address(addresses.ipv4), help="the source of the router's own ICMP errors")
+    it.add_argument("--aftr", metavar="IPV6", type=address_word(addresses.ipv6), help="the router's end of the tunnels; only its subscribers are carried")
+    it.add_argument("--own", metavar="IPV4", type=address_word(addresses.ipv4), help="the source of the router's own ICMP errors")
     for name in SETTINGS:
         it.add_argument(f"--{name.replace('_', '-')}", metavar="N", type=command.from_zero, help=HELP[name])
     for name in SWITCHES:
