@@ -66,7 +66,7 @@ class Ports(Folder):
     def test_a_subscriber(self):
         code, out, _ = self.told("--b4", B4)
         self.assertEqual(code, 0)
-        self.assertTrue(out.startswith(f"{B4}: 1 sets, 252 ports\n  {SHARED}, offset 6, length 8, psid 52: 252 ports: 1232-1235, 2256-2259, "), out)
+        self.assertTrue(out.startswith(f"{B4}: 1 set, 252 ports\n  {SHARED}, offset 6, length 8, psid 52: 252 ports: 1232-1235, 2256-2259, "), out)
         found = json.loads(self.told("--b4", ALONE, "--json")[1])
         self.assertEqual((len(found), found[0]["ranges"], found[0]["ports"]), (1, [[0, 65535]], 65536))
 
