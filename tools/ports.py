@@ -18,6 +18,10 @@ def shape(offset, length):
     return "the whole address" if (offset, length) == (0, 0) else f"offset {offset}, length {length}"
 
 
+def in_words(count):
+    return f"{count:,} set{'' if count == 1 else 's'}"
+
+
 def one(it):
     """A binding as keys and values."""
     return {
@@ -28,7 +32,7 @@ def one(it):
 
 def of_subscriber(table, b4):
     found = [one(it) for it in table.bindings if it.b4 == b4]
-    lines = [f"{addresses.shown(b4)}: {len(found)} {"set" if len(found) == 1 else "sets"}, {sum(it['ports'] for it in found):,} ports"]
+    lines = [f"{addresses.shown(b4)}: {in_words(len(found))}, {sum(it['ports'] for it in found):,} ports"]
     for it in found:
         lines.append(f"  {it['ipv4']}, {shape(it['offset'], it['length'])}, psid {it['psid']}: {it['ports']:,} ports: {shown(it['ranges'])}")
     return found, lines
@@ -50,7 +54,7 @@ def free_of(bindings):
 def of_address(table, ipv4):
     bindings = sorted(table.of.get(ipv4, []), key=lambda it: (it.offset, it.length, it.psid))
     found = {"ipv4": str(ipv4), "sets": [one(it) for it in bindings], "free": []}
-    lines = [f"{ipv4}: {len(bindings)} {"set" if len(bindings) == 1 else "sets"}, {sum(it.port_count() for it in bindings):,} ports in use"]
+    lines = [f"{ipv4}: {in_words(len(bindings))}, {sum(it.port_count() for it in bindings):,} ports in use"]
     for it in bindings:
         lines.append(f"  {shape(it.offset, it.length)}, psid {it.psid}: {addresses.shown(it.b4)}: {shown(it.ranges())}")
     for (offset, length), psids in free_of(bindings).items():

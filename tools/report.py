@@ -2,159 +2,38 @@
 """What became of the records of a run: by outcome and by rule, over records or capture time, where tables came, and the subscribers with
 most drops, by rule.
 
-    tools/report.py VERDICTS [VERSIONS] [--in IN] [--table TABLE] [--html PAGE] [--png PICTURE]
+    tools/report.py VERDICTS [VERSIONS] [--in IN] [--out OUT] [--table TABLE] [--html PAGE] [--json FILE] [--prometheus FILE] [--png PICTURE]
+    tools/report.py --add REPORT.json... [--json FILE] [--prometheus FILE]
 
-With IN the course is told over capture time, and subscribers can be named: of a packet from a tunnel by the tunnel's end, of one from
-the IPv4 network by the owner of its destination under TABLE. The report is text on standard output; PAGE is one page for a browser with
-nothing beside it, PICTURE its pictures alone (both want matplotlib, Debian's python3-matplotlib). Memory does not grow with the run: of
-subscribers the 65,536 that were seen most are kept, in which case their counts are said to be at least so many."""
-import base64
-import collections
-import html
+With IN the course is told over capture time, bytes are counted, and subscribers can be named: of a packet from a tunnel by the tunnel's end, of
+one from the IPv4 network by the owner of its destination under TABLE. The report is text on standard output, unless a file is `-`. PAGE is one page
+for a browser that needs nothing else: charts, tables that sort, and what each rule means. The JSON has counters with the names of RFC 8676's
+traffic statistics; those of packets sent and their bytes need OUT. --add sums such reports. PICTURE needs matplotlib (Debian's
+python3-matplotlib). Memory does not grow with the run: of subscribers the 65,536 that were seen most are kept, in which case their counts are
+lower bounds."""
+from __future__ import annotations
+
 import io
-import re
 
-from lwaftr_tools import captures, command, packets, tables, verdicts
-
-PARTS = 240
-MOST_NAMES = 65536
-# a line of VERSIONS
-VERSION = re.compile(r"(\d+|-) .+ (initial|at \d+|refused .+|not-reached)")
-
-
-class Course:
-    """Counts by kind over a growing stretch, in at most PARTS parts: where it is full, two parts become one."""
-
-    def __init__(self):
-        self.width, self.parts = 1, []
-
-    def add(self, place, kind):
-        at = place // self.width
-        while at >= PARTS:
-            pairs = [self.parts[i : i + 2] for i in range(0, len(self.parts), 2)]
-            self.parts = [sum(pair, collections.Counter()) for pair in pairs]
-            self.width *= 2
-            at = place // self.width
-        while len(self.parts) <= at:
-            self.parts.append(collections.Counter())
-        self.parts[at][kind] += 1
-
-
-class Names:
-    """The names that come most often, and how often each kind came with them: of more names than are kept the rarest go."""
-
-    def __init__(self):
-        self.found, self.lost = {}, 0
-
-    def add(self, name, kind):
-        if name not in self.found and len(self.found) >= 2 * MOST_NAMES:
-            kept = sorted(self.found.items(), key=lambda it: -sum(it[1].values()))
-            self.lost += len(kept) - MOST_NAMES
-            self.found = dict(kept[:MOST_NAMES])
-        self.found.setdefault(name, collections.Counter())[kind] += 1
-
-    def most(self, count):
-        return sorted(self.found.items(), key=lambda it: (-sum(it[1].values()), it[0]))[:count]
-
-
-class Report:
-    def __init__(self):
-        self.records = self.sent = self.answered = self.limited = self.expired = self.unfinished = 0
-        self.outcomes, self.rules, self.tables = collections.Counter(), collections.Counter(), collections.Counter()
-        self.by_record, self.by_time = Course(), Course()
-        self.first_time, self.names = None, Names()
-        # for each later table the first record that it judged, and its time
-        self.came, self.version = {}, 0
-
-    def line(self, words):
-        """A line of VERDICTS; the kind of its record, if it is one's."""
-        if words[0] in verdicts.DATAGRAMS:
-            setattr(self, words[0], getattr(self, words[0]) + 1)
-            return None
-        self.records += 1
-        self.outcomes[words[2]] += 1
-        version = int(words[1])
-        if version and version not in self.tables:
-            self.came[version] = (self.records - 1, None)
-        self.tables[version] += 1
-        self.version = version
-        self.sent += int(words[-1])
-        kind = words[2]
-        if kind == "drop":
-            kind = words[3]
-            self.rules[kind] += 1
-            self.answered += words[-1] != "0"
-            self.limited += words[-2] == "limited"
-        self.by_record.add(self.records - 1, kind)
-        return kind
-
-
-def subscriber(record, table):
-    """Who a record is about, as text."""
-    data = packets.strip(record.link, record.bytes)
-    if not data:
-        return "no packet"
-    if data[0] >> 4 == 6:
-        found = packets.ip6(data)
-        return f"tunnel from {found.source}" if found else "no packet"
-    found = packets.ip4(data)
-    if not found:
-        return "no packet"
-    if table:
-        owner = table.owner(found.destination, packets.key(found, 1))
-        if owner:
-            return f"tunnel to {owner.b4}"
-    return f"address {found.destination}"
-
-
-def read(words):
-    report, table = Report(), tables.read(words.table) if words.table else None
-    records = captures.records(words.input) if words.input else None
-    for line in verdicts.lines(words.verdicts):
-        kind = report.line(line)
-        if kind is None or records is None:
-            continue
-        record = next(records, None)
-        if record is None:
-            raise verdicts.VerdictsError(f"{words.verdicts} has more lines of records than {words.input} has records ({report.records - 1})")
-        if report.first_time is None:
-            report.first_time = record.time
-        place = max(0, record.time - report.first_time) // 1_000_000
-        report.by_time.add(place, kind)
-        if report.came.get(report.version) == (report.records - 1, None):
-            report.came[report.version] = (report.records - 1, place)
-        if kind not in verdicts.OUTCOMES:
-            report.names.add(subscriber(record, table), kind)
-    if records is not None and next(records, None) is not None:
-        raise verdicts.VerdictsError(f"{words.verdicts} has lines of {report.records} records, and {words.input} has more records")
-    return report
-
-
-def share(count, of):
-    return f"{count:>12,} {100 * count / of if of else 0:6.2f} %"
-
-
-def versions(path):
-    """The lines of VERSIONS."""
-    with open(path, encoding="utf-8", errors="replace", newline="\n") as file:
-        lines = [command.readable(line.rstrip("\n")) for line in file]
-    for number, line in enumerate(lines, 1):
-        if not VERSION.fullmatch(line):
-            raise verdicts.VerdictsError(f"{path}:{number}: this is no line of VERSIONS; a capture is given by --in")
-    return lines
+from lwaftr_tools import clock, command, counters, page, reporting, verdicts
+from lwaftr_tools.counters import share
 
 
 def text(report, versions_lines, count):
-    lines = [f"{report.records:,} records, {report.sent:,} packets sent", "", "By outcome"]
+    lines = [f"{report.records:,} records, {report.sent:,} packets sent"]
+    if report.first_time is not None:
+        lines.append(f"from {clock.shown(report.first_time)} to {clock.shown(report.last_time)}")
+    lines += ["", "By outcome"]
     lines += [f"  {name:<10}{share(report.outcomes[name], report.records)}" for name in verdicts.OUTCOMES if report.outcomes[name]]
     lines += ["", "Drops by rule"] + [f"  {name:<20}{share(number, report.records)}" for name, number in report.rules.most_common()]
     lines.append(f"  answered by an error: {report.answered:,}; kept back by the limit: {report.limited:,}")
     lines.append(f"  datagrams given up after 60 s: {report.expired:,}; that wait at the end: {report.unfinished:,}")
     lines += ["", "Records by the table in force"] + [f"  table {name:<4}{share(number, report.records)}" for name, number in sorted(report.tables.items())]
+    lines += [f"  table {name} came at {clock.shown(report.first_time + place * 1_000_000)}" for name, (_, place) in report.came.items() if place is not None]
     if versions_lines:
         lines += ["", "Tables"] + [f"  {it}" for it in versions_lines]
     if report.names.found:
-        said = "at least so many" if report.names.lost else "all of them"
+        said = "at least these" if report.names.lost else "all of them"
         lines += ["", f"Most drops ({said})"]
         for name, kinds in report.names.most(count):
             lines.append(f"  {sum(kinds.values()):>10,}  {name}: " + ", ".join(f"{kind} {number:,}" for kind, number in kinds.most_common()))
@@ -204,47 +83,75 @@ def pictures(report, form):
     return made.getvalue()
 
 
-STYLE = "body{font:16px/1.5 sans-serif;max-width:1100px;margin:2em auto;padding:0 1em}pre{background:#f4f4f4;padding:1em;overflow:auto}img{max-width:100%}"
-
-
-def page(report, versions_lines, count, name):
-    picture = base64.b64encode(pictures(report, "png")).decode("ascii")
-    return (
-        f'<!doctype html><html lang="en"><meta charset="utf-8"><title>lwaftr: {html.escape(name)}</title><style>{STYLE}</style>'
-        f"<h1>{html.escape(name)}</h1><p>{report.records:,} records, {report.sent:,} packets sent, {report.outcomes['drop']:,} dropped.</p>"
-        f'<img alt="records over the run, by outcome and by rule" src="data:image/png;base64,{picture}">'
-        f"<pre>{html.escape(text(report, versions_lines, count))}</pre></html>\n"
-    )
-
-
 def want_pictures():
-    """Ends where what draws the pictures is missing."""
+    """Ends if what draws the pictures is missing."""
     try:
         import matplotlib  # noqa: F401
     except ImportError:
-        raise command.Unusable("--html and --png want matplotlib (Debian: apt-get install python3-matplotlib); no file was touched") from None
+        raise command.Unusable("--png needs matplotlib (Debian: apt-get install python3-matplotlib); no file was touched") from None
+
+
+def put_counters(words, found):
+    if words.json:
+        command.put(words.json, counters.as_json(found))
+    if words.prometheus:
+        command.put(words.prometheus, counters.as_prometheus(found))
+
+
+def add(words):
+    """The sum of reports."""
+    found = counters.added([counters.load(it) for it in words.add])
+    if "-" not in (words.json, words.prometheus):
+        command.say(counters.as_text(found))
+    put_counters(words, found)
+
+
+def report_of_a_run(words):
+    if words.png:
+        want_pictures()
+    lines = reporting.versions(words.versions) if words.versions else []
+    report = reporting.read(words)
+    said = text(report, lines, words.most)
+    if "-" not in (words.html, words.json, words.prometheus, words.png):
+        command.say(said)
+    put_counters(words, counters.tree(report, words.input is not None))
+    if words.html:
+        command.put(words.html, page.page(report, lines, words, said))
+    if words.png:
+        command.put(words.png, pictures(report, "png"))
+
+
+def parser():
+    it = command.Parser(__doc__)
+    it.add_argument("verdicts", metavar="VERDICTS", nargs="?", type=command.source, help="VERDICTS of a run")
+    it.add_argument("versions", metavar="VERSIONS", nargs="?", type=command.source, help="VERSIONS of the run")
+    it.add_argument("--in", dest="input", metavar="IN", type=command.source, help="the capture of the run")
+    it.add_argument("--out", metavar="OUT", type=command.source, help="the packets that the run sent; needs --in")
+    it.add_argument("--table", metavar="TABLE", type=command.source, help="the table by which owners are named")
+    it.add_argument("--add", metavar="REPORT", nargs="+", type=command.source, help="reports in JSON that are summed, in place of a run")
+    it.add_argument("--most", type=command.from_zero, default=20, metavar="N", help="how many subscribers are named in the text (20)")
+    it.add_argument("--html", metavar="PAGE", help="write a page for a browser")
+    it.add_argument("--json", metavar="FILE", help="write the counters as JSON")
+    it.add_argument("--prometheus", metavar="FILE", help="write the counters in Prometheus' text form")
+    it.add_argument("--png", metavar="PICTURE", help="write a picture (needs matplotlib)")
+    return it
 
 
 def main():
-    it = command.Parser(__doc__)
-    it.add_argument("verdicts", metavar="VERDICTS", type=command.source, help="VERDICTS of a run")
-    it.add_argument("versions", metavar="VERSIONS", nargs="?", type=command.source, help="VERSIONS of the run")
-    it.add_argument("--in", dest="input", metavar="IN", type=command.source, help="the capture of the run")
-    it.add_argument("--table", metavar="TABLE", type=command.source, help="the table by which owners are named")
-    it.add_argument("--most", type=command.from_zero, default=20, metavar="N", help="how many subscribers are named (20)")
-    it.add_argument("--html", metavar="PAGE", help="the page that is written")
-    it.add_argument("--png", metavar="PICTURE", help="the picture that is written (wants matplotlib)")
+    it = parser()
     words = it.parse_args()
-    command.keep_apart([words.verdicts, words.versions, words.input, words.table], [words.html, words.png])
-    if words.html or words.png:
-        want_pictures()
-    lines = versions(words.versions) if words.versions else []
-    report = read(words)
-    command.say(text(report, lines, words.most))
-    if words.html:
-        command.put(words.html, page(report, lines, words.most, words.verdicts))
-    if words.png:
-        command.put(words.png, pictures(report, "png"))
+    if bool(words.add) == bool(words.verdicts):
+        it.error("give either VERDICTS or --add REPORT.json, once or more")
+    if words.add and (words.html or words.png):
+        it.error("--add gives text, --json and --prometheus alone")
+    if words.out and not words.input:
+        it.error("--out needs --in")
+    inputs = [words.verdicts, words.versions, words.input, words.out, words.table, *(words.add or [])]
+    command.keep_apart(inputs, [words.html, words.json, words.prometheus, words.png])
+    if words.add:
+        add(words)
+    else:
+        report_of_a_run(words)
 
 
 if __name__ == "__main__":

@@ -9,11 +9,10 @@ that goes again. What is said of owners and causes is by TABLE: with several tab
 names. Of a fragment that makes a datagram whole the verdict is the datagram's, which is put together of the records before it. IN and
 VERDICTS are read more than once, so they are no pipes; nor is TABLE without VERDICTS."""
 import contextlib
-import datetime
 import os
 import tempfile
 
-from lwaftr_tools import captures, command, fragments, packets, rules, tables, verdicts
+from lwaftr_tools import captures, clock, command, fragments, packets, rules, tables, verdicts
 
 
 @contextlib.contextmanager
@@ -151,12 +150,8 @@ def cause_of(words, table, whole, path):
 
 
 def time_of(record):
-    """The time of a record as a date (UTC) and a number of seconds."""
-    seconds, rest = divmod(record.time, 1_000_000_000)
-    if seconds >= 1 << 32:
-        return f"at {seconds}.{rest:09} s"
-    date = datetime.datetime.fromtimestamp(seconds, datetime.timezone.utc)
-    return f"{date:%Y-%m-%d %H:%M:%S}.{rest:09} UTC ({seconds}.{rest:09})"
+    """The time of a record as a date and as seconds."""
+    return f"{clock.shown(record.time)} ({record.time // 1_000_000_000}.{record.time % 1_000_000_000:09})"
 
 
 def explain(table, record, words, path):

@@ -1,7 +1,11 @@
 """`report.py`."""
+import json
 import os
+import re
+import shutil
 import subprocess
 import sys
+import unittest
 
 from shared import a_table, captures, FAR, Folder, HERE, ip4, one_of_each_rule, ran, SHARED, udp
 
@@ -23,7 +27,7 @@ class Reporting(Folder):
         page, picture = self.file("page.html", "old"), self.file("page.png")
         it = subprocess.run(
             [sys.executable, os.path.join(HERE, "report.py"), names[2], "--html", page, "--png", picture],
-            capture_output=True, text=True, env={**os.environ, "PYTHONPATH": self.folder.name},
+            capture_output=True, text=True, env={**os.environ, "PYTHONPATH": self.folder.name}, check=False,
         )
         self.assertEqual((it.returncode, "matplotlib" in it.stderr), (2, True))
         self.assertFalse(os.path.exists(picture))
@@ -55,15 +59,136 @@ class Reporting(Folder):
         self.assertEqual((code, out), (2, ""))
         self.assertEqual(error, f"report.py: {names[2]} has more lines of records than {self.file('other.pcap')} has records (3)\n")
 
-    def test_a_page(self):
+    def a_report(self, *more):
+        names = self.run_program([data for data, _, _ in one_of_each_rule()], a_table(errors_down=True))
+        words = names[2], names[3], "--in", names[0], "--out", names[1], "--table", names[4], *more
+        code, out, error = ran("report.py", *words)
+        self.assertEqual((code, error), (0, ""))
+        return names, out
+
+    def test_counters(self):
+        names, out = self.a_report("--json", self.file("r.json"), "--prometheus", self.file("r.prom"))
+        with open(self.file("r.json"), encoding="utf-8") as file:
+            found = json.load(file)
+        self.assertEqual(found["records"], len(one_of_each_rule()))
+        self.assertEqual(found["rules"]["no-binding"]["packets"], 3)
+        self.assertEqual(found["subscribers"]["tunnel from 2001:db8:1::2"], {"no-binding": 1})
+        # counted by hand from the list of packets: those whose first four bits are 4 or 6
+        records = [it.bytes for it in captures.records(names[0])]
+        for family, first in (("ipv4", 4), ("ipv6", 6)):
+            its = [it for it in records if it and it[0] >> 4 == first]
+            self.assertEqual(found["traffic-stat"][f"rcvd-{family}-packets"], len(its))
+            self.assertEqual(found["traffic-stat"][f"rcvd-{family}-bytes"], sum(self.said(it) for it in its))
+        sent = [it.bytes for it in captures.records(names[1])]
+        stat = found["traffic-stat"]
+        self.assertEqual(sum(stat[it] for it in ("sent-ipv4-packets", "sent-ipv6-packets", "out-icmpv4-error-packets")), len(sent))
+        self.assertEqual(sum(stat[it] for it in ("sent-ipv4-bytes", "sent-ipv6-bytes", "out-icmpv4-error-bytes")), sum(map(len, sent)))
+        self.assertEqual((stat["sent-ipv4-packets"], stat["sent-ipv6-packets"], stat["hairpin-ipv4-packets"]), (1, 2, 1))
+        self.assertEqual(stat["hairpin-ipv4-bytes"], 32)
+        with open(self.file("r.prom"), encoding="utf-8") as file:
+            lines = file.read().splitlines()
+        self.assertIn('lwaftr_dropped_packets_total{rule="no-binding"} 3', lines)
+        self.assertIn("lwaftr_sent_ipv6_packets_total 2", lines)
+        for line in lines:
+            self.assertRegex(line, r'^(# (HELP|TYPE) lwaftr_\w+ .+|lwaftr_\w+(\{\w+="[\w-]+"\})? \d+)$')
+
+    def said(self, data):
+        """The length that a packet's header says, or that of what is there if it is less."""
+        whole = 40 + int.from_bytes(data[4:6], "big") if data[0] >> 4 == 6 else int.from_bytes(data[2:4], "big")
+        return min(len(data), whole)
+
+    def test_reports_are_added(self):
+        self.a_report("--json", self.file("one.json"))
+        code, out, error = ran("report.py", "--add", self.file("one.json"), self.file("one.json"), "--json", "-")
+        self.assertEqual((code, error), (0, ""))
+        with open(self.file("one.json"), encoding="utf-8") as file:
+            one = json.load(file)
+        both = json.loads(out)
+        self.assertEqual(both["records"], 2 * one["records"])
+        self.assertEqual(both["traffic-stat"], {name: 2 * value for name, value in one["traffic-stat"].items()})
+        self.assertEqual(both["rules"]["ttl"]["bytes"], 2 * one["rules"]["ttl"]["bytes"])
+        self.assertIn(f"{2 * one['records']} records", ran("report.py", "--add", self.file("one.json"), self.file("one.json"))[1])
+        for text in ("{}", "[]", "no", '{"kind": "lwaftr-report", "records": "x"}'):
+            code, _, error = ran("report.py", "--add", self.file("one.json"), self.file("wrong.json", text))
+            self.assertEqual((code, error.count("\n")), (2, 1), error)
+
+    def test_out_of_another_run(self):
+        names = self.run_program([ip4(FAR, SHARED, 17, udp(53, 1232))] * 3, a_table())
+        captures.write(self.file("less.pcap"), [(0, b"\x45")])
+        captures.write(self.file("more.pcap"), [(0, b"\x45")] * 9)
+        for path, said in (("less.pcap", "tells of more packets than"), ("more.pcap", "has more records")):
+            code, out, error = ran("report.py", names[2], "--in", names[0], "--out", self.file(path))
+            self.assertEqual((code, out), (2, ""))
+            self.assertIn(said, error)
+
+    def test_a_page_needs_nothing_else(self):
+        _, out = self.a_report("--html", self.file("page.html"))
+        with open(self.file("page.html"), encoding="utf-8") as file:
+            page = file.read()
+        self.assertLess(len(page), 1_000_000)
+        self.assertEqual(re.findall(r'(?:src|href)="[^"]*"|@import|url\(', page.split("</style>")[0]), [])
+        self.assertNotRegex(page, r'<(?:script|img|link|iframe)[^>]*(?:src|href)=')
+        self.assertIn("Released under the MIT License", page)
+        self.assertIn("Permission is hereby granted", page)
+        self.assertEqual(page.count("</script>"), 3)
+
+    def test_names_end_no_script_and_no_text(self):
+        names = self.run_program([ip4(FAR, SHARED, 17, udp(53, 1240))], a_table())
+        versions = self.file("vs", "0 </script><script>alert(1)</script>&amp;<b>.toml initial\n")
+        ran("report.py", names[2], versions, "--html", self.file("page.html"))
+        with open(self.file("page.html"), encoding="utf-8") as file:
+            page = file.read()
+        self.assertNotIn("<script>alert", page)
+        self.assertIn("&lt;script&gt;alert", page)
+
+    @unittest.skipUnless(shutil.which("chromium"), "no chromium")
+    def test_the_page_in_a_browser(self):
+        _, out = self.a_report("--html", self.file("page.html"))
+        with open(self.file("page.html"), encoding="utf-8") as file:
+            page = file.read()
+        self.assertEqual(self.rows(self.dom(page), "t-rules"), self.rules_of(out))
+        outcomes = re.findall(r"(?m)^  (up|down|hairpin|held|drop) +([\d,]+) +([\d.]+ %)$", out)
+        self.assertEqual(self.rows(self.dom(page), "t-outcomes"), outcomes)
+        # a click on a rule filters the subscribers, and a click on a subscriber the rules
+        click = "for (const it of document.querySelectorAll('#{} td button')) if (it.textContent === '{}') {{ it.click(); break; }}"
+        dom = self.dom(page + f"<script>{click.format('t-rules', 'ttl')}</script>")
+        self.assertEqual([it[0] for it in self.rows(dom, "t-rules")], ["ttl"])
+        self.assertEqual(self.rows(dom, "t-subscribers")[0][:2], ("tunnel from 2001:db8:1::1", "1"))
+        dom = self.dom(page + f"<script>{click.format('t-subscribers', 'tunnel from 2001:db8:1::2')}</script>")
+        self.assertEqual([it[:2] for it in self.rows(dom, "t-rules")], [("no-binding", "1")])
+        self.assertIn("Only tunnel from 2001:db8:1::2", dom)
+        for scale in ("shares", "log"):
+            dom = self.dom(page + f"<script>document.querySelector('[data-scale={scale}]').click()</script>")
+            self.assertRegex(dom, f'data-scale="{scale}" aria-pressed="true"')
+
+    def rules_of(self, out):
+        return re.findall(r"(?m)^  ([a-z0-9-]+) +([\d,]+) +([\d.]+ %)$", out.split("Drops by rule")[1].split("answered")[0])
+
+    def rows(self, dom, table):
+        """The first three cells of each row of a table, as text."""
+        body = dom.split(f'id="{table}"')[1].split("</table>")[0].split("<tbody>")[1]
+        cells = [[re.sub("<[^>]*>", "", it) for it in re.findall(r"<td[^>]*>(.*?)</td>", row)] for row in body.split("<tr")[1:]]
+        return [tuple(it[:3]) for it in cells]
+
+    def dom(self, page):
+        """What the browser makes of a page; no error may be on its console."""
+        path = self.file("shown.html", page)
+        it = subprocess.run(
+            ["chromium", "--headless", "--no-sandbox", "--disable-gpu", f"--user-data-dir={self.file('chromium')}", "--virtual-time-budget=3000",
+             "--enable-logging=stderr", "--dump-dom", f"file://{path}"],
+            capture_output=True, text=True, timeout=100, check=False,
+        )
+        self.assertEqual(it.returncode, 0, it.stderr)
+        self.assertNotIn("CONSOLE", it.stderr)
+        return it.stdout
+
+    def test_a_picture(self):
         names = self.run_program([data for data, _, _ in one_of_each_rule()], a_table())
         try:
             import matplotlib  # noqa: F401
         except ImportError:
             self.skipTest("no matplotlib")
-        code, _, error = ran("report.py", names[2], names[3], "--in", names[0], "--html", self.file("page.html"), "--png", self.file("page.png"))
+        code, _, error = ran("report.py", names[2], names[3], "--in", names[0], "--png", self.file("page.png"))
         self.assertEqual(code, 0, error)
-        with open(self.file("page.html"), encoding="utf-8") as file:
-            self.assertRegex(file.read(), r'<img alt="[^"]+" src="data:image/png;base64,')
         with open(self.file("page.png"), "rb") as file:
             self.assertEqual(file.read(8), b"\x89PNG\r\n\x1a\n")
