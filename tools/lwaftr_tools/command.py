@@ -3,6 +3,7 @@ import argparse
 import os
 import sys
 
+STANDARD_INPUT = "/dev/stdin"
 DONE, REFUSED, UNUSABLE = 0, 1, 2
 EXIT_CODES = """exit codes:
   0  done, and nothing differs
@@ -59,7 +60,7 @@ class Parser(argparse.ArgumentParser):
 
 def source(word):
     """The path of an input; `-` is standard input."""
-    return "/dev/stdin" if word == "-" else word
+    return STANDARD_INPUT if word == "-" else word
 
 
 def from_one(word):
@@ -113,8 +114,9 @@ def put(path, data):
 
 def text_of(path, newline=None):
     """The text of a file in UTF-8, without a byte order mark."""
+    is_standard = path == STANDARD_INPUT
     try:
-        with open(path, encoding="utf-8-sig", newline=newline) as file:
+        with open(0 if is_standard else path, encoding="utf-8-sig", newline=newline, closefd=not is_standard) as file:
             return file.read()
     except UnicodeDecodeError:
         raise Unusable(f"{path}: it is not a text in UTF-8") from None

@@ -13,7 +13,10 @@ import typing
 from . import addresses, command
 
 TOP = os.path.dirname(os.path.dirname(os.path.dirname(os.path.abspath(__file__))))
-PROGRAM = os.environ.get("LWAFTR") or next((it for it in (f"{TOP}/lwaftr", "/usr/bin/lwaftr") if os.path.exists(it)), "lwaftr")
+INSTALLED = "/usr/bin/lwaftr"
+# of an installed tool the command, of one in a repository the script at its top
+PLACES = (INSTALLED,) if TOP == "/usr/lib/lwaftr" else (f"{TOP}/lwaftr", INSTALLED)
+PROGRAM = os.environ.get("LWAFTR") or next((it for it in PLACES if os.path.exists(it)), "lwaftr")
 # the most bindings of a table
 MOST = 65536
 
