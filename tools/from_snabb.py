@@ -169,11 +169,31 @@ def tunnel(node, listed, notes):
 KNOWN = ("ipv4", "psid", "b4-ipv6", "b4", "br-address", "br", "port-set", "padding")
 
 
+PLAIN = {"ipv4", "psid", "b4-ipv6", "br-address"}, {"psid-length", "reserved-ports-bit-count"}
+
+
+def plain_softwire(node):
+    """The tunnel address and the binding of a softwire that has the usual leaves, each once and well written; None of any other one."""
+    leaves = node.leaves()
+    if not leaves or leaves[0].keys() != PLAIN[0] or leaves[1].keys() != PLAIN[1]:
+        return None
+    of, ports = leaves
+    try:
+        shape_and_psid = (converting.number("", it) for it in (ports["reserved-ports-bit-count"], ports["psid-length"], of["psid"]))
+        return addresses.tunnel(of["br-address"]), tables.Binding(addresses.ipv6(of["b4-ipv6"]), addresses.ipv4(of["ipv4"]), *shape_and_psid)
+    except ValueError:
+        return None
+
+
 def softwires(table, notes):
     """Each softwire with its line, its tunnel address and its binding."""
     listed = [address(addresses.ipv6, it) for it in table.all("br-address")]
     of_map = Maps(table, notes)
     for node in table.all("softwire"):
+        plain = plain_softwire(node) if isinstance(node, yang.Flat) else None
+        if plain:
+            yield (node.line, *plain)
+            continue
         unread(node, KNOWN, notes)
         b4 = either(node, ("b4-ipv6", "b4"), notes)
         if not b4 or not node.one("ipv4"):

@@ -3,7 +3,7 @@
 
   option  the DHCPv6 option 96 of RFC 7598, section 5.3 (OPTION_S46_CONT_LW) in hexadecimal digits: the router's end of the tunnel, the binding,
           and the port set, whose identifier is left-aligned in its 16 bits
-  kea     reservations of Kea's DHCPv6 server with that option, for a server that reserves by address; the option's definition stands in front
+  kea     reservations of Kea's DHCPv6 server with that option, for a server that knows a subscriber by the address reserved
   uci     a section of OpenWrt's /etc/config/network, of protocol `map` and type `lw4o6`
   nft     rules of nftables for a Linux host that is the B4: each flow is put on one of its port ranges, in turn
 
@@ -40,14 +40,11 @@ def as_option(table, bindings, _):
 
 
 def as_kea(table, bindings, _):
-    reservations = [
-        {
-            "ip-addresses": [addresses.shown(it.b4)],
-            "option-data": [{"code": CONTAINER, "space": "dhcp6", "csv-format": False, "data": inside_of_container(it, table.softwire.aftr).hex()}],
-        }
-        for it in bindings
-    ]
-    yield json.dumps({"Dhcp6": {"reservations": reservations}}, indent=1)
+    yield '{"Dhcp6": {"reservations": ['
+    for at, it in enumerate(bindings, 1):
+        data = {"code": CONTAINER, "space": "dhcp6", "csv-format": False, "data": inside_of_container(it, table.softwire.aftr).hex()}
+        yield json.dumps({"ip-addresses": [addresses.shown(it.b4)], "option-data": [data]}) + ("," if at < len(bindings) else "")
+    yield "]}}"
 
 
 def as_uci(table, bindings, _):

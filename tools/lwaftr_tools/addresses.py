@@ -4,6 +4,12 @@ import ipaddress
 import socket
 
 
+@functools.lru_cache(maxsize=1 << 8)
+def tunnel(text):
+    """The address of a router, which stands in each softwire of a file."""
+    return ipv6(text)
+
+
 def ipv6(text):
     """The address of a text of RFC 4291, section 2.2, without a zone or a prefix length."""
     try:

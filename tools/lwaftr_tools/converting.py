@@ -3,6 +3,7 @@ from __future__ import annotations
 
 import argparse
 import dataclasses
+import functools
 import os
 import re
 import tempfile
@@ -83,6 +84,7 @@ class Notes:
                 command.warn(f"{self.file}: not said: {name}: {whose}{value} is taken (--{name.replace('_', '-')})")
 
 
+@functools.lru_cache(maxsize=1 << 12)
 def number(name, word):
     """A number as it is written: 52 or 0x34, without leading zeros."""
     if not NUMBER.fullmatch(word):

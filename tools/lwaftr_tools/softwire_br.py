@@ -10,6 +10,8 @@ from . import command
 MODULE = "ietf-softwire-br"
 NAMESPACE = f"urn:ietf:params:xml:ns:yang:{MODULE}"
 LISTS = ("bind-instance", "binding-entry", "algo-instance")
+# how many characters of a document are read at a time
+CHUNK = 1 << 16
 # how deep the data may be nested: the module has eight levels
 MOST_DEEP = 32
 
@@ -23,7 +25,7 @@ def read(text, file):
     try:
         if text.lstrip()[:1] == "{":
             return _plain(json.loads(text, object_pairs_hook=lambda pairs: _unique(pairs, file)), file)
-        return _of_xml(ElementTree.fromstring(_without_types(text, file)), file)
+        return _of_xml(_without_types(text, file), file)
     except (json.JSONDecodeError, ElementTree.ParseError, RecursionError) as error:
         raise InstanceError(f"{file}: neither JSON nor XML: {error}") from None
 
@@ -51,29 +53,37 @@ def _plain(tree, file, deep=0):
     return [_plain(it, file, deep + 1) for it in tree] if isinstance(tree, list) else tree
 
 
-def _of_xml(top, file):
-    name = top.tag.split("}")[-1]
-    found = _inside(top, file, 0)
-    return found if name in ("data", "config") else {name: found}
+def _of_xml(text, file):
+    """The tree of a document of XML. An element that has ended is forgotten, so that the document is in memory once."""
+    parser = ElementTree.XMLPullParser(("start", "end"))
+    # for each element that is open its name and its children by their names
+    open_ones = [("", {})]
+    for at in range(0, len(text), CHUNK):
+        parser.feed(text[at : at + CHUNK])
+        for event, element in parser.read_events():
+            if event == "start":
+                if len(open_ones) > MOST_DEEP:
+                    raise InstanceError(f"{file}: it is nested more than {MOST_DEEP} deep")
+                open_ones.append((element.tag.split("}")[-1], {}))
+            else:
+                name, children = open_ones.pop()
+                _put(open_ones[-1], name, children or (element.text or "").strip(), file)
+                element.clear()
+    parser.close()
+    tree = open_ones[0][1]
+    name, inside = next(iter(tree.items()))
+    return inside if name in ("data", "config") and isinstance(inside, dict) else tree
 
 
-def _inside(element, file, deep):
-    """The inside of an element: its text, or its children by their names."""
-    if deep > MOST_DEEP:
-        raise InstanceError(f"{file}: it is nested more than {MOST_DEEP} deep")
-    if not len(element):
-        return (element.text or "").strip()
-    found = {}
-    for it in element:
-        name = it.tag.split("}")[-1]
-        inside = _inside(it, file, deep + 1)
-        if name in LISTS:
-            found.setdefault(name, []).append(inside)
-        elif name in found:
-            raise InstanceError(f"{file}: {name} is given twice in one {element.tag.split('}')[-1]}")
-        else:
-            found[name] = inside
-    return found
+def _put(parent, name, inside, file):
+    """Puts an element into the one around it: into a list if there may be several."""
+    children = parent[1]
+    if name in LISTS:
+        children.setdefault(name, []).append(inside)
+    elif name in children:
+        raise InstanceError(f"{file}: {name} is given twice in one {parent[0]}")
+    else:
+        children[name] = inside
 
 
 def as_json(tree):

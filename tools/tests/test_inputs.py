@@ -6,7 +6,7 @@ import subprocess
 import sys
 import time
 
-from shared import AFTR, B4, FAR, Folder, HERE, OWN, PROGRAM, SHARED, a_table, captures, ip4, ip6, ran, tables, udp
+from shared import AFTR, B4, FAR, Folder, HERE, OWN, SHARED, a_table, captures, ip4, ip6, ran, tables, udp
 
 WORDS = ("--aftr", AFTR, "--own", OWN)
 FROM = ("from_csv.py", "from_snabb.py", "from_vpp.py")

@@ -3,8 +3,10 @@ import gzip
 import os
 import re
 import shutil
+import signal
 import struct
 import subprocess
+import time
 import unittest
 
 from shared import AFTR, B4, FAR, HERE, OTHER, PROGRAM, SHARED, TOP, Folder, a_table, captures, ip4, ip6, tables, udp
@@ -92,6 +94,10 @@ class Operating(Folder):
         line = next(it for it in commands() if it.startswith("tcpdump"))
         reader = line.split(" | ", 1)[1]
         self.assertIn("trap '' INT", reader)
-        script = f"cat in.pcap | {reader} & sleep 1; kill -INT 0 2>/dev/null; wait"
-        it = subprocess.run(["bash", "-c", f"trap '' INT; {script}"], cwd=self.folder.name, capture_output=True, text=True, start_new_session=True, check=False)
-        self.assertIn("records 22 held 0", it.stdout)
+        for form, is_whole in ((reader, True), (reader.replace("trap '' INT; ", ""), False)):
+            it = subprocess.Popen(
+                ["bash", "-c", f"(cat in.pcap; exec sleep 60) | {form}"], cwd=self.folder.name, stdout=subprocess.PIPE, text=True, start_new_session=True
+            )
+            time.sleep(3)
+            os.killpg(it.pid, signal.SIGINT)
+            self.assertEqual("records 22 held 0" in it.communicate(timeout=60)[0], is_whole)
