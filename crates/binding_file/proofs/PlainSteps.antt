@@ -173,7 +173,7 @@ block_more text held more rest start after key n d block is some read shorter na
       last = insert (key_of n) (value d) block.last;
       are = put_held held more n d block.last put block.are;
       goes = λ v s done. goes_on (root v s done no_nodes, below_binding) (root v s done block.last, below_binding) (root v s done (insert (key_of n) (value d) block.last), below_binding) text rest after (block.goes v s done)
-      (goes_line (root v s done block.last, below_binding) (root v s done (insert (key_of n) (value d) block.last), below_binding) rest after (([], key_of n), key_value d) (rw (← is) some) (rw (← is, named) read) shorter (key_more v d s block.last done (key_of n) none));
+          (goes_line (root v s done block.last, below_binding) (root v s done (insert (key_of n) (value d) block.last), below_binding) rest after (([], key_of n), key_value d) (rw (← is) some) (rw (← is, named) read) shorter (key_more v d s block.last done (key_of n) none));
     }
 
 -- what the keys make is the binding
@@ -196,9 +196,9 @@ block_binding at text start body rest held fields b is within read shorter block
       element = element_is at (table (close block.last)) (close block.last) fields (Ok b) refl (held_fields held fields (close block.last) block.are shows) made;
       shorter = omega arith;
       as_first = λ v s section. goes_on (settings v s, section) (root v s no_items no_nodes, below_binding) (root v s no_items block.last, below_binding) text body rest
-      (goes_line (settings v s, section) (root v s no_items no_nodes, below_binding) text body (([], codes "binding"), array_table) (rw (← is) some) (rw (← is) read) (omega arith) (first_header v s section)) (block.goes v s no_items);
+          (goes_line (settings v s, section) (root v s no_items no_nodes, below_binding) text body (([], codes "binding"), array_table) (rw (← is) some) (rw (← is) read) (omega arith) (first_header v s section)) (block.goes v s no_items);
       as_next = λ v s before done section. goes_on (root v s done before, section) (root v s (push_item done (table (close before))) no_nodes, below_binding) (root v s (push_item done (table (close before))) block.last, below_binding) text body rest
-      (goes_line (root v s done before, section) (root v s (push_item done (table (close before))) no_nodes, below_binding) text body (([], codes "binding"), array_table) (rw (← is) some) (rw (← is) read) (omega arith) (next_header v s before done section)) (block.goes v s (push_item done (table (close before))));
+          (goes_line (root v s done before, section) (root v s (push_item done (table (close before))) no_nodes, below_binding) text body (([], codes "binding"), array_table) (rw (← is) some) (rw (← is) read) (omega arith) (next_header v s before done section)) (block.goes v s (push_item done (table (close before))));
     }
   where
     longer : (s : List ℕ) → 0 < length s → (length s == 0) ≡ false
@@ -259,7 +259,7 @@ next_block at text bs rest b after count are block =
       elements = element_more 0 (push_item are.done (table (close are.last))) bs (table (close block.last)) b are.elements element;
       tables = tables_more are.done (close are.last) are.tables;
       goes = λ v s section. goes_on (settings v s, section) (root v s are.done are.last, below_binding) (root v s (push_item are.done (table (close are.last))) block.last, below_binding) text rest after
-      (are.goes v s section) (block.as_next v s are.last are.done below_binding);
+          (are.goes v s section) (block.as_next v s are.last are.done below_binding);
     }
 
 pub end_blocks : (text : List ℕ) (bs : List Binding) (rest : List ℕ) → AreBlocks text bs rest → length (skip_blank rest) ≡ 0 → AreBindingBlocks text bs
@@ -268,6 +268,6 @@ end_blocks text bs rest are none = record {
   elements = are.elements;
   tables = tables_more are.done (close are.last) are.tables;
   ends = λ v s section n room.
-  let (m, less, is) = are.goes v s section n room in
-  ((root v s are.done are.last, below_binding), is ∙ lines_end m (root v s are.done are.last, below_binding) rest (omega arith) none, refl);
+      let (m, less, is) = are.goes v s section n room in
+      ((root v s are.done are.last, below_binding), is ∙ lines_end m (root v s are.done are.last, below_binding) rest (omega arith) none, refl);
 }

@@ -65,7 +65,7 @@ members_more text was now rest start after key n d are is some read shorter name
       s = insert (key_of n) (value d) are.s;
       are = close_insert (key_of n) d are.s ∙ (ap (with_member (key_of n) d) are.are ∙ sym put);
       goes = λ v. goes_on (settings v no_nodes, below_softwire) (settings v are.s, below_softwire) (settings v (insert (key_of n) (value d) are.s), below_softwire) text rest after (are.goes v)
-      (goes_line (settings v are.s, below_softwire) (settings v (insert (key_of n) (value d) are.s), below_softwire) rest after (([], key_of n), key_value d) (rw (← is) some) (rw (← is, named) read) shorter (setting v d are.s (key_of n) none));
+          (goes_line (settings v are.s, below_softwire) (settings v (insert (key_of n) (value d) are.s), below_softwire) rest after (([], key_of n), key_value d) (rw (← is) some) (rw (← is, named) read) shorter (setting v d are.s (key_of n) none));
     }
 
 pub settings_from : (text rest : List ℕ) (ms : Members) (s : Softwire) → AreMembers text ms rest → IsSoftwire ms (Ok s) → AreSettings text s rest

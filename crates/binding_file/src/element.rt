@@ -13,13 +13,7 @@ use binding_rules::Binding;
 use toml::{Table, Value};
 
 /// The keys of a binding.
-pub const BINDING_NAMES: [Name; 5] = [
-    Name::B4,
-    Name::Ipv4,
-    Name::Offset,
-    Name::Length,
-    Name::Psid,
-];
+pub const BINDING_NAMES: [Name; 5] = [Name::B4, Name::Ipv4, Name::Offset, Name::Length, Name::Psid];
 
 /// What stands at each key of a binding, and whether there is another key.
 #[derive(Clone, Copy)]

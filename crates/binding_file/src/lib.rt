@@ -20,7 +20,8 @@ pub use laws::one_table;
 pub use names::{Name, Place};
 pub use plain::plain_tree;
 pub use reading::{
-    MOST_FILE_BYTES, SOFTWIRE_NAMES, Spelled, TOP_NAMES, document_of, elements_of, read_table, tree_of,
+    MOST_FILE_BYTES, SOFTWIRE_NAMES, Spelled, TOP_NAMES, document_of, elements_of, read_table,
+    tree_of,
 };
 pub use refusals::{FileError, FileRefused, LoadText, RuleText};
 pub use table_costs::is_too_costly;

@@ -72,7 +72,12 @@ fn flag(flag: bool) -> Value
 }
 
 /// Puts a value at a key.
-pub(crate) fn put(alloc: Global, table: &mut toml::Table, name: Name, value: Value) -> Result<(), OutOfMemory>
+pub(crate) fn put(
+    alloc: Global,
+    table: &mut toml::Table,
+    name: Name,
+    value: Value,
+) -> Result<(), OutOfMemory>
     ensures { OnOk result (table_view table.new ≡ with_member (key_of name) (view value) (table_view table.old)) }
 {
     let key = String::from_str(alloc, name.key())?;

@@ -7,11 +7,11 @@ mod bounds;
 #[cfg(test)]
 mod callers;
 #[cfg(test)]
+mod costly;
+#[cfg(test)]
 mod counted;
 #[cfg(test)]
 mod files;
-#[cfg(test)]
-mod costly;
 #[cfg(test)]
 mod lines;
 #[cfg(test)]

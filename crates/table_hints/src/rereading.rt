@@ -41,11 +41,7 @@ pub(crate) fn reread(alloc: Global, text: &str) -> Result<Option<Rereading>, Out
     }
 }
 
-fn plain_reading(
-    alloc: Global,
-    text: &str,
-    spelled: Spelled,
-) -> Result<Rereading, OutOfMemory>
+fn plain_reading(alloc: Global, text: &str, spelled: Spelled) -> Result<Rereading, OutOfMemory>
     requires size { length text.now ≤ most_bytes }
     requires utf8 { IsUtf8 text.now }
     requires cheap { is_too_costly text.now ≡ false }
@@ -58,11 +54,7 @@ fn plain_reading(
     Ok(Rereading { refused, count })
 }
 
-fn tree_reading(
-    alloc: Global,
-    text: &str,
-    document: &toml::Table,
-) -> Result<Rereading, OutOfMemory>
+fn tree_reading(alloc: Global, text: &str, document: &toml::Table) -> Result<Rereading, OutOfMemory>
     requires size { length text.now ≤ most_bytes }
     requires cheap { is_too_costly text.now ≡ false }
     requires document { IsDocument text.now (Ok (table_view document.now)) }

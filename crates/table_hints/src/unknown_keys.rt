@@ -13,7 +13,8 @@ use crate::lines::Lines;
 use crate::rereading::binding_count;
 use aftr_base::{OutOfMemory, Text};
 use binding_file::{
-    BINDING_NAMES, FileError, MOST_FILE_BYTES, Name, Place, SOFTWIRE_NAMES, TOP_NAMES, document_of, elements_of, table_at,
+    BINDING_NAMES, FileError, MOST_FILE_BYTES, Name, Place, SOFTWIRE_NAMES, TOP_NAMES, document_of,
+    elements_of, table_at,
 };
 use std::alloc::Global;
 use std::str;
