@@ -1,0 +1,7 @@
+//! Tests of round_pipeline by its public calls. Nothing stands on this crate.
+#![tactic(auto)]
+
+#[cfg(test)]
+mod numbers;
+#[cfg(test)]
+mod runs;

@@ -1,0 +1,13 @@
+pub mod Adds
+pub mod Begins
+pub mod Holds
+pub mod Joins
+pub mod Left
+pub mod Meets
+pub mod Places
+pub mod Puts
+pub mod Ran
+pub mod Rounds
+pub mod Shares
+pub mod Totals
+pub mod Turns

@@ -1,0 +1,5 @@
+pub mod Lists
+pub mod Rounds
+pub mod Ends
+pub mod Threads
+pub mod Pipelines
