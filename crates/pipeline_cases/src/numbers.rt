@@ -14,7 +14,9 @@ pub struct Round {
 
 impl RoundBuffer for Round {
     ghost empty = { λ x. Unit {0} };
+
     ghost filled = { λ x. Unit {0} };
+
     ghost judged = { λ x. Unit {0} };
 }
 
@@ -28,6 +30,7 @@ pub struct Counter {
 
 impl Source<Round> for Counter {
     ghost ready = { λ x. Unit {0} };
+
     ghost fills = { λ a b c d e. Unit {0} };
 
     fn fill(&mut self, buffer: &mut Round) -> bool {
@@ -48,6 +51,7 @@ pub struct Marker {
 
 impl Judge<Round> for Marker {
     ghost ready = { λ x. Unit {0} };
+
     ghost judges = { λ a b c d. Unit {0} };
 
     fn judge(&mut self, buffer: &mut Round) {
@@ -66,6 +70,7 @@ pub struct Checker {
 
 impl Sink<Round, u64> for Checker {
     ghost ready = { λ x. Unit {0} };
+
     ghost puts = { λ a b c d e. Unit {0} };
 
     fn put(&mut self, buffer: &mut Round) -> Option<u64> {

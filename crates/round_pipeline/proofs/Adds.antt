@@ -1,25 +1,24 @@
 -- A worker more.
-use Rattle.std.proofs.Common.{List, arith, ap, length, map, refl, subst, sym, ℕ, [], ◌+◌, ◌++◌, ◌<◌, ◌∙◌, ◌∷◌, ◌≡◌, inl, inr}
+use Rattle.std.proofs.Common.{List, arith, ap, length, map, subst, sym, [], ◌++◌, ◌∙◌, ◌∷◌, ◌≡◌, inl, inr}
 use Rattle.std.proofs.lemmas.Bool.{cases_lt}
 use Rattle.std.proofs.lemmas.List.{get_or_append_left, get_or_push, length-append, map-append}
 use Rattle.std.specs.Prelude.{slice_index_or}
 use Rattle.rtrb.specs.Ring.{sent}
 use Rattle.round_pipeline.specs.declared.capture.ReadEnd.{ReadEnd}
 use Rattle.round_pipeline.specs.declared.finished.Seat.{Seat}
-use Rattle.round_pipeline.specs.declared.worker.JudgeEnd.{JudgeEnd}
 use Rattle.round_pipeline.specs.declared.writer.WriteEnd.{WriteEnd}
 use Rattle.round_pipeline.specs.Ends.{IsNewLine}
 use Rattle.round_pipeline.specs.Lists.{buffers, fresh}
-use Rattle.round_pipeline.specs.Pipelines.{Crew, IsFresh, crew_of}
+use Rattle.round_pipeline.specs.Pipelines.{IsFresh, crew_of}
 use Rattle.round_pipeline.proofs.Left.{buffers_fresh}
 
 module _ {T J : Type 0} (reads : List (ReadEnd T)) (seats : List (Seat T J)) (writes : List (WriteEnd T)) (read : ReadEnd T) (seat : Seat T J) (write : WriteEnd T) where
   fresh_more : IsFresh reads seats writes → IsNewLine read seat.line write → IsFresh (reads ++ read ∷ []) (seats ++ seat ∷ []) (writes ++ write ∷ [])
   fresh_more was new = record {
     sizes = (
-        omega (arith, was.sizes.0, length-append seats (seat ∷ []), length-append reads (read ∷ [])),
-        omega (arith, was.sizes.1, length-append writes (write ∷ []), length-append reads (read ∷ [])),
-      );
+      omega (arith, was.sizes.0, length-append seats (seat ∷ []), length-append reads (read ∷ [])),
+      omega (arith, was.sizes.1, length-append writes (write ∷ []), length-append reads (read ∷ [])),
+    );
     lines = λ i r j w fits.
         elim (cases_lt i (length reads)) [
           | inl before ↦
@@ -50,5 +49,5 @@ module _ {T J : Type 0} (reads : List (ReadEnd T)) (seats : List (Seat T J)) (wr
   crew_added xs e2 e3 laid =
       let j = ap (λ (l : List (Seat T J)). map (λ s. s.judge) l) e2 ∙ map-append (λ (s : Seat T J). s.judge) seats (seat ∷ []) in
       let b = ap (λ (l : List (WriteEnd T)). map (λ w. buffers (sent w.back)) l) e3 ∙ map-append (λ (w : WriteEnd T). buffers (sent w.back)) writes (write ∷ [])
-          ∙ ap (λ (l : List T). map (λ w. buffers (sent w.back)) writes ++ l ∷ []) (ap (λ (l : List _). buffers l) laid ∙ buffers_fresh xs) in
+      ∙ ap (λ (l : List T). map (λ w. buffers (sent w.back)) writes ++ l ∷ []) (ap (λ (l : List _). buffers l) laid ∙ buffers_fresh xs) in
       λ i. record { judges = j i; buffers = b i }

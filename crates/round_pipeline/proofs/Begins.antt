@@ -2,15 +2,15 @@
 use Rattle.std.proofs.Common.{All, Bool, List, arith, ap, append-nil, false, length, map, refl, subst, sym, true, ℕ, [], ◌++◌, ◌<◌, ◌∙◌, ◌≡◌}
 use Rattle.std.proofs.lemmas.List.{get_or-map, length-map}
 use Rattle.std.specs.Prelude.{None, Option, slice_index_or}
-use Rattle.rtrb.specs.Ring.{IsPair, known_items, received, sent}
+use Rattle.rtrb.specs.Ring.{known_items, received, sent}
 use Rattle.round_pipeline.specs.declared.capture.Capture.{Capture}
 use Rattle.round_pipeline.specs.declared.capture.ReadEnd.{ReadEnd}
 use Rattle.round_pipeline.specs.declared.finished.Finished.{Finished}
 use Rattle.round_pipeline.specs.declared.finished.Seat.{Seat}
 use Rattle.round_pipeline.specs.declared.writer.WriteEnd.{WriteEnd}
-use Rattle.round_pipeline.specs.Ends.{HaveMet, IsNewLine}
+use Rattle.round_pipeline.specs.Ends.{HaveMet}
 use Rattle.round_pipeline.specs.Pipelines.{IsFresh, IsRunning}
-use Rattle.round_pipeline.specs.Threads.{CanServe, IsDesk, IsWriting}
+use Rattle.round_pipeline.specs.Threads.{IsDesk, IsWriting}
 use Rattle.round_pipeline.proofs.Turns.{same_self}
 
 -- each judge of a list
@@ -27,18 +27,18 @@ desk_begins ready fills c can more unclosed turns none = record {
   turns = ((refl, refl, refl, refl), refl);
   ready_now = can;
   turning = rw (more, unclosed) record {
-      order = [];
-      rooms = [];
-      rounds = [];
-      size = refl;
-      below = tt;
-      many = refl;
-      many_rounds = refl;
-      turns_are = turns;
-      gave = λ i d fits. (none i d fits).0;
-      took = λ i d fits. (none i d fits).1;
-      filled = (refl, refl);
-    };
+    order = [];
+    rooms = [];
+    rounds = [];
+    size = refl;
+    below = tt;
+    many = refl;
+    many_rounds = refl;
+    turns_are = turns;
+    gave = λ i d fits. (none i d fits).0;
+    took = λ i d fits. (none i d fits).1;
+    filled = (refl, refl);
+  };
 }
 
 pub writing_begins : {W T E : Type 0} (puts : W → T → W → T → Option E → Type 0) (n : ℕ) (sink : W) (lines : List (WriteEnd T)) (turns : List (Option ℕ)) → length lines ≡ n → turns ≡ [] →

@@ -1,7 +1,7 @@
 -- What each turn keeps holds at the end of a run, as if one thread had done it turn by turn.
 use Rattle.std.proofs.Common.{Bool, List, arith, ap, cond, length, refl, subst, sym, true, ℕ, [], ◌∷◌, ◌∙◌, ◌≡◌, ◌≢◌, inl, inr}
 use Rattle.std.proofs.lemmas.Bool.{cases_eq}
-use Rattle.std.specs.Prelude.{None, Option, is_some, ◌==◌}
+use Rattle.std.specs.Prelude.{None, Option, ◌==◌}
 use Rattle.round_pipeline.specs.declared.rings.Returned.{Returned}
 use Rattle.round_pipeline.specs.Lists.{share}
 use Rattle.round_pipeline.specs.Rounds.{AreFilled, AreJudged, ArePut, IsPut}

@@ -1,16 +1,16 @@
 -- What the threads made, put together.
-use Rattle.std.proofs.Common.{Bool, List, arith, ap, append_assoc, append-nil, cond, false, length, refl, subst, suc, sym, true, ℕ, [], ◌++◌, ◌<◌, ◌≤◌, ◌∙◌, ◌∷◌, ◌≡◌, inl, inr}
+use Rattle.std.proofs.Common.{Bool, List, arith, ap, append_assoc, append-nil, cond, false, length, refl, subst, suc, sym, true, ℕ, [], ◌++◌, ◌<◌, ◌∙◌, ◌∷◌, ◌≡◌}
 use Rattle.std.proofs.lemmas.List.{length-append}
 use Rattle.std.specs.Prelude.{None, Option, Some, slice_index_or, ◌==◌}
-use Rattle.rtrb.specs.Ring.{IsPair, known_items, received, sent}
+use Rattle.rtrb.specs.Ring.{known_items, sent}
 use Rattle.round_pipeline.specs.declared.capture.ReadEnd.{ReadEnd}
 use Rattle.round_pipeline.specs.declared.finished.Finished.{Finished}
 use Rattle.round_pipeline.specs.declared.finished.Seat.{Seat}
 use Rattle.round_pipeline.specs.declared.writer.WriteEnd.{WriteEnd}
-use Rattle.round_pipeline.specs.Ends.{AreEnds, HaveMet, SameJudgeEnd, SameReadEnd, SameWriteEnd}
-use Rattle.round_pipeline.specs.Lists.{ends, in_order, share, told}
+use Rattle.round_pipeline.specs.Ends.{HaveMet, SameJudgeEnd, SameReadEnd, SameWriteEnd}
+use Rattle.round_pipeline.specs.Lists.{in_order, share, told}
 use Rattle.round_pipeline.specs.Pipelines.{IsRunning}
-use Rattle.round_pipeline.specs.Rounds.{AreJudged, ArePut}
+use Rattle.round_pipeline.specs.Rounds.{AreJudged}
 use Rattle.round_pipeline.specs.Threads.{AreLines, HaveServed, IsTurning, IsWriting}
 use Rattle.round_pipeline.proofs.Rounds.{pair_on}
 
@@ -96,8 +96,17 @@ module _ {T : Type 0} where
   not_ended xs ys rest same =
       let e : in_order xs ≡ in_order ys =
       sym (somes_ended xs rest) ∙ ap (λ (l : List (Option T)). somes l) (same ∙ sym (append-nil (told ys))) ∙ somes_told ys [] ∙ append-nil (in_order ys) in
-      omega (arith, ap (λ (l : List T). length l) e, ap (λ (l : List (Option T)). length l) same, length-append (told xs ++ None ∷ []) rest,
-      length-append (told xs) (None ∷ []), length_told xs, length_told ys, length_in_order xs, length_in_order ys)
+      omega (
+        arith,
+        ap (λ (l : List T). length l) e,
+        ap (λ (l : List (Option T)). length l) same,
+        length-append (told xs ++ None ∷ []) rest,
+        length-append (told xs) (None ∷ []),
+        length_told xs,
+        length_told ys,
+        length_in_order xs,
+        length_in_order ys,
+      )
 
 -- rounds and products are as many
 judged_many : {J T : Type 0} (judges : J → T → J → T → Type 0) (start now : J) (rounds products : List T) → AreJudged judges start rounds products now →

@@ -1,5 +1,5 @@
 -- Lines that have met.
-use Rattle.std.proofs.Common.{List, arith, ap, length, refl, subst, sym, ℕ, ◌+◌, ◌<◌, ◌≤◌, ◌∙◌, ◌≡◌, inl, inr}
+use Rattle.std.proofs.Common.{List, arith, ap, length, subst, sym, ℕ, ◌+◌, ◌<◌, ◌≤◌, ◌∙◌, ◌≡◌, inl, inr}
 use Rattle.std.proofs.lemmas.Bool.{cases_eq}
 use Rattle.std.proofs.lemmas.Grind.{get_or-set_at}
 use Rattle.std.proofs.lemmas.List.{get_or-set_other, get_or_default}

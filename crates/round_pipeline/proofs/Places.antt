@@ -1,5 +1,5 @@
 -- Places of a list.
-use Rattle.std.proofs.Common.{List, arith, false, length, refl, subst, sym, true, ℕ, ◌<◌, ◌≡◌, ◌≢◌, inl, inr}
+use Rattle.std.proofs.Common.{List, arith, false, length, subst, sym, true, ℕ, ◌<◌, ◌≡◌, ◌≢◌, inl, inr}
 use Rattle.std.specs.Prelude.{slice_index_or, slice_set, ◌==◌}
 use Rattle.std.proofs.lemmas.Bool.{cases_eq}
 use Rattle.std.proofs.lemmas.Bool.Decides.{nat_tests}

@@ -1,16 +1,14 @@
 -- A run that has ended, as its caller sees it.
-use Rattle.std.proofs.Common.{Bool, List, arith, ap, false, length, length-set, map, refl, subst, sym, ℕ, [], ◌+◌, ◌++◌, ◌<◌, ◌≤◌, ◌∙◌, ◌∷◌, ◌≡◌, ◌≢◌, ◌⊎◌, inl, inr}
-use Rattle.std.proofs.lemmas.Bool.{cases_eq}
-use Rattle.std.proofs.lemmas.Grind.{get_or-set_at}
-use Rattle.std.proofs.lemmas.List.{get_or-map, get_or-set_other, length-append}
-use Rattle.std.specs.Prelude.{IsSome, Option, slice_index_or, slice_set}
+use Rattle.std.proofs.Common.{Bool, List, arith, ap, false, length, map, subst, sym, ℕ, [], ◌+◌, ◌++◌, ◌<◌, ◌≤◌, ◌∙◌, ◌≡◌, ◌⊎◌}
+use Rattle.std.proofs.lemmas.List.{get_or-map}
+use Rattle.std.specs.Prelude.{IsSome, Option, slice_index_or}
 use Rattle.rtrb.specs.Ring.{known_items, received, sent}
 use Rattle.round_pipeline.specs.declared.capture.ReadEnd.{ReadEnd}
 use Rattle.round_pipeline.specs.declared.finished.Finished.{Finished}
 use Rattle.round_pipeline.specs.declared.finished.Seat.{Seat}
 use Rattle.round_pipeline.specs.declared.rings.Returned.{Returned}
 use Rattle.round_pipeline.specs.declared.writer.WriteEnd.{WriteEnd}
-use Rattle.round_pipeline.specs.Lists.{buffers, fresh, in_order, put_well, share, total}
+use Rattle.round_pipeline.specs.Lists.{buffers, fresh, in_order, put_well, share}
 use Rattle.round_pipeline.specs.Pipelines.{IsRunning, buffers_left, judges_of}
 use Rattle.round_pipeline.specs.Rounds.{AreJudged, HasRun}
 use Rattle.round_pipeline.proofs.Joins.{length_in_order}
@@ -23,7 +21,7 @@ belt_of : {T : Type 0} (rooms before : List T) (left backs first : List (Returne
 belt_of {T} rooms before left backs first goes is =
     let e : fresh rooms ++ left ≡ fresh before ++ backs = goes ∙ ap (λ (l : List (Returned T)). l ++ backs) is in (
       ap (λ (l : List T). l ++ buffers left) (sym (buffers_fresh rooms)) ∙ sym (buffers_append (fresh rooms) left) ∙ ap (λ (l : List (Returned T)). buffers l) e
-      ∙ buffers_append (fresh before) backs ∙ ap (λ (l : List T). l ++ buffers backs) (buffers_fresh before),
+          ∙ buffers_append (fresh before) backs ∙ ap (λ (l : List T). l ++ buffers backs) (buffers_fresh before),
       omega (arith, ap (λ (l : List (Returned T)). put_well l) e, well_append (fresh rooms) left, well_append (fresh before) backs, well_fresh rooms, well_fresh before),
     )
 

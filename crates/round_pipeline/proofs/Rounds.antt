@@ -1,9 +1,9 @@
 -- A round that one thread reads, judges and puts.
-use Rattle.std.proofs.Common.{Bool, List, arith, ap, append_assoc, length, length-set, refl, subst, suc, sym, true, false, zero, ℕ, [], ◌++◌, ◌<◌, ◌∙◌, ◌∷◌, ◌≡◌, ◌≢◌, inl, inr}
+use Rattle.std.proofs.Common.{Bool, List, arith, ap, append_assoc, length, length-set, refl, subst, suc, sym, true, false, ℕ, [], ◌++◌, ◌<◌, ◌∙◌, ◌∷◌, ◌≡◌, ◌≢◌, inl, inr}
 use Rattle.std.proofs.lemmas.Bool.{cases_eq}
 use Rattle.std.proofs.lemmas.Grind.{get_or-set_at}
 use Rattle.std.proofs.lemmas.List.{get_or-set_other}
-use Rattle.std.specs.Prelude.{None, Option, Some, is_some, slice_index_or, slice_set}
+use Rattle.std.specs.Prelude.{None, Option, is_some, slice_index_or, slice_set}
 use Rattle.rtrb.specs.Ends.{SameRing}
 use Rattle.rtrb.specs.Ring.{IsPair, known_items, received, sent}
 use Rattle.rtrb.specs.declared.end.End.{End}
@@ -16,7 +16,7 @@ use Rattle.round_pipeline.specs.Ends.{SameReadEnd, SameWriteEnd}
 use Rattle.round_pipeline.specs.Lists.{fresh, in_order, share}
 use Rattle.round_pipeline.specs.Pipelines.{IsRunning}
 use Rattle.round_pipeline.specs.Rounds.{AreFilled, AreJudged, ArePut}
-use Rattle.round_pipeline.proofs.Places.{at_set, at_set_with, at_with}
+use Rattle.round_pipeline.proofs.Places.{at_set, at_set_with}
 use Rattle.round_pipeline.proofs.Shares.{share_here, share_there}
 use Rattle.round_pipeline.proofs.Turns.{fresh_snoc}
 
@@ -91,10 +91,10 @@ module _ {S J W T E : Type 0} (fills : S → T → S → T → Bool → Type 0) 
         products = product ∷ was.products;
         backs = given ∷ was.backs;
         sizes = (
-            ap (λ (l : List (ReadEnd T)). length l) reads ∙ length-set f.reads.items 0 read' ∙ was.sizes.0,
-            ap (λ (l : List (Seat T J)). length l) seats_now ∙ length-set f.seats.items 0 seat' ∙ was.sizes.1,
-            ap (λ (l : List (WriteEnd T)). length l) writes ∙ length-set f.writes.items 0 write' ∙ was.sizes.2,
-          );
+          ap (λ (l : List (ReadEnd T)). length l) reads ∙ length-set f.reads.items 0 read' ∙ was.sizes.0,
+          ap (λ (l : List (Seat T J)). length l) seats_now ∙ length-set f.seats.items 0 seat' ∙ was.sizes.1,
+          ap (λ (l : List (WriteEnd T)). length l) writes ∙ length-set f.writes.items 0 write' ∙ was.sizes.2,
+        );
         below = (some, was.below);
         many = (ap (λ k. suc k) was.many.0, ap (λ k. suc k) was.many.1);
         many_rooms = ap (λ k. suc k) was.many_rooms;
@@ -163,10 +163,10 @@ module _ {S J W T E : Type 0} (fills : S → T → S → T → Bool → Type 0) 
         products = was.products;
         backs = was.backs;
         sizes = (
-            ap (λ (l : List (ReadEnd T)). length l) reads ∙ length-set f.reads.items 0 read' ∙ was.sizes.0,
-            ap (λ (l : _). length l.items) seats_now ∙ was.sizes.1,
-            ap (λ (l : List (WriteEnd T)). length l) writes ∙ length-set f.writes.items 0 write' ∙ was.sizes.2,
-          );
+          ap (λ (l : List (ReadEnd T)). length l) reads ∙ length-set f.reads.items 0 read' ∙ was.sizes.0,
+          ap (λ (l : _). length l.items) seats_now ∙ was.sizes.1,
+          ap (λ (l : List (WriteEnd T)). length l) writes ∙ length-set f.writes.items 0 write' ∙ was.sizes.2,
+        );
         below = was.below;
         many = was.many;
         many_rooms = was.many_rooms;

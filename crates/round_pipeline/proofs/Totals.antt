@@ -1,7 +1,6 @@
 -- Sums over workers.
 use Rattle.std.proofs.Common.{Bool, List, arith, ap, cond, false, length, refl, suc, sym, true, zero, ℕ, [], ◌+◌, ◌++◌, ◌<◌, ◌≤◌, ◌∙◌, ◌∷◌, ◌≡◌, ◌≢◌, inl, inr}
 use Rattle.std.proofs.lemmas.Bool.{cases_eq}
-use Rattle.std.specs.Prelude.{◌==◌}
 use Rattle.round_pipeline.specs.declared.rings.Returned.{Returned}
 use Rattle.round_pipeline.specs.Lists.{AreBelow, fresh, in_order, put_well, share, total}
 use Rattle.round_pipeline.proofs.Shares.{share_here, share_there}

@@ -1,13 +1,13 @@
 -- What a turn at the source makes of the rounds that were read.
-use Rattle.std.proofs.Common.{Bool, List, arith, ap, false, length, length-set, refl, subst, suc, sym, true, ℕ, [], ◌++◌, ◌<◌, ◌∙◌, ◌∷◌, ◌≡◌, append-nil}
+use Rattle.std.proofs.Common.{Bool, List, arith, ap, false, length, length-set, refl, suc, sym, true, ℕ, [], ◌++◌, ◌<◌, ◌∙◌, ◌∷◌, ◌≡◌, append-nil}
 use Rattle.std.specs.Prelude.{None, Option, Some, slice_index_or, slice_set}
 use Rattle.rtrb.specs.Ring.{received, sent}
 use Rattle.round_pipeline.specs.declared.capture.ReadEnd.{ReadEnd}
 use Rattle.round_pipeline.specs.declared.rings.Returned.{Returned}
 use Rattle.round_pipeline.specs.Ends.{HasFilled, IsUnread, SameReadEnd, WasEnded}
-use Rattle.round_pipeline.specs.Lists.{ends, fresh, in_order, share, told}
+use Rattle.round_pipeline.specs.Lists.{fresh, in_order, share, told}
 use Rattle.round_pipeline.specs.Threads.{IsTurning}
-use Rattle.round_pipeline.proofs.Places.{at_set, at_set_with, at_with}
+use Rattle.round_pipeline.proofs.Places.{at_set}
 use Rattle.round_pipeline.proofs.Shares.{share_here, share_there}
 
 pub fresh_snoc : {T : Type 0} (xs : List T) (x : T) → fresh (xs ++ x ∷ []) ≡ fresh xs ++ record { buffer = x; over = false } ∷ []

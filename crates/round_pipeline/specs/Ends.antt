@@ -2,7 +2,6 @@
 use Rattle.std.specs.Prelude.{Bool, List, None, Option, Some, false, is_some, ◌++◌, [], ◌∷◌, ◌≡◌}
 use Rattle.rtrb.specs.Ring.{IsPair, SameConsumer, SameProducer, known_items, received, sent}
 use Rattle.round_pipeline.specs.declared.capture.ReadEnd.{ReadEnd}
-use Rattle.round_pipeline.specs.declared.rings.Returned.{Returned}
 use Rattle.round_pipeline.specs.declared.worker.JudgeEnd.{JudgeEnd}
 use Rattle.round_pipeline.specs.declared.writer.WriteEnd.{WriteEnd}
 use Rattle.round_pipeline.specs.Lists.{buffers, fresh}

@@ -1,5 +1,5 @@
 -- Lists of rounds, the latest first. Ours.
-use Rattle.std.specs.Prelude.{Bool, List, None, Option, Some, cond, false, length, suc, true, zero, ℕ, [], ◌+◌, ◌<◌, ◌∷◌, ◌++◌, ◌==◌}
+use Rattle.std.specs.Prelude.{Bool, List, None, Option, Some, cond, false, suc, true, zero, ℕ, [], ◌+◌, ◌<◌, ◌∷◌, ◌++◌, ◌==◌}
 use Rattle.round_pipeline.specs.declared.rings.Returned.{Returned}
 
 module _ {T : Type 0} where

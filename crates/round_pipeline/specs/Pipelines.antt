@@ -1,5 +1,5 @@
 -- A run as a whole. The latest is the first of each list. Ours.
-use Rattle.std.specs.Prelude.{Bool, IsSome, List, Option, length, map, slice_index_or, ℕ, [], ◌+◌, ◌++◌, ◌<◌, ◌≡◌, ◌≢◌}
+use Rattle.std.specs.Prelude.{Bool, List, Option, length, map, slice_index_or, ℕ, [], ◌++◌, ◌<◌, ◌≡◌, ◌≢◌}
 use Rattle.rtrb.specs.Ring.{IsPair, known_items, received, sent}
 use Rattle.round_pipeline.specs.declared.capture.ReadEnd.{ReadEnd}
 use Rattle.round_pipeline.specs.declared.finished.Finished.{Finished}
@@ -9,7 +9,7 @@ use Rattle.round_pipeline.specs.declared.writer.WriteEnd.{WriteEnd}
 use Rattle.round_pipeline.specs.declared.writer.Writing.{Writing}
 use Rattle.round_pipeline.specs.Ends.{IsNewLine}
 use Rattle.round_pipeline.specs.Lists.{AreBelow, buffers, fresh, in_order, share}
-use Rattle.round_pipeline.specs.Rounds.{AreFilled, AreJudged, ArePut, HasRun}
+use Rattle.round_pipeline.specs.Rounds.{AreFilled, AreJudged, ArePut}
 use Rattle.round_pipeline.specs.Threads.{IsWriting}
 
 -- a writer that has not begun

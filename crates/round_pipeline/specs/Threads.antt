@@ -1,7 +1,6 @@
 -- What each thread of a run has made so far. The latest is the first of each list. Ours.
 use Rattle.std.specs.Prelude.{Bool, List, Option, length, slice_index_or, true, ℕ, [], ◌++◌, ◌<◌, ◌≡◌}
 use Rattle.rtrb.specs.Ring.{SameConsumer, SameProducer, received, sent}
-use Rattle.rtrb.specs.declared.producer.Producer.{Producer}
 use Rattle.round_pipeline.specs.declared.capture.Capture.{Capture}
 use Rattle.round_pipeline.specs.declared.capture.ReadEnd.{ReadEnd}
 use Rattle.round_pipeline.specs.declared.finished.Seat.{Seat}

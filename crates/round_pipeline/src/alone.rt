@@ -43,10 +43,7 @@ fn one_round<
     J: Judge<T> + Drop,
     E: Drop,
     W: Sink<T, E> + Drop,
->(
-    rt: &R,
-    run: &mut Finished<T, S, J, W, E>,
-)
+>(rt: &R, run: &mut Finished<T, S, J, W, E>)
     requires some { 0 < length run.old.seats.items }
     requires ready { IsReady S.fills J.judges W.puts S.ready J.ready W.ready (length run.old.seats.items) run.old }
     requires on { (run.old.more ≡ true) × (run.old.answer ≡ None) }
@@ -71,10 +68,7 @@ pub(crate) fn run_alone<
     J: Judge<T> + Drop,
     E: Drop,
     W: Sink<T, E> + Drop,
->(
-    rt: &R,
-    run: &mut Finished<T, S, J, W, E>,
-)
+>(rt: &R, run: &mut Finished<T, S, J, W, E>)
     requires some { 0 < length run.old.seats.items }
     requires ready { IsReady S.fills J.judges W.puts S.ready J.ready W.ready (length run.old.seats.items) run.old }
     requires sizes { (length run.old.reads.items ≡ length run.old.seats.items) × (length run.old.writes.items ≡ length run.old.seats.items) }
@@ -99,9 +93,7 @@ pub(crate) fn settle<
     J: Judge<T> + Drop,
     E: Drop,
     W: Sink<T, E> + Drop,
->(
-    run: &mut Finished<T, S, J, W, E>,
-)
+>(run: &mut Finished<T, S, J, W, E>)
     requires some { (0 < length run.old.reads.items) × (0 < length run.old.writes.items) }
     requires pair { (r : _) (w : _) → IsPair (slice_index_or run.old.writes.items 0 w).back (slice_index_or run.old.reads.items 0 r).back }
     ensures same { (run.new.source ≡ run.old.source) × (run.new.seats ≡ run.old.seats) × (run.new.sink ≡ run.old.sink) × (run.new.answer ≡ run.old.answer) × (run.new.more ≡ run.old.more) }

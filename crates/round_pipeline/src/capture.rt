@@ -125,10 +125,7 @@ fn end_lines<R: Wait, T: RoundBuffer + Drop>(rt: &R, lines: &mut [ReadEnd<T>])
 }
 
 // Tells all workers and the writer that no more is read.
-fn close<R: Wait, T: RoundBuffer + Drop, S: Source<T> + Drop>(
-    rt: &R,
-    capture: &mut Capture<T, S>,
-)
+fn close<R: Wait, T: RoundBuffer + Drop, S: Source<T> + Drop>(rt: &R, capture: &mut Capture<T, S>)
     requires open { capture.old.closed ≡ false }
     requires ready { S.ready capture.old.source }
     ensures { (first : _) → IsDesk S.ready S.fills first capture.old → IsDesk S.ready S.fills first capture.new }

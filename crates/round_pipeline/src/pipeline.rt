@@ -137,7 +137,11 @@ impl<T: RoundBuffer + Drop, J: Drop> Pipeline<T, J> {
             taker,
         } = new_line(alloc, buffers)?;
         self.room = self.room.saturating_add(count);
-        self.taker = if self.seats.is_empty() { Some(taker) } else { None };
+        self.taker = if self.seats.is_empty() {
+            Some(taker)
+        } else {
+            None
+        };
         self.reads.push_reserved(read);
         self.seats.push_reserved(Seat { judge, line });
         self.writes.push_reserved(write);

@@ -52,13 +52,7 @@ fn with_threads<
     J: Judge<T> + Drop + Send,
     E: Drop + Send,
     W: Sink<T, E> + Drop + Send,
->(
-    rt: &R,
-    order: Order,
-    pipeline: Pipeline<T, J>,
-    source: S,
-    sink: W,
-) -> Finished<T, S, J, W, E>
+>(rt: &R, order: Order, pipeline: Pipeline<T, J>, source: S, sink: W) -> Finished<T, S, J, W, E>
     requires some { 0 < length pipeline.judges }
     requires order { IsPair order.start.turns order.end.turns × (sent order.start.turns ≡ []) × (received order.end.turns ≡ []) × (order.end.ended ≡ false) }
     requires ready { S.ready source × W.ready sink × All (λ j. J.ready j) pipeline.judges }
@@ -89,11 +83,13 @@ fn with_threads<
 }
 
 // Nothing is read yet, and no thread was made.
-fn without_threads<T: RoundBuffer + Drop, S: Source<T> + Drop, J: Judge<T> + Drop, E: Drop, W: Sink<T, E> + Drop>(
-    pipeline: Pipeline<T, J>,
-    source: S,
-    sink: W,
-) -> Finished<T, S, J, W, E>
+fn without_threads<
+    T: RoundBuffer + Drop,
+    S: Source<T> + Drop,
+    J: Judge<T> + Drop,
+    E: Drop,
+    W: Sink<T, E> + Drop,
+>(pipeline: Pipeline<T, J>, source: S, sink: W) -> Finished<T, S, J, W, E>
     requires some { 0 < length pipeline.judges }
     requires ready { S.ready source × W.ready sink × All (λ j. J.ready j) pipeline.judges }
     ensures ready { IsReady S.fills J.judges W.puts S.ready J.ready W.ready (length pipeline.judges) result }
@@ -125,13 +121,7 @@ fn begin<
     J: Judge<T> + Drop + Send,
     E: Drop + Send,
     W: Sink<T, E> + Drop + Send,
->(
-    rt: &R,
-    alloc: Global,
-    pipeline: Pipeline<T, J>,
-    source: S,
-    sink: W,
-) -> Finished<T, S, J, W, E>
+>(rt: &R, alloc: Global, pipeline: Pipeline<T, J>, source: S, sink: W) -> Finished<T, S, J, W, E>
     requires some { 0 < length pipeline.judges }
     requires ready { S.ready source × W.ready sink × All (λ j. J.ready j) pipeline.judges }
     ensures ready { IsReady S.fills J.judges W.puts S.ready J.ready W.ready (length pipeline.judges) result }
@@ -151,13 +141,12 @@ impl<T: RoundBuffer + Drop + Send, J: Judge<T> + Drop + Send> Pipeline<T, J> {
     /// Runs until the source has given its last round, or the sink ends: each worker in a thread of its own, the writer in
     /// this one. The order of rounds is kept. If no thread can be made, or if memory for the run is refused, this thread does all
     /// the work; it has then waited for half a second at most.
-    pub fn run<R: Threads + Wait + Sync, S: Source<T> + Drop + Send, E: Drop + Send, W: Sink<T, E> + Drop + Send>(
-        self,
-        rt: &R,
-        alloc: Global,
-        source: S,
-        sink: W,
-    ) -> Finished<T, S, J, W, E>
+    pub fn run<
+        R: Threads + Wait + Sync,
+        S: Source<T> + Drop + Send,
+        E: Drop + Send,
+        W: Sink<T, E> + Drop + Send,
+    >(self, rt: &R, alloc: Global, source: S, sink: W) -> Finished<T, S, J, W, E>
         requires some { 0 < length self.judges }
         requires buffers { All (λ bs. 0 < length bs) self.buffers }
         requires ready { S.ready source × W.ready sink × All (λ j. J.ready j) self.judges }

@@ -33,11 +33,7 @@ fn serve_all<
     T: RoundBuffer + Drop + Send,
     S: Source<T> + Drop + Send,
     J: Judge<T> + Drop + Send,
->(
-    rt: &R,
-    desk: &Mutex<Desk<B, T, S>>,
-    seats: &mut [Seat<T, J>],
-)
+>(rt: &R, desk: &Mutex<Desk<B, T, S>>, seats: &mut [Seat<T, J>])
     requires some { 0 < length seats.old }
     requires all { All (λ s. CanServe J.ready s) seats.old }
     ensures { HaveServed J.ready J.judges (length seats.old) seats.old seats.new }
@@ -60,11 +56,7 @@ fn serve_seats<
     T: RoundBuffer + Drop + Send,
     S: Source<T> + Drop + Send,
     J: Judge<T> + Drop + Send,
->(
-    rt: &R,
-    desk: &Mutex<Desk<B, T, S>>,
-    mut seats: Vec<Seat<T, J>>,
-) -> Vec<Seat<T, J>>
+>(rt: &R, desk: &Mutex<Desk<B, T, S>>, mut seats: Vec<Seat<T, J>>) -> Vec<Seat<T, J>>
     requires some { 0 < length seats.items }
     requires all { All (λ s. CanServe J.ready s) seats.items }
     ensures { HaveServed J.ready J.judges (length seats.items) seats.items result.items }
@@ -80,12 +72,7 @@ fn serve_beside<
     T: RoundBuffer + Drop + Send,
     S: Source<T> + Drop + Send,
     J: Judge<T> + Drop + Send,
->(
-    rt: &R,
-    desk: &Mutex<Desk<B, T, S>>,
-    seats: Vec<Seat<T, J>>,
-    bells: &LineBells,
-) -> Vec<Seat<T, J>>
+>(rt: &R, desk: &Mutex<Desk<B, T, S>>, seats: Vec<Seat<T, J>>, bells: &LineBells) -> Vec<Seat<T, J>>
     requires some { 0 < length seats.items }
     requires all { All (λ s. CanServe J.ready s) seats.items }
     ensures { HaveServed J.ready J.judges (length seats.items) seats.items result.items }
@@ -109,10 +96,7 @@ fn serve_shop<
     T: RoundBuffer + Drop + Send,
     S: Source<T> + Drop + Send,
     J: Judge<T> + Drop + Send,
->(
-    rt: &R,
-    shop: Shop<B, T, S, J>,
-) -> Shop<B, T, S, J>
+>(rt: &R, shop: Shop<B, T, S, J>) -> Shop<B, T, S, J>
     requires some { 0 < length shop.seats.items }
     requires all { All (λ s. CanServe J.ready s) shop.seats.items }
     ensures { HaveServed J.ready J.judges (length shop.seats.items) shop.seats.items result.seats.items }
@@ -150,11 +134,7 @@ fn work_and_write<
     J: Judge<T> + Drop + Send,
     E: Drop + Send,
     W: Sink<T, E> + Drop + Send,
->(
-    rt: &R,
-    shop: Shop<B, T, S, J>,
-    writing: Writing<T, E, W>,
-) -> (Shop<B, T, S, J>, Writing<T, E, W>)
+>(rt: &R, shop: Shop<B, T, S, J>, writing: Writing<T, E, W>) -> (Shop<B, T, S, J>, Writing<T, E, W>)
     requires some { 0 < length shop.seats.items }
     requires all { All (λ s. CanServe J.ready s) shop.seats.items }
     requires write { CanWrite W.ready W.puts (length writing.lines.items) writing }
@@ -209,13 +189,27 @@ pub(crate) fn run_in_threads<
         taker,
     };
     let (shop, writing) = work_and_write(rt, shop, writing);
-    let Shop { desk, mut seats, .. } = shop;
+    let Shop {
+        desk,
+        mut seats,
+        ..
+    } = shop;
     let mut capture = desk.into_inner().into_capture();
     let mut writing = write_on(rt, writing);
     writing.order.turns.slots_beside(&mut capture.order.turns);
     meet_lines(&mut capture.lines, &mut seats, &mut writing.lines);
-    let Capture { source, lines, more, .. } = capture;
-    let Writing { sink, lines: writes, answer, .. } = writing;
+    let Capture {
+        source,
+        lines,
+        more,
+        ..
+    } = capture;
+    let Writing {
+        sink,
+        lines: writes,
+        answer,
+        ..
+    } = writing;
     Finished {
         source,
         seats,

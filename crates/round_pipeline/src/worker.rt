@@ -62,12 +62,7 @@ fn next_round<B: Naming<T, S>, R: Wait, T: RoundBuffer + Drop, S: Source<T> + Dr
 }
 
 // Takes turns for a line until no more is read, so that its worker can judge meanwhile.
-pub(crate) fn take_turns<
-    B: Naming<T, S>,
-    R: Wait,
-    T: RoundBuffer + Drop,
-    S: Source<T> + Drop,
->(
+pub(crate) fn take_turns<B: Naming<T, S>, R: Wait, T: RoundBuffer + Drop, S: Source<T> + Drop>(
     rt: &R,
     desk: &Mutex<Desk<B, T, S>>,
     number: usize,
@@ -85,13 +80,7 @@ pub(crate) fn take_turns<
 }
 
 // Takes turns and judges until no more is read.
-fn judge_rounds<
-    B: Naming<T, S>,
-    R: Wait,
-    T: RoundBuffer + Drop,
-    S: Source<T> + Drop,
-    J: Judge<T>,
->(
+fn judge_rounds<B: Naming<T, S>, R: Wait, T: RoundBuffer + Drop, S: Source<T> + Drop, J: Judge<T>>(
     rt: &R,
     desk: &Mutex<Desk<B, T, S>>,
     number: usize,
@@ -123,12 +112,7 @@ pub(crate) fn serve<
     T: RoundBuffer + Drop,
     S: Source<T> + Drop,
     J: Judge<T>,
->(
-    rt: &R,
-    desk: &Mutex<Desk<B, T, S>>,
-    number: usize,
-    seat: &mut Seat<T, J>,
-)
+>(rt: &R, desk: &Mutex<Desk<B, T, S>>, number: usize, seat: &mut Seat<T, J>)
     requires { CanServe J.ready seat.old }
     ensures { HasServed J.ready J.judges seat.old seat.new }
 {

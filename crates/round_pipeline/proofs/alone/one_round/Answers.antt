@@ -1,4 +1,4 @@
-use Rattle.std.proofs.Common.{Bool, [], arith, length, refl, subst, sym, ℕ, ◌++◌, ◌<◌, ◌∙◌, ◌∷◌, ◌≡◌}
+use Rattle.std.proofs.Common.{Bool, [], arith, length, refl, subst, sym, ◌++◌, ◌<◌, ◌∙◌, ◌∷◌, ◌≡◌}
 use Rattle.rtrb.specs.Ring.{sent}
 use Rattle.round_pipeline.proofs.Places.{at_with}
 use Rattle.round_pipeline.proofs.Rounds.{run_more}

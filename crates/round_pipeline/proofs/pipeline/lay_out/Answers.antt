@@ -1,4 +1,4 @@
-use Rattle.std.proofs.Common.{All, List, [], ap, false, append_assoc, arith, length, rules, subst, suc, sym, zero, ◌++◌, ◌<◌, ◌∙◌, ◌∷◌, ◌≡◌}
+use Rattle.std.proofs.Common.{All, List, [], ap, false, append_assoc, rules, subst, sym, ◌++◌, ◌∙◌, ◌∷◌, ◌≡◌}
 use Rattle.std.specs.Vec.Iter.{into_iter_items}
 use Rattle.rtrb.specs.Ring.{sent}
 use Rattle.round_pipeline.specs.Lists.{fresh}

@@ -14,10 +14,10 @@ returns g c =
     let sent_is = laid.laid ∙ ap (λ (l : _). l ++ fresh xs) back.producer.0 in (
       record {
         ends = record {
-            work = work.pair;
-            made = made.pair;
-            back = pair_on c.in_ok-back.back.end c.in_ok-back.to_read.end c.lay_out.new.back.end c.in_ok-back.to_read.end back.pair laid.same.0 (refl, refl, refl, refl);
-          };
+          work = work.pair;
+          made = made.pair;
+          back = pair_on c.in_ok-back.back.end c.in_ok-back.to_read.end c.lay_out.new.back.end c.in_ok-back.to_read.end back.pair laid.same.0 (refl, refl, refl, refl);
+        };
         work_sent = work.producer.0;
         work_taken = work.consumer.0;
         made_sent = made.producer.0;

@@ -1,4 +1,4 @@
-use Rattle.std.proofs.Common.{All, Bool, None, arith, ap, length, refl, subst, sym, true, ℕ, ◌<◌, ◌∙◌, ◌≡◌}
+use Rattle.std.proofs.Common.{All, Bool, None, arith, ap, length, refl, subst, sym, ℕ, ◌∙◌}
 use Rattle.std.proofs.lemmas.List.{length-map}
 use Rattle.rtrb.specs.Ring.{received}
 use Rattle.round_pipeline.specs.Pipelines.{Crew, IsReady, IsRunning}
@@ -21,7 +21,7 @@ run_in_threads-requires-clause-desk g c =
     let w0 = first_of p.writes.items (omega (arith, e, new.sizes.0, new.sizes.1, c.requires.some)) in
     λ _ _. (
       desk_begins g.S.Source.ready g.S.Source.fills _ c.requires.ready.0 refl refl c.requires.order.1
-      (λ i d l. ((new.lines i d j0 w0 l).work_sent, (new.lines i d j0 w0 l).back_taken)),
+          (λ i d l. ((new.lines i d j0 w0 l).work_sent, (new.lines i d j0 w0 l).back_taken)),
       refl,
     )
 

@@ -1,6 +1,6 @@
-use Rattle.std.proofs.Common.{All, arith, ap, length, refl, subst, sym, true, ℕ, ◌<◌, ◌∙◌, ◌≡◌}
+use Rattle.std.proofs.Common.{All, arith, ap, length, refl, subst, sym, ◌∙◌, ◌≡◌}
 use Rattle.std.proofs.lemmas.List.{length-map}
-use Rattle.round_pipeline.specs.Pipelines.{Crew, IsRunning}
+use Rattle.round_pipeline.specs.Pipelines.{Crew}
 use Rattle.round_pipeline.proofs.Begins.{all_judges, running_begins}
 use Rattle.round_pipeline.proofs.Joins.{first_of}
 use Rattle.round_pipeline.proofs.running.without_threads.Goals as goal
@@ -40,6 +40,6 @@ returns-clause-ran g c =
       omega (arith, reads, new.sizes.1),
       (λ i d l. (new.lines i r0 j0 d (omega (arith, l, new.sizes.1))).back_sent),
       running_begins g.S.Source.fills g.J.Judge.judges g.W.Sink.puts n p.reads.items p.seats.items p.writes.items _ r0 j0 w0 new reads refl refl
-      (met.sizes.0 ∙ reads, met.sizes.1 ∙ reads, met.sizes.2 ∙ reads)
-      (λ i r j w l. met.met i r j w (omega (arith, l, reads))) (λ i j l. met.judges i j (omega (arith, l, reads))),
+          (met.sizes.0 ∙ reads, met.sizes.1 ∙ reads, met.sizes.2 ∙ reads)
+          (λ i r j w l. met.met i r j w (omega (arith, l, reads))) (λ i j l. met.judges i j (omega (arith, l, reads))),
     )

@@ -1,5 +1,5 @@
-use Rattle.std.proofs.Common.{arith, ap, length, refl, subst, sym, true, ℕ, ◌++◌, ◌<◌, ◌∙◌, ◌≡◌}
-use Rattle.std.specs.Prelude.{Bool, slice_index_or}
+use Rattle.std.proofs.Common.{arith, ap, length, subst, sym, true, ℕ, ◌++◌, ◌∙◌, ◌≡◌}
+use Rattle.std.specs.Prelude.{Bool}
 use Rattle.rtrb.specs.Ring.{known_items, received, sent}
 use Rattle.round_pipeline.specs.declared.capture.Capture.{Capture}
 use Rattle.round_pipeline.specs.Threads.{IsDesk, IsTurning, IsWriting}

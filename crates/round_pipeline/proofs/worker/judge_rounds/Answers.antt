@@ -1,5 +1,5 @@
 use Rattle.std.proofs.Common.{[], ap, append-nil, refl, rules, sym, ◌++◌, ◌∙◌, ◌∷◌}
-use Rattle.std.specs.Prelude.{List, None, Some}
+use Rattle.std.specs.Prelude.{List, Some}
 use Rattle.round_pipeline.specs.Lists.{told}
 use Rattle.round_pipeline.proofs.worker.judge_rounds.Goals as goal
 

@@ -1,4 +1,4 @@
-use Rattle.std.proofs.Common.{arith, false, length, refl, rules, subst, sym, ℕ, ◌<◌, ◌≡◌, ◌∙◌, length-set}
+use Rattle.std.proofs.Common.{arith, length, refl, rules, subst, sym, ◌<◌, ◌∙◌, length-set}
 use Rattle.std.specs.Prelude.{Bool, slice_set}
 use Rattle.rtrb.specs.Ring.{received}
 use Rattle.round_pipeline.specs.Threads.{IsWriting}

@@ -1,4 +1,4 @@
-use Rattle.std.proofs.Common.{List, ap, sym, ◌≡◌, ◌++◌, ◌∙◌, ◌∷◌, []}
+use Rattle.std.proofs.Common.{List, ap, ◌≡◌, ◌++◌, ◌∙◌, ◌∷◌, []}
 use Rattle.round_pipeline.specs.declared.capture.ReadEnd.{ReadEnd}
 use Rattle.round_pipeline.specs.declared.finished.Seat.{Seat}
 use Rattle.round_pipeline.specs.declared.writer.WriteEnd.{WriteEnd}
