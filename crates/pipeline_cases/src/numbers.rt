@@ -1,8 +1,11 @@
-// A run over numbers: round k holds the number k.
-use round_pipeline::{Finished, Judge, Pipeline, RoundBuffer, Sink, Source};
+// Rounds that hold their number, and what reads, judges and puts them.
+ghost use Rattle.std.specs.Prelude.{◌<◌, IfOk, length};
+
+use round_pipeline::{Finished, Judge, RoundBuffer, Sink, Source};
 use std::alloc::{AllocError, Global};
-use std::sync::Wait;
-use std::thread::Threads;
+
+/// No round has this number.
+pub const NEVER: u64 = 1 << 60;
 
 /// A round: its number, the judge that judged it, and whether the read that ends the source failed.
 #[derive(Drop)]
@@ -28,6 +31,16 @@ pub struct Counter {
     pub fails: bool,
 }
 
+impl Counter {
+    pub fn new(rounds: u64, fails: bool) -> Counter {
+        Counter {
+            next: 0,
+            rounds,
+            fails,
+        }
+    }
+}
+
 impl Source<Round> for Counter {
     ghost ready = { λ x. Unit {0} };
 
@@ -49,6 +62,12 @@ pub struct Marker {
     pub judged: u64,
 }
 
+impl Marker {
+    pub fn new(number: u64) -> Marker {
+        Marker { number, judged: 0 }
+    }
+}
+
 impl Judge<Round> for Marker {
     ghost ready = { λ x. Unit {0} };
 
@@ -66,6 +85,16 @@ pub struct Checker {
     pub next: u64,
     pub wrong: u64,
     pub fails_at: u64,
+}
+
+impl Checker {
+    pub fn new(fails_at: u64) -> Checker {
+        Checker {
+            next: 0,
+            wrong: 0,
+            fails_at,
+        }
+    }
 }
 
 impl Sink<Round, u64> for Checker {
@@ -88,30 +117,22 @@ impl Sink<Round, u64> for Checker {
 
 pub type Run = Finished<Round, Counter, Marker, Checker, u64>;
 
-/// No round has this number.
-pub const NEVER: u64 = 1 << 60;
-
-/// Runs over `rounds` rounds by `workers` workers with `buffers` buffers each.
-pub fn run<R: Threads + Wait + Sync>(
-    rt: &R,
-    alloc: Global,
-    workers: u64,
-    buffers: u64,
-    source: Counter,
-    sink: Checker,
-) -> Result<Run, AllocError> {
-    let mut pipeline = Pipeline::new(alloc);
-    for number in 0..workers {
-        let mut held = Vec::new(alloc);
-        for _ in 0..buffers {
-            held.push(Round {
-                number: NEVER,
-                judge: NEVER,
-                failed: false,
-            })?;
-        }
-        let judge = Marker { number, judged: 0 };
-        pipeline.add_worker(alloc, judge, held)?;
+/// Empty buffers for one worker, at least one.
+pub fn buffers_of(alloc: Global, count: u64) -> Result<Vec<Round>, AllocError>
+    ensures { IfOk result (λ buffers. 0 < length buffers.items) }
+{
+    let mut buffers = Vec::new(alloc);
+    buffers.push(blank())?;
+    'more: for _ in 1..count {
+        buffers.push(blank())?;
     }
-    Ok(pipeline.run(rt, alloc, source, sink))
+    Ok(buffers)
+}
+
+fn blank() -> Round {
+    Round {
+        number: NEVER,
+        judge: NEVER,
+        failed: false,
+    }
 }
