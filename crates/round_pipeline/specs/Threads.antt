@@ -78,7 +78,7 @@ module _ {W T E : Type 0} (puts : W → T → W → T → Option E → Type 0) w
     pub gave : (i : ℕ) (d : WriteEnd T) → i < n → sent (slice_index_or lines i d).back ≡ sent (slice_index_or first i d).back ++ in_order (share order i backs)
     pub put : ArePut puts start products backs now answer
 
-  -- the same of the writer's thread
+  -- what the writer has done when its thread ends
   pub record HasWritten (ready : W → Type 0) (n : ℕ) (start now : W) (answer : Option E) (before lines : List (WriteEnd T)) (end now_end : OrderEnd) : Type 0 where
     pub same : (i : ℕ) (d : WriteEnd T) → i < n → SameWriteEnd (slice_index_or before i d) (slice_index_or lines i d)
     pub turns : SameConsumer end.turns now_end.turns
