@@ -91,10 +91,8 @@ const FROM_8_192: Window = Window {
     latest: 1_000_000,
 };
 
-// A plan of three tables, of which the later two come in these windows. The subscriber owns port 1232 in the first and the third.
-fn three_of(alloc: Global, second_comes: Window, third_comes: Window) -> Result<Plan, TableError>
-    requires second { (second_comes.earliest ≤ second_comes.latest) × (second_comes.latest ≤ 2147483648) }
-    requires third { (third_comes.earliest ≤ third_comes.latest) × (third_comes.latest ≤ 2147483648) }
+/// A plan of three tables, of which the later two may come from records 10 and 8,192 on.
+pub fn three_tables(alloc: Global) -> Result<Plan, TableError>
     ensures { IfOk result (λ plan. All AreCompiled plan.tables) }
 {
     let first = words_of(alloc, 52)?;
@@ -103,27 +101,32 @@ fn three_of(alloc: Global, second_comes: Window, third_comes: Window) -> Result<
     let Ok(mut plan) = Plan::of(alloc, first) else {
         return Err(TableError::OutOfMemory);
     };
-    if plan.add(second_comes, second).is_err() {
+    if plan.add(FROM_10, second).is_err() {
         return Err(TableError::OutOfMemory);
     }
-    if plan.add(third_comes, third).is_err() {
+    if plan.add(FROM_8_192, third).is_err() {
         return Err(TableError::OutOfMemory);
     }
     Ok(plan)
 }
 
-/// A plan of three tables, of which the later two may come from records 10 and 8,192 on.
-pub fn three_tables(alloc: Global) -> Result<Plan, TableError>
-    ensures { IfOk result (λ plan. All AreCompiled plan.tables) }
-{
-    three_of(alloc, FROM_10, FROM_8_192)
-}
-
-/// A plan of three tables, of which the later two may come from record 10 on.
+/// A plan of three tables, of which the later two may come from record 10 on. The subscriber owns port 1232 in the first and the third.
 pub fn three_from_10(alloc: Global) -> Result<Plan, TableError>
     ensures { IfOk result (λ plan. All AreCompiled plan.tables) }
 {
-    three_of(alloc, FROM_10, FROM_10)
+    let first = words_of(alloc, 52)?;
+    let second = words_of(alloc, 53)?;
+    let third = words_of(alloc, 52)?;
+    let Ok(mut plan) = Plan::of(alloc, first) else {
+        return Err(TableError::OutOfMemory);
+    };
+    if plan.add(FROM_10, second).is_err() {
+        return Err(TableError::OutOfMemory);
+    }
+    if plan.add(FROM_10, third).is_err() {
+        return Err(TableError::OutOfMemory);
+    }
+    Ok(plan)
 }
 
 /// The second table comes behind so many records.
