@@ -13,7 +13,7 @@ fi
 package=$("$top/packaging/deb.sh" $stale "$work")
 lintian --allow-root --tag-display-limit 0 "$package"
 root=${1:-$work/root}
-[ -d "$root" ] || mmdebstrap --quiet --variant=minbase --include=python3 bookworm "$root"
+[ -d "$root" ] || mmdebstrap --quiet --variant=minbase --include=python3,tshark bookworm "$root"
 cp "$package" "$root/tmp/lwaftr.deb"
 cp "$top"/examples/first/* "$root/tmp/"
 chroot "$root" dpkg --install /tmp/lwaftr.deb

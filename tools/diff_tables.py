@@ -9,9 +9,11 @@ from __future__ import annotations
 
 import collections
 import dataclasses
+import functools
 import json
+import socket
 
-from lwaftr_tools import addresses, command, tables
+from lwaftr_tools import command, tables
 
 GONE, LOSES, MOVED, GAINS, NEW = "gone", "loses ports", "moved", "gains ports", "new"
 KINDS = (GONE, LOSES, MOVED, GAINS, NEW)
@@ -24,80 +26,117 @@ MEANING = {
 }
 
 
-@dataclasses.dataclass
+B4, IPV4, SHAPE, SET = 0, 1, slice(2, 4), slice(2, 5)
+
+
+@functools.lru_cache(maxsize=None)
+def set_of(length, offset, psid):
+    """A set of ports, of the texts of a row."""
+    return tables.Binding(None, None, int(offset), int(length), int(psid))
+
+
+@functools.lru_cache(maxsize=None)
+def size_of(shape):
+    return set_of(*shape, "0").port_count()
+
+
+# Python 3.10 has a method for it
+ones_of = getattr(int, "bit_count", lambda mask: bin(mask).count("1"))
+
+
+class Ports:
+    """Ports of one address: those of some rows that other rows do not have. Neither the rows nor the others overlap one another."""
+
+    __slots__ = ("rows", "others", "is_apart", "count")
+
+    def __init__(self, rows, others):
+        self.rows, self.others = rows, others
+        # two sets of one shape share all ports or none
+        self.is_apart = not others or len({it[SHAPE] for it in (*rows, *others)}) == 1
+        self.count = sum([size_of(it[SHAPE]) for it in rows]) if self.is_apart else ones_of(self.mask())
+
+    def mask(self):
+        kept = 0
+        for it in self.rows:
+            kept |= set_of(*it[SET]).mask()
+        for it in self.others:
+            kept &= ~set_of(*it[SET]).mask()
+        return kept
+
+    def ranges(self):
+        """The ports as pairs of a first and a last one."""
+        return set_of(*self.rows[0][SET]).ranges() if self.is_apart and len(self.rows) == 1 else ranges_of(self.mask())
+
+
+def ranges_of(mask):
+    """The runs of ones in a number, as pairs of the first and the last place."""
+    found, at = [], 0
+    while mask:
+        zeros = (mask & -mask).bit_length() - 1
+        mask >>= zeros
+        ones = (~mask & mask + 1).bit_length() - 1
+        mask >>= ones
+        found.append((at + zeros, at + zeros + ones - 1))
+        at += zeros + ones
+    return found
+
+
 class Change:
-    """What changes for one subscriber: for each address the ranges of ports that it loses and gains."""
+    """What changes for one subscriber: for each address the ports that it loses and gains."""
 
-    b4: object
-    kind: str
-    lost: dict
-    gained: dict
+    __slots__ = ("b4", "kind", "lost", "gained", "ports_lost", "ports_gained")
 
-    def ports_lost(self):
-        return count(self.lost)
+    def __init__(self, b4, kind, lost, gained):
+        self.b4, self.kind, self.lost, self.gained = b4, kind, lost, gained
+        self.ports_lost, self.ports_gained = sum([it.count for it in lost.values()]), sum([it.count for it in gained.values()])
 
-    def ports_gained(self):
-        return count(self.gained)
-
-
-def count(ranges_of):
-    return sum(last - first + 1 for ranges in ranges_of.values() for first, last in ranges)
+    def order(self):
+        """Where it stands among the changes."""
+        return KINDS.index(self.kind), -self.ports_lost, socket.inet_pton(socket.AF_INET6, self.b4)
 
 
-def sets_of(table):
-    """For each subscriber its sets."""
-    found = collections.defaultdict(set)
-    for it in table.bindings:
-        found[it.b4].add((it.ipv4, it.offset, it.length, it.psid))
+def grouped(rows, place):
+    """Rows by one of their texts."""
+    if len(rows) < 2:
+        return {it[place]: rows for it in rows}
+    found = {}
+    for it in rows:
+        found.setdefault(it[place], []).append(it)
     return found
 
 
-def ports_of(sets):
-    """For each address the ports of some sets."""
-    found = collections.defaultdict(set)
-    for ipv4, offset, length, psid in sets:
-        for first, last in tables.Binding(None, ipv4, offset, length, psid).ranges():
-            found[ipv4].update(range(first, last + 1))
+def without(rows, others):
+    """For each address the ports of some rows that others lack; no row is among both."""
+    found, of_others = {}, grouped(others, IPV4)
+    for ipv4, its in grouped(rows, IPV4).items():
+        ports = Ports(its, of_others.get(ipv4, ()))
+        if ports.count:
+            found[ipv4] = ports
     return found
-
-
-def ranges(ports):
-    """Ports as pairs of a first and a last one."""
-    found = []
-    for port in sorted(ports):
-        if found and found[-1][1] == port - 1:
-            found[-1] = found[-1][0], port
-        else:
-            found.append((port, port))
-    return found
-
-
-def without(ports, others):
-    """For each address the ranges of the ports that others lack."""
-    left = {ipv4: ranges(its - others.get(ipv4, set())) for ipv4, its in ports.items()}
-    return {ipv4: its for ipv4, its in left.items() if its}
-
-
-def change(b4, old, new):
-    """What changes for a subscriber with old and new sets; None if no port does."""
-    before, after = ports_of(old - new), ports_of(new - old)
-    lost, gained = without(before, after), without(after, before)
-    if not lost and not gained:
-        return None
-    if not old or not new:
-        kind = NEW if not old else GONE
-    elif not lost:
-        kind = GAINS
-    else:
-        kind = MOVED if {it[0] for it in old}.isdisjoint(it[0] for it in new) else LOSES
-    return Change(b4, kind, lost, gained)
 
 
 def changes(old, new):
     """The changes of all subscribers, what breaks one first."""
-    before, after = sets_of(old), sets_of(new)
-    found = (change(b4, before.get(b4, set()), after.get(b4, set())) for b4 in {**before, **after} if before.get(b4) != after.get(b4))
-    return sorted((it for it in found if it), key=lambda it: (KINDS.index(it.kind), -it.ports_lost(), it.b4))
+    kept = set(old) & set(new)
+    gone, come = (grouped([it for it in rows if it not in kept], B4) for rows in (old, new))
+    touched = gone.keys() | come.keys()
+    before, after = (grouped([it for it in rows if it[B4] in touched], B4) for rows in (old, new))
+    found = []
+    for b4 in touched:
+        mine, its = gone.get(b4, ()), come.get(b4, ())
+        lost, gained = without(mine, its), without(its, mine)
+        if lost or gained:
+            found.append(Change(b4, kind_of(before.get(b4, ()), after.get(b4, ()), lost), lost, gained))
+    return sorted(found, key=Change.order)
+
+
+def kind_of(old, new, lost):
+    """What happens to a subscriber with old and new rows, who loses some ports."""
+    if not old or not new:
+        return NEW if not old else GONE
+    if not lost:
+        return GAINS
+    return MOVED if {it[IPV4] for it in old}.isdisjoint(it[IPV4] for it in new) else LOSES
 
 
 def settings(old, new):
@@ -108,54 +147,54 @@ def settings(old, new):
             yield it.name, *(value if isinstance(value, (bool, int)) else str(value) for value in values)
 
 
-def owners(table, lost):
-    """Who has lost ports now, with one port of each owner."""
-    found = {}
-    for ipv4, its in lost.items():
-        for first, last in its:
-            for port in {first, last}:
-                owner = table.owner(ipv4, port)
-                if owner:
-                    found.setdefault(owner.b4, (ipv4, port))
-    return found
+def owner(new_rows, lost):
+    """One of those who have lost ports now, with such a port; None if nobody has. The new rows are given by their addresses."""
+    for ipv4, ports in lost.items():
+        its = [(it[B4], set_of(*it[SET])) for it in new_rows.get(ipv4, ())]
+        for port in (port for ends in ports.ranges() for port in ends):
+            for b4, of in its:
+                if of.owns(port):
+                    return b4, f"port {port} of {ipv4}"
+    return None
 
 
-def shown(ranges_of):
+def shown(ports_of):
     """Ranges in words; of many only the first."""
     said = []
-    for ipv4, its in ranges_of.items():
+    for ipv4, ports in ports_of.items():
+        its = ports.ranges()
         texts = [f"{first}" if first == last else f"{first}-{last}" for first, last in its[:4]]
         more = f" and {len(its) - 4} more ranges" if len(its) > 4 else ""
         said.append(f"{ipv4} {', '.join(texts)}{more}")
     return "; ".join(said)
 
 
-def line(it, new):
-    parts = [f"  {addresses.shown(it.b4)}:"]
+def line(it, new_rows):
+    parts = [f"  {it.b4}:"]
     if it.lost:
-        parts.append(f"loses {it.ports_lost():,} ports ({shown(it.lost)})")
-        now = owners(new, it.lost)
-        if now:
-            b4, (ipv4, port) = next(iter(now.items()))
-            parts.append(f"which {addresses.shown(b4)} has now (port {port} of {ipv4})")
+        parts.append(f"loses {it.ports_lost:,} ports ({shown(it.lost)})")
+        if now := owner(new_rows, it.lost):
+            parts.append(f"which {now[0]} has now ({now[1]})")
     if it.gained:
-        parts.append(f"{'and ' if it.lost else ''}gains {it.ports_gained():,} ports ({shown(it.gained)})")
+        parts.append(f"{'and ' if it.lost else ''}gains {it.ports_gained:,} ports ({shown(it.gained)})")
     return " ".join(parts)
 
 
 def totals(old, new, found):
     counts = collections.Counter(it.kind for it in found)
     kinds = ", ".join(f"{counts[it]:,} {it}" for it in KINDS)
-    lost, gained = sum(it.ports_lost() for it in found), sum(it.ports_gained() for it in found)
-    return f"{len(old.bindings):,} bindings before, {len(new.bindings):,} now. Subscribers: {kinds}. Ports: {lost:,} lost, {gained:,} gained."
+    lost, gained = sum(it.ports_lost for it in found), sum(it.ports_gained for it in found)
+    return f"{len(old.rows):,} bindings before, {len(new.rows):,} now. Subscribers: {kinds}. Ports: {lost:,} lost, {gained:,} gained."
 
 
 def as_text(old, new, found, keys, most):
     lines = [totals(old, new, found)]
-    for kind in KINDS:
-        its = [it for it in found if it.kind == kind]
+    by_kind = {kind: [it for it in found if it.kind == kind] for kind in KINDS}
+    lost = {ipv4 for its in by_kind.values() for it in its[:most] for ipv4 in it.lost}
+    new_rows = grouped([it for it in new.rows if it[IPV4] in lost], IPV4)
+    for kind, its in by_kind.items():
         if its:
-            lines += ["", f"{kind}: {MEANING[kind]}", *(line(it, new) for it in its[:most])]
+            lines += ["", f"{kind}: {MEANING[kind]}", *(line(it, new_rows) for it in its[:most])]
             lines += [f"  and {len(its) - most:,} more"] if len(its) > most else []
     if keys:
         lines += ["", "settings", *(f"  {name}: {str(before).lower()} before, {str(now).lower()} now" for name, before, now in keys)]
@@ -164,12 +203,12 @@ def as_text(old, new, found, keys, most):
 
 def as_json(old, new, found, keys):
     return json.dumps({
-        "bindings": {"old": len(old.bindings), "new": len(new.bindings)},
+        "bindings": {"old": len(old.rows), "new": len(new.rows)},
         "settings": [{"name": name, "old": before, "new": now} for name, before, now in keys],
         "subscribers": [
             {
-                "b4": addresses.shown(it.b4), "change": it.kind,
-                "lost": {str(ipv4): its for ipv4, its in it.lost.items()}, "gained": {str(ipv4): its for ipv4, its in it.gained.items()},
+                "b4": it.b4, "change": it.kind,
+                **{name: {ipv4: ports.ranges() for ipv4, ports in its.items()} for name, its in (("lost", it.lost), ("gained", it.gained))},
             }
             for it in found
         ],
@@ -183,8 +222,8 @@ def main():
     it.add_argument("--json", action="store_true", help="print all changes as JSON")
     it.add_argument("--most", type=command.from_zero, default=20, metavar="N", help="how many subscribers of a kind are printed (20)")
     words = it.parse_args()
-    old, new = tables.read(words.old), tables.read(words.new)
-    found, keys = changes(old, new), list(settings(old, new))
+    old, new = tables.document(words.old), tables.document(words.new)
+    found, keys = changes(old.rows, new.rows), list(settings(old, new))
     command.say(as_json(old, new, found, keys) if words.json else as_text(old, new, found, keys, words.most))
     return command.REFUSED if found or keys else command.DONE
 

@@ -13,6 +13,7 @@ not give has Snabb's default, not that of a table: each is named on standard err
 the table: if it is refused, the line of the configuration is named and nothing is written."""
 import bisect
 import collections
+import functools
 
 from lwaftr_tools import addresses, command, converting, tables, yang
 
@@ -167,20 +168,25 @@ def tunnel(node, listed, notes):
 
 
 KNOWN = ("ipv4", "psid", "b4-ipv6", "b4", "br-address", "br", "port-set", "padding")
+# the usual leaves of a softwire, in the order of a binding behind the tunnel address
+PLAIN = ("br-address", "b4-ipv6", "ipv4", "port-set reserved-ports-bit-count", "port-set psid-length", "psid")
 
 
-PLAIN = {"ipv4", "psid", "b4-ipv6", "br-address"}, {"psid-length", "reserved-ports-bit-count"}
+@functools.lru_cache(maxsize=yang.MOST_FORMS)
+def plain_groups(form):
+    return form.groups(PLAIN)
 
 
 def plain_softwire(node):
     """The tunnel address and the binding of a softwire that has the usual leaves, each once and well written; None of any other one."""
-    leaves = node.leaves()
-    if not leaves or leaves[0].keys() != PLAIN[0] or leaves[1].keys() != PLAIN[1]:
+    groups = plain_groups(node.form)
+    if not groups:
         return None
-    of, ports = leaves
+    aftr, b4, ipv4, offset, length, psid = node.found.group(*groups)
+    number = converting.number
     try:
-        shape_and_psid = (converting.number("", it) for it in (ports["reserved-ports-bit-count"], ports["psid-length"], of["psid"]))
-        return addresses.tunnel(of["br-address"]), tables.Binding(addresses.ipv6(of["b4-ipv6"]), addresses.ipv4(of["ipv4"]), *shape_and_psid)
+        binding = tables.Binding(addresses.ipv6(b4), addresses.ipv4(ipv4), number("", offset), number("", length), number("", psid))
+        return addresses.tunnel(aftr), binding
     except ValueError:
         return None
 
@@ -190,9 +196,8 @@ def softwires(table, notes):
     listed = [address(addresses.ipv6, it) for it in table.all("br-address")]
     of_map = Maps(table, notes)
     for node in table.all("softwire"):
-        plain = plain_softwire(node) if isinstance(node, yang.Flat) else None
-        if plain:
-            yield (node.line, *plain)
+        if isinstance(node, yang.Flat) and (plain := plain_softwire(node)):
+            yield node.line, *plain
             continue
         unread(node, KNOWN, notes)
         b4 = either(node, ("b4-ipv6", "b4"), notes)
@@ -236,7 +241,7 @@ def main():
     notes.not_said(words, found, DEFAULTS, "Snabb's default ")
     kept = []
     for line, its, binding in wires:
-        if its and its != aftr:
+        if its and its is not aftr and its != aftr:
             notes.left_out(line, f"softwire of {binding.b4}", f"its tunnel address is {its}")
         else:
             kept.append((line, binding))

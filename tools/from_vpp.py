@@ -43,7 +43,7 @@ class Domain:
         self.line, self.rules = line, 0
         self.ipv4 = ipaddress.IPv4Network(keys["ip4-pfx"]).network_address
         self.ip6 = ipaddress.IPv6Network(wanted(keys, "ip6-pfx"))
-        self.aftr = addresses.ipv6(wanted(keys, "ip6-src").split("/")[0])
+        self.aftr = addresses.tunnel(wanted(keys, "ip6-src").split("/")[0])
         self.offset, self.length = number(keys, "psid-offset"), number(keys, "psid-len")
         self.mtu = number(keys, "mtu") or None
         if self.length == 0:
@@ -71,6 +71,9 @@ def domain(line, keys, notes):
     return None
 
 
+RULE = ["map", "add", "rule", "index"]
+
+
 class Commands:
     """What the commands say: the domains by their numbers, the bindings with their lines and domains, and the source address of errors."""
 
@@ -78,6 +81,8 @@ class Commands:
         self.domains, self.bindings, self.own, self.notes = [], [], None, notes
 
     def take(self, line, words):
+        if len(words) == 9 and self.plain_rule(line, words):
+            return
         if words[:2] == ["map", "del"] or (words[:1] == ["map"] and "del" in words[3:]):
             raise ValueError("a command that deletes is not read: write the commands of what stays")
         if words[:3] == ["map", "add", "domain"]:
@@ -90,6 +95,19 @@ class Commands:
             self.own = addresses.ipv4(wanted(keys, "source-address"))
         else:
             self.notes.left_out(line, " ".join(words))
+
+    def plain_rule(self, line, words):
+        """Whether the words are a rule as VPP prints it, well written and of a domain that this router can hold; if they are, it is taken."""
+        if words[:4] != RULE or words[5] != "psid" or words[7] != "ip6-dst":
+            return False
+        try:
+            of = self.domains[converting.number("index", words[4])]
+            binding = tables.Binding(addresses.ipv6(words[8]), of.ipv4, of.offset, of.length, converting.number("psid", words[6]))
+        except (AttributeError, IndexError, ValueError):
+            return False
+        of.rules += 1
+        self.bindings.append((line, of, binding))
+        return True
 
     def rule(self, line, keys):
         unknown(line, keys, ("index", "psid", "ip6-dst"), self.notes)
@@ -120,7 +138,7 @@ def read(text, notes):
     """The bindings with their lines and domains, and the source address of errors."""
     commands = Commands(notes)
     for line, command in enumerate(text.split("\n"), 1):
-        words = command.split("#")[0].split()
+        words = (command.partition("#")[0] if "#" in command else command).split()
         if words[:1] == ["vppctl"]:
             words = words[1:]
         try:
@@ -129,7 +147,8 @@ def read(text, notes):
         except ValueError as error:
             raise converting.SourceError(notes.file, line, error) from None
     commands.domains_without_rules()
-    return sorted(commands.bindings, key=lambda it: it[0]), commands.own
+    commands.bindings.sort(key=lambda it: it[0])
+    return commands.bindings, commands.own
 
 
 def main():
@@ -140,7 +159,7 @@ def main():
     said = {name: it for name, it in (("aftr", aftr), ("own", own)) if it}
     kept, mtus = [], {}
     for line, of, binding in found:
-        if of.aftr != aftr:
+        if of.aftr is not aftr and of.aftr != aftr:
             notes.left_out(line, f"binding of {binding.b4}", f"its tunnel address is {of.aftr}")
         else:
             kept.append((line, binding))

@@ -25,6 +25,22 @@ ENTRY = ("binding-ipv6info", "binding-ipv4-addr", "port-set", "br-ipv6-addr")
 PORT_SET = ("psid-offset", "psid-len", "psid")
 
 
+def plain_entry(tree):
+    """The tunnel address and the binding of an entry that has the usual leaves, each well written; None of any other one."""
+    try:
+        ports = tree["port-set"]
+        if len(tree) != len(ENTRY) or len(ports) != len(PORT_SET):
+            return None
+        prefix = tree["binding-ipv6info"]
+        shape_and_psid = [it if type(it) is int else converting.number("", it) for it in (ports[name] for name in PORT_SET)]
+        if min(shape_and_psid) < 0 or not prefix.endswith("/128"):
+            return None
+        binding = tables.Binding(addresses.ipv6(prefix[:-4]), addresses.ipv4(tree["binding-ipv4-addr"]), *shape_and_psid)
+        return addresses.tunnel(tree["br-ipv6-addr"]), binding
+    except (AttributeError, KeyError, TypeError, ValueError):
+        return None
+
+
 class Reader:
     """What is read of a document, and where: places are paths."""
 
@@ -111,6 +127,8 @@ class Reader:
 
     def entry(self, tree, place):
         """The tunnel address of an entry, and its binding."""
+        if plain := plain_entry(tree):
+            return plain
         if not isinstance(tree, dict):
             self.fail(place, "an entry of a binding table belongs here")
         self.unread(tree, ENTRY, place)
@@ -144,7 +162,7 @@ def main():
     notes.not_said(words, found, DEFAULTS)
     kept = []
     for where, its, binding in read:
-        if its and its != aftr:
+        if its and its is not aftr and its != aftr:
             notes.left_out(where, f"the entry of {addresses.shown(binding.b4)}", f"its tunnel address is {its}")
         else:
             kept.append((where, binding))

@@ -3,15 +3,20 @@
 
   option  the DHCPv6 option 96 of RFC 7598, section 5.3 (OPTION_S46_CONT_LW) in hexadecimal digits: the router's end of the tunnel, the binding,
           and the port set, whose identifier is left-aligned in its 16 bits
-  kea     reservations of Kea's DHCPv6 server with that option, for a server that knows a subscriber by the address reserved
+  kea     reservations of Kea's DHCPv6 server with that option; Kea knows a subscriber by its DUID, which --duids gives
   uci     a section of OpenWrt's /etc/config/network, of protocol `map` and type `lw4o6`
   nft     rules of nftables for a Linux host that is the B4: each flow is put on one of its port ranges, in turn
 
-The addresses of hosts behind the B4 are --lan (192.168.1.0/24), and the tunnel's device is --device (softwire0)."""
+The addresses of hosts behind the B4 are --lan (192.168.1.0/24), and the tunnel's device is --device (softwire0). The LIST of --duids has a line
+`B4,DUID` for each subscriber, as 2001:db8:1::1,00:03:00:01:02:00:00:00:00:01. A subscriber without a DUID is named and left out, and so is each
+further binding of one (option 96 holds one binding); exit code 1 then, after all else is written."""
 from __future__ import annotations
 
+import csv
+import io
 import ipaddress
 import json
+import re
 import struct
 
 from lwaftr_tools import addresses, command, converting, tables
@@ -19,44 +24,79 @@ from lwaftr_tools import addresses, command, converting, tables
 CONTAINER, BR, BIND, PORT_PARAMETERS = 96, 90, 92, 93
 
 
+DUID = re.compile(r"[0-9a-fA-F]{2}(:?[0-9a-fA-F]{2}){2,129}")
+
+
 def option(code, data):
     """A DHCPv6 option (RFC 8415, section 21.1)."""
     return struct.pack("!HH", code, len(data)) + data
 
 
-def inside_of_container(it, aftr):
-    """What option 96 holds: the options of the router, and of the binding with its port set (RFC 7598, sections 4.2, 4.4 and 4.5)."""
+def inside_of_container(it, router):
+    """What option 96 holds: the option of the router, and that of the binding with its port set (RFC 7598, sections 4.2, 4.4 and 4.5)."""
     ports = b""
     if not it.is_whole():
         ports = option(PORT_PARAMETERS, struct.pack("!BBH", it.offset, it.length, it.psid << (16 - it.length) & 0xFFFF))
     # the whole address is the prefix that a subscriber's address begins with
-    prefix = bytes([128]) + it.b4.packed
-    return option(BR, aftr.packed) + option(BIND, it.ipv4.packed + prefix + ports)
+    return router + option(BIND, it.ipv4.packed + b"\x80" + it.b4.packed + ports)
 
 
 def as_option(table, bindings, _):
+    router = option(BR, table.softwire.aftr.packed)
     for it in bindings:
-        yield f"{addresses.shown(it.b4)} {option(CONTAINER, inside_of_container(it, table.softwire.aftr)).hex()}"
+        yield f"{addresses.shown(it.b4)} {option(CONTAINER, inside_of_container(it, router)).hex()}"
 
 
-def as_kea(table, bindings, _):
-    yield '{"Dhcp6": {"reservations": ['
-    for at, it in enumerate(bindings, 1):
-        data = {"code": CONTAINER, "space": "dhcp6", "csv-format": False, "data": inside_of_container(it, table.softwire.aftr).hex()}
-        yield json.dumps({"ip-addresses": [addresses.shown(it.b4)], "option-data": [data]}) + ("," if at < len(bindings) else "")
-    yield "]}}"
+def duids(path):
+    """The DUID of each subscriber of a list."""
+    found, rows = {}, csv.reader(io.StringIO(command.text_of(path, newline=""), newline=""))
+    for row in rows:
+        words = [it.strip() for it in row]
+        if not any(words) or words[0].startswith("#"):
+            continue
+        try:
+            if len(words) != 2:
+                raise ValueError(f"columns here: {len(words)}, wanted: 2 (b4,duid)")
+            if not DUID.fullmatch(words[1]):
+                raise ValueError(f"{words[1]!r} is not a DUID (write 3 to 130 bytes in hexadecimal digits, as 00:03:00:01:02:00:00:00:00:01)")
+            b4 = addresses.ipv6(words[0])
+            if b4 in found:
+                raise ValueError(f"{words[0]} has a DUID already")
+            found[b4] = words[1]
+        except ValueError as error:
+            raise converting.SourceError(path, rows.line_num, error) from None
+    return found
+
+
+def reserved(bindings, words):
+    """Each binding that a reservation can hold, with the subscriber's DUID; the others are named."""
+    known, seen = duids(words.duids), set()
+    for it in bindings:
+        if it.b4 in seen:
+            words.left_out(it, "option 96 holds one binding, and another one of this subscriber is there")
+        elif it.b4 not in known:
+            words.left_out(it, f"{words.duids} has no DUID of this subscriber")
+        else:
+            seen.add(it.b4)
+            yield it, known[it.b4]
+
+
+def as_kea(table, bindings, words):
+    router, made = option(BR, table.softwire.aftr.packed), []
+    for it, duid in reserved(bindings, words):
+        data = {"code": CONTAINER, "space": "dhcp6", "csv-format": False, "data": inside_of_container(it, router).hex()}
+        made.append(json.dumps({"duid": duid, "ip-addresses": [addresses.shown(it.b4)], "option-data": [data]}))
+    yield '{"Dhcp6": {"reservations": [\n' + ",\n".join(made) + "\n]}}"
 
 
 def as_uci(table, bindings, _):
+    aftr, mtu = addresses.shown(table.softwire.aftr), table.softwire.mtu6 - 40
     for at, it in enumerate(bindings):
-        yield f"config interface 'softwire{at}'"
-        keys = {
-            "proto": "map", "type": "lw4o6", "peeraddr": table.softwire.aftr, "ipaddr": it.ipv4, "ip4prefixlen": 32,
-            "ip6prefix": addresses.shown(it.b4), "ip6prefixlen": 128, "offset": it.offset,
-            "psidlen": it.length, "psid": it.psid, "mtu": table.softwire.mtu6 - 40, "encaplimit": "ignore",
-        }
-        yield from (f"\toption {name} '{value}'" for name, value in keys.items())
-        yield ""
+        yield (
+            f"config interface 'softwire{at}'\n\toption proto 'map'\n\toption type 'lw4o6'\n\toption peeraddr '{aftr}'\n\toption ipaddr '{it.ipv4}'\n"
+            f"\toption ip4prefixlen '32'\n\toption ip6prefix '{addresses.shown(it.b4)}'\n\toption ip6prefixlen '128'\n\toption offset '{it.offset}'\n"
+            f"\toption psidlen '{it.length}'\n\toption psid '{it.psid}'\n\toption mtu '{mtu}'\n\toption encaplimit 'ignore'\n"
+        )
 
 
 PROTOCOLS = ("tcp", "udp")
@@ -101,12 +141,24 @@ def main():
     it.add_argument("--b4", metavar="IPV6", type=converting.address_word(addresses.ipv6), help="only this subscriber")
     it.add_argument("--lan", metavar="NETWORK", type=network, default=network("192.168.1.0/24"), help="the hosts behind the B4, for nft")
     it.add_argument("--device", metavar="NAME", default="softwire0", help="the tunnel's device, for nft (softwire0)")
-    words = converting.parsed(it)
-    table = tables.read(words.file)
+    it.add_argument("--duids", metavar="LIST", type=command.source, help="a line B4,DUID for each subscriber, for kea")
+    words = it.parse_args()
+    if (words.form == "kea") != bool(words.duids):
+        it.error("kea needs --duids LIST, since Kea knows a subscriber by its DUID" if words.form == "kea" else "--duids is for kea alone")
+    command.keep_apart([words.file, words.duids], [words.output])
+    table, left_out = tables.read(words.file), []
     bindings = [it for it in table.bindings if words.b4 in (None, it.b4)]
     if not bindings:
         raise command.Refused(f"{words.file}: no binding is there{f' of {words.b4}' if words.b4 else ''}")
-    command.put(words.output, "\n".join(FORMS[words.form](table, bindings, words)) + "\n")
+
+    def leave_out(it, why):
+        left_out.append(it)
+        command.warn(f"{words.file}: left out: the binding of {addresses.shown(it.b4)} ({it.ipv4}): {why}")
+
+    words.left_out = leave_out
+    text = "\n".join(FORMS[words.form](table, bindings, words)) + "\n"
+    command.put(words.output, text)
+    return command.REFUSED if left_out else command.DONE
 
 
 if __name__ == "__main__":

@@ -10,11 +10,8 @@ MOST_LENGTH = 15
 
 
 def entry(it, aftr):
-    found = {"binding-ipv6info": f"{addresses.shown(it.b4)}/128", "binding-ipv4-addr": str(it.ipv4)}
-    if not it.is_whole():
-        found["port-set"] = {"psid-offset": it.offset, "psid-len": it.length, "psid": it.psid}
-    found["br-ipv6-addr"] = aftr
-    return found
+    """The texts of an entry: the subscriber's end, its address, its port set (None if the address is whole), and the router's end."""
+    return addresses.shown(it.b4), it.ipv4, None if it.is_whole() else (it.offset, it.length, it.psid), aftr
 
 
 def kept(table, file):
@@ -32,15 +29,16 @@ def kept(table, file):
         command.warn(f"{file}: left out: binding {at} ({addresses.shown(it.b4)}, {it.ipv4}): {why}")
 
 
-def instance(table, bindings, name):
+def instance(table, count, name):
+    """An instance without its entries."""
     keys = table.softwire
     return {
         "name": name,
-        "softwire-num-max": max(1, len(bindings)),
+        "softwire-num-max": max(1, count),
         "softwire-payload-mtu": keys.mtu6 - 40,
         "softwire-path-mru": keys.mtu6,
         "enable-hairpinning": keys.hairpin,
-        "binding-table": {"binding-entry": [entry(it, str(keys.aftr)) for it in bindings]},
+        "binding-table": {"binding-entry": []},
         "icmp-policy": {
             "icmpv4-errors": {"allow-incoming-icmpv4": keys.icmp_in, "generate-icmpv4-errors": keys.errors_down},
             "icmpv6-errors": {"generate-icmpv6-errors": keys.errors_up},
@@ -57,8 +55,10 @@ def main():
     for name in ("own", "mtu4", "hop_limit"):
         command.warn(f"{words.file}: left out: {name} = {getattr(table.softwire, name)}: the module has no leaf for it")
     bindings = list(kept(table, words.file))
-    tree = {"br-instances": {"binding": {"bind-instance": [instance(table, bindings, words.name)]}}}
-    command.put(words.output, softwire_br.as_xml(tree) if words.xml else softwire_br.as_json(tree))
+    tree = {"br-instances": {"binding": {"bind-instance": [instance(table, len(bindings), words.name)]}}}
+    aftr = addresses.shown(table.softwire.aftr)
+    entries = (entry(it, aftr) for it in bindings)
+    command.put(words.output, softwire_br.as_xml(tree, entries) if words.xml else softwire_br.as_json(tree, entries))
     return command.REFUSED if len(bindings) < len(table.bindings) else command.DONE
 
 

@@ -16,14 +16,17 @@ import bisect
 import csv
 import dataclasses
 import datetime
+import functools
 import io
 import os
 import subprocess
 import tempfile
+import typing
 
 from lwaftr_tools import addresses, command, converting, tables
 
 
+@functools.lru_cache(maxsize=1 << 12)
 def seconds(text):
     """Seconds since 1970 of a time in words."""
     try:
@@ -46,14 +49,15 @@ class Version:
     path: str
     repository: str | None = None
 
-    def read(self):
+    def rows(self):
+        """The bindings of the table, as texts."""
         if self.repository is None:
-            return tables.read(self.path)
+            return tables.document(self.path).rows
         text = git(self.repository, "show", f"{self.name}:{self.path}")
         with tempfile.TemporaryDirectory() as folder:
             made = os.path.join(folder, "table.toml")
             command.put(made, text)
-            return tables.read(made)
+            return tables.document(made).rows
 
 
 def git(folder, *words):
@@ -84,11 +88,9 @@ def version(word):
         raise argparse.ArgumentTypeError(str(error)) from None
 
 
-@dataclasses.dataclass
-class Question:
+class Question(typing.NamedTuple):
     words: list
     time: float
-    ipv4: object
     port: int
 
 
@@ -104,9 +106,23 @@ def questions(text, file):
             port = converting.number("port", words[2])
             if port > 65535:
                 raise ValueError(f"port {port} is above 65535")
-            yield Question(words, seconds(words[0]), addresses.ipv4(words[1]), port)
+            addresses.ipv4(words[1])
+            yield Question(words, seconds(words[0]), port)
         except ValueError as error:
             raise converting.SourceError(file, rows.line_num, error) from None
+
+
+def owners(rows, asked):
+    """Who owns the port of each question, `none` if nobody does. An address has one spelling, so texts are compared."""
+    ipv4s = {it.words[1] for it in asked}
+    # for each address that is asked for and each shape of its sets the rows by their identifiers
+    shapes_of = {ipv4: {} for ipv4 in ipv4s}
+    for row in rows:
+        if row.ipv4 in ipv4s:
+            shapes_of[row.ipv4].setdefault((int(row.offset), int(row.length)), {})[int(row.psid)] = row.b4
+    for it in asked:
+        found = (by_psid.get(tables.psid_of(it.port, *shape)) for shape, by_psid in shapes_of[it.words[1]].items())
+        yield next((b4 for b4 in found if b4), "none")
 
 
 def answers(asked, versions):
@@ -120,10 +136,9 @@ def answers(asked, versions):
     for place, its in by_version.items():
         if place < 0:
             continue
-        table = versions[place].read()
-        for at in its:
-            owner = table.owner(asked[at].ipv4, asked[at].port)
-            found[at] = (addresses.shown(owner.b4) if owner else "none", versions[place].name)
+        name = versions[place].name
+        for at, b4 in zip(its, owners(versions[place].rows(), [asked[at] for at in its])):
+            found[at] = b4, name
     return found
 
 

@@ -1,5 +1,6 @@
 """The frame of every tool: its options, its exit code, its messages, and the files that it writes."""
 import argparse
+import gc
 import os
 import sys
 
@@ -124,6 +125,8 @@ def text_of(path, newline=None):
 
 def run(tool):
     """Runs a tool, and ends with its exit code. A failure is a message on standard error."""
+    # a table is many small objects without cycles: do not look for cycles after every few hundred of them
+    gc.set_threshold(1 << 20)
     for stream in (sys.stdout, sys.stderr):
         if stream is not None:
             stream.reconfigure(errors="backslashreplace")

@@ -1,8 +1,8 @@
 """Binding tables: read as the program reads them, asked who owns a port, and written as TOML."""
 from __future__ import annotations
 
-import collections
 import dataclasses
+import functools
 import ipaddress
 import os
 import re
@@ -50,15 +50,27 @@ class Binding(typing.NamedTuple):
 
     def ranges(self):
         """The ports as pairs of a first and a last one, in order; ranges that touch are one."""
-        size, step = 1 << self.low_bits(), 1 << (16 - self.offset)
-        starts = (at * step + self.psid * size for at in (range(1, 1 << self.offset) if self.offset else [0]))
-        found = []
-        for start in starts:
-            if found and found[-1][1] + 1 == start:
-                found[-1] = found[-1][0], start + size - 1
-            else:
-                found.append((start, start + size - 1))
-        return found
+        first = self.psid << self.low_bits()
+        return [(first + start, first + last) for start, last in _ranges_of_zero(self.offset, self.length)]
+
+    def mask(self):
+        """The ports as the bits of a number: bit P is set if port P is of the set."""
+        return _mask_of_zero(self.offset, self.length) << (self.psid << self.low_bits())
+
+
+@functools.lru_cache(maxsize=None)
+def _ranges_of_zero(offset, length):
+    """The ranges of the set with identifier 0 of a shape (RFC 7597, section 5.1)."""
+    size, step = 1 << (16 - offset - length), 1 << (16 - offset)
+    if not offset:
+        return [(0, size - 1)]
+    # without bits for an identifier one range ends where the next begins
+    return [(at, at + size - 1) for at in range(step, 1 << 16, step)] if length else [(step, 65535)]
+
+
+@functools.lru_cache(maxsize=None)
+def _mask_of_zero(offset, length):
+    return sum((2 << last) - (1 << first) for first, last in _ranges_of_zero(offset, length))
 
 
 def psid_of(port, offset, length):
@@ -86,25 +98,30 @@ class Softwire:
 class Table:
     def __init__(self, softwire, bindings, edition=2):
         self.softwire, self.bindings, self.edition = softwire, bindings, edition
-        self.of = collections.defaultdict(list)
-        # for each address and shape the bindings by their identifiers
-        self.sets = collections.defaultdict(lambda: collections.defaultdict(dict))
-        for it in bindings:
-            self.of[it.ipv4].append(it)
-        self.indexed = False
+        # for each address that was asked for, and each shape of its sets, the bindings by their identifiers
+        self.sets = {}
 
-    def _index(self):
-        for it in reversed(self.bindings):
-            self.sets[it.ipv4][it.offset, it.length][it.psid] = it
-        self.indexed = True
+    @functools.cached_property
+    def of(self):
+        """For each IPv4 address its bindings."""
+        found = {}
+        for it in self.bindings:
+            found.setdefault(it.ipv4, []).append(it)
+        return found
+
+    def shapes_of(self, address):
+        """For each shape of an address's sets the bindings by their identifiers; of two with one identifier the first."""
+        if address not in self.sets:
+            found = self.sets[address] = {}
+            for it in reversed(self.of.get(address, ())):
+                found.setdefault((it.offset, it.length), {})[it.psid] = it
+        return self.sets[address]
 
     def owner(self, address, port):
         """The binding that owns a port of an address; of a protocol without ports, where `port` is None, that has all of it."""
-        if not self.indexed:
-            self._index()
         if address not in self.of:
             return None
-        shapes = self.sets[address]
+        shapes = self.shapes_of(address)
         if port is None:
             return shapes[0, 0].get(0) if (0, 0) in shapes else None
         for (offset, length), by_psid in shapes.items():
@@ -114,8 +131,37 @@ class Table:
         return None
 
 
+class Document(typing.NamedTuple):
+    """A table as the program writes it: its bindings as texts, in which two bindings are equal if the texts are."""
+
+    softwire: Softwire
+    rows: list
+    edition: int
+
+
+class Row(typing.NamedTuple):
+    """A binding as texts."""
+
+    b4: str
+    ipv4: str
+    length: str
+    offset: str
+    psid: str
+
+    def binding(self):
+        return Binding(addresses.ipv6(self.b4), addresses.ipv4(self.ipv4), int(self.offset), int(self.length), int(self.psid))
+
+
 def read(path):
     """The table of a file; the program judges it, and of one that it refuses the error has what it says."""
+    softwire, rows, edition = document(path)
+    ipv6, ipv4 = addresses.ipv6, addresses.ipv4
+    bindings = [Binding(ipv6(b4), ipv4(address), int(offset), int(length), int(psid)) for b4, address, length, offset, psid in rows]
+    return Table(softwire, bindings, edition)
+
+
+def document(path):
+    """The table of a file, as `read`, with its bindings as texts."""
     with tempfile.TemporaryDirectory() as folder:
         return parsed(migrated(path, f"{folder}/table.toml"))
 
@@ -144,23 +190,22 @@ SETTING = re.compile(r'(\w+) = (?:"([^"\n]+)"|(\w+))\n')
 
 
 def parsed(text):
-    """The table of a document that `lwaftr migrate` wrote."""
+    """What a document says that `lwaftr migrate` wrote."""
     if text.startswith("binding = []\n"):
         text = text.partition("\n")[2]
     front, mark, tail = text.rpartition("[softwire]\n")
     version = SETTING.match(front)
-    at, bindings = (version.end() + 1 if version else 0), []
+    at, rows, row = (version.end() + 1 if version else 0), [], Row._make
     for found in BINDING.finditer(front, at):
         if found.start() != at:
             break
         at = found.end()
-        b4, ipv4, length, offset, psid = found.groups()
-        bindings.append(Binding(addresses.ipv6(b4), addresses.ipv4(ipv4), int(offset), int(length), int(psid)))
+        rows.append(row(found.groups()))
     if not mark or not version or at != len(front):
         raise TableError(f"{PROGRAM} migrate wrote a form that this tool does not know: are both of one release?")
     keys = {it[1]: it[2] or it[3] for it in SETTING.finditer(tail)}
     settings = {it.name: _setting(keys[it.name]) for it in dataclasses.fields(Softwire)[2:]}
-    return Table(Softwire(addresses.ipv6(keys["aftr"]), addresses.ipv4(keys["own"]), **settings), bindings, int(version[3]))
+    return Document(Softwire(addresses.ipv6(keys["aftr"]), addresses.ipv4(keys["own"]), **settings), rows, int(version[3]))
 
 
 def _setting(word):
@@ -173,6 +218,9 @@ def text(table):
     lines = [f"version = {table.edition}", "[softwire]", f'aftr = "{keys.aftr}"', f'own = "{keys.own}"']
     lines += [f"{it} = {getattr(keys, it)}" for it in ("mtu6", "mtu4", "hop_limit")]
     lines += [f"{it} = {str(getattr(keys, it)).lower()}" for it in ("hairpin", "icmp_in", "errors_up", "errors_down")]
+    last, dotted = None, ""
     for b4, ipv4, offset, length, psid in table.bindings:
-        lines.append(f'[[binding]]\nb4 = "{addresses.shown(b4)}"\nipv4 = "{ipv4}"\noffset = {offset}\nlength = {length}\npsid = {psid}')
+        if ipv4 is not last:
+            last, dotted = ipv4, str(ipv4)
+        lines.append(f'[[binding]]\nb4 = "{addresses.shown(b4)}"\nipv4 = "{dotted}"\noffset = {offset}\nlength = {length}\npsid = {psid}')
     return "\n".join(lines) + "\n"

@@ -186,6 +186,25 @@ class Converting(Folder):
             code, _, error = ran("from_snabb.py", self.file("s.conf", f"softwire-config {{\n external-interface {{\n {statement}; }} }}"), "--own", OWN)
             self.assertEqual((code, error), (1, f"from_snabb.py: {self.file('s.conf')}:3: {said}\n"))
 
+    def test_softwires_whose_leaves_have_several_orders(self):
+        ports = "port-set { psid-length 8; reserved-ports-bit-count 6; }"
+        orders = (
+            f"softwire {{ ipv4 203.0.113.1; psid 52; b4-ipv6 {B4}; br-address {AFTR}; {ports} }}",
+            f"softwire {{ {ports} br-address {AFTR}; b4-ipv6 {OTHER}; psid 53;\n ipv4 203.0.113.1; }} // the last one\n",
+            f"softwire\n{{ ipv4 203.0.113.2; b4-ipv6 {ALONE}; br-address {AFTR}; }}",
+        )
+        odd = f"softwire {{ ipv4 203.0.113.9; psid 7; b4-ipv6 2001:db8:1::9; br-address {AFTR}; port-set {{ psid-length 8; }} reserved-ports-bit-count 6; }}"
+        text = f"softwire-config {{ binding-table {{\n{orders[0]}\n{orders[1]}{orders[2]}\n{odd}\n}} }}"
+        code, _, error = ran("from_snabb.py", self.file("s.conf", text), "--own", OWN, "-o", self.file("table.toml"))
+        self.assertEqual(code, 0, error)
+        found = tables.read(self.file("table.toml"))
+        self.assertEqual([it for it in found.bindings if str(it.ipv4) != "203.0.113.9"], a_table().bindings)
+        self.assertEqual(found.bindings[3][2:], (0, 8, 7))
+        self.assertIn("s.conf:7: left out: softwire reserved-ports-bit-count", error)
+        many = "".join(f"softwire {{ ipv4 203.0.113.1; psid {at}; b4-ipv6 {B4}; br-address {AFTR}; leaf{at} 1; {ports} }}\n" for at in range(100))
+        code, _, error = ran("from_snabb.py", self.file("s.conf", f"softwire-config {{ binding-table {{\n{many}}} }}"), "--own", OWN, "-o", self.file("table.toml"))
+        self.assertEqual((code, error.count("left out: softwire leaf"), len(tables.read(self.file("table.toml")).bindings)), (0, 100, 100))
+
     def test_what_is_left_out_of_a_configuration_of_snabb(self):
         text = f'''softwire-config {{
             instance {{ queue {{ external-interface {{ ip {OWN}; }} internal-interface {{ ip {AFTR}; }} }} }}

@@ -4,7 +4,6 @@ import resource
 import struct
 import subprocess
 import sys
-import time
 
 from shared import AFTR, B4, FAR, Folder, HERE, OWN, SHARED, a_table, captures, ip4, ip6, ran, tables, udp
 
@@ -15,6 +14,12 @@ FROM = ("from_csv.py", "from_snabb.py", "from_vpp.py")
 def run_with(tool, *words, **keys):
     """A run with other streams, limits or variables; what it says is bytes."""
     return subprocess.run([sys.executable, os.path.join(HERE, tool), *map(str, words)], capture_output="stdout" not in keys, check=False, **keys)
+
+
+def seconds_of_children():
+    """The processor time of the programs that ended so far: it does not depend on what else the machine does."""
+    used = resource.getrusage(resource.RUSAGE_CHILDREN)
+    return used.ru_utime + used.ru_stime
 
 
 class Inputs(Folder):
@@ -134,7 +139,7 @@ class Inputs(Folder):
 
     def test_wide_maps_and_deep_blocks_are_quick(self):
         maps = "psid-map { addr 0.0.0.0; end-addr 255.255.255.255; psid-length 8; shift 2; }"
-        start = time.monotonic()
+        start = seconds_of_children()
         text = f"softwire-config {{ binding-table {{ {maps} softwire {{ ipv4 203.0.113.1; psid 52; b4 {B4}; }} }} }}"
         self.assertEqual(self.converted("from_snabb.py", text, *WORDS)[0], 0)
         self.assertEqual(tables.read(self.file("made.toml")).bindings, a_table().bindings[:1])
@@ -146,7 +151,7 @@ class Inputs(Folder):
         code, error, made = self.converted("from_snabb.py", "softwire-config { " + "instance { " * 3000, *WORDS)
         self.assertEqual((code, made, error.count("\n")), (1, False, 1))
         self.assertIn("nested more than 64 deep", error)
-        self.assertLess(time.monotonic() - start, 10)
+        self.assertLess(seconds_of_children() - start, 10)
 
     def test_commands_of_vpp_that_delete_are_rejected(self):
         domain = f"map add domain ip4-pfx 203.0.113.1/32 ip6-pfx ::/0 ip6-src {AFTR} psid-offset 6 psid-len 8\n"

@@ -51,6 +51,19 @@ class Differing(Folder):
         code, out, _ = self.told(new, old)
         self.assertIn(f"{B4}: loses 256 ports ({SHARED} 1280-1535)", out)
 
+    def test_sets_of_other_shapes_are_compared_port_by_port(self):
+        """Against sets of ports made one by one, for shapes that overlap in part."""
+        shapes = ((6, 8, 52), (4, 8, 200), (0, 8, 4), (0, 6, 3), (6, 4, 3), (1, 3, 5), (6, 0, 0), (0, 0, 0), (0, 16, 80))
+        for shape in shapes:
+            old, new = a_table(), a_table()
+            old.bindings, new.bindings = [binding(B4, SHARED, *shape)], [binding(B4, SHARED, 4, 6, 50)]
+            ports = [set(filter(table.bindings[0].owns, range(65536))) for table in (old, new)]
+            for its in json.loads(self.told(old, new, "--json")[1])["subscribers"]:
+                for name, wanted in (("lost", ports[0] - ports[1]), ("gained", ports[1] - ports[0])):
+                    spans = its[name].get(SHARED, [])
+                    self.assertEqual({port for first, last in spans for port in range(first, last + 1)}, wanted)
+                    self.assertEqual(sum(last - first + 1 for first, last in spans), len(wanted))
+
     def test_a_table_that_is_refused(self):
         code, out, error = ran("diff_tables.py", self.file("none"), self.file("t.toml", tables.text(a_table())))
         self.assertEqual((code, out), (2, ""))

@@ -2,11 +2,11 @@
 import json
 import os
 import re
-import shutil
 import subprocess
 import sys
 import unittest
 
+import browser
 from shared import a_table, captures, FAR, Folder, HERE, ip4, one_of_each_rule, ran, SHARED, udp
 
 
@@ -141,46 +141,75 @@ class Reporting(Folder):
         self.assertNotIn("<script>alert", page)
         self.assertIn("&lt;script&gt;alert", page)
 
-    @unittest.skipUnless(shutil.which("chromium"), "no chromium")
+    @unittest.skipUnless(browser.PROGRAM, "no chromium")
     def test_the_page_in_a_browser(self):
         _, out = self.a_report("--html", self.file("page.html"))
-        with open(self.file("page.html"), encoding="utf-8") as file:
-            page = file.read()
-        self.assertEqual(self.rows(self.dom(page), "t-rules"), self.rules_of(out))
+        shown = browser.Browser(self.file("chromium"))
+        self.addCleanup(shown.close)
+        for width in (1280, 390):
+            with self.subTest(width=width):
+                shown.open(self.file("page.html"), width)
+                self.assertLessEqual(shown.value("document.documentElement.scrollWidth"), width)
+                self.numbers(shown, out)
+                self.filters(shown)
+        self.told_to_a_reader(shown)
+        self.assertEqual(shown.errors, [])
+        self.assertEqual({it.partition(":")[0] for it in shown.fetched}, {"file"})
+        self.assertEqual(len(set(shown.fetched)), 1)
+
+    def numbers(self, shown, out):
+        """The numbers of the page are those of the text."""
+        rules = re.findall(r"(?m)^  ([a-z0-9-]+) +([\d,]+) +([\d.]+ %)$", out.split("Drops by rule")[1].split("answered")[0])
+        self.assertEqual(self.rows(shown, "t-rules"), rules)
         outcomes = re.findall(r"(?m)^  (up|down|hairpin|held|drop) +([\d,]+) +([\d.]+ %)$", out)
-        self.assertEqual(self.rows(self.dom(page), "t-outcomes"), outcomes)
-        # a click on a rule filters the subscribers, and a click on a subscriber the rules
-        click = "for (const it of document.querySelectorAll('#{} td button')) if (it.textContent === '{}') {{ it.click(); break; }}"
-        dom = self.dom(page + f"<script>{click.format('t-rules', 'ttl')}</script>")
-        self.assertEqual([it[0] for it in self.rows(dom, "t-rules")], ["ttl"])
-        self.assertEqual(self.rows(dom, "t-subscribers")[0][:2], ("tunnel from 2001:db8:1::1", "1"))
-        dom = self.dom(page + f"<script>{click.format('t-subscribers', 'tunnel from 2001:db8:1::2')}</script>")
-        self.assertEqual([it[:2] for it in self.rows(dom, "t-rules")], [("no-binding", "1")])
-        self.assertIn("Only tunnel from 2001:db8:1::2", dom)
-        for scale in ("shares", "log"):
-            dom = self.dom(page + f"<script>document.querySelector('[data-scale={scale}]').click()</script>")
-            self.assertRegex(dom, f'data-scale="{scale}" aria-pressed="true"')
+        self.assertEqual(self.rows(shown, "t-outcomes"), outcomes)
+        names = re.findall(r"(?m)^ +([\d,]+)  (.+): (.+)$", out.split("Most drops")[1])
+        self.assertEqual(self.rows(shown, "t-subscribers"), [(name, count, kinds) for count, name, kinds in names])
+        # the chart has them too
+        for chart, kinds in (("c-outcomes", outcomes[:-1]), ("c-drops", rules), ("c-rules", rules)):
+            label = shown.value(f"document.getElementById('{chart}').getAttribute('aria-label')")
+            self.assertTrue(label.endswith(": " + ", ".join(f"{name} {count}" for name, count, _ in kinds)), label)
 
-    def rules_of(self, out):
-        return re.findall(r"(?m)^  ([a-z0-9-]+) +([\d,]+) +([\d.]+ %)$", out.split("Drops by rule")[1].split("answered")[0])
+    def filters(self, shown):
+        """A click on a rule filters the subscribers, and one on a subscriber the rules; the focus stays."""
+        self.click(shown, "t-rules", "ttl")
+        self.assertEqual([it[0] for it in self.rows(shown, "t-rules")], ["ttl"])
+        self.assertEqual(self.rows(shown, "t-subscribers")[0][:2], ("tunnel from 2001:db8:1::1", "1"))
+        self.assertEqual(shown.value("document.activeElement.textContent + document.activeElement.getAttribute('aria-pressed')"), "ttltrue")
+        self.click(shown, "t-subscribers", "tunnel from 2001:db8:1::1")
+        self.assertIn("ttl", [it[0] for it in self.rows(shown, "t-rules")])
+        self.assertIn("Only tunnel from 2001:db8:1::1", shown.value("document.getElementById('filter').textContent"))
+        shown.value("document.getElementById('all').click()")
+        self.assertGreater(len(self.rows(shown, "t-rules")), 20)
+        shown.value("document.querySelector('#t-rules th:nth-child(5) button').click()")
+        places = [int(it.replace(",", "")) for it in self.column(shown, "t-rules", 4)]
+        self.assertEqual(places, sorted(places, reverse=True))
+        for scale in ("shares", "log", "counts"):
+            shown.value(f"document.querySelector('[data-scale={scale}]').click()")
+            pressed = shown.value("[...document.querySelectorAll('[data-scale]')].map((it) => it.dataset.scale + it.getAttribute('aria-pressed'))")
+            self.assertEqual(sorted(pressed), sorted(it + str(it == scale).lower() for it in ("shares", "log", "counts")))
 
-    def rows(self, dom, table):
-        """The first three cells of each row of a table, as text."""
-        body = dom.split(f'id="{table}"')[1].split("</table>")[0].split("<tbody>")[1]
-        cells = [[re.sub("<[^>]*>", "", it) for it in re.findall(r"<td[^>]*>(.*?)</td>", row)] for row in body.split("<tr")[1:]]
-        return [tuple(it[:3]) for it in cells]
+    def told_to_a_reader(self, shown):
+        """What a screen reader is told: headings, tables with captions, pictures in words, and switches with their state."""
+        roles = shown.roles()
+        headings = [name for role, name in roles if role == "heading"]
+        for name in ("in.pcap", "Outcomes", "Drops", "Subscribers with most drops", "What the rules mean", "Tables in force"):
+            self.assertIn(name, headings)
+        of = lambda wanted: [name for role, name in roles if role == wanted]  # noqa: E731
+        self.assertEqual((len(of("table")), len(of("image"))), (4, 3))
+        self.assertTrue(all(of("table")) and all(of("image")) and all(of("button")), roles)
+        self.assertEqual(set(of("button")) & {"Counts", "Shares", "Logarithmic"}, {"Counts", "Shares", "Logarithmic"})
+        self.assertEqual(len(of("status")), 1)
 
-    def dom(self, page):
-        """What the browser makes of a page; no error may be on its console."""
-        path = self.file("shown.html", page)
-        it = subprocess.run(
-            ["chromium", "--headless", "--no-sandbox", "--disable-gpu", f"--user-data-dir={self.file('chromium')}", "--virtual-time-budget=3000",
-             "--enable-logging=stderr", "--dump-dom", f"file://{path}"],
-            capture_output=True, text=True, timeout=100, check=False,
-        )
-        self.assertEqual(it.returncode, 0, it.stderr)
-        self.assertNotIn("CONSOLE", it.stderr)
-        return it.stdout
+    def click(self, shown, table, text):
+        shown.value(f"[...document.querySelectorAll('#{table} td button')].find((it) => it.textContent === '{text}').click()")
+
+    def rows(self, shown, table):
+        """The first three cells of each row of a table."""
+        return [tuple(it) for it in shown.value(f"[...document.querySelectorAll('#{table} tbody tr')].map((it) => [...it.cells].slice(0, 3).map((cell) => cell.textContent))")]
+
+    def column(self, shown, table, at):
+        return shown.value(f"[...document.querySelectorAll('#{table} tbody tr')].map((it) => it.cells[{at}].textContent)")
 
     def test_a_picture(self):
         names = self.run_program([data for data, _, _ in one_of_each_rule()], a_table())

@@ -38,10 +38,32 @@ class Provisioning(Folder):
             self.assertIn(said.lower(), out.lower(), out[out.find("DHCPv6"):])
         self.assertNotIn("Malformed", out)
 
+    DUIDS = "".join(f"{b4},00:03:00:01:02:00:00:00:00:0{at}\n" for at, b4 in enumerate((B4, OTHER, ALONE), 1))
+
     def test_kea(self):
-        reservations = json.loads(self.made("kea"))["Dhcp6"]["reservations"]
+        out = self.made("kea", "--duids", self.file("duids.csv", f"# b4,duid\n{self.DUIDS}"))
+        reservations = json.loads(out)["Dhcp6"]["reservations"]
         self.assertEqual([it["ip-addresses"] for it in reservations], [[B4], [OTHER], [ALONE]])
+        self.assertEqual([it["duid"][-2:] for it in reservations], ["01", "02", "03"])
         self.assertEqual("0060%04x" % (len(reservations[1]["option-data"][0]["data"]) // 2) + reservations[1]["option-data"][0]["data"], self.made("option", "--b4", OTHER).split()[1])
+        if shutil.which("kea-dhcp6"):
+            whole = {"interfaces-config": {"interfaces": []}, "lease-database": {"type": "memfile", "persist": False}, "reservations": reservations}
+            it = subprocess.run(["kea-dhcp6", "-t", self.file("kea.json", json.dumps({"Dhcp6": whole}))], capture_output=True, text=True, check=False)
+            self.assertEqual((it.returncode, "Error" in it.stdout + it.stderr), (0, False), it.stdout + it.stderr)
+
+    def test_what_kea_cannot_reserve(self):
+        table = a_table()
+        table.bindings.append(table.bindings[0]._replace(psid=9))
+        words = self.file("t.toml", tables.text(table)), "kea", "--duids", self.file("duids.csv", self.DUIDS.partition("\n")[0])
+        code, out, error = ran("to_b4.py", *words)
+        self.assertEqual((code, len(json.loads(out)["Dhcp6"]["reservations"]), error.count("left out: the binding of")), (1, 1, 3), error)
+        self.assertIn(f"{B4} ({SHARED}): option 96 holds one binding", error)
+        self.assertIn(f"{OTHER} ({SHARED}): {words[3]} has no DUID of this subscriber", error)
+        for line, said in ((f"{B4},xyz", "'xyz' is not a DUID"), (f"{B4}", "columns here: 1"), ("1.2.3.4,000300", "is not an IPv6 address"), (f"{B4},000300\n{B4},000301", "has a DUID already")):
+            code, out, error = ran("to_b4.py", *words[:3], self.file("wrong.csv", line))
+            self.assertEqual((code, out, said in error), (1, "", True), error)
+        for words in (("kea",), ("uci", "--duids", words[3])):
+            self.assertEqual(ran("to_b4.py", self.file("t.toml"), *words)[0], 2)
 
     def test_uci(self):
         out = self.made("uci", "--b4", OTHER)

@@ -91,6 +91,26 @@ class Yang(Folder):
                 self.assertIn(f"data:{where}: ", error.splitlines()[-1])
                 self.assertIn(said, error.splitlines()[-1])
 
+    def test_entries_of_xml_are_read_whatever_their_form(self):
+        """Plain entries are set apart before XML is read: the same data in other forms gives one table, and none is read out of a comment."""
+        _, text, _ = ran("to_yang.py", self.file("t.toml", tables.text(a_table())), "--xml")
+        first = text.index("<binding-entry>"), text.index("</binding-entry>") + len("</binding-entry>")
+        entry = text[first[0] : first[1]]
+        forms = (
+            text.replace("><", ">\n<"), text.replace("<binding-ipv4-addr>", "<binding-ipv4-addr >", 1), text.replace("203.0.113.1<", "203.0.113.1&#10;<", 1),
+            text.replace("<binding-table>", f"<!-- {entry} --><binding-table>"), text.replace("<binding-table>", f"<?old {entry}?><binding-table>"),
+            text.replace(" xmlns=", " xmlns:y=").replace("<", "<y:").replace("<y:/", "</y:").replace("<y:?", "<?"),
+        )
+        for form in forms:
+            self.assertNotEqual(form, text)
+            code, error = self.read(form)
+            self.assertEqual(code, 0, error)
+            self.assertTrue(same(tables.read(self.file("made.toml")), a_table()))
+        # what is wrong is found at its line, and an entry in a text is no entry
+        code, error = self.read(text.replace("</br-instances>", "</br-instance>"))
+        self.assertEqual((code, f"line {text.count(chr(10))}" in error), (1, True), error)
+        self.assertEqual(self.read(text.replace("<name>lwaftr", f'<name a="{entry}">lwaftr'))[0], 1)
+
     def test_texts_that_are_no_data(self):
         for text in ("", "nothing", "{", "<a>", "[" * 100_000, '{"a":' * 5000, "<a>" * 5000, "{}", "<a/>", '<!DOCTYPE a [<!ENTITY b "c">]><a>&b;</a>', '{"br-instances": 1}'):
             code, error = self.read(text)

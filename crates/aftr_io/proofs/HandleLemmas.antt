@@ -7,7 +7,7 @@ use Rattle.std.proofs.lemmas.List.{length-take-le}
 use Rattle.std.proofs.lemmas.List.Elements.{All-nil, All-cons, All-head, All-tail, All-append, All-take, All-drop, All-push, All-set, All-weaker, All-get_or}
 use Rattle.std.proofs.lemmas.List.Kept.{AllPairs-cons}
 use Rattle.aftr_io.specs.Contents.{Contents, content, Writes}
-use Rattle.aftr_io.specs.System.{WriteHandle, moved, IsAtEnd, WriteAtEnds, NoneWrites, IsNamed}
+use Rattle.aftr_io.specs.System.{WritePlace, moved, IsAtEnd, WriteAtEnds, NoneWrites, IsNamed}
 
 all_remove : {X : Type 0} (P : X → Type 0) (xs : List X) (i : ℕ) → All P xs → All P (remove xs i)
 all_remove P xs i h = All-append P (take i xs) (drop (suc i) xs) (All-take P i xs h) (All-drop P (suc i) xs h)
@@ -41,7 +41,7 @@ module _ {X : Type 0} (R : X → X → Type 0) where
       (All-set (R x) xs i new (left x (subst (R x) is (All-get_or (R x) xs i old (omega (arith, within)) (pairs_head x xs h)))) (pairs_head x xs h))
       (pairs_set xs i old new left right (omega (arith, within)) is (pairs_tail x xs h))
 
-module _ {Entry : Type 0} (handle_of : Entry → WriteHandle) where
+module _ {Entry : Type 0} (handle_of : Entry → WritePlace) where
   abbrev Apart : Entry → Entry → Type 0
   Apart a b = (handle_of a).0 ≢ (handle_of b).0
 
@@ -60,7 +60,7 @@ module _ {Entry : Type 0} (handle_of : Entry → WriteHandle) where
       (λ e. All-get_or (Apart x) ws i x (omega (arith, within)) (pairs_head Apart x ws apart) (e ∙ sym (named x)))
       (none_of_pairs ws i name (omega (arith, within)) named (pairs_tail Apart x ws apart))
 
-  -- where the handle of a name is given up, none writes that file
+  -- once the handle of a name is removed, none writes that file
   pub none_left : (held : Contents) (ws : List Entry) (i : ℕ) (name : List ℕ) → i < length ws → ((other : Entry) → (handle_of (slice_index_or ws i other)).0 ≡ name) → WriteAtEnds handle_of held ws → NoneWrites handle_of name (remove ws i)
   none_left held ws i name within named ends = none_of_pairs ws i name within named ends.1
 
@@ -108,7 +108,7 @@ module _ {Entry : Type 0} (handle_of : Entry → WriteHandle) where
       let end : Ends n new = subst (IsAtEnd n) (sym after) (behind_end m n (handle_of old).0 bytes count (handle_of old).1 writes fits at_end) in
       (all_written m n bytes count ws i old new within is writes end ends.0 ends.1, pairs_set Apart ws i old new (λ z r e. r (e ∙ name)) (λ z r e. r (sym name ∙ e)) within is ends.1)
 
-  -- a handle that is as it was
+  -- one of them is as it was
   pub ends_kept : (m n : Contents) (ws : List Entry) (i : ℕ) (old new : Entry) → i < length ws → slice_index_or ws i old ≡ old → handle_of new ≡ handle_of old → n ≡ m → WriteAtEnds handle_of m ws → WriteAtEnds handle_of n (set ws i new)
   ends_kept m n ws i old new within is same held ends =
       let name : (handle_of new).0 ≡ (handle_of old).0 = ap (λ h. h.0) same in
@@ -123,7 +123,7 @@ module _ {Entry : Type 0} (handle_of : Entry → WriteHandle) where
   pub none_same : (name : List ℕ) (xs ys : List Entry) → ys ≡ xs → NoneWrites handle_of name xs → NoneWrites handle_of name ys
   none_same name xs ys is none = subst (NoneWrites handle_of name) (sym is) none
 
-  -- what the names beside the handles say of the handles
+  -- from the names of the entries to those of their handles
   module _ (name_of : Entry → List ℕ) (same : (w : Entry) → (handle_of w).0 ≡ name_of w) (seen ws : List Entry) (is : seen ≡ ws) (name : List ℕ) where
     pub named_handle : (i : ℕ) → IsNamed name_of seen name i → (other : Entry) → (handle_of (slice_index_or ws i other)).0 ≡ name
     named_handle i named other = same (slice_index_or ws i other) ∙ ap (λ (l : List Entry). name_of (slice_index_or l i other)) (sym is) ∙ named other
@@ -132,18 +132,18 @@ module _ {Entry : Type 0} (handle_of : Entry → WriteHandle) where
     none_named none = subst (NoneWrites handle_of name) is (All-weaker (λ w. name_of w ≢ name) (λ w. (handle_of w).0 ≢ name) (λ w r e. r (sym (same w) ∙ e)) seen none)
 
 -- the handle of a file that was just made
-pub end_at_start : (m n : Contents) (handle : WriteHandle) (name : List ℕ) → handle ≡ (name, Some 0) → Writes m n name [] → IsAtEnd n handle
+pub end_at_start : (m n : Contents) (handle : WritePlace) (name : List ℕ) → handle ≡ (name, Some 0) → Writes m n name [] → IsAtEnd n handle
 end_at_start m n handle name is made = subst (IsAtEnd n) (sym is) (λ place at_start. let zero_is : 0 ≡ place = cc in sym zero_is ∙ ap (λ l. length l) (sym made.here))
 
 -- a handle that always writes at the end
-pub end_anywhere : (held : Contents) (handle : WriteHandle) (name : List ℕ) → handle ≡ (name, None) → IsAtEnd held handle
+pub end_anywhere : (held : Contents) (handle : WritePlace) (name : List ℕ) → handle ≡ (name, None) → IsAtEnd held handle
 end_anywhere held handle name is = subst (IsAtEnd held) (sym is) (λ place never. absurd cc)
 
 pub placed : (name : List ℕ) (at after : Option ℕ) (count : ℕ) → after ≡ option_map (λ place. place + count) at → (name, after) ≡ moved (name, at) count
-placed name at after count is = let pair : Option ℕ → WriteHandle = λ p. (name, p) in ap pair is
+placed name at after count is = let pair : Option ℕ → WritePlace = λ p. (name, p) in ap pair is
 
-module _ {Entry : Type 0} (handle_of : Entry → WriteHandle) where
-  -- what a write by the one at a place leaves, whether it failed or not
+module _ {Entry : Type 0} (handle_of : Entry → WritePlace) where
+  -- a write by the one at a place, whether it fails or not
   pub ends_after : {E : Type 0} (m n : Contents) (bytes : List ℕ) (ws : List Entry) (i : ℕ) (old new : Entry) (result : Result ℕ E) → i < length ws → old ≡ slice_index_or ws i old
       → IfOk result (λ count. count ≤ length bytes) → IfOk result (λ count. handle_of new ≡ moved (handle_of old) count) → OnErr result (handle_of new ≡ handle_of old) → OnErr result (n ≡ m)
       → (IsAtEnd m (handle_of old) → IfOk result (λ count. Writes m n (handle_of old).0 (content m (handle_of old).0 ++ take count bytes)))

@@ -36,7 +36,7 @@ told_front (Some m) b name place got count before part after same joined first s
     ∙ ap (λ l. take got (drop place bytes) ++ l) (next ∙ ap (take count) (sym (drop-drop got place bytes)))
     ∙ sym (take-add got count (drop place bytes))
 
--- so many bytes stand there
+-- the file has the bytes that were read
 pub told_there : (a b : Option Contents) (name : List ℕ) (place got count : ℕ) (part : List ℕ) → b ≡ a → count ≤ length part
     → Told a (λ m. got ≤ length (drop place (content m name)))
     → Told b (λ m. take count part ≡ take count (drop (place + got) (content m name)))

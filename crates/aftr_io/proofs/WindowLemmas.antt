@@ -1,7 +1,6 @@
 -- Bytes that were read ahead of a file, and what stands in the file.
-use Rattle.std.proofs.Common.{◌≡◌, ◌≢◌, ℕ, zero, suc, ◌-◌, ◌≤◌, List, [], ◌∷◌, ◌++◌, length, take, drop, refl, sym, ◌∙◌, ap, subst, arith}
-use Rattle.std.proofs.lemmas.List.{take-append-le, take-append-drop, drop-drop, length-take-le}
-use Rattle.aftr_io.specs.Contents.{Contents, content, Writes}
+use Rattle.std.proofs.Common.{◌≡◌, ℕ, zero, suc, ◌-◌, ◌≤◌, List, [], ◌∷◌, ◌++◌, length, take, drop, refl, sym, ◌∙◌, ap, arith}
+use Rattle.std.proofs.lemmas.List.{take-append-le, take-append-drop, drop-drop}
 use Rattle.aftr_io.specs.System.{Ahead, StandsIn}
 
 -- what is taken of a front stands in the whole
@@ -22,14 +21,6 @@ module _ (ahead : Ahead) (file : List ℕ) (stands : StandsIn ahead file) where
       of_front ahead.bytes (drop (length ahead.bytes) (drop ahead.start file)) (at - ahead.start) n within
       ∙ ap (λ whole. take n (drop (at - ahead.start) whole)) (sym whole)
       ∙ ap (take n) (drop-drop (at - ahead.start) ahead.start file ∙ ap (λ place. drop place file) (omega arith))
-
--- a write to another file leaves it standing
-pub stands_still : (ahead : Ahead) (m n : Contents) (name bytes other : List ℕ) → Writes m n name bytes → other ≢ name → StandsIn ahead (content m other) → StandsIn ahead (content n other)
-stands_still ahead m n name bytes other writes apart stands = subst (λ file. StandsIn ahead file) (sym (writes.others other apart)) stands
-
--- what was read into the front of a buffer stands in the file
-pub front_stands : (buffer left : List ℕ) (count : ℕ) → count ≤ length buffer → take count buffer ≡ take count left → take count buffer ≡ take (length (take count buffer)) left
-front_stands buffer left count within is = is ∙ ap (λ n. take n left) (sym (length-take-le count buffer within))
 
 pub copied_of : (ahead : Ahead) (seen : List ℕ) (start at n : ℕ) (into file : List ℕ) → start ≡ ahead.start → seen ≡ ahead.bytes → start ≤ at → n ≤ length (drop (at - start) seen) → take n into ≡ take n (drop (at - start) seen) → StandsIn ahead file → take n into ≡ take n (drop at file)
 copied_of ahead seen start at n into file starts is behind within into_is stands =

@@ -14,12 +14,12 @@ Contents = FinMap (slice_cmp nat_cmp) (List ℕ)
 abbrev pub content : Contents → List ℕ → List ℕ
 content held name = unwrap_or (get held name) []
 
--- P of what is held, where that is told
+-- P of what is held, if that is known
 abbrev pub Told : Option Contents → (Contents → Type 0) → Type 0
 Told None P = Unit {0}
 Told (Some held) P = P held
 
--- what is told stays told, and goes from the old to the new by P
+-- what is known stays known, and goes from the old to the new by P
 abbrev pub Moves : Option Contents → Option Contents → (Contents → Contents → Type 0) → Type 0
 Moves None None P = Unit {0}
 Moves None (Some new) P = ⊥

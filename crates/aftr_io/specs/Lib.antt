@@ -1,6 +1,6 @@
 pub mod Contents
 pub mod Entries
-pub mod FailedCall
+pub mod FailedCalls
 pub mod Known
 pub mod Memory
 pub mod Outside

@@ -1,4 +1,4 @@
--- Files and a sink in memory that fail at the calls they were told to.
+-- Files and a sink in memory whose chosen calls fail.
 use Rattle.std.specs.Prelude.{ℕ, ◌==◌, Bool, List, [], ◌++◌, Option, Some, None, is_none, Result, Ok, Err, refl}
 use Rattle.std.specs.List.{list_any}
 use Rattle.std.specs.FinMap.{empty, get}
@@ -12,46 +12,63 @@ use Rattle.aftr_io.specs.Outside.{one_more}
 abbrev pub is_to_fail : ℕ → List ℕ → Bool
 is_to_fail call failing = list_any (λ told. told == call) failing
 
-pub record FilesInMemory : Type 0 where
+-- whether no file has the name
+abbrev pub is_missing : Contents → List ℕ → Bool
+is_missing held name = is_none (get held name)
+
+pub record ReadInMemory : Type 0 where
   pub held : Contents
-  -- how many calls of `read`, `create` and `append` there were, which is the next call's number
+  -- how many calls of `read` there were, which is the next call's number
   pub calls : ℕ
   -- the numbers of the calls that are to fail
   pub failing : List ℕ
-  pub faults : ℕ
   pub lost : ℕ
-  pub spoiled : ℕ
   pub last : Option (List ℕ × ℕ)
 
-abbrev pub files_code : Coded FilesInMemory
-files_code =
-    code_by (Contents × (ℕ × (List ℕ × (ℕ × (ℕ × (ℕ × Option (List ℕ × ℕ)))))))
-    (coded× contents_code (coded× coded_ℕ (coded× (coded_list coded_ℕ) (coded× coded_ℕ
-    (coded× coded_ℕ (coded× coded_ℕ (coded_option (coded× (coded_list coded_ℕ) coded_ℕ))))))))
-    (λ m. (m.held, (m.calls, (m.failing, (m.faults, (m.lost, (m.spoiled, m.last)))))))
-    (λ t. record { held = t.0; calls = t.1.0; failing = t.1.1.0; faults = t.1.1.1.0; lost = t.1.1.1.1.0; spoiled = t.1.1.1.1.1.0; last = t.1.1.1.1.1.1 })
+abbrev pub read_code : Coded ReadInMemory
+read_code =
+    code_by (Contents × (ℕ × (List ℕ × (ℕ × Option (List ℕ × ℕ)))))
+    (coded× contents_code (coded× coded_ℕ (coded× (coded_list coded_ℕ) (coded× coded_ℕ (coded_option (coded× (coded_list coded_ℕ) coded_ℕ))))))
+    (λ m. (m.held, (m.calls, (m.failing, (m.lost, m.last)))))
+    (λ t. record { held = t.0; calls = t.1.0; failing = t.1.1.0; lost = t.1.1.1.0; last = t.1.1.1.1 })
     (λ _. refl)
 
-abbrev pub no_files : FilesInMemory
-no_files = record { held = empty; calls = 0; failing = []; faults = 0; lost = 0; spoiled = 0; last = None }
+abbrev pub nothing_to_read : ReadInMemory
+nothing_to_read = record { held = empty; calls = 0; failing = []; lost = 0; last = None }
 
--- whether the next call fails
-abbrev pub next_fails : FilesInMemory → Bool
-next_fails m = is_to_fail m.calls m.failing
-
-abbrev pub is_missing : FilesInMemory → List ℕ → Bool
-is_missing m name = is_none (get m.held name)
+-- whether the next read fails, whatever its name
+abbrev pub next_read_fails : ReadInMemory → Bool
+next_read_fails m = is_to_fail m.calls m.failing
 
 -- what a read of this name at this place leaves
-abbrev pub after_read : Result ℕ Fault → List ℕ → ℕ → FilesInMemory → FilesInMemory
-after_read (Err fault.Failed) name place m =
-    record m { calls = one_more m.calls; faults = one_more m.faults; lost = one_more m.lost; last = Some (name, place) }
+abbrev pub after_read : Result ℕ Fault → List ℕ → ℕ → ReadInMemory → ReadInMemory
+after_read (Err fault.Failed) name place m = record m { calls = one_more m.calls; lost = one_more m.lost; last = Some (name, place) }
 after_read _ name place m = record m { calls = one_more m.calls }
 
+pub record WrittenInMemory : Type 0 where
+  pub held : Contents
+  -- how many calls of `create` and `append` there were, which is the next call's number
+  pub calls : ℕ
+  -- the numbers of the calls that are to fail
+  pub failing : List ℕ
+  pub spoiled : ℕ
+
+abbrev pub written_code : Coded WrittenInMemory
+written_code =
+    code_by (Contents × (ℕ × (List ℕ × ℕ))) (coded× contents_code (coded× coded_ℕ (coded× (coded_list coded_ℕ) coded_ℕ)))
+    (λ m. (m.held, (m.calls, (m.failing, m.spoiled)))) (λ t. record { held = t.0; calls = t.1.0; failing = t.1.1.0; spoiled = t.1.1.1 }) (λ _. refl)
+
+abbrev pub nothing_written : WrittenInMemory
+nothing_written = record { held = empty; calls = 0; failing = []; spoiled = 0 }
+
+-- whether the next call fails, whatever its name
+abbrev pub next_write_fails : WrittenInMemory → Bool
+next_write_fails m = is_to_fail m.calls m.failing
+
 -- what a create or an append leaves that makes the files hold this
-abbrev pub after_write : {T : Type 0} → Result T Fault → Contents → FilesInMemory → FilesInMemory
+abbrev pub after_write : {T : Type 0} → Result T Fault → Contents → WrittenInMemory → WrittenInMemory
 after_write (Ok _) held m = record m { held = held; calls = one_more m.calls }
-after_write (Err fault.Failed) held m = record m { calls = one_more m.calls; faults = one_more m.faults; spoiled = one_more m.spoiled }
+after_write (Err fault.Failed) held m = record m { calls = one_more m.calls; spoiled = one_more m.spoiled }
 after_write (Err fault.OutOfMemory) held m = record m { calls = one_more m.calls }
 
 pub record SinkInMemory : Type 0 where

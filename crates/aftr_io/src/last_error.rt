@@ -1,92 +1,80 @@
-// What the system said of the last call that failed, beside the counts of such calls.
-ghost use Rattle.std.specs.Prelude.{◌≡◌, ◌↔◌, IsErr, IsNone, IfOk, None, Some, if◌then◌else◌};
+// What the system said of the last call of each half that failed, and how many of its calls have failed.
+ghost use Rattle.std.specs.Prelude.{◌≡◌, ◌↔◌, IsErr, IsNone, None, Some, if◌then◌else◌};
 ghost use Rattle.std.specs.IoError.{error_kind};
-ghost use Rattle.aftr_io.specs.Outside.{FailsAt, Rises, has_failed};
+ghost use Rattle.aftr_io.specs.Outside.{Rises, has_failed};
 
 use crate::Fault;
-use crate::memory::LostRead;
-use std::alloc::{AllocError, Global};
+use std::alloc::Global;
 use std::io;
 use std::marker::Model;
 
-/// What was asked of a file when the system failed.
+/// The last read that failed.
+#[derive(Drop)]
+pub struct ReadError {
+    /// The file's name, as the call had it.
+    pub name: String,
+    /// The place of the first byte that was asked for.
+    pub at: u64,
+    /// What the system said.
+    pub error: io::Error,
+}
+
+impl Model for ReadError {
+    ghost use Rattle.std.specs.Prelude.{string_bytes};
+    ghost use Rattle.std.specs.IoError.{error_kind};
+    ghost use Rattle.aftr_io.specs.FailedCalls.{FailedRead};
+
+    ghost Value = { FailedRead };
+
+    ghost view = { λ e. record { name = string_bytes e.name; at = e.at; kind = error_kind e.error } };
+}
+
+/// What was to be done to a file when the system failed.
 #[derive(Clone, Copy, Debug, PartialEq, Eq)]
-pub enum Call {
-    /// A read from this place on.
-    Read { at: u64 },
+pub enum WriteCall {
     /// The file was to be made, or emptied.
     Create,
     /// Bytes were to be put behind those that the file holds.
     Append,
 }
 
-/// The last call that failed.
+/// The last create or append that failed.
 #[derive(Drop)]
-pub struct LastError {
-    pub call: Call,
+pub struct WriteError {
+    pub call: WriteCall,
     /// The file's name, as the call had it.
     pub name: String,
     /// What the system said.
     pub error: io::Error,
 }
 
-impl Model for LastError {
+impl Model for WriteError {
     ghost use Rattle.std.specs.Prelude.{string_bytes};
     ghost use Rattle.std.specs.IoError.{error_kind};
-    ghost use Rattle.aftr_io.specs.FailedCall.{FailedCall};
+    ghost use Rattle.aftr_io.specs.FailedCalls.{FailedWrite};
 
-    ghost Value = { FailedCall };
+    ghost Value = { FailedWrite };
 
     ghost view = { λ e. record { call = e.call; name = string_bytes e.name; kind = error_kind e.error } };
 }
 
-impl LastError {
-    ghost use Rattle.aftr_io.specs.FailedCall.{FailedCall};
-
-    fn copy(
-        alloc: Global,
-        call: Call,
-        name: &str,
-        error: io::Error,
-    ) -> Result<LastError, AllocError>
-        ensures { IfOk result (λ e. e ≡ record { call = call; name = name.now; kind = error_kind error }) }
-    {
-        Ok(LastError {
-            call,
-            name: String::from_str(alloc, name)?,
-            error,
-        })
-    }
-}
-
+// The reads that failed: how many, and the last one.
 #[derive(Drop)]
-pub struct Counts {
-    pub faults: u64,
+pub struct LostReads {
     pub lost: u64,
-    pub spoiled: u64,
-    pub last: Option<LostRead>,
-    pub last_error: Option<LastError>,
-    ghost tied: { IsNone last_error ↔ (faults ≡ 0) },
+    pub last: Option<ReadError>,
+    ghost tied: { IsNone last ↔ (lost ≡ 0) },
 }
 
-impl Counts {
-    ghost use Rattle.aftr_io.specs.FailedCall.{FailedCall};
-    ghost use Rattle.aftr_io.specs.declared.last_error.Call.TheVariants as call_is;
-
-    /// Nothing has failed.
-    pub fn new() -> Counts
-        ensures faults { result.faults ≡ 0 }
+impl LostReads {
+    /// No read has failed.
+    pub fn new() -> LostReads
         ensures lost { result.lost ≡ 0 }
-        ensures spoiled { result.spoiled ≡ 0 }
         ensures last { result.last ≡ None }
-        ensures last_error { result.last_error ≡ None }
     {
-        Counts {
-            faults: 0,
+        LostReads {
             lost: 0,
-            spoiled: 0,
             last: None,
-            last_error: None,
         }
     }
 
@@ -99,42 +87,52 @@ impl Counts {
         error: io::Error,
     ) -> Result<usize, Fault>
         ensures error { IsErr result }
-        ensures faults { Rises (has_failed result) self.old.faults self.new.faults }
         ensures lost { Rises (has_failed result) self.old.lost self.new.lost }
-        ensures spoiled { self.new.spoiled ≡ self.old.spoiled }
-        ensures last { FailsAt (has_failed result) name.now (λ place. place ≡ at) self.old.last self.new.last }
-        ensures error_kept { self.new.last_error
-            ≡ (if has_failed result then Some (record { call = call_is.Read at; name = name.now; kind = error_kind error }) else self.old.last_error) }
+        ensures last { self.new.last
+            ≡ (if has_failed result then Some (record { name = name.now; at = at; kind = error_kind error }) else self.old.last) }
     {
-        let last = LostRead {
-            name: String::from_str(alloc, name)?,
-            at,
-        };
-        self.last_error = Some(LastError::copy(alloc, Call::Read { at }, name, error)?);
-        self.last = Some(last);
-        self.faults = self.faults.saturating_add(1);
+        let name = String::from_str(alloc, name)?;
+        self.last = Some(ReadError { name, at, error });
         self.lost = self.lost.saturating_add(1);
         Err(Fault::Failed)
+    }
+}
+
+// The calls of `create` and `append` that failed: how many, and the last one.
+#[derive(Drop)]
+pub struct SpoiledWrites {
+    pub spoiled: u64,
+    pub last: Option<WriteError>,
+    ghost tied: { IsNone last ↔ (spoiled ≡ 0) },
+}
+
+impl SpoiledWrites {
+    /// No call has failed.
+    pub fn new() -> SpoiledWrites
+        ensures spoiled { result.spoiled ≡ 0 }
+        ensures last { result.last ≡ None }
+    {
+        SpoiledWrites {
+            spoiled: 0,
+            last: None,
+        }
     }
 
     /// Counts a create or an append that failed, once its name is copied.
     pub fn spoil<T>(
         &mut self,
         alloc: Global,
-        call: Call,
+        call: WriteCall,
         name: &str,
         error: io::Error,
     ) -> Result<T, Fault>
         ensures error { IsErr result }
-        ensures faults { Rises (has_failed result) self.old.faults self.new.faults }
-        ensures lost { self.new.lost ≡ self.old.lost }
         ensures spoiled { Rises (has_failed result) self.old.spoiled self.new.spoiled }
-        ensures last { self.new.last ≡ self.old.last }
-        ensures error_kept { self.new.last_error
-            ≡ (if has_failed result then Some (record { call = call; name = name.now; kind = error_kind error }) else self.old.last_error) }
+        ensures last { self.new.last
+            ≡ (if has_failed result then Some (record { call = call; name = name.now; kind = error_kind error }) else self.old.last) }
     {
-        self.last_error = Some(LastError::copy(alloc, call, name, error)?);
-        self.faults = self.faults.saturating_add(1);
+        let name = String::from_str(alloc, name)?;
+        self.last = Some(WriteError { call, name, error });
         self.spoiled = self.spoiled.saturating_add(1);
         Err(Fault::Failed)
     }

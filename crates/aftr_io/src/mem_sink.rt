@@ -1,4 +1,4 @@
-// A sink in memory that fails at the calls it was told to.
+// A sink in memory that fails at chosen calls.
 ghost use Rattle.std.specs.Prelude.{◌≡◌, [], ◌∷◌, ◌++◌, length, IsTrue, IsFalse, IsOk, IsErrOf, IfOk, OnOk, OnErr};
 ghost use Rattle.aftr_io.specs.declared.outside.Fault.{Fault};
 ghost use Rattle.aftr_io.specs.Memory.{no_bytes, is_to_fail, after_put};
@@ -10,7 +10,7 @@ use aftr_base::OutOfMemory;
 use std::alloc::Global;
 use std::marker::Model;
 
-/// A list of bytes that fails exactly at the calls that it was told to.
+/// A list of bytes. A `put` fails exactly if `fail_at` chose it.
 #[derive(Drop)]
 pub struct MemSink {
     bytes: Vec<u8>,

@@ -1,4 +1,4 @@
-// The calls of a system over files in memory, each of which can be told to fail.
+// The calls of a system over files in memory, each of which can be made to fail.
 ghost use Rattle.std.specs.Prelude.{◌≡◌, ◌+◌, ◌<◌, ◌∷◌, [], ◌++◌, IfOk, OnOk, OnErr, length};
 ghost use Rattle.std.specs.Option.{option_copied, option_map};
 ghost use Rattle.aftr_io.specs.Contents.{content};
@@ -13,8 +13,8 @@ use std::alloc::Global;
 use std::io;
 use std::io::ErrorKind;
 
-/// A system that is files in memory. It fails at the calls that it was told to, at the opening of a name that is not there, at a write
-/// where bytes stand already, and for want of memory. A call reads or writes so many bytes at the most.
+/// A system that is files in memory. A call fails if `fail_at` chose it, if it opens a name that is not there, if it writes before the
+/// end of its file, or if memory runs out.
 #[derive(Drop)]
 pub struct MemSystem {
     shelf: Shelf,
@@ -26,20 +26,20 @@ pub struct MemSystem {
 
 /// A file in memory that is open to be read.
 #[derive(Drop)]
-pub struct MemReading {
+pub struct MemReadHandle {
     name: String,
     at: u64,
 }
 
 /// A file in memory that is open to be written.
 #[derive(Drop)]
-pub struct MemWriting {
+pub struct MemWriteHandle {
     name: String,
     at: Option<u64>,
 }
 
 impl MemSystem {
-    /// No files, and no call that is to fail. A call reads or writes so many bytes at the most, where that is not 0.
+    /// No files, and no call that is to fail. A call reads or writes at most `most` bytes, or one if `most` is 0.
     pub fn new(alloc: Global, most: usize) -> MemSystem
         ensures { result.shelf ≡ map.empty }
     {
@@ -59,7 +59,7 @@ impl MemSystem {
         Ok(self.shelf.set(alloc, name, bytes)?)
     }
 
-    /// The call of this number is to fail: all calls are counted together from 0.
+    /// Makes the call of this number fail. All calls of the system are counted together, from 0.
     pub fn fail_at(&mut self, _alloc: Global, call: u64) -> Result<(), OutOfMemory>
         ensures ok { OnOk result (self.new.failing.items ≡ self.old.failing.items ++ call ∷ []) }
         ensures files { self.new.shelf ≡ self.old.shelf }
@@ -75,7 +75,7 @@ impl MemSystem {
     }
 }
 
-// Counts a call, and fails if it is one of those that are to.
+// Counts a call, and fails if `fail_at` chose it.
 fn count(calls: &mut u64, failing: &[u64]) -> io::Result<()> {
     if count_call(calls, failing) {
         return Err(io::Error::from(ErrorKind::Other));
@@ -92,7 +92,7 @@ fn length_of(shelf: &Shelf, name: &str) -> u64
     }
 }
 
-// The place behind so many bytes that are put at a place, which has to be the file's end.
+// The place behind `count` bytes put at a place, which has to be the file's end.
 fn place_behind(at: Option<u64>, length: u64, count: u64) -> io::Result<Option<u64>>
     ensures { IfOk result (λ next. next ≡ option_map (λ place. place + count) at) }
 {
@@ -111,9 +111,9 @@ fn place_behind(at: Option<u64>, length: u64, count: u64) -> io::Result<Option<u
 impl System for MemSystem {
     ghost use Rattle.std.specs.Prelude.{true, string_bytes};
 
-    type Reading = MemReading;
+    type ReadHandle = MemReadHandle;
 
-    type Writing = MemWriting;
+    type WriteHandle = MemWriteHandle;
 
     ghost tells = { true };
 
@@ -123,24 +123,24 @@ impl System for MemSystem {
 
     ghost writes = { λ file. (string_bytes file.name, file.at) };
 
-    fn open(&mut self, alloc: Global, name: &str) -> io::Result<MemReading> {
+    fn open(&mut self, alloc: Global, name: &str) -> io::Result<MemReadHandle> {
         count(&mut self.calls, &self.failing)?;
         if self.shelf.get(name).is_none() {
             return Err(io::Error::from(ErrorKind::NotFound));
         }
-        Ok(MemReading {
+        Ok(MemReadHandle {
             name: String::from_str(alloc, name)?,
             at: 0,
         })
     }
 
-    fn seek(&mut self, file: &mut MemReading, at: u64) -> io::Result<()> {
+    fn seek(&mut self, file: &mut MemReadHandle, at: u64) -> io::Result<()> {
         count(&mut self.calls, &self.failing)?;
         file.at = at;
         Ok(())
     }
 
-    fn read(&mut self, file: &mut MemReading, into: &mut [u8]) -> io::Result<usize> {
+    fn read(&mut self, file: &mut MemReadHandle, into: &mut [u8]) -> io::Result<usize> {
         count(&mut self.calls, &self.failing)?;
         let most = self.most.min(into.len());
         let got = match self.shelf.get(file.name.as_str()) {
@@ -151,28 +151,33 @@ impl System for MemSystem {
         Ok(got)
     }
 
-    fn create(&mut self, alloc: Global, name: &str) -> io::Result<MemWriting> {
+    fn create(&mut self, alloc: Global, name: &str) -> io::Result<MemWriteHandle> {
         count(&mut self.calls, &self.failing)?;
         let kept = String::from_str(alloc, name)?;
         self.shelf.set(alloc, name, &[])?;
-        Ok(MemWriting {
+        Ok(MemWriteHandle {
             name: kept,
             at: Some(0),
         })
     }
 
-    fn open_end(&mut self, alloc: Global, name: &str) -> io::Result<MemWriting> {
+    fn open_end(&mut self, alloc: Global, name: &str) -> io::Result<MemWriteHandle> {
         count(&mut self.calls, &self.failing)?;
         if self.shelf.get(name).is_none() {
             return Err(io::Error::from(ErrorKind::NotFound));
         }
-        Ok(MemWriting {
+        Ok(MemWriteHandle {
             name: String::from_str(alloc, name)?,
             at: None,
         })
     }
 
-    fn write(&mut self, alloc: Global, file: &mut MemWriting, bytes: &[u8]) -> io::Result<usize> {
+    fn write(
+        &mut self,
+        alloc: Global,
+        file: &mut MemWriteHandle,
+        bytes: &[u8],
+    ) -> io::Result<usize> {
         count(&mut self.calls, &self.failing)?;
         if bytes.is_empty() {
             return Ok(0);

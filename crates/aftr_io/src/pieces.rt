@@ -1,30 +1,30 @@
-// The loops round the calls of the outside, which may each do less than was asked.
+// Loops around the calls of the outside, each of which may do less than was asked.
 ghost use Rattle.std.specs.Prelude.{◌≡◌, ◌+◌, ◌^◌, ◌<◌, ◌≤◌, length, take, drop, min, IfOk};
 ghost use Rattle.aftr_io.specs.Contents.{content, Told};
-ghost use Rattle.aftr_io.specs.Outside.{OnlyReads, OnlyWrites, Rises, has_failed};
+ghost use Rattle.aftr_io.specs.Outside.{OnlyReads, Rises, has_failed};
 ghost use Rattle.aftr_io.specs.Pieces.{AppendedAll, TookAll};
 
-use crate::{Fault, Files, Sink};
+use crate::{Fault, Reading, Sink, Writing};
 use aftr_base::Bytes;
 use std::alloc::Global;
 
 /// Reads from the place `at` on until `into` is full or nothing is left, and answers how many bytes it read. The
 /// bytes asked for end by place 2^64.
-pub fn fill<F: Files>(
+pub fn fill<I: Reading>(
     alloc: Global,
-    files: &mut F,
+    files: &mut I,
     name: &str,
     at: u64,
     into: &mut [u8],
 ) -> Result<usize, Fault>
     requires { at + length into.old ≤ 2 ^ 64 }
     ensures within { IfOk result (λ n. n ≤ length into.old) }
-    ensures bytes { IfOk result (λ n. Told (F.outside files.old).held
+    ensures bytes { IfOk result (λ n. Told (I.readable files.old).held
         (λ m. take n into.new ≡ take (length into.old) (drop at (content m name.now)))) }
-    ensures count { IfOk result (λ n. Told (F.outside files.old).held
+    ensures count { IfOk result (λ n. Told (I.readable files.old).held
         (λ m. n ≡ min (length into.old) (length (drop at (content m name.now))))) }
     ensures reads { OnlyReads (has_failed result) name.now (λ place. (at ≤ place) × (place < at + length into.old))
-        (F.outside files.old) (F.outside files.new) }
+        (I.readable files.old) (I.readable files.new) }
 {
     let mut got = 0;
     'pieces: while got < into.len() {
@@ -38,20 +38,20 @@ pub fn fill<F: Files>(
     Ok(got)
 }
 
-/// So many bytes of a file from the place `at` on, or as many as there are. The bytes asked for end by place 2^64.
-pub fn bytes_at<F: Files>(
+/// The `count` bytes of a file from the place `at` on, or as many of them as there are. The bytes asked for end by place 2^64.
+pub fn bytes_at<I: Reading>(
     alloc: Global,
-    files: &mut F,
+    files: &mut I,
     name: &str,
     at: u64,
     count: usize,
 ) -> Result<Bytes, Fault>
     requires { at + count ≤ 2 ^ 64 }
-    ensures bytes { IfOk result (λ bytes. Told (F.outside files.old).held
+    ensures bytes { IfOk result (λ bytes. Told (I.readable files.old).held
         (λ m. bytes ≡ take count (drop at (content m name.now)))) }
     ensures within { IfOk result (λ bytes. length bytes ≤ count) }
     ensures reads { OnlyReads (has_failed result) name.now (λ place. (at ≤ place) × (place < at + count))
-        (F.outside files.old) (F.outside files.new) }
+        (I.readable files.old) (I.readable files.new) }
 {
     let mut list = vec![in alloc; 0; count]?;
     let got = fill(alloc, files, name, at, &mut list)?;
@@ -60,14 +60,14 @@ pub fn bytes_at<F: Files>(
 }
 
 /// Puts all of `bytes` behind what the file holds. After a fault the file may have the first few of them.
-pub fn append_all<F: Files>(
+pub fn append_all<O: Writing>(
     alloc: Global,
-    files: &mut F,
+    files: &mut O,
     name: &str,
     bytes: &[u8],
 ) -> Result<(), Fault>
-    ensures held { AppendedAll result (F.outside files.old).held (F.outside files.new).held name.now bytes.now }
-    ensures writes { OnlyWrites (has_failed result) (F.outside files.old) (F.outside files.new) }
+    ensures held { AppendedAll result (O.written files.old).held (O.written files.new).held name.now bytes.now }
+    ensures spoiled { Rises (has_failed result) (O.written files.old).spoiled (O.written files.new).spoiled }
 {
     let mut done = 0;
     'pieces: while done < bytes.len() {

@@ -1,5 +1,5 @@
 // The file that was read last.
-ghost use Rattle.std.specs.Prelude.{◌≡◌, ◌≢◌, ◌<◌, ◌≤◌, [], None, Some, IsTrue, IfOk, OnOk, length, take, drop, string_bytes};
+ghost use Rattle.std.specs.Prelude.{◌≡◌, ◌<◌, ◌≤◌, [], None, IsTrue, IfOk, OnOk, length, take, drop, string_bytes};
 ghost use Rattle.std.specs.Option.{ForSome};
 ghost use Rattle.aftr_io.specs.Contents.{Contents, content};
 ghost use Rattle.aftr_io.specs.System.{StandsIn};
@@ -9,14 +9,14 @@ use crate::system::System;
 use crate::window::Window;
 use std::alloc::Global;
 
-// A read of so many bytes or more that finds none read ahead goes past the window, straight to where they are wanted.
+// A read that finds nothing read ahead goes past the window if it asks for this many bytes or more.
 const DIRECT: usize = 1 << 18;
 
 #[derive(Drop)]
 pub struct Reader<S: System> {
     pub name: String,
-    file: S::Reading,
-    // the place of the handle's next read, where it is known
+    file: S::ReadHandle,
+    // the place of the handle's next read, if it is known
     place: Option<u64>,
     pub window: Window,
     ghost of_name: { IsTrue S.tells → (S.reads file).0 ≡ string_bytes name },
@@ -49,7 +49,7 @@ impl<S: System> Reader<S> {
         })
     }
 
-    // Puts the handle at a place of the file. Where it is after the next call is not known.
+    // Puts the handle at a place of the file. `place` is unknown until the next read has succeeded.
     fn go_to(&mut self, system: &mut S, at: u64) -> Result<(), Failure>
         ensures name { string_bytes self.new.name ≡ string_bytes self.old.name }
         ensures window { self.new.window ≡ self.old.window }
@@ -97,7 +97,7 @@ impl<S: System> Reader<S> {
         Ok(count)
     }
 
-    /// Bytes of the file from a place on, as `Files::read` has them. What was read ahead is not asked.
+    /// Bytes of the file from a place on, as `Reading::read` has them. What was read ahead is not asked.
     pub fn read(&mut self, system: &mut S, at: u64, into: &mut [u8]) -> Result<usize, Failure>
         requires { IsTrue S.tells → StandsIn self.old.window (content (S.held system.old) (string_bytes self.old.name)) }
         ensures name { string_bytes self.new.name ≡ string_bytes self.old.name }
@@ -165,16 +165,4 @@ pub fn read_file<S: System>(
     let count = open.read(system, at, into);
     *reader = Some(open);
     count
-}
-
-/// Gives the reader up, if it is of this name.
-pub fn forget<S: System>(reader: &mut Option<Reader<S>>, name: &str)
-    ensures kept { ForSome reader.new (λ r. reader.old ≡ Some r) }
-    ensures others { ForSome reader.new (λ r. string_bytes r.name ≢ name.now) }
-{
-    if let Some(open) = reader {
-        if open.name.as_str() == name {
-            *reader = None;
-        }
-    }
 }

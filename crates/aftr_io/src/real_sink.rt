@@ -1,4 +1,4 @@
-// Standard output. Nothing is told of what it took.
+// Standard output. The bytes that it took are not known.
 ghost use Rattle.std.specs.Prelude.{◌≡◌, ◌↔◌, IsNone};
 ghost use Rattle.aftr_io.specs.declared.outside.Fault.{Fault};
 ghost use Rattle.aftr_io.specs.Outside.{Rose};
@@ -8,7 +8,7 @@ use std::alloc::Global;
 use std::io;
 use std::io::ErrorKind;
 
-/// Standard output of the system. It tells nothing of the bytes that it took; each `put` is one write.
+/// Standard output of the system. The bytes that it took are not known. Each `put` is one write.
 #[derive(Drop)]
 pub struct RealSink<R: Print + Drop> {
     system: R,

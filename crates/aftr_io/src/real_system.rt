@@ -1,20 +1,26 @@
 // The calls of the system that the program runs on.
-use crate::real::SystemFiles;
+ghost use Rattle.std.specs.Prelude.{◌≡◌, false};
+ghost use Rattle.std.specs.FinMap.{empty};
+ghost use Rattle.aftr_io.specs.Known.{not_read, not_written};
+
+use crate::outside::Outside;
 use crate::system::System;
+use crate::system_reading::SystemReading;
+use crate::system_writing::SystemWriting;
 use std::alloc::Global;
 use std::fs::OpenOptions;
 use std::io::{Read, Seek, SeekFrom, Write};
 use std::rt::Files as FileSystem;
 use std::{fs, io};
 
-/// The system's own calls. It tells nothing of what files hold, so what each call does is trusted:
+/// The system's own calls. No clause says what files hold, so what each call does is trusted:
 /// - `open`: the handle reads the file of this name from its start on. A name that is not there is an error.
 /// - `create`: the file is there and empty, and the handle writes behind what it wrote before: so behind all that the file holds, as
 ///   long as nobody else writes there.
 /// - `open_end`: the handle writes behind the last byte of the file, whoever wrote it. The file is not made.
 /// - `seek`: the handle's next read is at this place.
-/// - `read`: so many bytes that stand at the handle's place, which moves behind them; 0 says that none stands there.
-/// - `write`: so many of the first bytes are put, once each and in order, and the handle's place moves behind them.
+/// - `read`: the answer is how many bytes it read at the handle's place, which moves behind them; 0 says that there is none.
+/// - `write`: the answer is how many of the first bytes it put, once each and in order; the handle's place moves behind them.
 /// - closing, when a handle is dropped: what `write` took is not lost. An error of closing is not seen.
 ///
 /// An error of any of them did nothing that a later call would have to know of.
@@ -27,9 +33,9 @@ impl<R: FileSystem + Drop> System for RealSystem<R> {
     ghost use Rattle.std.specs.Prelude.{None, false, []};
     ghost use Rattle.std.specs.FinMap.{empty};
 
-    type Reading = R::File;
+    type ReadHandle = R::File;
 
-    type Writing = R::File;
+    type WriteHandle = R::File;
 
     ghost tells = { false };
 
@@ -65,19 +71,22 @@ impl<R: FileSystem + Drop> System for RealSystem<R> {
     }
 }
 
-/// The files of the system that the program runs on. Nothing is told of what they hold.
-pub type RealFiles<R> = SystemFiles<RealSystem<R>>;
+/// The files of the system that the program runs on, to be read. No clause says what they hold.
+pub type RealReading<R> = SystemReading<RealSystem<R>>;
 
-impl<R: FileSystem + Drop> SystemFiles<RealSystem<R>> {
-    ghost use Rattle.std.specs.Prelude.{◌≡◌};
-    ghost use Rattle.std.specs.Prelude.{false};
-    ghost use Rattle.std.specs.FinMap.{empty};
-    ghost use Rattle.aftr_io.specs.Known.{not_used};
+/// The files of the system that the program runs on, to be written. No clause says what they hold.
+pub type RealWriting<R> = SystemWriting<RealSystem<R>>;
 
-    /// No file is open, and nothing has failed.
-    pub fn new(rt: R, alloc: Global) -> RealFiles<R>
-        ensures { result ≡ not_used false empty }
-    {
-        SystemFiles::over(RealSystem { runtime: rt }, alloc)
+/// Both halves over the system that the program runs on.
+pub type RealFiles<R> = Outside<RealReading<R>, RealWriting<R>>;
+
+/// Both halves over one system: no file is open, and nothing has failed. The caller may not write a file that it reads: see `SystemReading`.
+pub fn real_files<R: FileSystem + Copy + Drop>(rt: R, alloc: Global) -> RealFiles<R>
+    ensures reading { result.reading ≡ not_read false empty }
+    ensures writing { result.writing ≡ not_written false empty }
+{
+    Outside {
+        reading: SystemReading::over(RealSystem { runtime: rt }),
+        writing: SystemWriting::over(RealSystem { runtime: rt }, alloc),
     }
 }

@@ -13,8 +13,8 @@ use std::marker::Model;
 // The most bytes that are read ahead at once.
 const MOST: usize = 1 << 20;
 
-// So many are read ahead at first, and each time twice as many as before: who reads a header and then goes on by large reads has not
-// read more ahead than a page.
+// The bytes that are read ahead at first; each time twice as many follow. So a caller who reads a header and goes on by large reads has
+// read no more than a page ahead.
 const FIRST: usize = 1 << 12;
 
 #[derive(Drop)]
@@ -22,9 +22,9 @@ pub struct Window {
     buffer: Vec<u8>,
     // the place of the buffer's first byte
     start: u64,
-    // so many of its bytes were read
+    // how many of its bytes were read
     ahead: usize,
-    // so many are read the next time
+    // how many are read the next time
     next: usize,
 }
 
@@ -72,11 +72,11 @@ impl Window {
         copy_from(&self.buffer[..self.ahead], at - self.start, into)
     }
 
-    /// Reads ahead from where the handle stands, which is this place.
+    /// Reads ahead from the handle's place, which has to be `at`.
     pub fn refill<S: System>(
         &mut self,
         system: &mut S,
-        file: &mut S::Reading,
+        file: &mut S::ReadHandle,
         at: u64,
     ) -> Result<usize, Failure>
         ensures front { IfOk result (λ n. (self.new.start ≡ at) × (length self.new.bytes ≡ n)) }
@@ -107,10 +107,10 @@ fn make_room(buffer: &mut Vec<u8>, wanted: usize) -> Result<(), AllocError>
     Ok(())
 }
 
-// Reads into the front of a buffer that has room for so many bytes.
+// Reads into the first `wanted` bytes of a buffer.
 fn read_front<S: System>(
     system: &mut S,
-    file: &mut S::Reading,
+    file: &mut S::ReadHandle,
     buffer: &mut [u8],
     wanted: usize,
 ) -> io::Result<usize>

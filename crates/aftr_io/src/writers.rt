@@ -14,7 +14,7 @@ use std::io::ErrorKind;
 #[derive(Drop)]
 pub struct Writer<S: System> {
     name: String,
-    pub file: S::Writing,
+    pub file: S::WriteHandle,
     ghost of_name: { IsTrue S.tells → (S.writes file).0 ≡ string_bytes name },
 }
 
@@ -106,7 +106,7 @@ fn writer_of<S: System>(
     Ok(writers.len() - 1)
 }
 
-/// Puts bytes behind those that a file holds, as `Files::append` has it.
+/// Puts bytes behind those that a file holds, as `Writing::append` has it.
 pub fn append<S: System>(
     system: &mut S,
     writers: &mut Vec<Writer<S>>,

@@ -1,8 +1,8 @@
 -- What people are told of command words that ask for no job, and of a file or of standard output that failed. Each is one line that begins
 -- with two blanks. Ours. Arguments, loads and the words behind the command are counted from 0, and told from 1.
 use Rattle.std.specs.Prelude.{ℕ, ◌+◌, ◌==◌, List, [], ◌∷◌, ◌++◌, bytes_eq, codes, decimal, if◌then◌else◌, length, slice_get, unwrap_or, Option, Some, None}
-use Rattle.aftr_io.specs.declared.last_error.Call.{Call}
-use Rattle.aftr_io.specs.declared.last_error.Call.TheVariants as call
+use Rattle.aftr_io.specs.declared.last_error.WriteCall.{WriteCall}
+use Rattle.aftr_io.specs.declared.last_error.WriteCall.TheVariants as call
 use Rattle.aftr_text.specs.Faults.{greatest_of, values_of}
 use Rattle.aftr_text.specs.Parts.{Parts, no_parts, parts_of}
 use Rattle.aftr_text.specs.declared.faults.Fault.{Fault}
@@ -98,14 +98,13 @@ fault_text (command ∷ rest) f = told_behind command rest f
 abbrev pub read_text : ℕ → List ℕ
 read_text at = if at == 0 then codes " could not be read" else codes " could not be read at byte " ++ decimal at
 
-abbrev pub failed_text : Call → List ℕ
-failed_text (call.Read at) = read_text at
-failed_text call.Create = codes " could not be made"
-failed_text call.Append = codes " could not be written"
+abbrev pub write_text : WriteCall → List ℕ
+write_text call.Create = codes " could not be made"
+write_text call.Append = codes " could not be written"
 
--- which file failed, at which call, and what the system said of it
-abbrev pub file_text : Call → List ℕ → List ℕ → List ℕ
-file_text failed name said = codes "  " ++ name ++ failed_text failed ++ codes ": " ++ said ++ codes "\n"
+-- which file failed, what could not be done with it, and what the system said of it
+abbrev pub file_text : List ℕ → List ℕ → List ℕ → List ℕ
+file_text name failed said = codes "  " ++ name ++ failed ++ codes ": " ++ said ++ codes "\n"
 
 abbrev pub output_text : List ℕ → List ℕ
 output_text said = codes "  standard output could not be written: " ++ said ++ codes "\n"

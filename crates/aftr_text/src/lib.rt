@@ -29,7 +29,7 @@ pub use lines::{
 pub use messages::{fault_line, usage_line};
 pub use parts::Slot;
 pub use record_number::RecordNumber;
-pub use said::{file_line, output_line};
+pub use said::{output_line, unread_line, unwritten_line};
 pub use summaries::{NO_TOTALS, Totals, migrated_line, summary};
 pub use tables::{
     initial_line, point_line, push_point_line, push_refused_line, push_unreached_line,

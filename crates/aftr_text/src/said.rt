@@ -1,45 +1,55 @@
 // What the system said of a call that failed, for people.
 ghost use Rattle.std.specs.Prelude.{◌≡◌, ℕ, List, IfOk, string_bytes};
-ghost use Rattle.aftr_text.specs.Messages.{failed_text, file_text, output_text, read_text};
+ghost use Rattle.aftr_text.specs.Messages.{file_text, output_text, read_text, write_text};
 
 use aftr_base::{OutOfMemory, Text};
-use aftr_io::{Call, LastError};
+use aftr_io::{ReadError, WriteCall, WriteError};
 use std::alloc::Global;
 use std::io;
 
-/// Which file could not be read, made or written, and why, in one line that begins with two blanks: of a read also its place, where
-/// that is not the first byte. What the system said of it stands behind a colon, whatever it is.
-pub fn file_line(alloc: Global, last: &LastError) -> Result<Text, OutOfMemory>
-    ensures { IfOk result (λ line. (said : List ℕ) × (line ≡ file_text last.now.call last.now.name said)) }
+/// Which file could not be read, and why, in one line that begins with two blanks: also the place, if that is not the first byte. What
+/// the system said of it stands behind a colon, whatever it is.
+pub fn unread_line(alloc: Global, last: &ReadError) -> Result<Text, OutOfMemory>
+    ensures { IfOk result (λ line. (said : List ℕ) × (line ≡ file_text last.now.name (read_text last.now.at) said)) }
 {
     let error = last.error;
     let said = format!(in alloc; "{error}")?;
-    let line = told_line(alloc, last.call, last.name.as_str(), said.as_str())?;
+    let failed = failed_read(alloc, last.at)?;
+    let line = told_line(alloc, last.name.as_str(), failed.as_str(), said.as_str())?;
     Ok(line)
 }
 
-fn told_line(alloc: Global, call: Call, name: &str, said: &str) -> Result<Text, OutOfMemory>
-    ensures { IfOk result (λ line. line ≡ file_text call name.now said.now) }
+/// Which file could not be made or written, and why, in such a line.
+pub fn unwritten_line(alloc: Global, last: &WriteError) -> Result<Text, OutOfMemory>
+    ensures { IfOk result (λ line. (said : List ℕ) × (line ≡ file_text last.now.name (write_text last.now.call) said)) }
 {
-    let failed = failed_call(alloc, call)?;
+    let error = last.error;
+    let said = format!(in alloc; "{error}")?;
+    let failed = failed_write(alloc, last.call)?;
+    let line = told_line(alloc, last.name.as_str(), failed.as_str(), said.as_str())?;
+    Ok(line)
+}
+
+fn told_line(alloc: Global, name: &str, failed: &str, said: &str) -> Result<Text, OutOfMemory>
+    ensures { IfOk result (λ line. line ≡ file_text name.now failed.now said.now) }
+{
     let mut line = String::new(alloc);
     line.push_str("  ")?;
     line.push_str(name)?;
-    line.push_str(failed.as_str())?;
+    line.push_str(failed)?;
     line.push_str(": ")?;
     line.push_str(said)?;
     line.push_str("\n")?;
     Ok(Text::of(line))
 }
 
-// What could not be done with the file.
-fn failed_call(alloc: Global, call: Call) -> Result<String, OutOfMemory>
-    ensures { IfOk result (λ text. string_bytes text ≡ failed_text call) }
+// What could not be done with a file that is written.
+fn failed_write(alloc: Global, call: WriteCall) -> Result<String, OutOfMemory>
+    ensures { IfOk result (λ text. string_bytes text ≡ write_text call) }
 {
     match call {
-        Call::Read { at } => failed_read(alloc, at),
-        Call::Create => Ok(String::from_str(alloc, " could not be made")?),
-        Call::Append => Ok(String::from_str(alloc, " could not be written")?),
+        WriteCall::Create => Ok(String::from_str(alloc, " could not be made")?),
+        WriteCall::Append => Ok(String::from_str(alloc, " could not be written")?),
     }
 }
 

@@ -4,7 +4,7 @@ use Rattle.std.proofs.Math.Seq.{take-add}
 use Rattle.aftr_io.specs.declared.outside.Fault.{Fault}
 use Rattle.aftr_io.specs.declared.outside.Fault.TheVariants as fault
 use Rattle.aftr_io.specs.Contents.{Contents, content, Told}
-use Rattle.aftr_io.specs.Outside.{OnlyReads, Outside, has_failed}
+use Rattle.aftr_io.specs.Outside.{OnlyReads, Readable, has_failed}
 use Rattle.aftr_io.proofs.OutsideLemmas.{reads_wider}
 use Rattle.capture_io.specs.declared.forms.Form.{Form}
 use Rattle.capture_io.specs.declared.forms.Rec.{Rec}
@@ -90,16 +90,16 @@ in_bytes None name big read at number place head e h within = tt
 in_bytes (Some m) name big read at number place head e h within = λ r f. record_end big (content m name) read at number place head r e h within f
 
 -- a read that failed, as the answer tells it
-fault_inside : (T : Type 0) (fault : Fault) (name : List ℕ) (P Q : ℕ → Type 0) (a b : Outside) → ((place : ℕ) → P place → Q place) →
+fault_inside : (T : Type 0) (fault : Fault) (name : List ℕ) (P Q : ℕ → Type 0) (a b : Readable) → ((place : ℕ) → P place → Q place) →
     OnlyReads (has_failed {T = T} (Err fault)) name P a b → OnlyReads (is_read_fault {T = Next} (Err (error_of fault))) name Q a b
 fault_inside T fault.Failed name P Q a b wider reads = reads_wider true name P Q a b wider reads
 fault_inside T fault.OutOfMemory name P Q a b wider reads = reads_wider false name P Q a b wider reads
 
 -- the same behind reads that did not fail
-pub failed_inside : (T : Type 0) (result : Result Next CaptureError) (fault : Fault) (name : List ℕ) (P Q : ℕ → Type 0) (a b c : Outside) →
+pub failed_inside : (T : Type 0) (result : Result Next CaptureError) (fault : Fault) (name : List ℕ) (P Q : ℕ → Type 0) (a b c : Readable) →
     result ≡ Err (error_of fault) → b ≡ a → ((place : ℕ) → P place → Q place) →
     OnlyReads (has_failed {T = T} (Err fault)) name P b c → OnlyReads (is_read_fault result) name Q a c
 failed_inside T result fault name P Q a b c is same wider reads =
     let R : Result Next CaptureError → Type 0 = λ r. OnlyReads (is_read_fault r) name Q a c in
-    let S : Outside → Type 0 = λ o. OnlyReads (is_read_fault {T = Next} (Err (error_of fault))) name Q o c in
+    let S : Readable → Type 0 = λ o. OnlyReads (is_read_fault {T = Next} (Err (error_of fault))) name Q o c in
     subst R (sym is) (subst S same (fault_inside T fault name P Q b c wider reads))

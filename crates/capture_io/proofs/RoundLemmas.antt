@@ -4,7 +4,7 @@ use Rattle.std.proofs.lemmas.Bool.{true≢false}
 use Rattle.std.proofs.lemmas.List.{length-map, length-take}
 use Rattle.aftr_base.specs.Numbers.{span}
 use Rattle.aftr_io.specs.Contents.{Contents, content, Told}
-use Rattle.aftr_io.specs.Outside.{OnlyReads, Outside}
+use Rattle.aftr_io.specs.Outside.{OnlyReads, Readable}
 use Rattle.aftr_io.proofs.OutsideLemmas.{reads_wider}
 use Rattle.capture_io.specs.declared.forms.Next.TheVariants as next
 use Rattle.capture_io.specs.declared.forms.Rec.{Rec}
@@ -107,11 +107,11 @@ cut_inside (Some m) name ahead before window big at number place taken none same
       cut_ends big window.bytes (content m name) window.last at number taken.used taken.number place r none same is more (told (subst P (sym given) s)) splits.0,
 )
 
-reads_in : (cut : Bool) (name : List ℕ) (P Q : ℕ → Type 0) (a b : Outside) → (cut ≡ true → (place : ℕ) → P place → Q place) → OnlyReads cut name P a b → OnlyReads cut name Q a b
+reads_in : (cut : Bool) (name : List ℕ) (P Q : ℕ → Type 0) (a b : Readable) → (cut ≡ true → (place : ℕ) → P place → Q place) → OnlyReads cut name P a b → OnlyReads cut name Q a b
 reads_in true name P Q a b wider r = reads_wider true name P Q a b (wider refl) r
-reads_in false name P Q a b wider r = record { held = r.held; faults = r.faults; lost = r.lost; spoiled = r.spoiled; last = r.last }
+reads_in false name P Q a b wider r = record { held = r.held; lost = r.lost; last = r.last }
 
-pub round_reads : (cut failed : Bool) (name : List ℕ) (P Q : ℕ → Type 0) (a b : Outside) → cut ≡ failed → (failed ≡ true → (place : ℕ) → P place → Q place) →
+pub round_reads : (cut failed : Bool) (name : List ℕ) (P Q : ℕ → Type 0) (a b : Readable) → cut ≡ failed → (failed ≡ true → (place : ℕ) → P place → Q place) →
     OnlyReads failed name P a b → OnlyReads cut name Q a b
 round_reads cut failed name P Q a b same wider r =
     let R : Bool → Type 0 = λ x. OnlyReads x name Q a b in

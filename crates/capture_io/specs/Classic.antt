@@ -1,7 +1,7 @@
 -- A reader of a classic capture.
 use Rattle.std.specs.Prelude.{◌≡◌, ℕ, ◌+◌, ◌<◌, Bool, true, false, None, List, drop, length, map, All, Option, Result, Ok, Err}
 use Rattle.aftr_base.specs.declared.lists.OutOfMemory.{OutOfMemory}
-use Rattle.aftr_io.specs.Outside.{OnlyReads, Outside}
+use Rattle.aftr_io.specs.Outside.{OnlyReads, Readable}
 use Rattle.capture_io.specs.declared.classic.ClassicReader.{ClassicReader}
 use Rattle.capture_io.specs.declared.forms.CaptureBad.{CaptureBad}
 use Rattle.capture_io.specs.declared.forms.CaptureError.{CaptureError}
@@ -37,7 +37,7 @@ Opens (Ok r) bytes = IsOpened r bytes
 Opens (Err e) bytes = Agrees (Err e) (header_in bytes)
 
 -- where a read failed, it was one right behind the bytes that are there
-abbrev pub FetchReads : Result Bool OutOfMemory → List ℕ → ℕ → Ahead → Outside → Outside → Type 0
+abbrev pub FetchReads : Result Bool OutOfMemory → List ℕ → ℕ → Ahead → Readable → Readable → Type 0
 FetchReads (Ok failed) name at window before now = OnlyReads failed name (λ place. place ≡ at + length window.bytes) before now
 FetchReads (Err _) name at window before now = OnlyReads false name (λ _. Unit {0}) before now
 

@@ -3,7 +3,7 @@ use Rattle.std.specs.Prelude.{◌≡◌, ℕ, ◌+◌, ◌-◌, ◌^◌, ◌<◌
 use Rattle.std.specs.Prelude.{length, take, sum_by, All, Option, Some, None, Result, Ok, Err}
 use Rattle.aftr_base.specs.declared.lists.OutOfMemory.{OutOfMemory}
 use Rattle.aftr_io.specs.Contents.{Contents, content, Told}
-use Rattle.aftr_io.specs.Outside.{OnlyReads, Outside}
+use Rattle.aftr_io.specs.Outside.{OnlyReads, Readable}
 use Rattle.capture_io.specs.declared.forms.CaptureBad.{CaptureBad}
 use Rattle.capture_io.specs.declared.forms.Rec.{Rec}
 use Rattle.capture_io.specs.declared.rounds.Ending.{Ending}
@@ -66,6 +66,6 @@ IsInNext name Stood now at held number place = (at ≤ place) × Told held (λ m
     (r : Rec) (rs : List Rec) (e : Option CaptureBad) → now (content m name) number (r ∷ rs) e → place < r.next_at)
 
 -- a round only reads: where the records ended with `ReadFault`, a read of the record that was next failed
-abbrev pub ReadsRound : Result Round OutOfMemory → List ℕ → (List ℕ → Type 0) → Left → ℕ → Outside → Outside → Type 0
+abbrev pub ReadsRound : Result Round OutOfMemory → List ℕ → (List ℕ → Type 0) → Left → ℕ → Readable → Readable → Type 0
 ReadsRound (Ok round) name Stood left at before now = OnlyReads (is_cut round.ending) name (IsInNext name Stood left at before.held round.number) before now
 ReadsRound (Err _) name Stood left at before now = OnlyReads false name (λ _. Unit {0}) before now

@@ -17,7 +17,7 @@ use crate::{
     CaptureError, CaptureReader, Ending, FILE_HEADER_LEN, Form, Place, Records, Round, read_header,
 };
 use aftr_base::OutOfMemory;
-use aftr_io::{Fault, Files};
+use aftr_io::{Fault, Reading};
 use std::alloc::Global;
 
 // A piece of so many bytes is still in a processor's second-level cache when its records are looked for, beside the bytes of the
@@ -42,17 +42,17 @@ pub struct ClassicReader {
 
 impl ClassicReader {
     /// Reads the file header, as `read_header` does, and stands before the first record.
-    pub fn open<F: Files>(
+    pub fn open<I: Reading>(
         alloc: Global,
-        files: &mut F,
+        files: &mut I,
         name: &str,
     ) -> Result<ClassicReader, CaptureError>
-        ensures told { Told (F.outside files.old).held (λ m. Opens result (content m name.now)) }
+        ensures told { Told (I.readable files.old).held (λ m. Opens result (content m name.now)) }
         ensures refused { IfErr result RefusesHeader }
         ensures link { IfOk result (λ reader. IsTrue (is_known_link (⟦<ClassicReader as CaptureReader>⟧.form reader).link)) }
         ensures at { IfOk result (λ reader. ⟦<ClassicReader as CaptureReader>⟧.at reader ≡ 24) }
         ensures ready { IfOk result (λ reader. ⟦<ClassicReader as CaptureReader>⟧.ready reader 0) }
-        ensures reads { OnlyReads (is_read_fault result) name.now (λ place. place < 24) (F.outside files.old) (F.outside files.new) }
+        ensures reads { OnlyReads (is_read_fault result) name.now (λ place. place < 24) (I.readable files.old) (I.readable files.new) }
     {
         let form = read_header(alloc, files, name)?;
         Ok(ClassicReader {
@@ -64,20 +64,20 @@ impl ClassicReader {
     }
 
     /// The same, where the first four bytes were read already, or as many of them as the file has: they are not read again.
-    pub fn open_behind<F: Files>(
+    pub fn open_behind<I: Reading>(
         alloc: Global,
-        files: &mut F,
+        files: &mut I,
         name: &str,
         first: &[u8],
     ) -> Result<ClassicReader, CaptureError>
-        requires first { Told (F.outside files.old).held (λ m. first.now ≡ take 4 (content m name.now)) }
+        requires first { Told (I.readable files.old).held (λ m. first.now ≡ take 4 (content m name.now)) }
         requires few { length first.now ≤ 4 }
-        ensures told { Told (F.outside files.old).held (λ m. Opens result (content m name.now)) }
+        ensures told { Told (I.readable files.old).held (λ m. Opens result (content m name.now)) }
         ensures refused { IfErr result RefusesHeader }
         ensures link { IfOk result (λ reader. IsTrue (is_known_link (⟦<ClassicReader as CaptureReader>⟧.form reader).link)) }
         ensures at { IfOk result (λ reader. ⟦<ClassicReader as CaptureReader>⟧.at reader ≡ 24) }
         ensures ready { IfOk result (λ reader. ⟦<ClassicReader as CaptureReader>⟧.ready reader 0) }
-        ensures reads { OnlyReads (is_read_fault result) name.now (λ place. place < 24) (F.outside files.old) (F.outside files.new) }
+        ensures reads { OnlyReads (is_read_fault result) name.now (λ place. place < 24) (I.readable files.old) (I.readable files.new) }
     {
         let form = read_header_behind(alloc, files, name, first)?;
         Ok(ClassicReader {
@@ -121,9 +121,9 @@ pub fn fitting(fits: usize, records: usize, bytes: usize) -> usize
 // Reads pieces until the front of the window says what the next record is. It answers whether a read failed before that. It stands
 // apart from the walk over the records, which is then left with more registers.
 #[inline(never)]
-fn fetch<F: Files>(
+fn fetch<I: Reading>(
     alloc: Global,
-    files: &mut F,
+    files: &mut I,
     name: &str,
     next: Upcoming,
     window: &mut Window,
@@ -132,9 +132,9 @@ fn fetch<F: Files>(
     requires some { 1 ≤ piece }
     requires place { next.at ≤ 2 ^ 62 }
     requires begins { IsFalse window.old.last }
-    ensures told { IfOk result (λ _. IsMore (F.outside files.old).held name.now next.at window.old window.new) }
+    ensures told { IfOk result (λ _. IsMore (I.readable files.old).held name.now next.at window.old window.new) }
     ensures open { IfOk result (λ failed. is_more (front_in next.big window.new.bytes window.new.last next.at next.number) ≡ failed) }
-    ensures reads { FetchReads result name.now next.at window.new (F.outside files.old) (F.outside files.new) }
+    ensures reads { FetchReads result name.now next.at window.new (I.readable files.old) (I.readable files.new) }
 {
     'reads: while is_open(window, next) {
         match window.read_more(alloc, files, name, next.at, piece) {
@@ -199,10 +199,10 @@ impl CaptureReader for ClassicReader {
         self.form
     }
 
-    fn read_round<F: Files>(
+    fn read_round<I: Reading>(
         &mut self,
         alloc: Global,
-        files: &mut F,
+        files: &mut I,
         name: &str,
         number: u32,
         most_bytes: usize,

@@ -10,7 +10,7 @@ ghost use Rattle.capture_io.specs.Written.{header_bytes};
 use crate::words::{half, word};
 use crate::{CaptureBad, CaptureError, Form};
 use aftr_base::OutOfMemory;
-use aftr_io::{Files, fill};
+use aftr_io::{Reading, fill};
 use std::alloc::Global;
 
 /// How many bytes the file header has; the first record stands behind them.
@@ -29,11 +29,15 @@ pub const PLAIN_IP: u32 = 101;
 /// Reads the file header: what it says, or the first of these that is true: `CutHeader` at 0 for fewer than 24 bytes,
 /// `Magic`, `Version`, `Link`. `ReadFault` comes only where a read of this file failed in this call, at a place below
 /// 24. The first record stands at place 24.
-pub fn read_header<F: Files>(alloc: Global, files: &mut F, name: &str) -> Result<Form, CaptureError>
-    ensures told { Told (F.outside files.old).held (λ m. Agrees result (header_in (content m name.now))) }
+pub fn read_header<I: Reading>(
+    alloc: Global,
+    files: &mut I,
+    name: &str,
+) -> Result<Form, CaptureError>
+    ensures told { Told (I.readable files.old).held (λ m. Agrees result (header_in (content m name.now))) }
     ensures refused { IfErr result RefusesHeader }
     ensures link { IfOk result (λ form. IsTrue (is_known_link form.link)) }
-    ensures reads { OnlyReads (is_read_fault result) name.now (λ place. place < 24) (F.outside files.old) (F.outside files.new) }
+    ensures reads { OnlyReads (is_read_fault result) name.now (λ place. place < 24) (I.readable files.old) (I.readable files.new) }
 {
     let mut header = [0; FILE_HEADER_LEN];
     let count = fill(alloc, files, name, 0, &mut header)?;
@@ -44,18 +48,18 @@ pub fn read_header<F: Files>(alloc: Global, files: &mut F, name: &str) -> Result
 }
 
 /// The same, where the first four bytes were read already, or as many of them as the file has: they are not read again.
-pub fn read_header_behind<F: Files>(
+pub fn read_header_behind<I: Reading>(
     alloc: Global,
-    files: &mut F,
+    files: &mut I,
     name: &str,
     first: &[u8],
 ) -> Result<Form, CaptureError>
-    requires first { Told (F.outside files.old).held (λ m. first.now ≡ take 4 (content m name.now)) }
+    requires first { Told (I.readable files.old).held (λ m. first.now ≡ take 4 (content m name.now)) }
     requires few { length first.now ≤ 4 }
-    ensures told { Told (F.outside files.old).held (λ m. Agrees result (header_in (content m name.now))) }
+    ensures told { Told (I.readable files.old).held (λ m. Agrees result (header_in (content m name.now))) }
     ensures refused { IfErr result RefusesHeader }
     ensures link { IfOk result (λ form. IsTrue (is_known_link form.link)) }
-    ensures reads { OnlyReads (is_read_fault result) name.now (λ place. place < 24) (F.outside files.old) (F.outside files.new) }
+    ensures reads { OnlyReads (is_read_fault result) name.now (λ place. place < 24) (I.readable files.old) (I.readable files.new) }
 {
     let mut rest = [0; FILE_HEADER_LEN - 4];
     let count = fill(alloc, files, name, first.len() as u64, &mut rest)?;

@@ -10,7 +10,7 @@ ghost use Rattle.capture_io.specs.Written.{record_bytes};
 use crate::words::word;
 use crate::{CaptureBad, CaptureError, Form, Next, Rec};
 use aftr_base::{Bytes, OutOfMemory};
-use aftr_io::{Files, bytes_at, fill};
+use aftr_io::{Reading, bytes_at, fill};
 use std::alloc::Global;
 
 /// How many bytes a record's header has; its captured bytes stand behind them.
@@ -27,9 +27,9 @@ pub const MOST_RECORDS: u32 = 0x8000_0000;
 /// is true: `TooMany` for number 2^31, `CutHeader` where fewer than 16 bytes are left, `TooLong` for a captured length
 /// above 262,144, `CutRecord` where fewer bytes are left than that. `ReadFault` comes only where a read of this file
 /// failed in this call, at a place from `at` on. The number is at most 2^31 and the place at most 2^62.
-pub fn next_record<F: Files>(
+pub fn next_record<I: Reading>(
     alloc: Global,
-    files: &mut F,
+    files: &mut I,
     name: &str,
     form: Form,
     at: u64,
@@ -37,14 +37,14 @@ pub fn next_record<F: Files>(
 ) -> Result<Next, CaptureError>
     requires number { number ≤ 2 ^ 31 }
     requires place { at ≤ 2 ^ 62 }
-    ensures told { Told (F.outside files.old).held
+    ensures told { Told (I.readable files.old).held
         (λ m. Agrees result (next_in form.big (drop at (content m name.now)) at number)) }
-    ensures step { Told (F.outside files.old).held
+    ensures step { Told (I.readable files.old).held
         (λ m. Continues result form.big (content m name.now) at number) }
     ensures bounded { IfOk result (λ next. IsBounded next at number) }
     ensures reads { OnlyReads (is_read_fault result) name.now
-        (λ place. (at ≤ place) × IsBeforeEnd (F.outside files.old).held name.now form.big at number place)
-        (F.outside files.old) (F.outside files.new) }
+        (λ place. (at ≤ place) × IsBeforeEnd (I.readable files.old).held name.now form.big at number place)
+        (I.readable files.old) (I.readable files.new) }
 {
     let mut header = [0; RECORD_HEADER_LEN];
     let count = fill(alloc, files, name, at, &mut header)?;

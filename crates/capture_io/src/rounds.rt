@@ -9,7 +9,7 @@ ghost use Rattle.capture_io.specs.Rounds.{IsCount, IsPlaced, GoesOn, ReadsRound}
 
 use crate::{CaptureBad, Form, Records};
 use aftr_base::OutOfMemory;
-use aftr_io::Files;
+use aftr_io::Reading;
 use std::alloc::Global;
 
 /// How the records ended.
@@ -65,10 +65,10 @@ pub trait CaptureReader {
     ///
     /// Where a read fails, the records that end at or before its place come first, and then `ReadFault`. A refusal is told
     /// only where no read failed.
-    fn read_round<F: Files>(
+    fn read_round<I: Reading>(
         &mut self,
         alloc: Global,
-        files: &mut F,
+        files: &mut I,
         name: &str,
         number: u32,
         most_bytes: usize,
@@ -80,13 +80,13 @@ pub trait CaptureReader {
         requires bytes { most_bytes ≤ 67108864 }
         ensures form { form self.new ≡ form self.old }
         ensures ready { IfOk result (λ round. ready self.new round.number) }
-        ensures told { IfOk result (λ round. Told (F.outside files.old).held (λ m. stands self.old (content m name.now) →
+        ensures told { IfOk result (λ round. Told (I.readable files.old).held (λ m. stands self.old (content m name.now) →
             GoesOn (stands self.new) (left self.old) (left self.new) (content m name.now) number round)) }
         ensures count { IfOk result (λ round. IsCount number most_bytes round) }
         ensures ended { IfOk result (λ round. EndsInRecords round.ending) }
         ensures placed { IfOk result (λ round. IsPlaced (at self.old) (at self.new) round) }
         ensures reads { ReadsRound result name.now (stands self.old) (left self.new) (at self.new)
-            (F.outside files.old) (F.outside files.new) };
+            (I.readable files.old) (I.readable files.new) };
 
     /// What is left is one list with one ending. It does nothing: its contract is the law.
     fn one_left()

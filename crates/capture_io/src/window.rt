@@ -7,7 +7,7 @@ ghost use Rattle.capture_io.specs.Windows.{Ahead, IsBehind, IsMore};
 
 use crate::{Place, Records};
 use aftr_base::OutOfMemory;
-use aftr_io::{Fault, Files};
+use aftr_io::{Fault, Reading};
 use std::alloc::Global;
 use std::marker::Model;
 use std::mem;
@@ -121,22 +121,22 @@ impl Window {
 
     /// Reads a piece of so many bytes at most behind the bytes, of which the first stands at the place `at`. The buffer grows where
     /// it is full, by the piece (no more than its least room) or to twice its length.
-    pub fn read_more<F: Files>(
+    pub fn read_more<I: Reading>(
         &mut self,
         alloc: Global,
-        files: &mut F,
+        files: &mut I,
         name: &str,
         at: u64,
         piece: usize,
     ) -> Result<(), Fault>
         requires place { at + length self.old.bytes < 2 ^ 63 }
         requires some { 1 ≤ piece }
-        ensures told { IfOk result (λ _. IsMore (F.outside files.old).held name.now at self.old self.new) }
+        ensures told { IfOk result (λ _. IsMore (I.readable files.old).held name.now at self.old self.new) }
         ensures longer { IfOk result (λ _. IsFalse self.new.last → length self.old.bytes < length self.new.bytes) }
         ensures least { length self.old.bytes ≤ length self.new.bytes }
         ensures kept { IsErr result → self.new ≡ self.old }
         ensures reads { OnlyReads (has_failed result) name.now (λ place. place ≡ at + length self.old.bytes)
-            (F.outside files.old) (F.outside files.new) }
+            (I.readable files.old) (I.readable files.new) }
     {
         grow(&mut self.buffer, self.filled, piece)?;
         let place = at + self.filled as u64;
@@ -232,9 +232,9 @@ fn grow(buffer: &mut Vec<u8>, filled: usize, piece: usize) -> Result<(), OutOfMe
 }
 
 // Reads behind the first bytes of a buffer, once. It answers how many bytes came.
-fn read_behind<F: Files>(
+fn read_behind<I: Reading>(
     alloc: Global,
-    files: &mut F,
+    files: &mut I,
     name: &str,
     place: u64,
     buffer: &mut Vec<u8>,
@@ -246,19 +246,19 @@ fn read_behind<F: Files>(
     ensures front { take filled buffer.new.items ≡ take filled buffer.old.items }
     ensures size { length buffer.new.items ≡ length buffer.old.items }
     ensures within { IfOk result (λ count. filled + count ≤ length buffer.old.items) }
-    ensures behind { IfOk result (λ count. IsBehind (F.outside files.old).held name.now place buffer.new.items filled count) }
-    ensures nothing { IfOk result (λ count. Told (F.outside files.old).held
+    ensures behind { IfOk result (λ count. IsBehind (I.readable files.old).held name.now place buffer.new.items filled count) }
+    ensures nothing { IfOk result (λ count. Told (I.readable files.old).held
         (λ m. count ≡ 0 → drop place (content m name.now) ≡ [])) }
-    ensures reads { OnlyReads (has_failed result) name.now (λ at. at ≡ place) (F.outside files.old) (F.outside files.new) }
+    ensures reads { OnlyReads (has_failed result) name.now (λ at. at ≡ place) (I.readable files.old) (I.readable files.new) }
 {
     let slice = buffer.as_mut_slice();
     let count = read_into(alloc, files, name, place, slice, filled, piece)?;
     Ok(count)
 }
 
-fn read_into<F: Files>(
+fn read_into<I: Reading>(
     alloc: Global,
-    files: &mut F,
+    files: &mut I,
     name: &str,
     place: u64,
     buffer: &mut [u8],
@@ -270,10 +270,10 @@ fn read_into<F: Files>(
     ensures front { take filled buffer.new ≡ take filled buffer.old }
     ensures size { length buffer.new ≡ length buffer.old }
     ensures within { IfOk result (λ count. filled + count ≤ length buffer.old) }
-    ensures behind { IfOk result (λ count. IsBehind (F.outside files.old).held name.now place buffer.new filled count) }
-    ensures nothing { IfOk result (λ count. Told (F.outside files.old).held
+    ensures behind { IfOk result (λ count. IsBehind (I.readable files.old).held name.now place buffer.new filled count) }
+    ensures nothing { IfOk result (λ count. Told (I.readable files.old).held
         (λ m. count ≡ 0 → drop place (content m name.now) ≡ [])) }
-    ensures reads { OnlyReads (has_failed result) name.now (λ at. at ≡ place) (F.outside files.old) (F.outside files.new) }
+    ensures reads { OnlyReads (has_failed result) name.now (λ at. at ≡ place) (I.readable files.old) (I.readable files.new) }
 {
     let end = filled + piece.min(buffer.len() - filled);
     let count = files.read(alloc, name, place, &mut buffer[filled..end])?;

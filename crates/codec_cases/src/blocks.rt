@@ -2,7 +2,7 @@
 use crate::captures::is_first;
 use crate::parts::parts_of;
 use crate::pipes::{Pipe, pipe_of};
-use aftr_io::QuietFiles;
+use aftr_io::QuietReading;
 use capture_io::{CaptureError, Form, Next};
 use case_data::UP_LOWERED;
 use pcapng_io::{NgReader, is_ng, put_enhanced, put_section};
@@ -174,7 +174,7 @@ fn wanted(alloc: Global) -> Result<Vec<u8>, Fail> {
 
 // Whether the file is one of blocks, and whether another is, and what packets it has.
 fn form_of(alloc: Global, bytes: &[u8]) -> Result<(bool, bool, Form), Fail> {
-    let mut files = QuietFiles::new(alloc);
+    let mut files = QuietReading::new(alloc);
     files.set(alloc, "in", bytes)?;
     let is_one = is_ng(alloc, &mut files, "in")?;
     let is_other = is_ng(alloc, &mut files, "out")?;

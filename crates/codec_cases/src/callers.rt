@@ -1,4 +1,4 @@
-// The callers that the READMEs of aftr_base, addr_text, ip_codec, capture_io and pcapng_io show, and what they answer.
+// The callers that the READMEs of addr_text, aftr_io, ip_codec, capture_io and pcapng_io show, and what they answer.
 ghost use Rattle.std.specs.Prelude.{◌≤◌};
 
 use crate::blocks::{HEAD, INTERFACE, SECTION, TAIL, joined};
@@ -6,7 +6,7 @@ use crate::captures::{BY_SCAPY, BY_TEXT2PCAP};
 use crate::rounds::{SECOND, THIRD};
 use addr_text::{BadText, read_v6, write_v6};
 use aftr_base::{OutOfMemory, V4, sum16};
-use aftr_io::{Fault, Files, MemFiles, append_all, fill};
+use aftr_io::{Fault, MemReading, Outside, QuietWriting, Reading, Writing, append_all, fill};
 use capture_io::{
     CaptureBad, CaptureError, CaptureReader, ClassicReader, Ending, Frame, Next, Records, frame_of,
     next_record, read_header,
@@ -23,22 +23,22 @@ fn is_canonical(text: &str) -> Result<bool, BadText> {
     Ok(write_v6(address).as_str() == text)
 }
 
-/// Writes a file, and answers the checksum of its first 16 bytes, read back.
-fn write_and_sum<F: Files>(
+/// Copies the first 16 bytes of a file into a new one, and answers their checksum.
+fn copy_front<I: Reading, O: Writing>(
     alloc: Global,
-    files: &mut F,
-    name: &str,
-    bytes: &[u8],
+    files: &mut Outside<I, O>,
+    from: &str,
+    to: &str,
 ) -> Result<u16, Fault> {
-    files.create(alloc, name)?;
-    append_all(alloc, files, name, bytes)?;
     let mut front = [0; 16];
-    let count = fill(alloc, files, name, 0, &mut front)?; // fewer than 16 only where the file ends
+    let count = fill(alloc, &mut files.reading, from, 0, &mut front)?; // fewer than 16 only if the file ends
+    files.writing.create(alloc, to)?;
+    append_all(alloc, &mut files.writing, to, &front[..count])?;
     Ok(sum16(&front[..count]))
 }
 
 /// How many records of a capture carry an IPv6 packet.
-fn count_ipv6<F: Files>(alloc: Global, files: &mut F, name: &str) -> Result<u32, CaptureError> {
+fn count_ipv6<I: Reading>(alloc: Global, files: &mut I, name: &str) -> Result<u32, CaptureError> {
     let form = read_header(alloc, files, name)?;
     let (mut at, mut number, mut found) = (24, 0, 0);
     'records: while let Next::Rec(record) = next_record(alloc, files, name, form, at, number)? {
@@ -52,10 +52,10 @@ fn count_ipv6<F: Files>(alloc: Global, files: &mut F, name: &str) -> Result<u32,
 }
 
 /// How many bytes the longest record of a capture has, and how its records ended, by the rounds of a reader of any format.
-fn longest_record<R: CaptureReader, F: Files>(
+fn longest_record<R: CaptureReader, I: Reading>(
     alloc: Global,
     reader: &mut R,
-    files: &mut F,
+    files: &mut I,
     name: &str,
 ) -> Result<(usize, Ending), OutOfMemory>
     requires { R.ready reader.old 0 }
@@ -74,9 +74,9 @@ fn longest_record<R: CaptureReader, F: Files>(
 }
 
 /// How many packets of a pcapng file are IPv6 packets.
-fn count_ipv6_in_blocks<F: Files>(
+fn count_ipv6_in_blocks<I: Reading>(
     alloc: Global,
-    files: &mut F,
+    files: &mut I,
     name: &str,
 ) -> Result<u32, CaptureError> {
     let mut reader = NgReader::open(alloc, files, name)?;
@@ -114,20 +114,21 @@ fn one_text_is_canonical(rt: HostRuntime) {
 
 // 7465 and 7374 are e7d9 together.
 #[test]
-fn a_written_file_is_summed(rt: HostRuntime) -> Result<(), Fail> {
+fn a_copied_front_is_summed(rt: HostRuntime) -> Result<(), Fail> {
     let alloc = rt.alloc();
-    let mut files = MemFiles::new(alloc);
-    assert_eq!(rt;
-        write_and_sum(alloc, &mut files, "out", b"test"),
-        Ok(0x1826)
-    );
-    assert_eq!(rt; files.get("out"), Some(b"test".as_slice()));
+    let mut files = Outside {
+        reading: MemReading::new(alloc),
+        writing: QuietWriting::new(alloc),
+    };
+    files.reading.set(alloc, "in", b"test")?;
+    assert_eq!(rt; copy_front(alloc, &mut files, "in", "out"), Ok(0x1826));
+    assert_eq!(rt; files.writing.get("out"), Some(b"test".as_slice()));
     Ok(())
 }
 
 // How many records of this capture carry an IPv6 packet.
 fn ipv6_of(alloc: Global, bytes: &[u8]) -> Result<Result<u32, CaptureError>, Fail> {
-    let mut files = MemFiles::new(alloc);
+    let mut files = MemReading::new(alloc);
     files.set(alloc, "in", bytes)?;
     Ok(count_ipv6(alloc, &mut files, "in"))
 }
@@ -145,7 +146,7 @@ fn records_with_an_ipv6_packet_are_counted(rt: HostRuntime) -> Result<(), Fail> 
 #[test]
 fn the_longest_record_is_told(rt: HostRuntime) -> Result<(), Fail> {
     let alloc = rt.alloc();
-    let mut files = MemFiles::new(alloc);
+    let mut files = MemReading::new(alloc);
     files.set(alloc, "in", &joined(alloc, &[CAPTURE, &SECOND, &THIRD])?)?;
     let mut reader = ClassicReader::open(alloc, &mut files, "in")?;
     let (longest, ending) = longest_record(alloc, &mut reader, &mut files, "in")?;
@@ -158,7 +159,7 @@ fn the_longest_record_is_told(rt: HostRuntime) -> Result<(), Fail> {
 fn packets_in_blocks_are_counted(rt: HostRuntime) -> Result<(), Fail> {
     let alloc = rt.alloc();
     let bytes = joined(alloc, &[SECTION, INTERFACE, HEAD, UP_TUNNEL, UP, TAIL])?;
-    let mut files = MemFiles::new(alloc);
+    let mut files = MemReading::new(alloc);
     files.set(alloc, "in", &bytes)?;
     assert_eq!(rt; count_ipv6_in_blocks(alloc, &mut files, "in")?, 1);
     Ok(())

@@ -1,6 +1,6 @@
 // Captures that other tools wrote, frames, and what is written.
 use aftr_base::OutOfMemory;
-use aftr_io::QuietFiles;
+use aftr_io::QuietReading;
 use capture_io::{
     CaptureBad, CaptureError, Form, Frame, Next, frame_of, next_record, put_header, put_record,
     read_header, time_of,
@@ -36,8 +36,8 @@ pub(crate) const CAPTURED: Form = Form {
     link: 101,
 };
 
-fn files_with(alloc: Global, bytes: &[u8]) -> Result<QuietFiles, OutOfMemory> {
-    let mut files = QuietFiles::new(alloc);
+fn files_with(alloc: Global, bytes: &[u8]) -> Result<QuietReading, OutOfMemory> {
+    let mut files = QuietReading::new(alloc);
     files.set(alloc, "in", bytes)?;
     Ok(files)
 }

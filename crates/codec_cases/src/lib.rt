@@ -1,5 +1,5 @@
-//! Tests of the ground and the codecs by their public calls: numbers, lists, checksums and the outside (aftr_base), texts
-//! of addresses (addr_text), IPv4 and IPv6 headers (ip_codec), captures (capture_io, pcapng_io). Nothing stands on this crate.
+//! Tests of the ground and the codecs by their public calls: numbers, lists and checksums (aftr_base), the outside (aftr_io), texts of
+//! addresses (addr_text), IPv4 and IPv6 headers (ip_codec), captures (capture_io, pcapng_io). Nothing stands on this crate.
 #![tactic(auto)]
 
 #[cfg(test)]

@@ -1,7 +1,10 @@
-// Short stories of calls: which fail, what the files hold then, and how far the loops come.
+// Short stories of calls of both halves: which of them fail, what the files hold then, and how far the loops come.
 ghost use Rattle.std.specs.Prelude.{◌<◌, ◌≤◌, ◌^◌, length};
 
-use aftr_io::{Fault, Files, MemFiles, MemSink, QuietFiles, RealFiles, append_all, fill, put_all};
+use aftr_io::{
+    Fault, MemReading, MemSink, MemWriting, Outside, QuietReading, QuietWriting, Reading, Writing,
+    append_all, fill, put_all, real_files,
+};
 use std::alloc::Global;
 use std::rt::Files as FileSystem;
 use std::test::Fail;
@@ -15,7 +18,7 @@ pub(crate) fn holds(held: Option<&[u8]>, bytes: &[u8]) -> bool {
     }
 }
 
-/// A number that a word spells; 0 where it is none.
+/// The number that a word spells, or 0.
 pub(crate) fn number(word: Option<&str>) -> usize {
     match word {
         Some(word) => word.parse().unwrap_or(0),
@@ -23,10 +26,10 @@ pub(crate) fn number(word: Option<&str>) -> usize {
     }
 }
 
-/// Does what the words of a call ask for. What is read stands in the buffer.
-pub(crate) fn answer<F: Files>(
+/// Does what the words of a call ask for, and reads into the front of the buffer.
+pub(crate) fn answer<I: Reading, O: Writing>(
     alloc: Global,
-    files: &mut F,
+    files: &mut Outside<I, O>,
     call: &str,
     name: &str,
     rest: Option<&str>,
@@ -36,15 +39,21 @@ pub(crate) fn answer<F: Files>(
 {
     let bytes = rest.unwrap_or("").as_bytes();
     match call {
-        "read" => files.read(alloc, name, number(rest) as u64, into),
-        "fill" => fill(alloc, files, name, number(rest).min(1_000) as u64, into),
-        "append" => files.append(alloc, name, bytes),
+        "read" => files.reading.read(alloc, name, number(rest) as u64, into),
+        "fill" => fill(
+            alloc,
+            &mut files.reading,
+            name,
+            number(rest).min(1_000) as u64,
+            into,
+        ),
+        "append" => files.writing.append(alloc, name, bytes),
         "put" => {
-            append_all(alloc, files, name, bytes)?;
+            append_all(alloc, &mut files.writing, name, bytes)?;
             Ok(bytes.len())
         }
         _ => {
-            files.create(alloc, name)?;
+            files.writing.create(alloc, name)?;
             Ok(0)
         }
     }
@@ -69,7 +78,12 @@ fn is_answered(answer: Result<usize, Fault>, reads: bool, into: &[u8], wanted: &
 
 // Whether files do what a line says: a call, the name of a file, of which `~` is this path, and what is appended, or the place and
 // the number of bytes that are read; and behind `=` the answer.
-fn does<F: Files>(alloc: Global, files: &mut F, path: &str, line: &str) -> Result<bool, Fail> {
+fn does<I: Reading, O: Writing>(
+    alloc: Global,
+    files: &mut Outside<I, O>,
+    path: &str,
+    line: &str,
+) -> Result<bool, Fail> {
     let (asked, wanted) = line.split_once('=').ok_or("an answer")?;
     let mut words = asked.split(' ');
     let call = words.next().unwrap_or("");
@@ -84,9 +98,9 @@ fn does<F: Files>(alloc: Global, files: &mut F, path: &str, line: &str) -> Resul
 }
 
 /// The first line of a story that files do otherwise.
-pub(crate) fn first_other<F: Files>(
+pub(crate) fn first_other<I: Reading, O: Writing>(
     alloc: Global,
-    files: &mut F,
+    files: &mut Outside<I, O>,
     path: &str,
     lines: &'static str,
 ) -> Result<&'static str, Fail> {
@@ -98,67 +112,99 @@ pub(crate) fn first_other<F: Files>(
     Ok("")
 }
 
-// Calls 1, 3 and 9 fail where they were told to; another file is not there.
+// Reads 1 and 5 are to fail, and writes 1 and 4. Each half counts its own calls; what one half writes, the other does not hold.
 const IN_MEMORY: &str = "read in 3 3=de
-read in 0 3=failed
 create out=0
+read in 0 3=failed
 append out x=failed
 append out xyz=3
-append in f=1
-append other f=failed
+read out 0 3=failed
 read other 0 3=failed
+append other f=failed
 read in 6 3=
-create in=failed
-read in 0 8=abcdef
-create in=0
-read in 0 8=";
+create log=failed
+append log c=1
+read in 0 8=failed
+read in 0 8=abcde
+create note=0
+append in x=failed";
 
-fn failing_files(alloc: Global) -> Result<MemFiles, Fail> {
-    let mut files = MemFiles::new(alloc);
+fn failing_reading(alloc: Global) -> Result<MemReading, Fail> {
+    let mut files = MemReading::new(alloc);
     files.set(alloc, "in", b"abcde")?;
-    for call in [1, 3, 9] {
+    for call in [1, 5] {
+        files.fail_at(alloc, call)?;
+    }
+    Ok(files)
+}
+
+fn failing_writing(alloc: Global) -> Result<MemWriting, Fail> {
+    let mut files = MemWriting::new(alloc);
+    files.set(alloc, "log", b"ab")?;
+    files.set(alloc, "note", b"uv")?;
+    for call in [1, 4] {
         files.fail_at(alloc, call)?;
     }
     Ok(files)
 }
 
 #[test]
-fn files_in_memory_fail_where_they_were_told(rt: HostRuntime) -> Result<(), Fail> {
-    let mut files = failing_files(rt.alloc())?;
-    assert_eq!(rt; first_other(rt.alloc(), &mut files, "", IN_MEMORY)?, "");
-    assert!(rt; holds(files.get("out"), b"xyz") && files.get("other").is_none());
+fn files_in_memory_fail_at_their_chosen_calls(rt: HostRuntime) -> Result<(), Fail> {
+    let alloc = rt.alloc();
+    let mut files = Outside {
+        reading: failing_reading(alloc)?,
+        writing: failing_writing(alloc)?,
+    };
+    assert_eq!(rt; first_other(alloc, &mut files, "", IN_MEMORY)?, "");
+    let written = files.writing;
+    assert!(rt; holds(written.get("out"), b"xyz") && holds(written.get("log"), b"abc"));
+    assert!(rt; holds(written.get("note"), b"") && written.get("other").is_none());
     Ok(())
 }
 
 const QUIET: &str = "read in 1 2=bc
 read out 0 2=
 append out xy=2
-create in=0
-read in 0 2=";
+append log c=1
+create note=0
+read out 0 2=
+read in 0 8=abc";
 
 #[test]
-fn quiet_files_make_what_is_missing(rt: HostRuntime) -> Result<(), Fail> {
+fn quiet_files_never_fail(rt: HostRuntime) -> Result<(), Fail> {
     let alloc = rt.alloc();
-    let mut files = QuietFiles::new(alloc);
-    files.set(alloc, "in", b"abc")?;
+    let mut files = Outside {
+        reading: QuietReading::new(alloc),
+        writing: QuietWriting::new(alloc),
+    };
+    files.reading.set(alloc, "in", b"abc")?;
+    files.writing.set(alloc, "log", b"ab")?;
+    files.writing.set(alloc, "note", b"uv")?;
     assert_eq!(rt; first_other(alloc, &mut files, "", QUIET)?, "");
-    assert!(rt; holds(files.get("in"), b"") && holds(files.get("out"), b"xy"));
+    let written = files.writing;
+    assert!(rt; holds(written.get("out"), b"xy") && holds(written.get("log"), b"abc"));
+    assert!(rt; holds(written.get("note"), b"") && written.get("in").is_none());
     Ok(())
 }
 
 const LOOPS: &str = "fill in 0 4=abcd
 fill in 2 4=cde
 fill out 0 4=failed
-put in fg=2
+put log fg=2
 put out fg=failed
-fill in 0 8=abcdefg";
+fill in 0 8=abcde";
 
 #[test]
 fn the_loops_go_on_to_the_end_or_the_first_fault(rt: HostRuntime) -> Result<(), Fail> {
     let alloc = rt.alloc();
-    let mut files = MemFiles::new(alloc);
-    files.set(alloc, "in", b"abcde")?;
+    let mut files = Outside {
+        reading: MemReading::new(alloc),
+        writing: MemWriting::new(alloc),
+    };
+    files.reading.set(alloc, "in", b"abcde")?;
+    files.writing.set(alloc, "log", b"ab")?;
     assert_eq!(rt; first_other(alloc, &mut files, "", LOOPS)?, "");
+    assert!(rt; holds(files.writing.get("log"), b"abfg"));
     Ok(())
 }
 
@@ -192,7 +238,7 @@ fn row() -> [u8; 251] {
 }
 
 // Makes a file of 4,800 such rows.
-fn put_rows<F: Files>(alloc: Global, files: &mut F, name: &str) -> Result<(), Fault> {
+fn put_rows<O: Writing>(alloc: Global, files: &mut O, name: &str) -> Result<(), Fault> {
     files.create(alloc, name)?;
     let row = row();
     for _ in 0..4_800 {
@@ -202,9 +248,9 @@ fn put_rows<F: Files>(alloc: Global, files: &mut F, name: &str) -> Result<(), Fa
 }
 
 // Reads a file of such rows in pieces, and counts its bytes up to the first that is wrong.
-fn count_back<F: Files>(
+fn count_back<I: Reading>(
     alloc: Global,
-    files: &mut F,
+    files: &mut I,
     name: &str,
     into: &mut [u8],
 ) -> Result<u64, Fault>
@@ -235,18 +281,18 @@ pub(crate) fn temporary(rt: &HostRuntime, name: &str) -> Result<String, Fail> {
 }
 
 // Makes a file of rows, and counts them back by long and by short reads.
-fn rows_of<R: FileSystem + Drop>(
+fn rows_of<R: FileSystem + Copy + Drop>(
     alloc: Global,
     system: R,
     name: &str,
 ) -> Result<[Result<u64, Fault>; 2], Fault> {
-    let mut files = RealFiles::new(system, alloc);
-    put_rows(alloc, &mut files, name)?;
+    let mut files = real_files(system, alloc);
+    put_rows(alloc, &mut files.writing, name)?;
     let mut odd = vec![in alloc; 0; 350_001]?;
     let mut few = [0; 1_000];
     Ok([
-        count_back(alloc, &mut files, name, &mut odd),
-        count_back(alloc, &mut files, name, &mut few),
+        count_back(alloc, &mut files.reading, name, &mut odd),
+        count_back(alloc, &mut files.reading, name, &mut few),
     ])
 }
 
@@ -259,19 +305,16 @@ fn real_files_give_back_what_was_appended(rt: HostRuntime) -> Result<(), Fail> {
     Ok(())
 }
 
-// What was read ahead is given up; a seek to no place of a file, and a read of a folder, which is opened and not read, spoil no later
-// read; and the system refuses the last four.
+// A file that is there is emptied. A seek to no place of a file, and a read of a folder, which is opened and not read, spoil no later
+// read. The system refuses the last four.
 const REAL: &str = "create ~=0
-append ~ abcde=5
-read ~ 2 4=cde
-read ~ 5 4=
-append ~ fg=2
-read ~ 1 4=bcde
-read ~ 5 4=fg
+append ~ xyz=3
 create ~=0
-read ~ 0 4=
-put ~ abcdefgh=8
+append ~ abcde=5
+append ~ f=1
+put ~ gh=2
 read ~ 2 4=cdef
+read ~ 8 4=
 read ~ 18446744073709551615 4=failed
 read ~ 5 4=fgh
 read /tmp 0 4=failed
@@ -284,7 +327,7 @@ append /dev/full x=failed";
 #[test]
 fn real_files_answer_as_the_system_does(rt: HostRuntime) -> Result<(), Fail> {
     let path = temporary(&rt, "story")?;
-    let mut files = RealFiles::new(&rt, rt.alloc());
+    let mut files = real_files(&rt, rt.alloc());
     let other = first_other(rt.alloc(), &mut files, path.as_str(), REAL)?;
     fs::remove_file(&rt, path.as_str())?;
     assert_eq!(rt; other, "");

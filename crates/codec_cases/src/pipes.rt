@@ -1,21 +1,21 @@
 // Captures as a pipe gives them: each byte once and in order, in pieces of any size.
-use aftr_io::{Fault, Files, MemFiles};
+use aftr_io::{Fault, MemReading, Reading};
 use std::alloc::Global;
 use std::test::Fail;
 
-/// Files that read at most so many bytes at a time, and count the reads that are not of the byte behind those that were given.
+/// Files that give at most `most` bytes a read, and count the reads that are not of the byte behind those already given.
 #[derive(Drop)]
 pub(crate) struct Pipe {
-    files: MemFiles,
+    files: MemReading,
     most: usize,
-    /// The place of the byte behind those that were given, or of the read that failed.
+    /// The place of the byte behind those already given, or of the read that failed.
     pub at: u64,
     pub strays: u32,
     pub failed: bool,
 }
 
-impl Files for Pipe {
-    ghost outside = { λ pipe. ⟦<MemFiles as Files>⟧.outside pipe.files };
+impl Reading for Pipe {
+    ghost readable = { λ pipe. ⟦<MemReading as Reading>⟧.readable pipe.files };
 
     fn read(
         &mut self,
@@ -35,19 +35,11 @@ impl Files for Pipe {
         }
         answer
     }
-
-    fn create(&mut self, alloc: Global, name: &str) -> Result<(), Fault> {
-        self.files.create(alloc, name)
-    }
-
-    fn append(&mut self, alloc: Global, name: &str, bytes: &[u8]) -> Result<usize, Fault> {
-        self.files.append(alloc, name, bytes)
-    }
 }
 
-/// A pipe that gives these bytes, at most so many a read, and of which one call fails.
+/// A pipe that gives these bytes, at most `most` a read. The read of number `call` fails.
 pub(crate) fn pipe_of(alloc: Global, bytes: &[u8], most: usize, call: u64) -> Result<Pipe, Fail> {
-    let mut files = MemFiles::new(alloc);
+    let mut files = MemReading::new(alloc);
     files.set(alloc, "in", bytes)?;
     files.fail_at(alloc, call)?;
     Ok(Pipe {

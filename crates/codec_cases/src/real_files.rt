@@ -1,7 +1,7 @@
 // Calls of the system that fail, each in turn and at its worst place, and what is answered then and afterwards.
 use crate::outside::temporary;
 use crate::systems::story;
-use aftr_io::{Fault, Files, RealFiles, RealSink, append_all, fill, put_all};
+use aftr_io::{Fault, Reading, RealSink, Writing, append_all, fill, put_all, real_files};
 use std::alloc::{Allocator, Global};
 use std::cell::Cell;
 use std::fmt::Display;
@@ -11,9 +11,9 @@ use std::rt::Files as FileSystem;
 use std::test::Fail;
 use std::{fs, io, process};
 
-// The system's files, of which the call of one number fails. Opening, reading, writing and seeking are counted from 0. A read
+// The system's files, of which the call of one number fails. Opening, reading, writing and seeking are counted together, from 0. A read
 // gives at most four bytes, and a write takes at most three.
-#[derive(Drop)]
+#[derive(Clone, Copy)]
 struct Worn<'a> {
     system: &'a HostRuntime,
     calls: &'a Cell<u32>,
@@ -132,8 +132,12 @@ impl<'a> FileSystem for Worn<'a> {
     }
 }
 
-fn story_of<R: FileSystem + Drop>(alloc: Global, system: R, name: &str) -> Result<String, Fail> {
-    let mut files = RealFiles::new(system, alloc);
+fn story_of<R: FileSystem + Copy + Drop>(
+    alloc: Global,
+    system: R,
+    name: &str,
+) -> Result<String, Fail> {
+    let mut files = real_files(system, alloc);
     story(alloc, &mut files, name)
 }
 
@@ -162,11 +166,11 @@ fn each_failing_call_of_the_system_is_told(rt: HostRuntime) -> Result<(), Fail> 
     Ok(())
 }
 
-// Reads a long file at three places, and makes it anew by another handle behind the first of them.
-fn cut_while_read<W: Files, R: Files>(
+// Reads a long file at three places, and makes it anew after the first read.
+fn cut_while_read<I: Reading, O: Writing>(
     alloc: Global,
-    writing: &mut W,
-    reading: &mut R,
+    reading: &mut I,
+    writing: &mut O,
     name: &str,
 ) -> Result<[Result<usize, Fault>; 3], Fault> {
     let bytes = vec![in alloc; 7; 1_100_000]?;
@@ -182,30 +186,28 @@ fn cut_while_read<W: Files, R: Files>(
     ])
 }
 
-fn cut_of<R: FileSystem + Drop>(
+fn cut_of<R: FileSystem + Copy + Drop>(
     alloc: Global,
     system: R,
-    other: R,
     name: &str,
 ) -> Result<[Result<usize, Fault>; 3], Fault> {
-    let mut writing = RealFiles::new(system, alloc);
-    let mut reading = RealFiles::new(other, alloc);
-    cut_while_read(alloc, &mut writing, &mut reading, name)
+    let mut files = real_files(system, alloc);
+    cut_while_read(alloc, &mut files.reading, &mut files.writing, name)
 }
 
 #[test]
 fn a_file_cut_while_it_is_read_ends_there(rt: HostRuntime) -> Result<(), Fail> {
     let path = temporary(&rt, "cut")?;
-    let answers = cut_of(rt.alloc(), &rt, &rt, path.as_str());
+    let answers = cut_of(rt.alloc(), &rt, path.as_str());
     fs::remove_file(&rt, path.as_str())?;
     assert_eq!(rt; answers?, [Ok(4), Ok(0), Ok(0)]);
     Ok(())
 }
 
 // Puts one byte behind what each of twenty files holds, and makes them first if they are to be made.
-fn put_in_each<F: Files>(
+fn put_in_each<O: Writing>(
     alloc: Global,
-    files: &mut F,
+    files: &mut O,
     path: &str,
     byte: &[u8],
     anew: bool,
@@ -220,8 +222,8 @@ fn put_in_each<F: Files>(
     Ok(())
 }
 
-// The number of the first of these files that does not hold what was put into it, read by who wrote them in turn.
-fn first_wrong<F: Files>(alloc: Global, files: &mut F, path: &str) -> Result<Option<u32>, Fail> {
+// The number of the first of these files that does not hold what was put into it.
+fn first_wrong<I: Reading>(alloc: Global, files: &mut I, path: &str) -> Result<Option<u32>, Fail> {
     for number in 10..30u32 {
         let name = format!(in alloc; "{path}_{number}")?;
         let mut into = [0; 4];
@@ -233,16 +235,16 @@ fn first_wrong<F: Files>(alloc: Global, files: &mut F, path: &str) -> Result<Opt
     Ok(None)
 }
 
-fn in_turn<R: FileSystem + Drop>(
+fn in_turn<R: FileSystem + Copy + Drop>(
     alloc: Global,
     system: R,
     path: &str,
 ) -> Result<Option<u32>, Fail> {
-    let mut files = RealFiles::new(system, alloc);
-    put_in_each(alloc, &mut files, path, b"a", true)?;
-    put_in_each(alloc, &mut files, path, b"b", false)?;
-    put_in_each(alloc, &mut files, path, b"c", false)?;
-    first_wrong(alloc, &mut files, path)
+    let mut files = real_files(system, alloc);
+    put_in_each(alloc, &mut files.writing, path, b"a", true)?;
+    put_in_each(alloc, &mut files.writing, path, b"b", false)?;
+    put_in_each(alloc, &mut files.writing, path, b"c", false)?;
+    first_wrong(alloc, &mut files.reading, path)
 }
 
 fn remove_all(rt: &HostRuntime, path: &str) -> Result<(), Fail> {

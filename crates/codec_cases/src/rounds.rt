@@ -5,7 +5,7 @@ use crate::blocks::{joined, record_text};
 use crate::outside::number;
 use crate::parts::first_bytes;
 use crate::pipes::{Pipe, pipe_of};
-use aftr_io::Files;
+use aftr_io::Reading;
 use capture_io::{CaptureError, CaptureReader, ClassicReader, Ending, Records, Written, piece_of};
 use case_data::CAPTURE;
 use pcapng_io::{NgReader, Reader};
@@ -76,10 +76,10 @@ fn push_round(
 pub(crate) type Told = (String, Records);
 
 // The records of nine rounds at most, a bar behind each, and the ending.
-fn tell_rounds<R: CaptureReader, F: Files>(
+fn tell_rounds<R: CaptureReader, I: Reading>(
     alloc: Global,
     reader: &mut R,
-    files: &mut F,
+    files: &mut I,
     most_bytes: usize,
     room: Records,
 ) -> Result<Told, Fail>

@@ -1,14 +1,17 @@
-// The files over a system in memory, each of whose calls fails in turn, and what is said of the last call that failed.
+// Each half over a system, each of whose calls fails in turn, and what is kept of the last call that failed.
 ghost use Rattle.std.specs.Prelude.{◌≤◌};
 
 use crate::outside::{answer, first_other, holds};
-use aftr_io::{Call, Fault, Files, LastError, MemSystem, RealFiles, SystemFiles, append_all, fill};
+use aftr_io::{
+    Fault, MemSystem, Outside, ReadError, Reading, RealFiles, SystemReading, SystemWriting,
+    WriteCall, WriteError, Writing, append_all, fill, real_files,
+};
 use std::alloc::Global;
 use std::io::ErrorKind;
 use std::rt::Files as FileSystem;
 use std::test::Fail;
 
-// An answer as one letter: a digit, or `f` where the call failed.
+// An answer as one letter: a digit, or `f` if the call failed.
 fn letter(answer: Result<usize, Fault>) -> &'static str {
     match answer {
         Ok(count) => ["0", "1", "2", "3", "4", "5", "6", "7", "8"]
@@ -19,14 +22,14 @@ fn letter(answer: Result<usize, Fault>) -> &'static str {
     }
 }
 
-fn fill_from<F: Files>(alloc: Global, files: &mut F, name: &str, at: u64) -> Result<usize, Fault>
+fn fill_from<I: Reading>(alloc: Global, files: &mut I, name: &str, at: u64) -> Result<usize, Fault>
     requires { at ≤ 20 }
 {
     let mut into = [0; 8];
     fill(alloc, files, name, at, &mut into)
 }
 
-// So many bytes where a call succeeds.
+// `count` if a call succeeds.
 fn counted(answer: Result<(), Fault>, count: usize) -> Result<usize, Fault> {
     match answer {
         Ok(()) => Ok(count),
@@ -34,58 +37,80 @@ fn counted(answer: Result<(), Fault>, count: usize) -> Result<usize, Fault> {
     }
 }
 
-fn answers_of<F: Files>(alloc: Global, files: &mut F, name: &str) -> [Result<usize, Fault>; 5] {
+fn push_letters<const N: usize>(
+    told: &mut String,
+    answers: [Result<usize, Fault>; N],
+) -> Result<(), Fail> {
+    for answer in answers {
+        told.push_str(letter(answer))?;
+    }
+    Ok(())
+}
+
+// Reads eight bytes of a file from places 0, 20 and 1.
+fn reads<I: Reading>(alloc: Global, files: &mut I, name: &str) -> [Result<usize, Fault>; 3] {
     [
-        counted(files.create(alloc, name), 0),
-        counted(append_all(alloc, files, name, b"abcdefgh"), 8),
         fill_from(alloc, files, name, 0),
         fill_from(alloc, files, name, 20),
         fill_from(alloc, files, name, 1),
     ]
 }
 
+// Makes a file and appends eight bytes.
+fn writes<O: Writing>(alloc: Global, files: &mut O, name: &str) -> [Result<usize, Fault>; 2] {
+    [
+        counted(files.create(alloc, name), 0),
+        counted(append_all(alloc, files, name, b"abcdefgh"), 8),
+    ]
+}
+
 /// Makes a file, appends eight bytes, and reads eight from places 0, 20 and 1: the answers, a letter each.
-pub(crate) fn story<F: Files>(alloc: Global, files: &mut F, name: &str) -> Result<String, Fail> {
+pub(crate) fn story<I: Reading, O: Writing>(
+    alloc: Global,
+    files: &mut Outside<I, O>,
+    name: &str,
+) -> Result<String, Fail> {
     let mut told = String::new(alloc);
-    for answer in answers_of(alloc, files, name) {
-        told.push_str(letter(answer))?;
-    }
+    push_letters(&mut told, writes(alloc, &mut files.writing, name))?;
+    push_letters(&mut told, reads(alloc, &mut files.reading, name))?;
     Ok(told)
 }
 
-// What was asked when a call failed last, and of which file.
-fn last_call(alloc: Global, last: Option<&LastError>) -> Result<String, Fail> {
+// The file and the place of the last read that failed.
+fn last_read(alloc: Global, last: Option<&ReadError>) -> Result<String, Fail> {
+    match last {
+        Some(last) => Ok(format!(in alloc; "{} {}", last.name.as_str(), last.at)?),
+        None => Ok(String::from_str(alloc, "-")?),
+    }
+}
+
+// The last create or append that failed, and its file.
+fn last_write(alloc: Global, last: Option<&WriteError>) -> Result<String, Fail> {
     let Some(last) = last else {
         return Ok(String::from_str(alloc, "-")?);
     };
-    let name = last.name.as_str();
     let word = match last.call {
-        Call::Read { at } => return Ok(format!(in alloc; "read {name} {at}")?),
-        Call::Create => "create",
-        Call::Append => "append",
+        WriteCall::Create => "create",
+        WriteCall::Append => "append",
     };
-    Ok(format!(in alloc; "{word} {name}")?)
+    Ok(format!(in alloc; "{word} {}", last.name.as_str())?)
 }
 
-// By the number of the call that fails, the answers and the last call that failed. The calls, of at most three bytes each, are: create,
-// three writes (behind which the file has 0, 3 and 6 bytes if they fail); open and three reads; a seek and a read; a seek and four reads.
-const STORIES: &str = "\
-fffff|read out 1
-0f000|append out
-0f302|append out
-0f605|append out
-08f07|read out 0
-08f07|read out 0
-08f07|read out 3
-08f07|read out 6
-088f7|read out 20
-088f7|read out 20
-0880f|read out 1
-0880f|read out 1
-0880f|read out 4
-0880f|read out 7
-0880f|read out 8
-08807|-
+// By the number of the call that fails, the answers and the last read that failed. The calls, of at most three bytes each, are: open and
+// three reads; a seek and a read; a seek and four reads.
+const READS: &str = "\
+f07|in 0
+f07|in 0
+f07|in 3
+f07|in 6
+8f7|in 20
+8f7|in 20
+80f|in 1
+80f|in 1
+80f|in 4
+80f|in 7
+80f|in 8
+807|-
 ";
 
 fn failing_system(alloc: Global, failing: u64) -> Result<MemSystem, Fail> {
@@ -94,44 +119,97 @@ fn failing_system(alloc: Global, failing: u64) -> Result<MemSystem, Fail> {
     Ok(system)
 }
 
-// The answers of these files, and the last call that failed.
-fn told_by(alloc: Global, files: &mut SystemFiles<MemSystem>) -> Result<String, Fail> {
-    let answers = story(alloc, files, "out")?;
-    let last = last_call(alloc, files.last_error())?;
-    Ok(format!(in alloc; "{answers}|{last}")?)
-}
-
-// The same where the call of this number fails.
-fn told_of(alloc: Global, failing: u64) -> Result<String, Fail> {
-    let mut files = SystemFiles::over(failing_system(alloc, failing)?, alloc);
-    told_by(alloc, &mut files)
+fn told_of_reads(alloc: Global, failing: u64) -> Result<String, Fail> {
+    let mut system = failing_system(alloc, failing)?;
+    system.set(alloc, "in", b"abcdefgh")?;
+    let mut files = SystemReading::over(system);
+    let mut told = String::new(alloc);
+    push_letters(&mut told, reads(alloc, &mut files, "in"))?;
+    told.push_str("|")?;
+    let last = last_read(alloc, files.last_error())?;
+    told.push_str(last.as_str())?;
+    Ok(told)
 }
 
 #[test]
-fn each_failing_call_of_a_system_is_told_and_kept(rt: HostRuntime) -> Result<(), Fail> {
+fn each_failing_call_of_a_read_is_told_and_kept(rt: HostRuntime) -> Result<(), Fail> {
     let alloc = rt.alloc();
     let mut failing = 0u64;
-    for wanted in STORIES.lines() {
-        let told = told_of(alloc, failing)?;
+    for wanted in READS.lines() {
+        let told = told_of_reads(alloc, failing)?;
         assert_eq!(rt; told.as_str(), wanted, "call {failing}");
         failing = failing.saturating_add(1);
     }
     Ok(())
 }
 
-// Appends and creates of a file, and reads of it and of another one.
-const AHEAD: &str = "fill in 0 8=abc
+// By the number of the call that fails, the answers, the last call that failed, and what the two files hold then: `-` if there is none. The
+// calls, of at most three bytes each, are: create and three writes; an opening of the second file and a write; a create of it.
+const WRITES: &str = "\
+ff20|append out|-|
+0f20|append out||
+0f20|append out|abc|
+0f20|append out|abcdef|
+08f0|append log|abcdefgh|
+08f0|append log|abcdefgh|
+082f|create log|abcdefgh|xyij
+0820|-|abcdefgh|
+";
+
+fn told_by_writing(alloc: Global, files: &mut SystemWriting<MemSystem>) -> Result<String, Fail> {
+    let mut told = String::new(alloc);
+    push_letters(&mut told, writes(alloc, files, "out"))?;
+    let more = [
+        counted(append_all(alloc, files, "log", b"ij"), 2),
+        counted(files.create(alloc, "log"), 0),
+    ];
+    push_letters(&mut told, more)?;
+    told.push_str("|")?;
+    let last = last_write(alloc, files.last_error())?;
+    told.push_str(last.as_str())?;
+    Ok(told)
+}
+
+fn is_held(held: Option<&[u8]>, wanted: &str) -> bool {
+    holds(held, wanted.as_bytes()) || (held.is_none() && wanted == "-")
+}
+
+// Whether a line is right if this call fails.
+fn is_written(alloc: Global, failing: u64, line: &str) -> Result<bool, Fail> {
+    let mut system = failing_system(alloc, failing)?;
+    system.set(alloc, "log", b"xy")?;
+    let mut files = SystemWriting::over(system, alloc);
+    let told = told_by_writing(alloc, &mut files)?;
+    let (front, log) = line.rsplit_once('|').ok_or("a file")?;
+    let (front, out) = front.rsplit_once('|').ok_or("two files")?;
+    let system = files.system();
+    Ok(told.as_str() == front && is_held(system.get("out"), out) && is_held(system.get("log"), log))
+}
+
+#[test]
+fn each_failing_call_of_a_write_is_told_and_kept(rt: HostRuntime) -> Result<(), Fail> {
+    let mut failing = 0u64;
+    for line in WRITES.lines() {
+        assert!(rt; is_written(rt.alloc(), failing, line)?, "{line}");
+        failing = failing.saturating_add(1);
+    }
+    Ok(())
+}
+
+// Reads of two files in turn, and between them writes of two others of the same names.
+const IN_TURN: &str = "fill in 0 8=abc
 append in de=2
-fill in 2 8=cde
 fill other 2 8=wxyz
+fill in 1 8=bc
 append in f=1
-fill other 3 8=xyz
 create other=0
-fill other 4 8=
+fill other 3 8=xyz
 append other 1=1
 create other=0
 append other 23=2
-fill other 0 8=23";
+fill other 0 2=uv
+read in 0 2=ab
+read in 3 2=";
 
 fn two_files(alloc: Global) -> Result<MemSystem, Fail> {
     let mut system = MemSystem::new(alloc, 100);
@@ -141,21 +219,18 @@ fn two_files(alloc: Global) -> Result<MemSystem, Fail> {
 }
 
 #[test]
-fn a_write_is_read_by_who_read_ahead_of_it(rt: HostRuntime) -> Result<(), Fail> {
+fn files_are_read_and_written_in_turn(rt: HostRuntime) -> Result<(), Fail> {
     let alloc = rt.alloc();
-    let mut files = SystemFiles::over(two_files(alloc)?, alloc);
-    assert_eq!(rt; first_other(alloc, &mut files, "", AHEAD)?, "");
-    let system = files.system();
-    assert!(rt; holds(system.get("in"), b"abcdef") && holds(system.get("other"), b"23"));
+    let mut files = Outside {
+        reading: SystemReading::over(two_files(alloc)?),
+        writing: SystemWriting::over(two_files(alloc)?, alloc),
+    };
+    assert_eq!(rt; first_other(alloc, &mut files, "", IN_TURN)?, "");
+    let written = files.writing.system();
+    assert!(rt; holds(written.get("in"), b"abcdef") && holds(written.get("other"), b"23"));
+    let read = files.reading.system();
+    assert!(rt; holds(read.get("in"), b"abc") && holds(read.get("other"), b"uvwxyz"));
     Ok(())
-}
-
-// What the system said last.
-fn last_kind(last: Option<&LastError>) -> Option<ErrorKind> {
-    match last {
-        Some(last) => Some(last.error.kind()),
-        None => None,
-    }
 }
 
 // Calls that fail, and the kind of what the system says.
@@ -167,8 +242,22 @@ const KINDS: [(&str, ErrorKind); 5] = [
     ("append /dev/full x", ErrorKind::StorageFull),
 ];
 
+// What the system said last of the half that a call is of.
+fn last_kind<R: FileSystem + Copy + Drop>(files: &RealFiles<R>, call: &str) -> Option<ErrorKind> {
+    if call == "read" {
+        return match files.reading.last_error() {
+            Some(last) => Some(last.error.kind()),
+            None => None,
+        };
+    }
+    match files.writing.last_error() {
+        Some(last) => Some(last.error.kind()),
+        None => None,
+    }
+}
+
 // What the system said last behind a call.
-fn kind_behind<R: FileSystem + Drop>(
+fn kind_behind<R: FileSystem + Copy + Drop>(
     alloc: Global,
     files: &mut RealFiles<R>,
     line: &str,
@@ -179,12 +268,15 @@ fn kind_behind<R: FileSystem + Drop>(
     let rest = words.next();
     let mut into = [0; 4];
     let _ = answer(alloc, files, call, name, rest, &mut into);
-    last_kind(files.last_error())
+    last_kind(files, call)
 }
 
-// The first of these calls behind which another kind is kept. Nothing is kept before them.
-fn first_other_kind<R: FileSystem + Drop>(alloc: Global, files: &mut RealFiles<R>) -> &'static str {
-    if files.last_error().is_some() {
+// The first of these calls after which another kind is kept. Nothing is kept before them.
+fn first_other_kind<R: FileSystem + Copy + Drop>(
+    alloc: Global,
+    files: &mut RealFiles<R>,
+) -> &'static str {
+    if files.reading.last_error().is_some() || files.writing.last_error().is_some() {
         return "no call";
     }
     'calls: for (line, kind) in KINDS {
@@ -195,21 +287,23 @@ fn first_other_kind<R: FileSystem + Drop>(alloc: Global, files: &mut RealFiles<R
     ""
 }
 
-// It, and what is kept of the last call.
-fn other_kind<R: FileSystem + Drop>(
+// It, and what each half keeps of its last call that failed.
+fn other_kind<R: FileSystem + Copy + Drop>(
     alloc: Global,
     system: R,
-) -> Result<(&'static str, String), Fail> {
-    let mut files = RealFiles::new(system, alloc);
+) -> Result<(&'static str, [String; 2]), Fail> {
+    let mut files = real_files(system, alloc);
     let other = first_other_kind(alloc, &mut files);
-    let last = last_call(alloc, files.last_error())?;
-    Ok((other, last))
+    let read = last_read(alloc, files.reading.last_error())?;
+    let written = last_write(alloc, files.writing.last_error())?;
+    Ok((other, [read, written]))
 }
 
 #[test]
 fn what_the_system_said_is_kept(rt: HostRuntime) -> Result<(), Fail> {
-    let (other, last) = other_kind(rt.alloc(), &rt)?;
+    let (other, [read, written]) = other_kind(rt.alloc(), &rt)?;
     assert_eq!(rt; other, "");
-    assert_eq!(rt; last.as_str(), "append /dev/full");
+    assert_eq!(rt; read.as_str(), "/tmp 0");
+    assert_eq!(rt; written.as_str(), "append /dev/full");
     Ok(())
 }

@@ -71,8 +71,8 @@ impl Due {
     fn has_files(&self, ran: &Ran) -> bool {
         ran.failed(0, 0)
             && ran.packets() == self.packets.as_slice()
-            && ran.files.text("verdicts.txt") == self.verdicts.as_str()
-            && ran.files.text("versions.txt") == self.versions.as_str()
+            && ran.files.writing.text("verdicts.txt") == self.verdicts.as_str()
+            && ran.files.writing.text("versions.txt") == self.versions.as_str()
     }
 
     /// All of it is there.
@@ -83,14 +83,16 @@ impl Due {
     /// OUT and VERDICTS hold fronts of it.
     fn has_fronts(&self, ran: &Ran) -> bool {
         self.packets.starts_with(ran.packets())
-            && self.verdicts.starts_with(ran.files.text("verdicts.txt"))
+            && self
+                .verdicts
+                .starts_with(ran.files.writing.text("verdicts.txt"))
     }
 
     /// VERSIONS holds what is due of the records that were taken: of none, of a part of them, or of all. VERDICTS holds whole lines, as
     /// many as the summary says that records were taken.
     fn has_records(&self, ran: &Ran) -> bool {
-        let versions = ran.files.text("versions.txt");
-        let lines = ran.files.text("verdicts.txt");
+        let versions = ran.files.writing.text("versions.txt");
+        let lines = ran.files.writing.text("verdicts.txt");
         let told = word(ran.said(), 1);
         let are_due = match lines {
             "" => versions == self.unread.as_str(),
@@ -116,7 +118,9 @@ impl Due {
             None => {
                 ran.failed(0, 1)
                     && self.has_fronts(ran)
-                    && self.versions.starts_with(ran.files.text("versions.txt"))
+                    && self
+                        .versions
+                        .starts_with(ran.files.writing.text("versions.txt"))
                     && ran.said() == ""
             }
             Some(put) => {
@@ -152,7 +156,7 @@ pub fn points(alloc: Global, versions: &str) -> Result<Vec<u32>, Fail> {
 
 /// The history that was handed out has the points that VERSIONS names, and so many records as the summary.
 pub fn has_history(alloc: Global, ran: &Ran) -> Result<bool, Fail> {
-    let printed = points(alloc, ran.files.text("versions.txt"))?;
+    let printed = points(alloc, ran.files.writing.text("versions.txt"))?;
     let told = word(ran.said(), 1);
     let records = told.parse::<u32>()?;
     Ok(match &ran.history {

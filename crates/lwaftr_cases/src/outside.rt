@@ -1,81 +1,89 @@
 // Files and a sink that a test looks at.
 ghost use Rattle.std.specs.Prelude.{min, take, length};
 
-use aftr_io::{Fault, Files, MemFiles, MemSink, Sink};
+use aftr_base::Bytes;
+use aftr_io::{Fault, MemReading, MemSink, MemWriting, Outside, Reading, Sink, Writing, bytes_at};
 use std::alloc::Global;
+use std::test::Fail;
 
-/// Files in memory, and what is noted of their calls.
-#[derive(Drop)]
-pub struct Watched {
-    pub files: MemFiles,
-    pub notes: Notes,
-}
+/// Files in memory, each half of which notes its calls that fail.
+pub type Watched = Outside<WatchedReading, WatchedWriting>;
 
-/// Which calls failed, and what is written by the time that a place of the capture is read.
+/// Files in memory that are read, and what is noted of the reads that fail.
 #[derive(Drop)]
-pub struct Notes {
+pub struct WatchedReading {
+    pub files: MemReading,
     /// How many reads failed.
     pub lost: u32,
+    /// The file of the read that failed last.
+    pub failed: &'static str,
+}
+
+/// Files in memory that are written, and what is noted of the calls that fail.
+#[derive(Drop)]
+pub struct WatchedWriting {
+    pub files: MemWriting,
     /// How many creates and appends failed.
     pub spoiled: u32,
     /// The call that failed last, and of which file.
     pub failed: (&'static str, &'static str),
-    /// A place of the capture.
-    pub place: u64,
-    /// So many bytes of lines and of packets are due by then.
-    pub lines: usize,
-    pub packets: usize,
-    /// It was read at that place or behind it.
-    pub late: bool,
-    /// What was due stood there before that.
-    pub early: bool,
 }
 
-impl Notes {
-    /// Notes what is written of these files, where the capture is read at the place or behind it for the first time.
-    fn look(&mut self, files: &MemFiles, name: &str, at: u64) {
-        if !self.late && name == "in.pcap" && at >= self.place {
-            self.late = true;
-            self.early = files.get("verdicts.txt").unwrap_or(&[]).len() >= self.lines
-                && files.get("out.pcap").unwrap_or(&[]).len() >= self.packets;
-        }
-    }
-
-    /// Notes a call that failed.
-    fn note(&mut self, call: &'static str, name: &str) {
-        let name = match name {
-            "t0.toml" => "t0.toml",
-            "in.pcap" => "in.pcap",
-            "out.pcap" => "out.pcap",
-            "verdicts.txt" => "verdicts.txt",
-            "versions.txt" => "versions.txt",
-            _ => "another file",
-        };
-        self.failed = (call, name);
-        if call == "read" {
-            self.lost = self.lost.saturating_add(1);
-        } else {
-            self.spoiled = self.spoiled.saturating_add(1);
-        }
+// A name that outlives the call that it is noted of.
+fn known(name: &str) -> &'static str {
+    match name {
+        "t0.toml" => "t0.toml",
+        "in.pcap" => "in.pcap",
+        "out.pcap" => "out.pcap",
+        "verdicts.txt" => "verdicts.txt",
+        "versions.txt" => "versions.txt",
+        _ => "another file",
     }
 }
 
-impl Watched {
-    /// These files.
-    pub fn new(files: MemFiles) -> Watched {
-        let notes = Notes {
+/// These files to be read, and none that is written yet.
+pub fn watched(alloc: Global, files: MemReading) -> Watched {
+    Outside {
+        reading: WatchedReading {
+            files,
             lost: 0,
+            failed: "no file",
+        },
+        writing: WatchedWriting {
+            files: MemWriting::new(alloc),
             spoiled: 0,
             failed: ("no", "call"),
-            place: u64::MAX,
-            lines: 0,
-            packets: 0,
-            late: false,
-            early: false,
-        };
-        Watched { files, notes }
+        },
     }
+}
 
+impl WatchedReading {
+    /// The first bytes of a file, up to 16 MiB of them.
+    pub fn bytes(&mut self, alloc: Global, name: &str) -> Result<Bytes, Fail> {
+        Ok(bytes_at(alloc, &mut self.files, name, 0, 16_777_216)?)
+    }
+}
+
+impl Reading for WatchedReading {
+    ghost readable = { λ watched. ⟦<MemReading as Reading>⟧.readable watched.files };
+
+    fn read(
+        &mut self,
+        alloc: Global,
+        name: &str,
+        at: u64,
+        into: &mut [u8],
+    ) -> Result<usize, Fault> {
+        let answer = self.files.read(alloc, name, at, into);
+        if answer.is_err() {
+            self.lost = self.lost.saturating_add(1);
+            self.failed = known(name);
+        }
+        answer
+    }
+}
+
+impl WatchedWriting {
     /// What the name holds, as text; nothing where there is no file or no text.
     pub fn text(&self, name: &str) -> &str {
         match self.files.get(name) {
@@ -85,28 +93,14 @@ impl Watched {
     }
 }
 
-impl Files for Watched {
-    ghost outside = { λ watched. ⟦<MemFiles as Files>⟧.outside watched.files };
-
-    fn read(
-        &mut self,
-        alloc: Global,
-        name: &str,
-        at: u64,
-        into: &mut [u8],
-    ) -> Result<usize, Fault> {
-        self.notes.look(&self.files, name, at);
-        let answer = self.files.read(alloc, name, at, into);
-        if answer.is_err() {
-            self.notes.note("read", name);
-        }
-        answer
-    }
+impl Writing for WatchedWriting {
+    ghost written = { λ watched. ⟦<MemWriting as Writing>⟧.written watched.files };
 
     fn create(&mut self, alloc: Global, name: &str) -> Result<(), Fault> {
         let answer = self.files.create(alloc, name);
         if answer.is_err() {
-            self.notes.note("create", name);
+            self.spoiled = self.spoiled.saturating_add(1);
+            self.failed = ("create", known(name));
         }
         answer
     }
@@ -114,7 +108,8 @@ impl Files for Watched {
     fn append(&mut self, alloc: Global, name: &str, bytes: &[u8]) -> Result<usize, Fault> {
         let answer = self.files.append(alloc, name, bytes);
         if answer.is_err() {
-            self.notes.note("append", name);
+            self.spoiled = self.spoiled.saturating_add(1);
+            self.failed = ("append", known(name));
         }
         answer
     }

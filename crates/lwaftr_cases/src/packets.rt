@@ -211,7 +211,7 @@ fn is_right<R: Threads + Wait + Sync>(rt: &R, alloc: Global, case: &str) -> Resu
     let ran = run(rt, alloc, &capture, part(case, 1))?;
     Ok(
         ran.status == Status::Done
-            && ran.files.text("verdicts.txt") == lines.as_str()
+            && ran.files.writing.text("verdicts.txt") == lines.as_str()
             && ran.packets() == written.as_slice(),
     )
 }

@@ -167,8 +167,8 @@ fn is_answer(alloc: Global, ran: &Ran, case: &str) -> Result<bool, Fail> {
             && code(&ran.status) == number.parse::<u8>()?
             && ran.said() == lines.as_str()
             && ended.as_str().trim_end_matches('\n') == status
-            && ran.files.text("t") == table.as_str()
-            && ran.files.text("versions.txt") == versions.as_str()
+            && ran.files.writing.text("t") == table.as_str()
+            && ran.files.writing.text("versions.txt") == versions.as_str()
             && ran.has_outputs() == (versions.as_str() != "")
             && ran.history.is_some() == said.starts_with("records ")
             && ran.failed(if number == "3" { 1 } else { 0 }, 0),
@@ -218,16 +218,21 @@ fn is_lost_at_the_sink<R: Threads + Wait + Sync>(
     )
 }
 
-/// The question is done where this call of the files is to fail, as it comes to no such call; else it ends with a fault of that
-/// kind, and nothing is put.
+/// The question is done if this read is to fail, or this create or append, as it comes to no such call; otherwise it ends with a fault
+/// of that kind, and nothing is put.
 fn is_done_without<R: Threads + Wait + Sync>(
     rt: &R,
     alloc: Global,
     question: &str,
+    fails_reads: bool,
     call: u64,
 ) -> Result<Option<bool>, Fail> {
     let mut files = files_of(alloc, &[], "whole", "")?;
-    files.files.fail_at(alloc, call)?;
+    if fails_reads {
+        files.reading.files.fail_at(alloc, call)?;
+    } else {
+        files.writing.files.fail_at(alloc, call)?;
+    }
     let ran = ask(rt, alloc, question, files, Narrow::wide(alloc), &OpenGate)?;
     Ok(match ran.status {
         Status::Done => Some(true),
@@ -247,12 +252,14 @@ fn a_question_may_fail(rt: HostRuntime) -> Result<(), Fail> {
                 "{question}"
             );
         }
-        let mut done = None;
-        for call in 0..12 {
-            done = is_done_without(&rt, alloc, question, call)?;
-            assert!(rt; done.is_some(), "{question} {call}");
+        for fails_reads in [true, false] {
+            let mut done = None;
+            for call in 0..12 {
+                done = is_done_without(&rt, alloc, question, fails_reads, call)?;
+                assert!(rt; done.is_some(), "{question} {call}");
+            }
+            assert!(rt; done == Some(true), "{question}");
         }
-        assert!(rt; done == Some(true), "{question}");
     }
     Ok(())
 }
@@ -270,8 +277,11 @@ fn a_table_is_moved_into_version_2(rt: HostRuntime) -> Result<(), Fail> {
         let ran = ask(&rt, alloc, question, files, Narrow::wide(alloc), &OpenGate)?;
         assert_eq!(rt; ran.said(), line);
         files = ran.files;
+        let text = String::from_str(alloc, files.writing.text("u"))?;
+        files.reading.files.set(alloc, "u", text.as_bytes())?;
     }
-    assert!(rt; files.text("u").contains("version = 2"));
-    assert!(rt; files.text("t") == table_text(alloc, "shared")?.as_str());
+    assert!(rt; files.writing.text("u").contains("version = 2"));
+    let table = files.reading.bytes(alloc, "t")?;
+    assert!(rt; table.as_slice() == table_text(alloc, "shared")?.as_bytes());
     Ok(())
 }

@@ -2,9 +2,9 @@
 use crate::captures::{Form, capture_of};
 use crate::cases::{part, words_of};
 use crate::due::{RECORDS, TABLE, WORDS};
-use crate::outside::{Narrow, Watched};
+use crate::outside::{Narrow, Watched, watched};
 use crate::tables::table_text;
-use aftr_io::MemFiles;
+use aftr_io::MemReading;
 use area_swap::History;
 use lwaftr_engine::{Status, lwaftr};
 use std::alloc::Global;
@@ -30,27 +30,27 @@ impl Ran {
 
     /// The bytes of the capture that was written.
     pub fn packets(&self) -> &[u8] {
-        self.files.files.get("out.pcap").unwrap_or(&[])
+        self.files.writing.files.get("out.pcap").unwrap_or(&[])
     }
 
     /// Some output was made.
     pub fn has_outputs(&self) -> bool {
-        self.files.files.get("out.pcap").is_some()
-            || self.files.files.get("verdicts.txt").is_some()
-            || self.files.files.get("versions.txt").is_some()
+        self.files.writing.files.get("out.pcap").is_some()
+            || self.files.writing.files.get("verdicts.txt").is_some()
+            || self.files.writing.files.get("versions.txt").is_some()
     }
 
     /// So many reads failed, and so many creates and appends.
     pub fn failed(&self, lost: u32, spoiled: u32) -> bool {
-        self.files.notes.lost == lost && self.files.notes.spoiled == spoiled
+        self.files.reading.lost == lost && self.files.writing.spoiled == spoiled
     }
 }
 
 /// A capture, a table by some names, and a table for each load that words name, but for `not-there`; no files for the table `-`.
 pub fn files_of(alloc: Global, capture: &[u8], table: &str, words: &str) -> Result<Watched, Fail> {
-    let mut files = MemFiles::new(alloc);
+    let mut files = MemReading::new(alloc);
     if table == "-" {
-        return Ok(Watched::new(files));
+        return Ok(watched(alloc, files));
     }
     files.set(alloc, "in.pcap", capture)?;
     let text = table_text(alloc, table)?;
@@ -63,7 +63,7 @@ pub fn files_of(alloc: Global, capture: &[u8], table: &str, words: &str) -> Resu
             files.set(alloc, name, table_text(alloc, name)?.as_bytes())?;
         }
     }
-    Ok(Watched::new(files))
+    Ok(watched(alloc, files))
 }
 
 /// Does what the words ask for, over these files and this sink, with each record drawn passing this gate.

@@ -113,7 +113,7 @@ fn is_left<R: Threads + Wait + Sync>(
             && status_of(status) == Some(ran.status)
             && code(&ran.status) == if status == "done" { 0 } else { 6 }
             && ran.said().trim_end_matches('\n') == part(case, 4)
-            && ran.files.text("verdicts.txt") == lines.as_str()
+            && ran.files.writing.text("verdicts.txt") == lines.as_str()
             && ran.has_outputs() == (part(case, 5) != "-")
             && ran.history.is_some() == ran.has_outputs()
             && ran.packets() == sent.as_slice(),

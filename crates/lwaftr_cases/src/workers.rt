@@ -79,7 +79,7 @@ pub const WINDOW: &str =
 
 /// The line of that run with the point that its VERSIONS name.
 pub fn at_point(alloc: Global, line: &str, ran: &Ran) -> Result<String, Fail> {
-    let printed = points(alloc, ran.files.text("versions.txt"))?;
+    let printed = points(alloc, ran.files.writing.text("versions.txt"))?;
     let (point, rest) = match printed.as_slice() {
         [2] => ("2", "4"),
         [3] => ("3", "3"),
@@ -132,7 +132,7 @@ fn point_beside<R: Threads + Wait + Sync>(rt: &R, alloc: Global) -> Result<u32, 
         "|whole|1-64:whole --workers 2|P@1+1*64",
         &gate,
     )?;
-    let printed = points(alloc, ran.files.text("versions.txt"))?;
+    let printed = points(alloc, ran.files.writing.text("versions.txt"))?;
     Ok(printed.first().copied().unwrap_or(64))
 }
 
@@ -155,7 +155,7 @@ fn a_held_record_keeps_the_area_of_its_table(rt: HostRuntime) -> Result<(), Fail
     let gate = Held::new(Some(0), Some(5), 100_000_000);
     let line = "|whole|1-9:whole 1-9:whole 1-9:whole --workers 2|P@1+1*10";
     let ran = run_line(&rt, alloc, Form::Micro, line, &gate)?;
-    let printed = points(alloc, ran.files.text("versions.txt"))?;
+    let printed = points(alloc, ran.files.writing.text("versions.txt"))?;
     assert!(rt; ran.status == Status::Done);
     assert_eq!(rt; gate.late.load(SeqCst), 0);
     let [first, second, third] = printed.as_slice() else {

@@ -1,5 +1,5 @@
 -- What rounds add, one after another.
-use Rattle.lwaftr_engine.proofs.Words.{◌≡◌, ℕ, arith, inl, length, List, [], Option, None, refl, sym, ◌∙◌, ap, append-nil, subst, Contents, Moves, Outside}
+use Rattle.lwaftr_engine.proofs.Words.{◌≡◌, ℕ, arith, inl, length, List, [], Option, None, refl, sym, ◌∙◌, ap, append-nil, subst, Contents, Moves, Readable, read_well}
 use Rattle.lwaftr_engine.proofs.Words.{RunJob, is_cut, Ending, AddsTo, ReadsOf, Router, Setup, OthersKept, CanGoOn, IsSettledAt, StaysOnDuty, Progress}
 use Rattle.lwaftr_engine.proofs.Words.{CanJudge, IsAtStart, Round, Shift}
 use Rattle.lwaftr_engine.proofs.Moving.{moves_join, moves_none}
@@ -59,9 +59,8 @@ pub others_same : (run : RunJob) (a b : Option Contents) → b ≡ a → Moves a
 others_same run a b same = moves_none a b _ (λ m name x y z. refl) same
 
 -- rounds that go on read without a fault
-pub reads_on : (stop : Option Ending) → stop ≡ None → (name : List ℕ) (a b : Outside) → ReadsOf (is_cut stop) name a b →
-    (b.faults ≡ a.faults) × (b.lost ≡ a.lost) × (b.last ≡ a.last)
+pub reads_on : (stop : Option Ending) → stop ≡ None → (name : List ℕ) (a b : Readable) → ReadsOf (is_cut stop) name a b → b ≡ a
 reads_on stop none name a b reads =
     let R : Option Ending → Type 0 = λ s. ReadsOf (is_cut s) name a b in
     let well : ReadsOf (is_cut None) name a b = subst R none reads in
-    (well.faults, well.lost, well.last)
+    read_well name (λ place. Unit {0}) a b well

@@ -1,16 +1,7 @@
 -- The outputs of a run are files of their own.
 use Rattle.lwaftr_engine.proofs.Words.{◌≡◌, ◌≢◌, ℕ, ◌+◌, Bool, true, false, List, [], ◌∷◌, refl, sym, ◌∙◌, arith, map, cond, bytes_eq, sum_by, sum_by-cons}
-use Rattle.lwaftr_engine.proofs.Words.{bytes_eq-Decides, AreApart, StandsOnce, names_of, LoadWords, RunJob, Contents, OthersKept, content}
+use Rattle.lwaftr_engine.proofs.Words.{bytes_eq-Decides, AreApart, StandsOnce, names_of, LoadWords, RunJob, AreDistinct, outputs_of}
 use Rattle.aftr_text.specs.Jobs.{how_many}
-
--- the names of the outputs differ from each other and from that of the capture
-pub record AreFilesApart (run : RunJob) : Type 0 where
-  pub output_verdicts : run.output ≢ run.verdicts
-  pub output_versions : run.output ≢ run.versions
-  pub verdicts_versions : run.verdicts ≢ run.versions
-  pub output_input : run.output ≢ run.input
-  pub verdicts_input : run.verdicts ≢ run.input
-  pub versions_input : run.versions ≢ run.input
 
 abbrev is_same : List ℕ → List ℕ → ℕ
 is_same name other = cond (bytes_eq other name) 1 0
@@ -45,22 +36,14 @@ module _ (run : RunJob) where
       sym (five name run.input run.output run.verdicts run.versions run.table (map (λ (load : LoadWords). load.name) run.loads)) ∙ once name (names_of run)
       stands
 
-  pub apart : AreApart run → AreFilesApart run
+  -- the names of the outputs differ from each other
+  pub apart : AreApart run → AreDistinct (outputs_of run)
   apart h =
       let out = one run.output (h 0 [] (omega arith)) in
       let verdicts = one run.verdicts (h 1 [] (omega arith)) in
       let versions = one run.versions (h 2 [] (omega arith)) in
       record {
-        output_verdicts = λ e. absurd (omega (arith, out, same_one run.output run.output refl, same_one run.verdicts run.output (sym e)));
-        output_versions = λ e. absurd (omega (arith, out, same_one run.output run.output refl, same_one run.versions run.output (sym e)));
+        packets_verdicts = λ e. absurd (omega (arith, out, same_one run.output run.output refl, same_one run.verdicts run.output (sym e)));
+        packets_versions = λ e. absurd (omega (arith, out, same_one run.output run.output refl, same_one run.versions run.output (sym e)));
         verdicts_versions = λ e. absurd (omega (arith, verdicts, same_one run.verdicts run.verdicts refl, same_one run.versions run.verdicts (sym e)));
-        output_input = λ e. absurd (omega (arith, out, same_one run.output run.output refl, same_one run.input run.output (sym e)));
-        verdicts_input = λ e. absurd (omega (arith, verdicts, same_one run.verdicts run.verdicts refl, same_one run.input run.verdicts (sym e)));
-        versions_input = λ e. absurd (omega (arith, versions, same_one run.versions run.versions refl, same_one run.input run.versions (sym e)));
       }
-
-  -- so the capture is kept
-  pub input_kept : AreApart run → (a b : Contents) → OthersKept run a b → content b run.input ≡ content a run.input
-  input_kept h a b others =
-      let far = apart h in
-      others run.input (λ e. far.output_input (sym e)) (λ e. far.verdicts_input (sym e)) (λ e. far.versions_input (sym e))

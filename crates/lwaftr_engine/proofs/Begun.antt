@@ -1,9 +1,9 @@
 -- What the outputs hold where a round could not be written to its end.
-use Rattle.lwaftr_engine.proofs.Words.{Contents, Course, HasBegun, HasWritten, IsFrontOf, Rec, Setup, State, Wrote, [], ap, append-nil, drop, entries_of}
-use Rattle.lwaftr_engine.proofs.Words.{flat_map-append, lines_from, lines_in, load_lines, loads_of, packets_from, packets_in, refl, slot_text, string_bytes}
+use Rattle.lwaftr_engine.proofs.Words.{outputs_of, Contents, Course, HasBegun, HasWritten, IsFrontOf, Rec, Setup, State, Wrote, [], ap, append-nil, drop, entries_of}
+use Rattle.lwaftr_engine.proofs.Words.{did_none, flat_map-append, lines_from, lines_in, load_lines, loads_of, packets_from, packets_in, refl, slot_text, string_bytes}
 use Rattle.lwaftr_engine.proofs.Words.{sym, take, take-append-drop, ◌++◌, ◌∙◌, ◌≡◌, List, NamedSlot, ℕ}
 use Rattle.lwaftr_engine.proofs.Parts.{all_alone, front_at_end, front_in}
-use Rattle.lwaftr_engine.proofs.Writing.{did_none, wrote}
+use Rattle.lwaftr_engine.proofs.Writing.{wrote}
 use Rattle.lwaftr_engine.proofs.Going.{RoundUnder, every, every_entry, limited_before, lines_are, old_lines, old_packets, packets_are, points_are}
 use Rattle.lwaftr_engine.proofs.Going.{spoken_more, versions_are, wrote_more, wrote_same}
 
@@ -62,7 +62,7 @@ module _ (t : TakenUnder) (later : List ℕ) where
   pub still_begun : HasBegun t.x t.c (t.s.points ++ later) taken_lines t.opened t.before t.taken
   still_begun =
       begun_by taken_lines [] [] (lines_in_front (t.s.points ++ later) t.s.progress.printed (loads_of t.x) (0, refl))
-      (all_alone taken_lines) (wrote t.x.run [] [] [] t.before t.before (did_none t.x.run t.before))
+      (all_alone taken_lines) (wrote t.x.run [] [] [] t.before t.before (did_none (outputs_of t.x.run) t.before))
 
 module _ (r : RoundUnder) (later : List ℕ) {d : Contents} where
   -- a front of the new lines of tables is put behind what was there

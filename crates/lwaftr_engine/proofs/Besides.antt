@@ -1,9 +1,9 @@
 -- Rounds that two sides took, put together.
 use Rattle.std.specs.Prelude.{IsOk}
-use Rattle.lwaftr_engine.proofs.Words.{AreApart, Bool, Breaks, CanGoOn, Ending, Err, Fault, HasRead, IfOk, IsAtStart, IsInHand, IsNothing, IsOnDuty, KeepsRest}
-use Rattle.lwaftr_engine.proofs.Words.{List, Moves, None, Ok, OthersKept, Outside, Pending, PutsAndReads, ReadsOf, Result, Rises, Round, Router, RunLaws, Setup}
+use Rattle.lwaftr_engine.proofs.Words.{Bool, Breaks, CanGoOn, Ending, Err, Fault, HasRead, IfOk, IsAtStart, IsInHand, IsNothing, IsOnDuty, KeepsRest}
+use Rattle.lwaftr_engine.proofs.Words.{List, Moves, None, Ok, OthersKept, Halves, Pending, PutsAndReads, ReadsOf, Result, Rises, Round, Router, RunLaws, Setup}
 use Rattle.lwaftr_engine.proofs.Words.{Spot, StandsBetween, StaysOnDuty, Step, WentWell, [], ap, arith, drop, has_failed, is_cut, length, length-append, refl}
-use Rattle.lwaftr_engine.proofs.Words.{state_of, steps_of, subst, sym, ℕ, ◌++◌, ◌∙◌, ◌∷◌, ◌≡◌}
+use Rattle.lwaftr_engine.proofs.Words.{state_of, steps_of, subst, sym, ℕ, ◌++◌, ◌∙◌, ◌∷◌, ◌≡◌, Told, WrittenFiles, content, halves}
 use Rattle.aftr_io.specs.declared.outside.Fault.TheVariants as fault
 use Rattle.lwaftr_engine.specs.Beside.{Asks, Exchange, Go, HaveBroken, HaveFetched, HaveJudged, HaveTaken, Standing, assignments, reached, reached_from}
 use Rattle.lwaftr_engine.specs.Beside.{reports}
@@ -11,8 +11,8 @@ use Rattle.lwaftr_engine.specs.declared.beside.Assignment.{Assignment}
 use Rattle.lwaftr_engine.specs.declared.beside.Report.{Report}
 use Rattle.lwaftr_engine.proofs.Adding.{can_begin, goes_on, others_more, others_same, reads_on}
 use Rattle.lwaftr_engine.proofs.EndLemmas.{SomeLeft}
-use Rattle.lwaftr_engine.proofs.ReadLemmas.{rest_after, rest_before, rest_read}
-use Rattle.lwaftr_engine.proofs.RoundLemmas.{reads_after}
+use Rattle.lwaftr_engine.proofs.Exits.{fails_as}
+use Rattle.lwaftr_engine.proofs.ReadLemmas.{rest_before, rest_read}
 use Rattle.lwaftr_engine.proofs.UnderwayLemmas.{InRounds, begin_rounds, breaks_off, steps_on}
 
 reached_last : (number : ℕ) (before : List Assignment) (a : Assignment) → reached_from number (before ++ a ∷ []) ≡ a.round.number
@@ -72,58 +72,57 @@ module _ (es : List Exchange) (e : Exchange) where
   reached_more are = ap (λ (l : List Assignment). reached l) are ∙ reached_last 0 (assignments es) e.assignment
 
 -- where the other side had no memory
-pub in_vain : {x : Setup} {u : List Step} {number : ℕ} {before now : Spot} {R : ℕ → Type 0} {a b : Outside} {round : Round} →
+pub in_vain : {x : Setup} {u : List Step} {number : ℕ} {before now : Spot} {R : ℕ → Type 0} {a b : Halves} {round : Round} →
     PutsAndReads x u number before now R a b (Ok round) → PutsAndReads x u number before now R a b (Err fault.OutOfMemory)
 in_vain did = record { well = tt; part = did.part; past = did.past; rest = did.rest; spoiled = did.spoiled }
 
-fails_as : (T U : Type 0) (m n : ℕ) (why : Fault) → Rises (has_failed {T = T} (Err why)) m n → Rises (has_failed {T = U} (Err why)) m n
-fails_as T U m n fault.Failed rises = rises
-fails_as T U m n fault.OutOfMemory rises = rises
-
 -- what rounds began with, and how the places of a reader are told
-module _ {C : Type 0} (x : Setup) (place : C → Spot) (Ready : C → ℕ → Type 0) (first : Spot) (a : Outside) (began : Router) where
+module _ {C : Type 0} (x : Setup) (place : C → Spot) (Ready : C → ℕ → Type 0) (first : Spot) (a : Halves) (began : Router) where
   -- what is known between two rounds
   pub record IsGoing (now : Standing C) (r : Router) : Type 0 where
-    pub went : Moves a.held now.files.held (StandsBetween x (state_of r) (steps_of now.pending) first (place now.reader) now.round now.files.last)
+    pub went : Told a.reading.held (λ i. Moves a.writing.held now.files.writing.held
+        (StandsBetween x (state_of r) (steps_of now.pending) first (place now.reader) now.round now.files.reading.last (content i x.run.input)))
     pub can : CanGoOn x r.shift r.progress
     pub ready : Ready now.reader now.round.number
     pub in_hand : IsInHand r.progress.number now.round
     pub same_areas : r.shift.areas ≡ began.shift.areas
-    pub others : Moves a.held now.files.held (OthersKept x.run)
-    pub reads : ReadsOf (is_cut now.round.ending) x.run.input a now.files
-    pub spoiled : now.files.spoiled ≡ a.spoiled
+    pub others : Moves a.writing.held now.files.writing.held (OthersKept x.run)
+    pub reads : ReadsOf (is_cut now.round.ending) x.run.input a.reading now.files.reading
+    pub spoiled : now.files.writing.spoiled ≡ a.writing.spoiled
 
   -- before the first round is judged
-  pub at_first : IsAtStart x began → (now : Standing C) → IsNothing now.pending → now.files.held ≡ a.held →
-      HasRead x first (place now.reader) began.progress.number a.held now.files.last now.round → Ready now.reader now.round.number →
-      ReadsOf (is_cut now.round.ending) x.run.input a now.files → now.files.spoiled ≡ a.spoiled → IsGoing now began
-  at_first start now nothing held read ready reads spoiled = record {
-    went = begin_rounds x start first (place now.reader) now.round now.pending nothing a now.files held read;
-    can = can_begin began start;
-    ready = ready;
-    in_hand = read.in_hand;
-    same_areas = refl;
-    others = others_same x.run a.held now.files.held held;
-    reads = reads;
-    spoiled = spoiled;
-  }
+  pub at_first : IsAtStart x began → (now : Standing C) → IsNothing now.pending → now.files.writing ≡ a.writing →
+      HasRead x first (place now.reader) began.progress.number a.reading.held now.files.reading.last now.round → Ready now.reader now.round.number →
+      ReadsOf (is_cut now.round.ending) x.run.input a.reading now.files.reading → IsGoing now began
+  at_first start now nothing same read ready reads =
+      let held = ap (λ (w : WrittenFiles). w.held) same in
+      record {
+        went = begin_rounds x start first (place now.reader) now.round now.pending nothing a.reading.held a.writing.held now.files.writing.held held
+            now.files.reading.last read;
+        can = can_begin began start;
+        ready = ready;
+        in_hand = read.in_hand;
+        same_areas = refl;
+        others = others_same x.run a.writing.held now.files.writing.held held;
+        reads = reads;
+        spoiled = ap (λ (w : WrittenFiles). w.spoiled) same;
+      }
 
 -- rounds were broken off
-pub record IsBroken (x : Setup) (first : Spot) (a : Outside) (began r : Router) (files : Outside) (failed : Bool) : Type 0 where
-  pub broken : Moves a.held files.held (Breaks x (state_of r) first a files)
+pub record IsBroken (x : Setup) (first : Spot) (a : Halves) (began r : Router) (files : Halves) (failed : Bool) : Type 0 where
+  pub broken : Told a.reading.held (λ i. Moves a.writing.held files.writing.held
+      (Breaks x (state_of r) first a.reading files.reading (content i x.run.input)))
   pub rest : KeepsRest x.run a files
   pub areas : r.shift.areas ≡ began.shift.areas
   pub duty : IsOnDuty r.shift.areas.plan r.shift
-  pub spoiled : Rises failed a.spoiled files.spoiled
+  pub spoiled : Rises failed a.writing.spoiled files.writing.spoiled
 
-module _ (x : Setup) (laws : RunLaws) (far : AreApart x.run) {C : Type 0} {place : C → Spot} {Ready : C → ℕ → Type 0} {first : Spot} {a : Outside}
-    {began : Router} where
+module _ (x : Setup) (laws : RunLaws) {C : Type 0} {place : C → Spot} {Ready : C → ℕ → Type 0} {first : Spot} {a : Halves} {began : Router} where
   -- a round between the one that is not written yet and the one that is read
   abbrev pub under_way : {now : Standing C} {r : Router} → IsGoing x place Ready first a began now r → InRounds
   under_way {now} {r} known = record {
     laws = laws;
     x = x;
-    far = far;
     first = first;
     here = place now.reader;
     w = record { round = now.round; pending = now.pending };
@@ -133,11 +132,11 @@ module _ (x : Setup) (laws : RunLaws) (far : AreApart x.run) {C : Type 0} {place
     under = known.went;
   }
 
-  -- what was kept till then is kept behind a step in which no read fails
-  pub still_kept : {now : Standing C} {r : Router} → IsGoing x place Ready first a began now r → (b : Outside) →
-      Moves now.files.held b.held (OthersKept x.run) → b.lost ≡ now.files.lost → b.last ≡ now.files.last → KeepsRest x.run a b
-  still_kept {now} known b others lost last =
-      rest_before x.run a now.files b (rest_read x.run (is_cut now.round.ending) a now.files known.others known.reads) others lost last
+  -- what was kept till then is kept behind writing
+  pub still_kept : {now : Standing C} {r : Router} → IsGoing x place Ready first a began now r → (w : WrittenFiles) →
+      Moves now.files.writing.held w.held (OthersKept x.run) → KeepsRest x.run a (halves now.files.reading w)
+  still_kept {now} known w others =
+      rest_before x.run a now.files.reading now.files.writing w (rest_read x.run (is_cut now.round.ending) a now.files known.others known.reads) others
 
   -- a round more went well
   pub goes : {before next : Standing C} {r now : Router} → IsGoing x place Ready first a began before r → before.round.ending ≡ None →
@@ -145,34 +144,35 @@ module _ (x : Setup) (laws : RunLaws) (far : AreApart x.run) {C : Type 0} {place
       PutsAndReads x (steps_of before.pending) before.round.number (place before.reader) (place next.reader) (Ready next.reader) before.files next.files
       (Ok next.round) → IsGoing x place Ready first a began next now
   goes {before} {next} {r} {now} known going duty well did =
-      let m = before.files in
-      let b = next.files in
-      let on = reads_on before.round.ending going x.run.input a m known.reads in
+      let on = reads_on before.round.ending going x.run.input a.reading before.files.reading known.reads in
       record {
-        went = steps_on (under_way known) now next.pending duty b (place next.reader) well did.well.read did.well.wrote;
+        went = steps_on (under_way known) now next.pending duty next.files (place next.reader) well (rw on at did.well.read) did.well.wrote;
         can = goes_on r.shift now duty known.can well.after;
         ready = did.well.ready;
         in_hand = rw well.number did.well.read.in_hand;
         same_areas = duty.areas ∙ known.same_areas;
-        others = others_more x.run a.held m.held b.held known.others did.rest.others;
-        reads = reads_after (is_cut next.round.ending) x.run.input a m b
-            (record { faults = on.0; lost = on.1; spoiled = known.spoiled; last = on.2 }) did.well.reads;
+        others = others_more x.run a.writing.held before.files.writing.held next.files.writing.held known.others did.rest.others;
+        reads = rw on at did.well.reads;
         spoiled = did.spoiled ∙ known.spoiled;
       }
 
   -- a round could not be judged, the one before it not be written, or the next one not be read
   pub fails : {before : Standing C} {r : Router} → IsGoing x place Ready first a began before r → before.round.ending ≡ None → (now : Router) →
-      StaysOnDuty r.shift now.shift before.round.number → (files : Outside) (reader : C) (fault : Fault) → ((c : C) → SomeLeft (place c).left) →
+      StaysOnDuty r.shift now.shift before.round.number → (files : Halves) (reader : C) (fault : Fault) → ((c : C) → SomeLeft (place c).left) →
       PutsAndReads x (steps_of before.pending) before.round.number (place before.reader) (place reader) (Ready reader) before.files files (Err fault) →
       IsBroken x first a began now files (has_failed {T = Ending} (Err fault))
   fails {before} known going now duty files reader fault some did =
-      let on = reads_on before.round.ending going x.run.input a before.files known.reads in
+      let on = reads_on before.round.ending going x.run.input a.reading before.files.reading known.reads in
       record {
-        broken = breaks_off (under_way known) now before.pending duty files (place reader) (some before.reader) (some reader) (rw on.1 at did.past) did.part;
-        rest = rest_after x.run a before.files files known.others on.1 on.2 did.rest;
+        broken = breaks_off (under_way known) now before.pending duty files (place reader) (some before.reader) (some reader) (rw on at did.past) did.part;
+        rest = record {
+          inputs = rw on at did.rest.inputs;
+          others = others_more x.run a.writing.held before.files.writing.held files.writing.held known.others did.rest.others;
+          capture_read = rw on at did.rest.capture_read;
+        };
         areas = duty.areas ∙ known.same_areas;
         duty = duty.duty;
-        spoiled = fails_as Round Ending a.spoiled files.spoiled fault (rw known.spoiled at did.spoiled);
+        spoiled = fails_as Round Ending a.writing.spoiled files.writing.spoiled fault (rw known.spoiled at did.spoiled);
       }
 
   pub go : (es : List Exchange) {start : Standing C} (now : Standing C) (r : Router) → IsGoing x place Ready first a began start began →
@@ -183,7 +183,7 @@ module _ (x : Setup) (laws : RunLaws) (far : AreApart x.run) {C : Type 0} {place
       let well : WentWell x router r before.round now.pending = rw (← hand.asked, did.made) (if_ok e.report.judged did.judged made.well) in
       goes (go es before router known fetched judged) hand.going (rw (← hand.asked) made.duty) well hand.outside
 
-  pub break_off : (es : List Exchange) {start : Standing C} (files : Outside) (reader : C) (fault : Fault) (r : Router) →
+  pub break_off : (es : List Exchange) {start : Standing C} (files : Halves) (reader : C) (fault : Fault) (r : Router) →
       IsGoing x place Ready first a began start began → ((c : C) → SomeLeft (place c).left) →
       HaveBroken x place Ready start es files reader fault → HaveJudged x began es r →
       IsBroken x first a began r files (has_failed {T = Ending} (Err fault))

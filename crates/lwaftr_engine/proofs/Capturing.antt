@@ -1,31 +1,30 @@
 -- What a run leaves from the opening of its outputs on.
-use Rattle.lwaftr_engine.proofs.Words.{AreApart, AreAllPoints, AreBefore, AreSlotsOf, AreTaken, AreWritten, BindingTable, Bool, Breaks, CaptureBad, Contents}
+use Rattle.lwaftr_engine.proofs.Words.{AreAllPoints, AreBefore, AreSlotsOf, AreTaken, AreWritten, BindingTable, Bool, Breaks, CaptureBad, Contents}
 use Rattle.lwaftr_engine.proofs.Words.{Did, DidFront, Ending, Err, Fault, Finishes, FinishesPart, Goes, HistoryValue, IfSome, IsAtFirst, IsBroken, IsClosed}
 use Rattle.lwaftr_engine.proofs.Words.{IsFront, IsInput, IsPlan, IsPlanOf, IsRate, IsRun, IsWhole, LeavesBy, LeavesOpened, List, Moves, None, Ok, Option}
-use Rattle.lwaftr_engine.proofs.Words.{Outside, Rec, Result, Rises, RunLaws, Setup, Some, Spot, State, Stop, Tables, Takes, Window, World, arith, content}
+use Rattle.lwaftr_engine.proofs.Words.{Rec, Result, Rises, RunLaws, Setup, Some, Spot, State, Stop, Tables, Takes, Window, World, arith, content}
 use Rattle.lwaftr_engine.proofs.Words.{ended_status, is_cut, is_failure, length, opening_steps, refl, some_slot_refused, stop_by, ℕ, ◌++◌, ◌∙◌, ◌≡◌, false, inl}
-use Rattle.lwaftr_engine.proofs.Words.{inr, true, has_failed, subst, sym}
+use Rattle.lwaftr_engine.proofs.Words.{inr, true, has_failed, Told, WrittenFiles}
 use Rattle.lwaftr_engine.specs.Fronts.{NothingPut}
-use Rattle.lwaftr_engine.specs.Progress.{OneRises}
-use Rattle.lwaftr_engine.proofs.Apart.{input_kept}
+use Rattle.output_journal.specs.Ends.{OneRises}
 use Rattle.lwaftr_engine.proofs.Closing.{ClosedRun, suits_bare, is_run}
 use Rattle.lwaftr_engine.proofs.EndLemmas.{EndsAt, SomeLeft, ends_at, takes_by}
 use Rattle.lwaftr_engine.proofs.Writing.{opening_front, opened}
 use Rattle.lwaftr_engine.proofs.Fronting.{at_finish, at_opening, at_rounds, first_points}
 use Rattle.lwaftr_engine.proofs.Courses.{bare}
-use Rattle.lwaftr_engine.proofs.Moving.{moves_by, moves_join, moves_none, moves_three}
+use Rattle.lwaftr_engine.proofs.Moving.{moves_by, moves_join, moves_none, moves_three, told_all, told_by}
 use Rattle.aftr_io.specs.declared.outside.Fault.TheVariants as fault
 use Rattle.capture_io.specs.declared.rounds.Ending.TheVariants as ending
 
 -- a broken run, where the reader stands before the first record, under every list of tables of which the plan's words are
-abbrev pub Broken : Setup → Tables → Spot → Stop → Contents → Contents → Type 0
-Broken x plan reader stop old new = IsAtFirst reader x.form x.written (content old x.run.input) → (tables : ℕ → BindingTable) (windows : List Window) →
-    IsPlanOf tables windows plan → AreSlotsOf x.run windows x.slots → IsBroken x.run tables windows x.slots old new stop
+abbrev pub Broken : Setup → Tables → Spot → Stop → Contents → Contents → Contents → Type 0
+Broken x plan reader stop inputs old new = IsAtFirst reader x.form x.written (content inputs x.run.input) → (tables : ℕ → BindingTable) (windows : List Window) →
+    IsPlanOf tables windows plan → AreSlotsOf x.run windows x.slots → IsBroken x.run tables windows x.slots inputs old new stop
 
 -- a run from the opening of its outputs on, in the words of its capture
-module _ (x : Setup) (old : Contents) {first : Spot} (at_first : IsAtFirst first x.form x.written (content old x.run.input)) where
-  behind : {rs : List Rec} {last : Option (List ℕ × ℕ)} → AreBefore (first.left (content old x.run.input) 0) x.run.input first.at rs last →
-      AreBefore (IsInput (content old x.run.input) at_first.header) x.run.input at_first.header.ends_at rs last
+module _ (x : Setup) (inputs : Contents) {first : Spot} (at_first : IsAtFirst first x.form x.written (content inputs x.run.input)) where
+  behind : {rs : List Rec} {last : Option (List ℕ × ℕ)} → AreBefore (first.left (content inputs x.run.input) 0) x.run.input first.at rs last →
+      AreBefore (IsInput (content inputs x.run.input) at_first.header) x.run.input at_first.header.ends_at rs last
   behind {rs} part = record {
     rest = part.rest;
     ending = part.ending;
@@ -37,14 +36,14 @@ module _ (x : Setup) (old : Contents) {first : Spot} (at_first : IsAtFirst first
     next = part.next;
   }
 
-  pub takes_all : {rs : List Rec} (stop : Stop) → Takes x.run.input first (content old x.run.input) rs stop.before.files stop.after.files →
-      AreTaken x.run old at_first.header rs 3 stop
+  pub takes_all : {rs : List Rec} (stop : Stop) → Takes x.run.input first (content inputs x.run.input) rs stop.before.reading stop.after.reading →
+      AreTaken x.run inputs at_first.header rs 3 stop
   takes_all {rs} stop (inl (same, all)) = inl (same, (all.0, at_first.all rs all.0 all.1))
   takes_all stop (inr (rose, part)) = inr (omega arith, (rose, behind part))
 
-  pub broken : {tables : ℕ → BindingTable} {windows : List Window} {rs : List Rec} {new : Contents} (made : ℕ) (stop : Stop) →
-      AreTaken x.run old at_first.header rs made stop → IsFront x.run tables windows x.slots x.form x.written rs made old new stop →
-      IsBroken x.run tables windows x.slots old new stop
+  pub broken : {tables : ℕ → BindingTable} {windows : List Window} {rs : List Rec} {old new : Contents} (made : ℕ) (stop : Stop) →
+      AreTaken x.run inputs at_first.header rs made stop → IsFront x.run tables windows x.slots x.form x.written rs made old new stop →
+      IsBroken x.run tables windows x.slots inputs old new stop
   broken {rs = rs} made stop taken front = record {
     header = at_first.header;
     sound = at_first.sound;
@@ -55,12 +54,13 @@ module _ (x : Setup) (old : Contents) {first : Spot} (at_first : IsAtFirst first
   }
 
 -- the run of these records
-module _ (r : ClosedRun) {first : Spot} (at_first : IsAtFirst first r.x.form r.x.written (content r.old r.x.run.input)) (rs : List Rec) (new : Contents) where
+module _ (r : ClosedRun) (inputs : Contents) {first : Spot} (at_first : IsAtFirst first r.x.form r.x.written (content inputs r.x.run.input)) (rs : List Rec)
+    (new : Contents) where
   abbrev Run : Option (List ℕ) → Option (List ℕ) → Type 0
   Run said now = IsRun r.x.run r.tables r.windows r.x.slots r.x.form r.x.written rs r.old new said now (Some r.h)
 
-  whole : {said now : Option (List ℕ)} (ended : Option CaptureBad) → first.left (content r.old r.x.run.input) 0 rs ended → Run said now →
-      IsWhole r.x.run r.tables r.windows r.x.slots r.old new said now (Some r.h) ended
+  whole : {said now : Option (List ℕ)} (ended : Option CaptureBad) → first.left (content inputs r.x.run.input) 0 rs ended → Run said now →
+      IsWhole r.x.run r.tables r.windows r.x.slots inputs r.old new said now (Some r.h) ended
   whole ended left run = record {
     header = at_first.header;
     records = rs;
@@ -68,9 +68,9 @@ module _ (r : ClosedRun) {first : Spot} (at_first : IsAtFirst first r.x.form r.x
     is_run = rw (at_first.form_is, at_first.written_is) at run;
   }
 
-  leaves_ended : (before now : World) (stop : Ending) → EndsAt r.x.run.input first (content r.old r.x.run.input) rs stop now.files.last →
+  leaves_ended : (before now : World) (stop : Ending) → EndsAt r.x.run.input first (content inputs r.x.run.input) rs stop now.reading.last →
       Run before.said now.said → (refused : Bool) → some_slot_refused r.x.slots ≡ refused →
-      LeavesBy r.x.run r.tables r.windows r.x.slots (ended_status (Ok stop) refused) before now (Some r.h) r.old new
+      LeavesBy r.x.run r.tables r.windows r.x.slots (ended_status (Ok stop) refused) before now (Some r.h) inputs r.old new
   leaves_ended before now ending.End it run true is = (whole None it run, is)
   leaves_ended before now ending.End it run false is = (whole None it run, is)
   leaves_ended before now (ending.Bad refusal) it run refused is = inl (whole (Some refusal) it run)
@@ -78,31 +78,33 @@ module _ (r : ClosedRun) {first : Spot} (at_first : IsAtFirst first r.x.form r.x
       inl (record {
         header = at_first.header;
         taken = rs;
-        before = behind r.x r.old at_first it;
+        before = behind r.x inputs at_first it;
         is_run = rw (at_first.form_is, at_first.written_is) at run;
       })
 
 pub ended_err : (x : Setup) (plan : Tables) (reader : Spot) (r : Result Ending Fault) (why : Fault) (before now : World) (history : Option HistoryValue) →
-    r ≡ Err why → history ≡ None → Moves before.files.held now.files.held (Broken x plan reader (stop_by why before now)) →
-    Moves before.files.held now.files.held (LeavesOpened x plan reader r before now history)
+    r ≡ Err why → history ≡ None → Told before.reading.held (λ i. Moves before.writing.held now.writing.held (Broken x plan reader (stop_by why before now) i)) →
+    Told before.reading.held (λ i. Moves before.writing.held now.writing.held (LeavesOpened x plan reader r before now history i))
 ended_err x plan reader r why before now history is none step =
     rw is (by_fault why step) where
-      by_fault : (why : Fault) → Moves before.files.held now.files.held (Broken x plan reader (stop_by why before now)) →
-          Moves before.files.held now.files.held (LeavesOpened x plan reader (Err why) before now history)
+      by_fault : (why : Fault) → Told before.reading.held (λ i. Moves before.writing.held now.writing.held (Broken x plan reader (stop_by why before now) i)) →
+          Told before.reading.held (λ i. Moves before.writing.held now.writing.held (LeavesOpened x plan reader (Err why) before now history i))
       by_fault fault.Failed step =
-          moves_by before.files.held now.files.held _ _
-          (λ m n broken at_first tables windows of. ((λ slots_of. broken at_first tables windows of slots_of), none)) step
+          told_by before.reading.held _ _
+          (λ i broke. moves_by before.writing.held now.writing.held (Broken x plan reader (stop_by fault.Failed before now) i) _
+          (λ m n broken at_first tables windows of. ((λ slots_of. broken at_first tables windows of slots_of), none)) broke) step
       by_fault fault.OutOfMemory step =
-          moves_by before.files.held now.files.held _ _
-          (λ m n broken at_first tables windows of. inr ((λ slots_of. broken at_first tables windows of slots_of), none)) step
+          told_by before.reading.held _ _
+          (λ i broke. moves_by before.writing.held now.writing.held (Broken x plan reader (stop_by fault.OutOfMemory before now) i) _
+          (λ m n broken at_first tables windows of. inr ((λ slots_of. broken at_first tables windows of slots_of), none)) broke) step
 
 -- memory was wanted before anything was done
 pub none_done : (x : Setup) (plan : Tables) (reader : Spot) (r : Result Ending Fault) (w : World) (history : Option HistoryValue) → r ≡ Err fault.OutOfMemory →
-    history ≡ None → Moves w.files.held w.files.held (LeavesOpened x plan reader r w w history)
+    history ≡ None → Told w.reading.held (λ i. Moves w.writing.held w.writing.held (LeavesOpened x plan reader r w w history i))
 none_done x plan reader r w history is none =
-    rw is (moves_none w.files.held w.files.held (LeavesOpened x plan reader (Err fault.OutOfMemory) w w history)
+    rw is (told_all w.reading.held _ (λ i. moves_none w.writing.held w.writing.held (LeavesOpened x plan reader (Err fault.OutOfMemory) w w history i)
     (λ m at_first tables windows of.
-    inl (record { files = refl; sink = refl; none = none }, record { lost = refl; spoiled = refl; faults = refl; last = refl })) refl)
+    inl (record { files = refl; sink = refl; none = none }, record { lost = refl; spoiled = refl; last = refl })) refl))
 
 -- a call failed or did not, and no put did
 pub one_rises : (why : Fault) (spoiled now puts : ℕ) → Rises (has_failed {T = Ending} (Err why)) spoiled now →
@@ -110,29 +112,34 @@ pub one_rises : (why : Fault) (spoiled now puts : ℕ) → Rises (has_failed {T 
 one_rises fault.Failed spoiled now puts rises = inl rises
 one_rises fault.OutOfMemory spoiled now puts same = (same, refl)
 
+-- what a log says of the call that failed
+pub is_failed : (before now : ℕ) (why : Fault) → Rises (has_failed {T = Unit} (Err why)) before now → Rises (is_failure why) before now
+is_failed before now fault.Failed rises = rises
+is_failed before now fault.OutOfMemory rises = rises
+
 pub opening_broken : (laws : RunLaws) (x : Setup) (plan : Tables) → IsPlan plan → IfSome x.run.errors IsRate → (reader : Spot) → SomeLeft reader.left →
-    (stop : Stop) → NothingPut stop → stop.after.files.lost ≡ stop.before.files.lost →
-    Moves stop.before.files.held stop.after.files.held (DidFront x.run (opening_steps x.run x.written)) →
-    Moves stop.before.files.held stop.after.files.held (Broken x plan reader stop)
+    (stop : Stop) → NothingPut stop → stop.after.reading.lost ≡ stop.before.reading.lost →
+    Moves stop.before.writing.held stop.after.writing.held (DidFront x.run (opening_steps x.run x.written)) →
+    Told stop.before.reading.held (λ i. Moves stop.before.writing.held stop.after.writing.held (Broken x plan reader stop i))
 opening_broken laws x plan planned rate reader some stop nothing same step =
-    moves_by stop.before.files.held stop.after.files.held _ _
+    told_all stop.before.reading.held _
+    (λ i. moves_by stop.before.writing.held stop.after.writing.held (DidFront x.run (opening_steps x.run x.written)) (Broken x plan reader stop i)
     (λ m n front at_first tables windows of slots_of.
-    let rest = some (content m x.run.input) 0 in
+    let rest = some (content i x.run.input) 0 in
     let half = opening_front x.run x.written m n front in
-    broken x m at_first half.made stop (inl (same, (rest.1, at_first.all rest.0 rest.1 rest.2)))
-    (at_opening laws x rate rest.0 (first_points planned of rest.0) stop nothing half)) step
+    broken x i at_first half.made stop (inl (same, (rest.1, at_first.all rest.0 rest.1 rest.2)))
+    (at_opening laws x rate rest.0 (first_points planned of rest.0) stop nothing half)) step)
 
 -- a run whose outputs were opened
 pub record Opened : Type 1 where
   pub laws : RunLaws
   pub x : Setup
-  pub far : AreApart x.run
   pub rate : IfSome x.run.errors IsRate
   pub plan : Tables
   pub first : Spot
   pub before : World
-  pub middle : Outside
-  pub opening : Moves before.files.held middle.held (Did x.run (opening_steps x.run x.written))
+  pub middle : WrittenFiles
+  pub opening : Moves before.writing.held middle.held (Did x.run (opening_steps x.run x.written))
 
 -- whose areas are closed
 pub record Captured : Type 1 where
@@ -149,27 +156,28 @@ pub record AtEnd : Type 1 where
   pub reader : Spot
   pub some : SomeLeft reader.left
   pub stop : Ending
-  pub end : Outside
-  pub last_is : run.now.files.last ≡ end.last
-  pub lost : Rises (is_cut (Some stop)) run.opened.before.files.lost run.now.files.lost
+  pub end : WrittenFiles
+  pub lost : Rises (is_cut (Some stop)) run.opened.before.reading.lost run.now.reading.lost
   pub count : length run.s.draws ≡ run.s.progress.number
   pub placed : AreAllPoints run.s.plan.windows run.s.points run.s.progress.number
-  pub going : Moves run.opened.middle.held end.held (Goes run.opened.x run.s run.opened.first reader (Some stop) end.last)
+  pub going : Told run.opened.before.reading.held (λ i. Moves run.opened.middle.held end.held
+      (Goes run.opened.x run.s run.opened.first reader (Some stop) run.now.reading.last (content i run.opened.x.run.input)))
 
-abbrev pub opened_run : (laws : RunLaws) (x : Setup) → AreApart x.run → IfSome x.run.errors IsRate → (plan : Tables) (first : Spot) (before : World)
-    (middle : Outside) → Moves before.files.held middle.held (Did x.run (opening_steps x.run x.written)) → Opened
-opened_run laws x far rate plan first before middle opening =
-    record { laws = laws; x = x; far = far; rate = rate; plan = plan; first = first; before = before; middle = middle; opening = opening }
+abbrev pub opened_run : (laws : RunLaws) (x : Setup) → IfSome x.run.errors IsRate → (plan : Tables) (first : Spot) (before : World)
+    (middle : WrittenFiles) → Moves before.writing.held middle.held (Did x.run (opening_steps x.run x.written)) → Opened
+opened_run laws x rate plan first before middle opening =
+    record { laws = laws; x = x; rate = rate; plan = plan; first = first; before = before; middle = middle; opening = opening }
 
 abbrev pub captured : (opened : Opened) (s : State) → s.plan ≡ opened.plan → (h : HistoryValue) → IsClosed s h → (now : World) → Captured
 captured opened s its_plan h closed now = record { opened = opened; s = s; its_plan = its_plan; h = h; closed = closed; now = now }
 
-abbrev pub at_end : (run : Captured) (reader : Spot) → SomeLeft reader.left → (stop : Ending) (end : Outside) → run.now.files.last ≡ end.last →
-    Rises (is_cut (Some stop)) run.opened.before.files.lost run.now.files.lost → length run.s.draws ≡ run.s.progress.number →
+abbrev pub at_end : (run : Captured) (reader : Spot) → SomeLeft reader.left → (stop : Ending) (end : WrittenFiles) →
+    Rises (is_cut (Some stop)) run.opened.before.reading.lost run.now.reading.lost → length run.s.draws ≡ run.s.progress.number →
     AreAllPoints run.s.plan.windows run.s.points run.s.progress.number →
-    Moves run.opened.middle.held end.held (Goes run.opened.x run.s run.opened.first reader (Some stop) end.last) → AtEnd
-at_end run reader some stop end last_is lost count placed going =
-    record { run = run; reader = reader; some = some; stop = stop; end = end; last_is = last_is; lost = lost; count = count; placed = placed; going = going }
+    Told run.opened.before.reading.held (λ i. Moves run.opened.middle.held end.held
+    (Goes run.opened.x run.s run.opened.first reader (Some stop) run.now.reading.last (content i run.opened.x.run.input))) → AtEnd
+at_end run reader some stop end lost count placed going =
+    record { run = run; reader = reader; some = some; stop = stop; end = end; lost = lost; count = count; placed = placed; going = going }
 
 module _ (r : Captured) where
   abbrev o : Opened
@@ -192,23 +200,27 @@ module _ (r : Captured) where
     opening = opened r.opened.x.run r.opened.x.written a b did;
   }
 
-  pub rounds_broken : (why : Fault) → NothingPut (stop_by why o.before r.now) → o.middle.lost ≡ o.before.files.lost →
-      Moves o.middle.held r.now.files.held (Breaks o.x r.s o.first o.middle r.now.files) →
-      Moves o.before.files.held r.now.files.held (Broken o.x o.plan o.first (stop_by why o.before r.now))
-  rounds_broken why nothing lost_is breaking =
-      moves_join o.before.files.held o.middle.held r.now.files.held _ _ _
+  pub rounds_broken : (why : Fault) → NothingPut (stop_by why o.before r.now) →
+      Told o.before.reading.held (λ i. Moves o.middle.held r.now.writing.held
+      (Breaks o.x r.s o.first o.before.reading r.now.reading (content i o.x.run.input))) →
+      Told o.before.reading.held (λ i. Moves o.before.writing.held r.now.writing.held (Broken o.x o.plan o.first (stop_by why o.before r.now) i))
+  rounds_broken why nothing breaking =
+      told_by o.before.reading.held _ _
+      (λ i broke.
+      moves_join o.before.writing.held o.middle.held r.now.writing.held _
+      (Breaks o.x r.s o.first o.before.reading r.now.reading (content i o.x.run.input)) (Broken o.x o.plan o.first (stop_by why o.before r.now) i)
       (λ a b d did breaks at_first tables windows of slots_of.
       let run = closed_run a b did tables windows of in
       let stop = stop_by why o.before r.now in
-      let same = input_kept o.x.run o.far a b run.opening.others in
-      let it = breaks (rw same at_first.stands) in
-      broken o.x a at_first 3 stop (takes_all o.x a at_first stop (rw (same, lost_is) at it.taken)) (at_rounds run slots_of stop nothing it))
-      o.opening breaking
+      let it = breaks at_first.stands in
+      broken o.x i at_first 3 stop (takes_all o.x i at_first stop it.taken) (at_rounds run slots_of stop nothing it))
+      o.opening broke)
+      breaking
 
 -- these are its records
-record HasRecords (e : AtEnd) (run : ClosedRun) (now : Contents) : Type 0 where
+record HasRecords (e : AtEnd) (run : ClosedRun) (bytes : List ℕ) (now : Contents) : Type 0 where
   pub rs : List Rec
-  pub ends : EndsAt run.x.run.input e.run.opened.first (content run.old run.x.run.input) rs e.stop e.run.now.files.last
+  pub ends : EndsAt run.x.run.input e.run.opened.first bytes rs e.stop e.run.now.reading.last
   pub are : AreWritten run.x run.opened now run.s rs
   pub placed : AreAllPoints run.windows run.s.points (length rs)
   pub count : length run.s.draws ≡ length rs
@@ -226,44 +238,53 @@ module _ (e : AtEnd) where
   abbrev before : World
   before = e.run.opened.before
 
-  records_of : (a b d : Contents) (did : Did x.run (opening_steps x.run x.written) a b) → Goes x r.s first e.reader (Some e.stop) e.end.last b d →
-      IsAtFirst first x.form x.written (content a x.run.input) →
+  records_of : (i a b d : Contents) (did : Did x.run (opening_steps x.run x.written) a b) →
+      Goes x r.s first e.reader (Some e.stop) r.now.reading.last (content i x.run.input) b d →
+      IsAtFirst first x.form x.written (content i x.run.input) →
       (tables : ℕ → BindingTable) (windows : List Window) (of : IsPlanOf tables windows r.opened.plan) →
-      HasRecords e (closed_run r a b did tables windows of) d
-  records_of a b d did goes at_first tables windows of =
+      HasRecords e (closed_run r a b did tables windows of) (content i x.run.input) d
+  records_of i a b d did goes at_first tables windows of =
       let run = closed_run e.run a b did tables windows of in
-      let same = input_kept x.run e.run.opened.far a b run.opening.others in
-      let took = goes (rw same at_first.stands) in
-      let L : Option (List ℕ × ℕ) → Type 0 = λ last. EndsAt x.run.input first (content a x.run.input) took.records e.stop last in
+      let took = goes at_first.stands in
       record {
         rs = took.records;
-        ends = subst L (sym e.last_is) (ends_at e.stop e.some (rw same at took.taken));
+        ends = ends_at e.stop e.some took.taken;
         are = took.written;
         placed = rw (← took.taken.count) (rw (← run.of.same_windows) e.placed);
         count = e.count ∙ took.taken.count;
       }
 
   pub finish_broken : (why : Fault) →
-      Moves e.end.held r.now.files.held
-      (FinishesPart x r.s.progress r.s.points (is_failure why) before.files.spoiled r.now.files.spoiled before.said r.now.said) →
-      Moves before.files.held r.now.files.held (Broken x r.opened.plan first (stop_by why before r.now))
+      Moves e.end.held r.now.writing.held
+      (FinishesPart x r.s.progress r.s.points (is_failure why) before.writing.spoiled r.now.writing.spoiled before.said r.now.said) →
+      Told before.reading.held (λ i. Moves before.writing.held r.now.writing.held (Broken x r.opened.plan first (stop_by why before r.now) i))
   finish_broken why finishing =
-      moves_three before.files.held r.opened.middle.held e.end.held r.now.files.held _ _ _ _
+      told_by before.reading.held _ _
+      (λ i going.
+      moves_three before.writing.held r.opened.middle.held e.end.held r.now.writing.held _
+      (Goes x r.s first e.reader (Some e.stop) r.now.reading.last (content i x.run.input)) _ (Broken x r.opened.plan first (stop_by why before r.now) i)
       (λ a b d n did goes half at_first tables windows of slots_of.
       let run = closed_run e.run a b did tables windows of in
-      let it = records_of a b d did goes at_first tables windows of in
+      let it = records_of i a b d did goes at_first tables windows of in
       let stop = stop_by why before e.run.now in
       let stands = (it.are (bare tables e.run.s.points) (suits_bare run.of run.closed)).stands in
-      let bytes = content a x.run.input in
-      broken x a at_first 3 stop (takes_all x a at_first stop (takes_by x.run.input first bytes before.files e.run.now.files e.stop e.lost it.ends))
-      (at_finish run slots_of why before e.run.now it.placed it.are (half it.rs stands))) r.opened.opening e.going finishing
+      let bytes = content i x.run.input in
+      broken x i at_first 3 stop (takes_all x i at_first stop (takes_by x.run.input first bytes before.reading e.run.now.reading e.stop e.lost it.ends))
+      (at_finish run slots_of why before e.run.now it.placed it.are (half it.rs stands))) r.opened.opening going finishing)
+      e.going
 
-  pub ends : Moves e.end.held r.now.files.held (Finishes x r.s.progress r.s.points before.said r.now.said) →
-      Moves before.files.held r.now.files.held (LeavesOpened x r.opened.plan first (Ok e.stop) before r.now (Some r.h))
+  pub ends : Moves e.end.held r.now.writing.held (Finishes x r.s.progress r.s.points before.said r.now.said) →
+      Told before.reading.held (λ i. Moves before.writing.held r.now.writing.held
+      (LeavesOpened x r.opened.plan first (Ok e.stop) before r.now (Some r.h) i))
   ends finishing =
-      moves_three before.files.held r.opened.middle.held e.end.held r.now.files.held _ _ _ _
+      told_by before.reading.held _ _
+      (λ i going.
+      moves_three before.writing.held r.opened.middle.held e.end.held r.now.writing.held _
+      (Goes x r.s first e.reader (Some e.stop) r.now.reading.last (content i x.run.input)) _
+      (LeavesOpened x r.opened.plan first (Ok e.stop) before r.now (Some r.h) i)
       (λ a b d n did goes done at_first tables windows of.
       let run = closed_run e.run a b did tables windows of in
-      let it = records_of a b d did goes at_first tables windows of in
-      leaves_ended run at_first it.rs n before e.run.now e.stop it.ends (is_run run it.placed it.are it.count done) (some_slot_refused x.slots) refl)
-      r.opened.opening e.going finishing
+      let it = records_of i a b d did goes at_first tables windows of in
+      leaves_ended run i at_first it.rs n before e.run.now e.stop it.ends (is_run run it.placed it.are it.count done) (some_slot_refused x.slots) refl)
+      r.opened.opening going finishing)
+      e.going

@@ -4,6 +4,7 @@ use Rattle.lwaftr_engine.proofs.Words.{Contents, content, Moves, Told, LoadWords
 use Rattle.lwaftr_engine.proofs.Words.{IsFault, IsWholeRun, Header, IsInput, IsInputBy, header_by, header_of, in_blocks, in_classic, AsksDone, IsAskedFor}
 use Rattle.lwaftr_engine.proofs.Words.{Leaves, Answer, AreAnswers, Status, Seen, World}
 use Rattle.lwaftr_engine.proofs.Laws.{OneAnswer, OneReading}
+use Rattle.lwaftr_engine.proofs.Moving.{told_by}
 use Rattle.lwaftr_engine.specs.declared.status.Status.TheVariants as status
 use Rattle.pcapng_io.specs.Captures as blocks
 use Rattle.pcapng_io.specs.Rounds as rounds
@@ -68,16 +69,16 @@ module _ (one : AreSingle) (run : RunJob) (m : Contents) where
   no_header h rs e refusal input bad = not_both (header_of (content m run.input)) h refusal (header_is (content m run.input) h rs e input) bad
 
   -- a whole run, where one that is done is asked for, and where any status is
-  due_done : {new : Contents} {said now : Option (List ℕ)} {history : Option HistoryValue} {e : Option CaptureBad} {refused : Bool}
-      (w : IsWholeRun run m new said now history e refused) (some : Bool) →
+  due_done : {old new : Contents} {said now : Option (List ℕ)} {history : Option HistoryValue} {e : Option CaptureBad} {refused : Bool}
+      (w : IsWholeRun run m old new said now history e refused) (some : Bool) →
       AsksDone run m some → by_end e refused ≡ by_end None some
   due_done {e} {refused} w some asked =
       let ending = one_end one (content m run.input) w.whole.header asked.header w.whole.records asked.records e None w.whole.capture asked.capture in
       let answers = same_answers one.table m run.loads w.answers asked.answers w.tables.loads asked.tables.loads in
       cc (ending, answers, w.some_load_refused, asked.some_is)
 
-  due_whole : {new : Contents} {said now : Option (List ℕ)} {history : Option HistoryValue} {e : Option CaptureBad} {refused : Bool}
-      (w : IsWholeRun run m new said now history e refused) (s : Status) →
+  due_whole : {old new : Contents} {said now : Option (List ℕ)} {history : Option HistoryValue} {e : Option CaptureBad} {refused : Bool}
+      (w : IsWholeRun run m old new said now history e refused) (s : Status) →
       IsAskedFor run m s → by_end e refused ≡ s
   due_whole w (status.BadTable refusal) due = absurd (no_table w.first refusal w.tables.table due)
   due_whole {e} w (status.BadCapture refusal) (_, inl header) = absurd (no_header w.whole.header w.whole.records e refusal w.whole.capture header)
@@ -105,22 +106,23 @@ module _ (one : AreSingle) (run : RunJob) (m : Contents) where
   due_refused refusal bad status.DoneRefused due = absurd (no_table due.first refusal due.tables.table bad)
   due_refused refusal bad _ due = absurd due
 
-  pub is_due : (result : Status) (before now : World) (history : Option HistoryValue) (new : Contents) → Leaves run result before now history m new →
+  pub is_due : (result : Status) (before now : World) (history : Option HistoryValue) (old new : Contents) → Leaves run result before now history m old new →
       (s : Status) → IsAskedFor run m s → (result ≡ s) ⊎ IsFault result
-  is_due status.Done before now history new f s due = inl (due_whole f s due)
-  is_due status.DoneRefused before now history new f s due = inl (due_whole f s due)
-  is_due (status.BadCapture refusal) before now history new (inl w) s due = inl (due_whole w.1 s due)
-  is_due (status.BadCapture refusal) before now history new (inr b) s due = inl (due_header b.first refusal b.table b.header s due)
-  is_due (status.BadTable refusal) before now history new f s due = inl (due_refused refusal f.0 s due)
-  is_due status.Usage before now history new f s due = absurd f
-  is_due _ before now history new f s due = inr tt
+  is_due status.Done before now history old new f s due = inl (due_whole f s due)
+  is_due status.DoneRefused before now history old new f s due = inl (due_whole f s due)
+  is_due (status.BadCapture refusal) before now history old new (inl w) s due = inl (due_whole w.1 s due)
+  is_due (status.BadCapture refusal) before now history old new (inr b) s due = inl (due_header b.first refusal b.table b.header s due)
+  is_due (status.BadTable refusal) before now history old new f s due = inl (due_refused refusal f.0 s due)
+  is_due status.Usage before now history old new f s due = absurd f
+  is_due _ before now history old new f s due = inr tt
 
 pub due_told : AreSingle → (run : RunJob) (result : Status) (before now : World) (history : Option HistoryValue) →
-    Moves before.files.held now.files.held (Leaves run result before now history) →
-    Told before.files.held (λ m. (s : Status) → IsAskedFor run m s → (result ≡ s) ⊎ IsFault result)
-due_told one run result before now history moves = by_held before.files.held now.files.held moves where
-  by_held : (a b : Option Contents) → Moves a b (Leaves run result before now history) →
-      Told a (λ m. (s : Status) → IsAskedFor run m s → (result ≡ s) ⊎ IsFault result)
-  by_held None b moves = tt
-  by_held (Some m) None moves = absurd moves
-  by_held (Some m) (Some o) moves = is_due one run m result before now history o moves
+    Told before.reading.held (λ i. Moves before.writing.held now.writing.held (Leaves run result before now history i)) →
+    Told before.reading.held (λ i. Told before.writing.held (λ old. (s : Status) → IsAskedFor run i s → (result ≡ s) ⊎ IsFault result))
+due_told one run result before now history told =
+    told_by before.reading.held _ _ (λ i moves. by_held i before.writing.held now.writing.held moves) told where
+      by_held : (i : Contents) (a b : Option Contents) → Moves a b (Leaves run result before now history i) →
+          Told a (λ old. (s : Status) → IsAskedFor run i s → (result ≡ s) ⊎ IsFault result)
+      by_held i None b moves = tt
+      by_held i (Some m) None moves = absurd moves
+      by_held i (Some m) (Some o) moves = is_due one run i result before now history m o moves

@@ -1,6 +1,6 @@
 -- How the records of a run ended.
 use Rattle.lwaftr_engine.proofs.Words.{AreAllPoints, AreBefore, AreInWindows, CaptureBad, Ending, HasTaken, HistoryValue, IsBehind, IsClosed, IsOnDuty}
-use Rattle.lwaftr_engine.proofs.Words.{IsSettledAt, Left, List, None, Option, Outside, Rec, Rises, Router, SettledPointsAreAll, Setup, Some, Spot, Takes}
+use Rattle.lwaftr_engine.proofs.Words.{IsSettledAt, Left, List, None, Option, Readable, Rec, Rises, Router, SettledPointsAreAll, Setup, Some, Spot, Takes}
 use Rattle.lwaftr_engine.proofs.Words.{append-nil, arith, inl, inr, is_cut, state_of, sym, ℕ, ◌<◌, ◌∙◌, ◌∷◌, [], length, window, ◌+◌, ◌≤◌, ◌⊎◌}
 use Rattle.lwaftr_engine.proofs.Closing.{few_points, its_planned}
 use Rattle.lwaftr_engine.proofs.Steps.{none_waits}
@@ -55,7 +55,7 @@ ends_at {reader = reader} {bytes = bytes} {number = number} ending.ReadFault som
     }
 
 -- which records count
-pub takes_by : (name : List ℕ) (first : Spot) (bytes : List ℕ) {rs : List Rec} (a b : Outside) (stop : Ending) →
+pub takes_by : (name : List ℕ) (first : Spot) (bytes : List ℕ) {rs : List Rec} (a b : Readable) (stop : Ending) →
     Rises (is_cut (Some stop)) a.lost b.lost → EndsAt name first bytes rs stop b.last → Takes name first bytes rs a b
 takes_by name first bytes a b ending.End rises it = inl (rises, (None, it))
 takes_by name first bytes a b (ending.Bad refusal) rises it = inl (rises, (Some refusal, it))

@@ -1,6 +1,6 @@
 -- Calls that were ended by a fault.
-use Rattle.lwaftr_engine.proofs.Words.{ℕ, ◌≤◌, List, ◌++◌, length, take, Option, Result, Ok, Err, IfErr, IfOk, IsErr, Contents, content, Moves, Writes}
-use Rattle.lwaftr_engine.proofs.Words.{AppendedAll, Fault, IsErrAnd, ap, ◌≡◌}
+use Rattle.lwaftr_engine.proofs.Words.{Result, Ok, Err, IfErr, IfOk, IsErr, Fault, IsErrAnd, Rises, ap, has_failed, ℕ, ◌≡◌}
+use Rattle.aftr_io.specs.declared.outside.Fault.TheVariants as fault
 
 pub if_err : {T : Type 0} (A : Type 0) (r : Result T Fault) → A → IfErr r (λ _. A)
 if_err A (Ok x) a = tt
@@ -15,7 +15,7 @@ pub handed : {T : Type 0} {why : Fault} (r : Result T Fault) → IsErrAnd r (λ 
 handed (Ok x) is = absurd is
 handed (Err e) is = ap Err is
 
-pub appended_err : (r : Result Unit Fault) (a b : Option Contents) (name bytes : List ℕ) → IsErr r →
-    Moves a b (λ m n. (count : ℕ) × (count ≤ length bytes) × Writes m n name (content m name ++ take count bytes)) → AppendedAll r a b name bytes
-appended_err (Ok done) a b name bytes is step = absurd (cc is)
-appended_err (Err why) a b name bytes is step = step
+-- whether a call failed does not hang on what it would have answered
+pub fails_as : (T U : Type 0) (m n : ℕ) (why : Fault) → Rises (has_failed {T = T} (Err why)) m n → Rises (has_failed {T = U} (Err why)) m n
+fails_as T U m n fault.Failed rises = rises
+fails_as T U m n fault.OutOfMemory rises = rises

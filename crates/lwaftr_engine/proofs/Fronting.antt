@@ -7,7 +7,7 @@ use Rattle.lwaftr_engine.proofs.Words.{file_head, Form, Rec, entries_of, unfinis
 use Rattle.lwaftr_engine.proofs.Words.{last_lines, last_steps, last_versions, HoldsFront, IsAtSummary, IsFront, IsFrontOf, IsUnder, Stop, is_table}
 use Rattle.lwaftr_engine.proofs.Words.{shown_points, stop_by, whole_lines, HasWritten, Setup, Spot, Suits, loads_of, RunLaws, IsPlanOf, Did, DidFront, Course}
 use Rattle.lwaftr_engine.proofs.Words.{lines_from, packets_from, verdicts_of, NoneIsDue, load_lines, named, IsPlan, Tables, AreAllPoints, AreInWindows}
-use Rattle.lwaftr_engine.proofs.Words.{in_force, Window, AreWritten, Outside, State, World, is_failure}
+use Rattle.lwaftr_engine.proofs.Words.{in_force, Window, AreWritten, Readable, State, World, is_failure}
 use Rattle.lwaftr_engine.specs.Finishing.{TookFront}
 use Rattle.lwaftr_engine.specs.Fronts.{NothingPut}
 use Rattle.lwaftr_engine.proofs.Begun.{TakenUnder, begun_by, lines_in_front}
@@ -120,7 +120,7 @@ finish_begun {x} {c} {s} {b} {d} {e} {rs} h front =
 
 -- what is put last: nothing, or all outputs are whole, and a front of the summary
 abbrev EndsWith : ClosedRun → List ℕ → List Rec → Contents → Stop → Course → Type 0
-EndsWith r points rs e stop c = NothingPut stop ⊎ ((stop.after.files.spoiled ≡ stop.before.files.spoiled)
+EndsWith r points rs e stop c = NothingPut stop ⊎ ((stop.after.writing.spoiled ≡ stop.before.writing.spoiled)
     × IsAtSummary r.x.run r.x.slots c points r.x.form r.x.written rs e stop.before.said stop.after.said)
 
 -- all lines are written, and a part of the summary is put
@@ -231,7 +231,7 @@ module _ (r : ClosedRun) (slots_of : AreSlotsOf r.x.run r.windows r.x.slots) whe
 
   -- rounds were ended by a fault
   pub at_rounds : (stop : Stop) → NothingPut stop →
-      {first : Spot} {a b : Outside} {d : Contents} (broken : IsBrokenFrom r.x r.s first a b r.opened d) →
+      {first : Spot} {a b : Readable} {bytes : List ℕ} {d : Contents} (broken : IsBrokenFrom r.x r.s first a b bytes r.opened d) →
       IsFront r.x.run r.tables r.windows r.x.slots r.x.form r.x.written broken.records 3 r.old d stop
   at_rounds stop nothing {d = d} broken =
       let cut = broken.part in
@@ -250,7 +250,7 @@ module _ (r : ClosedRun) (slots_of : AreSlotsOf r.x.run r.windows r.x.slots) whe
 
   abbrev Half : Fault → World → World → List Rec → Contents → Contents → Type 0
   Half why before after rs d e =
-      IsHalfFinished r.x r.s.progress r.s.points rs (is_failure why) before.files.spoiled after.files.spoiled before.said after.said d e
+      IsHalfFinished r.x r.s.progress r.s.points rs (is_failure why) before.writing.spoiled after.writing.spoiled before.said after.said d e
 
   -- the records have ended, and what is left is written in part
   pub at_finish : (why : Fault) (before after : World) {d e : Contents} {rs : List Rec} → AreAllPoints r.windows r.s.points (length rs) →

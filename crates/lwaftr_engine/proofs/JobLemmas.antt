@@ -1,6 +1,6 @@
 -- What a run leaves, in the words of the whole files.
 use Rattle.lwaftr_engine.proofs.Words.{subst, ◌≡◌, ℕ, ◌<◌, nat_lt, Bool, true, false, not, List, [], ◌∷◌, length, Option, Some, None, Result, Ok, Err, refl}
-use Rattle.lwaftr_engine.proofs.Words.{sym, ◌∙◌, ap, arith, Contents, content, Moves, Told, FailsAt, Outside, IfOk, EndsInRecords, IsOfRecord, is_cut}
+use Rattle.lwaftr_engine.proofs.Words.{sym, ◌∙◌, ap, arith, Contents, content, Moves, Told, FailsAt, Readable, IfOk, EndsInRecords, IsOfRecord, is_cut}
 use Rattle.lwaftr_engine.proofs.Words.{FailsIn, HasHistoryBy, GoesWithRead, GoesWithRefusal, HasHistory, HasSummary, Fault, HistoryValue, left_of, stands_in}
 use Rattle.lwaftr_engine.proofs.Words.{ClassicReader, CaptureBad, Form, Ending, Header, blocks_of, classic_of, header_by, in_blocks, in_classic, IsAtFirst}
 use Rattle.lwaftr_engine.proofs.Words.{IsEarly, LeavesMade, ended_status, some_slot_refused, ReadsOf, Setup, Spot, spot, Status, EndsBehind, IsInHeader, Seen}
@@ -61,7 +61,7 @@ with_read : (input : List ℕ) (last : Option (List ℕ × ℕ)) (said now : Opt
 with_read input last said now (Some history) of summed = (of, summed)
 with_read input last said now None of summed = absurd summed
 
-pub has_history : (input : List ℕ) (ended : Result Ending Fault) (refused : Bool) (before after : Outside) (said now : Option (List ℕ))
+pub has_history : (input : List ℕ) (ended : Result Ending Fault) (refused : Bool) (before after : Readable) (said now : Option (List ℕ))
     (history : Option HistoryValue) →
     HasHistoryBy ended said now history → IfOk ended (λ e. EndsInRecords (Some e)) → IfOk ended (λ e. ReadsOf (is_cut (Some e)) input before after) →
     HasHistory input (ended_status ended refused) after.last said now history
@@ -74,7 +74,7 @@ has_history input (Ok ending.ReadFault) refused before after said now history su
 has_history input (Err fault.Failed) refused before after said now history none in_records reads = none
 has_history input (Err fault.OutOfMemory) refused before after said now history none in_records reads = none
 
-pub ended_place : (name : List ℕ) (ended : Result Ending Fault) (refused : Bool) (before now : Outside) →
+pub ended_place : (name : List ℕ) (ended : Result Ending Fault) (refused : Bool) (before now : Readable) →
     IfOk ended (λ e. ReadsOf (is_cut (Some e)) name before now) →
     FailsIn (name ∷ []) (ended_status ended refused) before.last now.last
 ended_place name (Ok ending.End) true before now reads = reads.last
@@ -87,13 +87,13 @@ ended_place name (Err fault.OutOfMemory) refused before now reads = tt
 
 pub opened_leaves : (x : Setup) (plan : Tables) (reader : Spot) (ended : Result Ending Fault) (result : Status) (before now : World)
     (history : Option HistoryValue) →
-    result ≡ ended_status ended (some_slot_refused x.slots) → Told before.files.held (λ m. IsAtFirst reader x.form x.written (content m x.run.input)) →
-    Moves before.files.held now.files.held (LeavesOpened x plan reader ended before now history) →
-    Moves before.files.held now.files.held (LeavesMade x.run plan x.slots result before now history)
+    result ≡ ended_status ended (some_slot_refused x.slots) → Told before.reading.held (λ i. IsAtFirst reader x.form x.written (content i x.run.input)) →
+    Told before.reading.held (λ i. Moves before.writing.held now.writing.held (LeavesOpened x plan reader ended before now history i)) →
+    Told before.reading.held (λ i. Moves before.writing.held now.writing.held (LeavesMade x.run plan x.slots result before now history i))
 opened_leaves x plan reader ended result before now history is first ran =
-    told_moves before.files.held now.files.held (λ m. IsAtFirst reader x.form x.written (content m x.run.input))
-    (LeavesOpened x plan reader ended before now history) _
-    (λ m n at_first leaves tables windows of. rw is (leaves at_first tables windows of)) first ran
+    told_moves before.reading.held before.writing.held now.writing.held (λ i. IsAtFirst reader x.form x.written (content i x.run.input))
+    (LeavesOpened x plan reader ended before now history) (LeavesMade x.run plan x.slots result before now history)
+    (λ i m n at_first leaves tables windows of. rw is (leaves at_first tables windows of)) first ran
 
 -- a read that failed before the first record
 pub same_last : {a b : List ℕ × ℕ} {last : Option (List ℕ × ℕ)} → last ≡ Some a → last ≡ Some b → a ≡ b

@@ -17,6 +17,7 @@ mod Fronting
 mod Going
 mod JobLemmas
 mod Judging
+mod LastLemmas
 mod Laws
 mod LeaveLemmas
 mod LineLemmas
@@ -42,6 +43,5 @@ mod Telling
 mod TopLemmas
 mod UnderwayLemmas
 mod UnopenedLemmas
-mod WriteLemmas
 mod Writing
 mod Words

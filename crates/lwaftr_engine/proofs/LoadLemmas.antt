@@ -1,7 +1,7 @@
 -- Loads that are read in batches.
 use Rattle.lwaftr_engine.proofs.Words.{◌≡◌, ℕ, suc, ◌+◌, Bool, false, true, List, [], ◌∷◌, ◌++◌, take, drop, Option, Some, Ok, Err, sym, ◌∙◌, ap, arith}
 use Rattle.lwaftr_engine.proofs.Words.{subst, AllZip, Contains, slice_get, map, take-add, take-suc, map-append, take-append-drop, Contains-append_left}
-use Rattle.lwaftr_engine.proofs.Words.{Contains-append_right, get_or_from_slice_get, slice_get_within, all_zipped_more, Contents, Told, content, Outside}
+use Rattle.lwaftr_engine.proofs.Words.{Contains-append_right, get_or_from_slice_get, slice_get_within, all_zipped_more, Contents, Told, content, Readable}
 use Rattle.lwaftr_engine.proofs.Words.{LoadWords, AreFitFor, AreLoadsOf, FailsAmong, HasWindowOf, IsFileOf, IsFitFor, IsLoadOf, OnlyReadsAmong, Answer}
 use Rattle.lwaftr_engine.proofs.Words.{IsSound, IsLoadOfFile, IsLoadedAs, Load, Loaded, LoadFile, TableOf, read_well}
 use Rattle.lwaftr_engine.proofs.FrontLemmas.{table_of_front}
@@ -86,14 +86,14 @@ fails_among false ws at count before now same = same
 fails_among true ws at count before now failed = read_among (among_all_names ws at count) failed
 
 -- what reads the files of some of the words reads among those of all
-pub reads_within : (failed : Bool) (ws : List LoadWords) (at count : ℕ) (a b d : Outside) → b ≡ a →
+pub reads_within : (failed : Bool) (ws : List LoadWords) (at count : ℕ) (a b d : Readable) → b ≡ a →
     OnlyReadsAmong failed (names_of (take count (drop at ws))) b d → OnlyReadsAmong failed (names_of ws) a d
 reads_within failed ws at count a b d same only =
     let some : OnlyReadsAmong failed (names_of (take count (drop at ws))) a d =
     rw (← same) only in
-    record { held = some.held; faults = some.faults; lost = some.lost; spoiled = some.spoiled; last = fails_among failed ws at count a.last d.last some.last }
+    record { held = some.held; lost = some.lost; last = fails_among failed ws at count a.last d.last some.last }
 
 -- reads of many files that went well change nothing that is known
-pub read_all : {a b d : Outside} {names : List (List ℕ)} → b ≡ a → OnlyReadsAmong false names b d → d ≡ a
+pub read_all : {a b d : Readable} {names : List (List ℕ)} → b ≡ a → OnlyReadsAmong false names b d → d ≡ a
 read_all {b = b} {d = d} same only =
-    read_well [] (λ _. Unit {0}) b d (record { held = only.held; faults = only.faults; lost = only.lost; spoiled = only.spoiled; last = only.last }) ∙ same
+    read_well [] (λ _. Unit {0}) b d (record { held = only.held; lost = only.lost; last = only.last }) ∙ same

@@ -43,7 +43,11 @@ content_here m name bytes =
     let same : eq_by_cmp (slice_cmp nat_cmp) name name ≡ true = (eq_by_cmp_equiv nat_list_cmp_total).refl name in
     ap (λ o. unwrap_or o []) (get-insert nat_list_cmp_total m name bytes name ∙ ap (λ t. cond t (Some bytes) (get m name)) same)
 
-pub is_show : (seed count : ℕ) (old : Contents) (job : RunJob) (made : Made) → IsDemoJob count job → IsDemoMade count (table_from 0) (table_from 64) made →
-    IsShow seed count (record { files = insert old job.input (capture_of seed count); job = job; made = made })
-is_show seed count old job made is_job is_made =
+pub is_show : (seed count : ℕ) (old written : Contents) (job : RunJob) (made : Made) → IsDemoJob count job → IsDemoMade count (table_from 0) (table_from 64) made →
+    IsShow seed count (record {
+      files = record { reading = insert old job.input (capture_of seed count); writing = written };
+      job = job;
+      made = made;
+    })
+is_show seed count old written job made is_job is_made =
     record { job = is_job; holds = content_here old job.input (capture_of seed count); made = is_made }

@@ -35,10 +35,11 @@ demo_not_run (inr short) = absurd (cc short)
 pub no_run : (run : RunJob) (s : Status) (w : World) (history : Option HistoryValue) → s ≡ status.OutOfMemory → history ≡ None → KeepsRun run s w w history
 no_run run s w history short none =
     rw short (rw none (record {
-      files = moves_none w.files.held w.files.held (Leaves run status.OutOfMemory w w None)
-          (λ m. inl (record { files = refl; sink = refl; none = refl }, record { lost = refl; spoiled = refl; faults = refl; last = refl })) refl;
-      others = others_same run w.files.held w.files.held refl;
-      due = told_all w.files.held _ (λ m s asked. inr tt);
+      files = told_all w.reading.held _ (λ i. moves_none w.writing.held w.writing.held (Leaves run status.OutOfMemory w w None i)
+          (λ m. inl (record { files = refl; sink = refl; none = refl }, record { lost = refl; spoiled = refl; last = refl })) refl);
+      read_kept = refl;
+      others = others_same run w.writing.held w.writing.held refl;
+      due = told_all w.reading.held _ (λ i. told_all w.writing.held _ (λ m s asked. inr tt));
       cause = record { spoiled = refl; puts = refl };
       failed_read = tt;
       capture_read = inl (refl, refl);
@@ -49,9 +50,10 @@ pub no_show : (seed count : ℕ) (s : Status) (w : World) (history : Option Hist
     KeepsDemo seed count s w w history
 no_show seed count s w history short none =
     rw short (rw none (record {
+      read_kept = refl;
       kept = refl;
       line = inl refl;
-      cause = record { lost = refl; spoiled = refl; faults = refl; puts = refl };
+      cause = record { lost = refl; spoiled = refl; puts = refl };
       due = inr (inr refl);
       history_is = refl;
     }))

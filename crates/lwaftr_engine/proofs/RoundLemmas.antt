@@ -1,17 +1,9 @@
 -- The parts of a round, as they are shown.
-use Rattle.lwaftr_engine.proofs.Words.{◌≡◌, ℕ, List, Bool, false, string_bytes, OnlyWrites, Outside, ReadsOf, round_steps, Pending, lines_in, packets_in}
-use Rattle.lwaftr_engine.proofs.Words.{Part, steps_of}
+use Rattle.lwaftr_engine.proofs.Words.{◌≡◌, ℕ, List, string_bytes, round_log, Pending, lines_in, packets_in, Part, steps_of, Logs, OutputNames, Result, Fault}
+use Rattle.lwaftr_engine.proofs.Words.{WrittenFiles}
 
 -- what a round writes, by another writing of it
-pub steps_shown : (u : Pending) (vs : List ℕ) (parts : List Part) → vs ≡ string_bytes u.versions → parts ≡ u.rendered →
-    round_steps vs (packets_in parts) (lines_in parts) ≡ steps_of u
-steps_shown u vs parts vs_is parts_is = λ i. round_steps (vs_is i) (packets_in (parts_is i)) (lines_in (parts_is i))
-
--- a read behind writes that went well, and writes behind a read
-pub reads_after : (failed : Bool) (name : List ℕ) (a b d : Outside) → OnlyWrites false a b → ReadsOf failed name b d → ReadsOf failed name a d
-reads_after failed name a b d wrote read =
-    record { faults = rw (← wrote.faults) read.faults; lost = rw (← wrote.lost) read.lost; last = rw (← wrote.last) read.last }
-
-pub reads_before : (failed : Bool) (name : List ℕ) (a b d : Outside) → ReadsOf failed name a b → OnlyWrites false b d → ReadsOf failed name a d
-reads_before failed name a b d read wrote =
-    record { faults = rw wrote.faults read.faults; lost = rw wrote.lost read.lost; last = rw wrote.last read.last }
+pub log_shown : (u : Pending) (vs : List ℕ) (parts : List Part) → vs ≡ string_bytes u.versions → parts ≡ u.rendered →
+    (names others : OutputNames) (r : Result Unit Fault) (a b : WrittenFiles) → names ≡ others →
+    Logs names r (round_log vs (packets_in parts) (lines_in parts)) a b → Logs others r (steps_of u) a b
+log_shown u vs parts vs_is parts_is names others r a b same log = rw (← same) (rw (vs_is, parts_is) at log)

@@ -89,14 +89,14 @@ at_middle count (p ∷ q ∷ points) are = absurd (omega (arith, are.each, is_op
 
 -- what the run leaves at `Done`, with a sink in memory that had nothing, is the demonstration's summary and history
 pub is_demo : OneReading × WrittenIsRead → {seed count : ℕ} → count ≤ 1000000 → {show : Show} → IsShow seed count show →
-    {new : Contents} {before line : List ℕ} {history : Option HistoryValue} → before ≡ [] →
+    {old new : Contents} {before line : List ℕ} {history : Option HistoryValue} → before ≡ [] →
     ((tables : ℕ → BindingTable) (windows : List Window) → IsPlanOf tables windows show.made.plan →
-    IsWhole show.job tables windows show.made.slots show.files new (Some before) (Some line) history None × (some_slot_refused show.made.slots ≡ false)) →
+    IsWhole show.job tables windows show.made.slots show.files.reading old new (Some before) (Some line) history None × (some_slot_refused show.made.slots ≡ false)) →
     IsDemo seed count line history
-is_demo laws {seed} {count} few {show} is {new} {before} {line} {history} none leaves =
+is_demo laws {seed} {count} few {show} is {old} {new} {before} {line} {history} none leaves =
     let windows = middle_window count in
     let W : List ℕ → Type 0 = λ said.
-    IsWhole show.job demo_tables (middle_window count) show.made.slots show.files new (Some said) (Some line) history None in
+    IsWhole show.job demo_tables (middle_window count) show.made.slots show.files.reading old new (Some said) (Some line) history None in
     let whole = subst W none (leaves demo_tables windows is.made.plan).0 in
     let form = whole.header.form in
     let r = whole.is_run in

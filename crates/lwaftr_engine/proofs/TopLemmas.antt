@@ -1,6 +1,6 @@
 -- The one job that the words ask for.
 use Rattle.lwaftr_engine.proofs.Words.{◌≡◌, ◌≤◌, ℕ, List, [], ◌∷◌, AreWorkers, AsksRun, Asks, IsLimit, IsRate, IsWorkers, Parts, RunJob, IsRunJob, Option}
-use Rattle.lwaftr_engine.proofs.Words.{Some, None, inl, inr, arith, IfSome}
+use Rattle.lwaftr_engine.proofs.Words.{Some, None, V4, inl, inr, arith, IfSome}
 use Rattle.aftr_text.specs.declared.jobs.Job.TheVariants as asked
 
 workers_of : (given : List (List ℕ)) (workers : ℕ) → AreWorkers given workers → IsWorkers workers
@@ -24,6 +24,12 @@ run_job_of p run asks = record {
 pub asked_run : (words : List (List ℕ)) (run : RunJob) → Asks words (asked.Run run) → IsRunJob run
 asked_run [] run asks = absurd asks
 asked_run (command ∷ rest) run asks = run_job_of asks.0 run asks.2.1
+
+pub same_check : {a b : List ℕ} → asked.Check a ≡ asked.Check b → a ≡ b
+same_check e = cc e
+
+pub same_who : {a b : List ℕ} {v w : V4} {p q : ℕ} → asked.Who a v p ≡ asked.Who b w q → (a ≡ b) × (v ≡ w) × (p ≡ q)
+same_who e = (cc e, cc e, cc e)
 
 pub same_migration : {a b c d : List ℕ} → asked.Migrate a b ≡ asked.Migrate c d → (a ≡ c) × (b ≡ d)
 same_migration e = (cc e, cc e)

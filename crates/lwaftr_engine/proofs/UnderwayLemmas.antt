@@ -1,22 +1,21 @@
 -- Rounds of which the last one is written while the next one is judged and the one behind it is read.
-use Rattle.lwaftr_engine.proofs.Words.{AreApart, All-append, Breaks, BreaksLast, Contents, Course, Did, DidBoth, DidFront, Ending, Goes, HasRead, HasTaken}
-use Rattle.lwaftr_engine.proofs.Words.{IsAtStart, IsBrokenFrom, IsCutFrom, IsNext, IsNothing, IsPending, IsPlaced, IsUnderWay, Moves, Option, Outside, Pending}
+use Rattle.lwaftr_engine.proofs.Words.{did_none, outputs_of, All-append, Breaks, BreaksLast, Contents, Course, Did, DidBoth, DidFront, Ending, Goes, HasRead, HasTaken}
+use Rattle.lwaftr_engine.proofs.Words.{IsAtStart, IsBrokenFrom, IsCutFrom, IsNext, IsNothing, IsPending, IsPlaced, IsUnderWay, Halves, Moves, Option, Pending, Readable}
 use Rattle.lwaftr_engine.proofs.Words.{ReadsPast, Rises, Round, Router, RunLaws, Setup, Spot, StandsBetween, State, StaysOnDuty, Suits, Takes, Told, UnderWay}
 use Rattle.lwaftr_engine.proofs.Words.{WentWell, [], ap, append-nil, append_assoc, arith, content, is_cut, length, length-append, lines_in, packets_in, refl}
-use Rattle.lwaftr_engine.proofs.Words.{round_steps, state_of, steps_of, string_bytes, subst, sym, take, take-nil, ◌++◌, ◌+◌, ◌∙◌, ◌≡◌, ◌≤◌, Areas, List, None}
+use Rattle.lwaftr_engine.proofs.Words.{round_log, state_of, steps_of, string_bytes, subst, sym, take, take-nil, ◌++◌, ◌+◌, ◌∙◌, ◌≡◌, ◌≤◌, Areas, List, None}
 use Rattle.lwaftr_engine.proofs.Words.{Rec, Some, Step, inl, inr, ℕ}
-use Rattle.lwaftr_engine.proofs.Apart.{input_kept}
 use Rattle.lwaftr_engine.proofs.EndLemmas.{SomeLeft, ends_at, takes_by}
-use Rattle.lwaftr_engine.proofs.Writing.{WroteFront, did_none, wrote_front, in_others, in_tables, wrote}
+use Rattle.lwaftr_engine.proofs.Writing.{WroteFront, wrote_front, in_others, in_tables, wrote}
 use Rattle.lwaftr_engine.proofs.Begun.{TakenUnder, begun_more, begun_tables, still_begun}
 use Rattle.lwaftr_engine.proofs.Steps.{follows_more, no_further, suits_before}
-use Rattle.lwaftr_engine.proofs.Moving.{moves_join, moves_none, moves_told, told_by, told_still}
+use Rattle.lwaftr_engine.proofs.Moving.{moves_join, moves_none, told_all, told_both, told_by, told_still}
 use Rattle.lwaftr_engine.proofs.Closing.{none_written}
 use Rattle.lwaftr_engine.proofs.Going.{RoundUnder, written_more}
 use Rattle.capture_io.specs.declared.rounds.Ending.TheVariants as ending
 
 no_steps : (p : Pending) → IsNothing p → steps_of p ≡ []
-no_steps p none = λ i. round_steps (none.versions i) (none.packets i) (none.lines i)
+no_steps p none = λ i. round_log (none.versions i) (none.packets i) (none.lines i)
 
 -- before the first round is judged
 module _ (x : Setup) {r : Router} (start : IsAtStart x r) where
@@ -33,7 +32,6 @@ module _ (x : Setup) {r : Router} (start : IsAtStart x r) where
 
   pending_none : (m : Contents) (steps : List Step) → steps ≡ [] → IsPending x (state_of r) steps m m []
   pending_none m steps none = record {
-    input = refl;
     whole = λ n did c suits. none_written c start.first start.no_points (wrote x.run [] [] [] m n (rw (← none) did));
     part = λ n front. cut_none m n (rw (← (ap (λ (l : List Step). take front.0 l) none ∙ take-nil front.0)) front.1) [];
   }
@@ -51,30 +49,31 @@ module _ (x : Setup) {r : Router} (start : IsAtStart x r) where
   }
 
   -- the first round could not be read: nothing more was written
-  pub not_begun : (first : Spot) → SomeLeft first.left → (a b : Outside) → b.lost ≡ a.lost → b.held ≡ a.held →
-      Moves a.held b.held (Breaks x (state_of r) first a b)
-  not_begun first some a b lost same =
-      moves_none a.held b.held _
+  pub not_begun : (first : Spot) → SomeLeft first.left → (a b : Readable) (w : Option Contents) → b.lost ≡ a.lost →
+      Told a.held (λ i. Moves w w (Breaks x (state_of r) first a b (content i x.run.input)))
+  not_begun first some a b w lost =
+      told_all a.held _
+      (λ i. moves_none w w (Breaks x (state_of r) first a b (content i x.run.input))
       (λ m here.
-      let left = some (content m x.run.input) 0 in
+      let left = some (content i x.run.input) 0 in
       record {
         records = left.0;
         taken = inl (lost, (left.1, left.2));
         drawn = omega (arith, ap (λ (l : List (ℕ × ℕ)). length l) start.no_draws);
         up_to_date = inl (ap (λ (l : List (ℕ × ℕ)). length l) start.no_draws);
-        part = cut_none m m (did_none x.run m) left.0;
-      }) same
+        part = cut_none m m (did_none (outputs_of x.run) m) left.0;
+      }) refl)
 
   -- it is read, and nothing is pending
-  pub begin_rounds : (first now : Spot) (round : Round) (pending : Pending) → IsNothing pending → (a b : Outside) → b.held ≡ a.held →
-      HasRead x first now r.progress.number a.held b.last round →
-      Moves a.held b.held (StandsBetween x (state_of r) (steps_of pending) first now round b.last)
-  begin_rounds first now round pending none a b same read =
-      rw same (told_still a.held _ (StandsBetween x (state_of r) (steps_of pending) first now round b.last) (λ m told stood. record {
+  pub begin_rounds : (first now : Spot) (round : Round) (pending : Pending) → IsNothing pending → (h w v : Option Contents) → v ≡ w →
+      (last : Option (List ℕ × ℕ)) → HasRead x first now r.progress.number h last round →
+      Told h (λ i. Moves w v (StandsBetween x (state_of r) (steps_of pending) first now round last (content i x.run.input)))
+  begin_rounds first now round pending none h w v same last read =
+      told_still h w v _ (λ i. StandsBetween x (state_of r) (steps_of pending) first now round last (content i x.run.input)) (λ i m told stood. record {
         records = [];
         pending = pending_none m (steps_of pending) (no_steps pending none);
         taken = taken_first read.in_hand.numbered (told stood) read.placed;
-      }) read.told)
+      }) same read.told
 
 -- it is one of what they and more write
 cut_more : {x : Setup} {s : State} {opened n : Contents} {records : List Rec} → IsCutFrom x s opened n records → (more : List Rec) →
@@ -87,10 +86,10 @@ cut_more cut more = record {
 }
 
 -- the records of the rounds that were read
-abbrev TakesMore : List ℕ → Spot → List ℕ → List Rec → Outside → Outside → Type 0
+abbrev TakesMore : List ℕ → Spot → List ℕ → List Rec → Readable → Readable → Type 0
 TakesMore name first bytes rs a b = (more : List Rec) × Takes name first bytes (rs ++ more) a b
 
-takes_of : {name : List ℕ} {first here : Spot} {bytes : List ℕ} {rs : List Rec} {number : ℕ} (stop : Option Ending) (a b : Outside) →
+takes_of : {name : List ℕ} {first here : Spot} {bytes : List ℕ} {rs : List Rec} {number : ℕ} (stop : Option Ending) (a b : Readable) →
     SomeLeft here.left → HasTaken name first here bytes rs number stop b.last → Rises (is_cut stop) a.lost b.lost → TakesMore name first bytes rs a b
 takes_of {bytes = bytes} {number = number} None a b some taken rises =
     let rest = some bytes number in
@@ -102,14 +101,14 @@ takes_of {name = name} {first = first} {bytes = bytes} {rs = rs} (Some stop) a b
 pub record InRounds : Type 1 where
   pub laws : RunLaws
   pub x : Setup
-  pub far : AreApart x.run
   pub first : Spot
   pub here : Spot
   pub w : UnderWay
   pub before : Router
-  pub a : Outside
-  pub m : Outside
-  pub under : Moves a.held m.held (StandsBetween x (state_of before) (steps_of w.pending) first here w.round m.last)
+  pub a : Halves
+  pub m : Halves
+  pub under : Told a.reading.held (λ i. Moves a.writing.held m.writing.held
+      (StandsBetween x (state_of before) (steps_of w.pending) first here w.round m.reading.last (content i x.run.input)))
 
 -- the workers and the desk behind it
 module _ (r : InRounds) (now : Router) (made : Pending) (duty : StaysOnDuty r.before.shift now.shift r.w.round.number) where
@@ -119,11 +118,14 @@ module _ (r : InRounds) (now : Router) (made : Pending) (duty : StaysOnDuty r.be
   abbrev round : Round
   round = r.w.round
 
-  abbrev Under : Contents → Contents → Type 0
-  Under opened m = IsUnderWay r.x (state_of r.before) u r.first r.here r.w.round r.m.last opened m
+  abbrev input : Contents → List ℕ
+  input i = content i r.x.run.input
 
-  abbrev Between : Contents → Contents → Type 0
-  Between = StandsBetween r.x (state_of r.before) u r.first r.here r.w.round r.m.last
+  abbrev Under : List ℕ → Contents → Contents → Type 0
+  Under bytes opened m = IsUnderWay r.x (state_of r.before) u r.first r.here r.w.round r.m.reading.last bytes opened m
+
+  abbrev Between : List ℕ → Contents → Contents → Type 0
+  Between bytes = StandsBetween r.x (state_of r.before) u r.first r.here r.w.round r.m.reading.last bytes
 
   abbrev Well : Type 0
   Well = WentWell r.x r.before now r.w.round made
@@ -142,7 +144,6 @@ module _ (r : InRounds) (now : Router) (made : Pending) (duty : StaysOnDuty r.be
   pending_more : {opened m n : Contents} {records : List Rec} → IsPending r.x (state_of r.before) u opened m records → Did r.x.run u m n →
       Well → IsPending r.x (state_of now) (steps_of made) opened n (records ++ r.w.round.records)
   pending_more {opened} {m} {n} {records} pending did well = record {
-    input = input_kept r.x.run r.far m n did.others ∙ pending.input;
     whole = λ next done c suits. written_more (under_course c suits) next (wrote r.x.run vs ps ls n next done);
     part = λ next front. by_front next (wrote_front r.x.run vs ps ls n next front);
   } where
@@ -199,13 +200,12 @@ module _ (r : InRounds) (now : Router) (made : Pending) (duty : StaysOnDuty r.be
   }
 
   -- one round more was read
-  taken_more : {opened m : Contents} (there : Spot) {next : Round} {last : Option (List ℕ × ℕ)} (w : Under opened m) →
+  taken_more : {bytes : List ℕ} {opened m : Contents} (there : Spot) {next : Round} {last : Option (List ℕ × ℕ)} (w : Under bytes opened m) →
       next.number ≡ r.w.round.number + length next.records →
-      IsNext r.x.run.input r.here there r.w.round.number (content opened r.x.run.input) next last → IsPlaced r.here.at there.at next →
-      HasTaken r.x.run.input r.first there (content opened r.x.run.input) ((w.records ++ r.w.round.records) ++ next.records) next.number next.ending last
-  taken_more {opened} there {next} w numbered read placed =
+      IsNext r.x.run.input r.here there r.w.round.number bytes next last → IsPlaced r.here.at there.at next →
+      HasTaken r.x.run.input r.first there bytes ((w.records ++ r.w.round.records) ++ next.records) next.number next.ending last
+  taken_more {bytes} there {next} w numbered read placed =
       let rs = w.records ++ r.w.round.records in
-      let bytes = content opened r.x.run.input in
       record {
         stands = read.goes.stands;
         count = omega (arith, w.taken.count, numbered, length-append (w.records ++ r.w.round.records) next.records);
@@ -216,54 +216,62 @@ module _ (r : InRounds) (now : Router) (made : Pending) (duty : StaysOnDuty r.be
       }
 
   -- no read failed, and all that is left counts; or one did in the round that was read last
-  takes_past : {opened m : Contents} (there : Spot) (b : Outside) → SomeLeft r.here.left → SomeLeft there.left → (w : Under opened m) →
-      ReadsPast r.x.run.input r.here there r.w.round.number (content opened r.x.run.input) r.a b →
-      TakesMore r.x.run.input r.first (content opened r.x.run.input) (w.records ++ r.w.round.records) r.a b
-  takes_past {opened} there b some some_there w (inl same) =
-      let rest = some (content opened r.x.run.input) r.w.round.number in
+  takes_past : {bytes : List ℕ} {opened m : Contents} (there : Spot) (b : Readable) → SomeLeft r.here.left → SomeLeft there.left → (w : Under bytes opened m) →
+      ReadsPast r.x.run.input r.here there r.w.round.number bytes r.a.reading b →
+      TakesMore r.x.run.input r.first bytes (w.records ++ r.w.round.records) r.a.reading b
+  takes_past {bytes} there b some some_there w (inl same) =
+      let rest = some bytes r.w.round.number in
       (rest.0, inl (same, (rest.1, w.taken.follows rest.0 rest.1 rest.2)))
-  takes_past {opened} there b some some_there w (inr (rose, cut)) =
+  takes_past {bytes} there b some some_there w (inr (rose, cut)) =
       let rs = w.records ++ r.w.round.records in
-      let R : Option Ending → Type 0 = λ e. Rises (is_cut e) r.a.lost b.lost in
-      let T : List Rec → Type 0 = λ l. Takes r.x.run.input r.first (content opened r.x.run.input) l r.a b in
+      let R : Option Ending → Type 0 = λ e. Rises (is_cut e) r.a.reading.lost b.lost in
+      let T : List Rec → Type 0 = λ l. Takes r.x.run.input r.first bytes l r.a.reading b in
       let taken = taken_more there w cut.numbered (cut.next w.taken.stands) cut.placed in
-      let it = takes_of cut.round.ending r.a b some_there taken (subst R (sym cut.cut) rose) in
+      let it = takes_of cut.round.ending r.a.reading b some_there taken (subst R (sym cut.cut) rose) in
       (cut.round.records ++ it.0, subst T (append_assoc rs cut.round.records it.0) it.1)
 
   -- the round was judged, the one before it put, and the next one read
-  pub steps_on : (b : Outside) (there : Spot) {next : Round} → Well → HasRead r.x r.here there r.w.round.number b.held b.last next →
-      Moves r.m.held b.held (Did r.x.run u) →
-      Moves r.a.held b.held (StandsBetween r.x (state_of now) (steps_of made) r.first there next b.last)
+  pub steps_on : (b : Halves) (there : Spot) {next : Round} → Well →
+      HasRead r.x r.here there r.w.round.number r.a.reading.held b.reading.last next → Moves r.m.writing.held b.writing.held (Did r.x.run u) →
+      Told r.a.reading.held (λ i. Moves r.a.writing.held b.writing.held
+      (StandsBetween r.x (state_of now) (steps_of made) r.first there next b.reading.last (input i)))
   steps_on b there {next} well read did =
-      moves_told r.a.held r.m.held b.held Between (Did r.x.run u) _ _
-      (λ a m n way done told stood.
-      let w : Under a m = way stood in
-      let pending = pending_more w.pending done well in
-      let S : List ℕ → Type 0 = λ bytes. r.here.stood bytes in
-      let N : List ℕ → Type 0 = λ bytes. IsNext r.x.run.input r.here there r.w.round.number bytes next b.last in
-      let is_next = subst N pending.input (told (subst S (sym pending.input) w.taken.stands)) in
-      record { records = w.records ++ r.w.round.records; pending = pending; taken = taken_more there w read.in_hand.numbered is_next read.placed })
-      r.under did read.told
-
-  -- the last round was judged, and all is put
-  pub ends_well : (b : Outside) {stop : Option Ending} → Well → r.w.round.ending ≡ stop → b.last ≡ r.m.last →
-      Moves r.m.held b.held (DidBoth r.x.run u (steps_of made)) → Moves r.a.held b.held (Goes r.x (state_of now) r.first r.here stop b.last)
-  ends_well b {stop} well stop_is last_is did =
-      moves_join r.a.held r.m.held b.held Between (DidBoth r.x.run u (steps_of made)) _
-      (λ a m n way both stood.
-      let w : Under a m = way stood in
-      let rs = w.records ++ r.w.round.records in
-      let T : Option Ending → Type 0 = λ e. HasTaken r.x.run.input r.first r.here (content a r.x.run.input) rs now.progress.number e b.last in
+      told_both r.a.reading.held _ _ _
+      (λ i under told.
+      moves_join r.a.writing.held r.m.writing.held b.writing.held (Between (input i)) (Did r.x.run u) _
+      (λ a m n way done stood.
+      let w : Under (input i) a m = way stood in
       record {
         records = w.records ++ r.w.round.records;
-        taken = subst T stop_is (rw (well.number, last_is) w.taken);
+        pending = pending_more w.pending done well;
+        taken = taken_more there w read.in_hand.numbered (told w.taken.stands) read.placed;
+      })
+      under did)
+      r.under read.told
+
+  -- the last round was judged, and all is put
+  pub ends_well : (after : Option Contents) {stop : Option Ending} → Well → r.w.round.ending ≡ stop →
+      Moves r.m.writing.held after (DidBoth r.x.run u (steps_of made)) →
+      Told r.a.reading.held (λ i. Moves r.a.writing.held after (Goes r.x (state_of now) r.first r.here stop r.m.reading.last (input i)))
+  ends_well after {stop} well stop_is did =
+      told_by r.a.reading.held _ _
+      (λ i under.
+      moves_join r.a.writing.held r.m.writing.held after (Between (input i)) (DidBoth r.x.run u (steps_of made)) _
+      (λ a m n way both stood.
+      let w : Under (input i) a m = way stood in
+      let rs = w.records ++ r.w.round.records in
+      let T : Option Ending → Type 0 = λ e. HasTaken r.x.run.input r.first r.here (input i) rs now.progress.number e r.m.reading.last in
+      record {
+        records = w.records ++ r.w.round.records;
+        taken = subst T stop_is (rw well.number w.taken);
         written = (pending_more w.pending both.1 well).whole n both.2;
       })
-      r.under did
+      under did)
+      r.under
 
   -- a part of what the records write was written, and no more
-  broken_off : (b : Outside) {opened n : Contents} {rs : List Rec} → TakesMore r.x.run.input r.first (content opened r.x.run.input) rs r.a b →
-      r.w.round.number ≡ length rs → IsCutFrom r.x (state_of now) opened n rs → IsBrokenFrom r.x (state_of now) r.first r.a b opened n
+  broken_off : (b : Readable) {bytes : List ℕ} {opened n : Contents} {rs : List Rec} → TakesMore r.x.run.input r.first bytes rs r.a.reading b →
+      r.w.round.number ≡ length rs → IsCutFrom r.x (state_of now) opened n rs → IsBrokenFrom r.x (state_of now) r.first r.a.reading b bytes opened n
   broken_off b {rs = rs} takes count cut = record {
     records = rs ++ takes.0;
     taken = takes.1;
@@ -272,49 +280,52 @@ module _ (r : InRounds) (now : Router) (made : Pending) (duty : StaysOnDuty r.be
     part = cut_more cut takes.0;
   }
 
-  part_broken : (b : Outside) {a m n : Contents} (w : Under a m) →
-      TakesMore r.x.run.input r.first (content a r.x.run.input) (w.records ++ r.w.round.records) r.a b → DidFront r.x.run u m n →
-      IsBrokenFrom r.x (state_of now) r.first r.a b a n
+  part_broken : (b : Readable) {bytes : List ℕ} {a m n : Contents} (w : Under bytes a m) →
+      TakesMore r.x.run.input r.first bytes (w.records ++ r.w.round.records) r.a.reading b → DidFront r.x.run u m n →
+      IsBrokenFrom r.x (state_of now) r.first r.a.reading b bytes a n
   part_broken b {n = n} w takes front = broken_off b takes w.taken.count (cut_more (cut_since (w.pending.part n front)) r.w.round.records)
 
   -- and the next round is read or not
-  pub breaks_off : (b : Outside) (there : Spot) → SomeLeft r.here.left → SomeLeft there.left →
-      Told b.held (λ m. ReadsPast r.x.run.input r.here there r.w.round.number (content m r.x.run.input) r.a b) →
-      Moves r.m.held b.held (DidFront r.x.run u) → Moves r.a.held b.held (Breaks r.x (state_of now) r.first r.a b)
+  pub breaks_off : (b : Halves) (there : Spot) → SomeLeft r.here.left → SomeLeft there.left →
+      Told r.a.reading.held (λ i. ReadsPast r.x.run.input r.here there r.w.round.number (input i) r.a.reading b.reading) →
+      Moves r.m.writing.held b.writing.held (DidFront r.x.run u) →
+      Told r.a.reading.held (λ i. Moves r.a.writing.held b.writing.held (Breaks r.x (state_of now) r.first r.a.reading b.reading (input i)))
   breaks_off b there some some_there past front =
-      moves_told r.a.held r.m.held b.held Between (DidFront r.x.run u) _ _
-      (λ a m n way put told stood.
-      let w : Under a m = way stood in
-      let N : List ℕ → Type 0 = λ bytes. ReadsPast r.x.run.input r.here there r.w.round.number bytes r.a b in
-      let same : content n r.x.run.input ≡ content a r.x.run.input = input_kept r.x.run r.far m n put.1.others ∙ w.pending.input in
-      part_broken b w (takes_past there b some some_there w (subst N same told)) put)
-      r.under front past
+      told_both r.a.reading.held _ _ _
+      (λ i under told.
+      moves_join r.a.writing.held r.m.writing.held b.writing.held (Between (input i)) (DidFront r.x.run u) _
+      (λ a m n way put stood.
+      let w : Under (input i) a m = way stood in
+      part_broken b.reading w (takes_past there b.reading some some_there w told) put)
+      under front)
+      r.under past
 
   -- the last round is judged or not, and what it writes is put in part
-  pub last_broken : (b : Outside) → SomeLeft r.here.left → b.last ≡ r.m.last → Rises (is_cut r.w.round.ending) r.a.lost b.lost →
-      Moves r.m.held b.held (BreaksLast r.x.run u Well (steps_of made)) → Moves r.a.held b.held (Breaks r.x (state_of now) r.first r.a b)
-  last_broken b some last_is rises broke =
-      moves_join r.a.held r.m.held b.held Between _ _ (λ a m n way part stood. by_part a m n (way stood) part) r.under broke where
-        takes : {a m : Contents} (w : Under a m) →
-            TakesMore r.x.run.input r.first (content a r.x.run.input) (w.records ++ r.w.round.records) r.a b
-        takes {a} w =
-            let rs = w.records ++ r.w.round.records in
-            let taken : HasTaken r.x.run.input r.first r.here (content a r.x.run.input) rs r.w.round.number r.w.round.ending b.last = rw last_is w.taken in
-            takes_of r.w.round.ending r.a b some taken rises
+  pub last_broken : (after : Option Contents) → SomeLeft r.here.left → Rises (is_cut r.w.round.ending) r.a.reading.lost r.m.reading.lost →
+      Moves r.m.writing.held after (BreaksLast r.x.run u Well (steps_of made)) →
+      Told r.a.reading.held (λ i. Moves r.a.writing.held after (Breaks r.x (state_of now) r.first r.a.reading r.m.reading (input i)))
+  last_broken after some rises broke =
+      told_by r.a.reading.held _ _
+      (λ i under.
+      moves_join r.a.writing.held r.m.writing.held after (Between (input i)) (BreaksLast r.x.run u Well (steps_of made)) _
+      (λ a m n way part stood. by_part a m n (way stood) part) under broke) r.under where
+        takes : {bytes : List ℕ} {a m : Contents} (w : Under bytes a m) →
+            TakesMore r.x.run.input r.first bytes (w.records ++ r.w.round.records) r.a.reading r.m.reading
+        takes w = takes_of r.w.round.ending r.a.reading r.m.reading some w.taken rises
 
-        by_part : (a m n : Contents) → Under a m → BreaksLast r.x.run u Well (steps_of made) m n →
-            IsBrokenFrom r.x (state_of now) r.first r.a b a n
-        by_part a m n w (inl front) = part_broken b w (takes w) front
+        by_part : {bytes : List ℕ} (a m n : Contents) → Under bytes a m → BreaksLast r.x.run u Well (steps_of made) m n →
+            IsBrokenFrom r.x (state_of now) r.first r.a.reading r.m.reading bytes a n
+        by_part a m n w (inl front) = part_broken r.m.reading w (takes w) front
         by_part a m n w (inr (well, (between, did, front))) =
-            broken_off b (takes w) w.taken.count ((pending_more w.pending did well).part n front)
+            broken_off r.m.reading (takes w) w.taken.count ((pending_more w.pending did well).part n front)
 
 -- what was read behind a round, or not
-pub read_past : (x : Setup) (before now : Spot) (number : ℕ) (a b : Outside) (round : Round) → HasRead x before now number b.held b.last round →
-    Rises (is_cut round.ending) a.lost b.lost → Told b.held (λ m. ReadsPast x.run.input before now number (content m x.run.input) a b)
+pub read_past : (x : Setup) (before now : Spot) (number : ℕ) (a b : Readable) (round : Round) → HasRead x before now number a.held b.last round →
+    Rises (is_cut round.ending) a.lost b.lost → Told a.held (λ i. ReadsPast x.run.input before now number (content i x.run.input) a b)
 read_past x before now number a b round read rises =
-    told_by b.held _ _ (λ m told. by_ending m told round.ending refl rises) read.told where
-      by_ending : (m : Contents) → (before.stood (content m x.run.input) → IsNext x.run.input before now number (content m x.run.input) round b.last) →
-          (e : Option Ending) → round.ending ≡ e → Rises (is_cut e) a.lost b.lost → ReadsPast x.run.input before now number (content m x.run.input) a b
-      by_ending m told (Some ending.ReadFault) is rises =
+    told_by a.held _ _ (λ i told. by_ending i told round.ending refl rises) read.told where
+      by_ending : (i : Contents) → (before.stood (content i x.run.input) → IsNext x.run.input before now number (content i x.run.input) round b.last) →
+          (e : Option Ending) → round.ending ≡ e → Rises (is_cut e) a.lost b.lost → ReadsPast x.run.input before now number (content i x.run.input) a b
+      by_ending i told (Some ending.ReadFault) is rises =
           inr (rises, record { round = round; cut = is; numbered = read.in_hand.numbered; placed = read.placed; next = told })
-      by_ending m told _ is rises = inl rises
+      by_ending i told _ is rises = inl rises

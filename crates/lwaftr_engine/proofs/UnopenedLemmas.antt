@@ -1,6 +1,6 @@
 -- A capture that cannot be opened.
 use Rattle.lwaftr_engine.proofs.Words.{◌≡◌, ℕ, Bool, true, false, List, Option, Some, None, Result, Err, inl, inr, refl, sym, ap, subst, Contents}
-use Rattle.lwaftr_engine.proofs.Words.{content, Moves, Told, FailsAt, OnlyReads, Outside, RunJob, is_read_fault, RefusesHeader, CaptureError}
+use Rattle.lwaftr_engine.proofs.Words.{content, Moves, Told, FailsAt, OnlyReads, RunJob, is_read_fault, RefusesHeader, CaptureError}
 use Rattle.lwaftr_engine.proofs.Words.{NoneOfFilesRose, header_by, header_of, in_blocks, in_classic, IsEarly, LeavesMade, unopened_status, HasHistory}
 use Rattle.lwaftr_engine.proofs.Words.{IsInHead, IsInHeadBy, OpensEither, RefusesBy, Reader, Slot, Tables, World}
 use Rattle.lwaftr_engine.proofs.Moving.{told_still}
@@ -13,16 +13,16 @@ abbrev pub failed_as : CaptureError → Bool
 failed_as error = let r : Result Reader CaptureError = Err error in is_read_fault r
 
 -- where memory was short no call failed
-abbrev pub IsShort : Outside → Outside → CaptureError → Type 0
+abbrev pub IsShort : World → World → CaptureError → Type 0
 IsShort before after (failure.Bad refusal) = Unit {0}
 IsShort before after failure.ReadFault = Unit {0}
 IsShort before after failure.OutOfMemory = NoneOfFilesRose before after
 
-pub is_short : (name : List ℕ) (Inside : ℕ → Type 0) (before after : Outside) (error : CaptureError) →
-    OnlyReads (failed_as error) name Inside before after → IsShort before after error
-is_short name Inside before after (failure.Bad refusal) only = tt
-is_short name Inside before after failure.ReadFault only = tt
-is_short name Inside before after failure.OutOfMemory only = record { lost = only.lost; spoiled = only.spoiled; faults = only.faults; last = only.last }
+pub is_short : (name : List ℕ) (Inside : ℕ → Type 0) (before after : World) (error : CaptureError) → after.writing.spoiled ≡ before.writing.spoiled →
+    OnlyReads (failed_as error) name Inside before.reading after.reading → IsShort before after error
+is_short name Inside before after (failure.Bad refusal) spoiled only = tt
+is_short name Inside before after failure.ReadFault spoiled only = tt
+is_short name Inside before after failure.OutOfMemory spoiled only = record { lost = only.lost; spoiled = spoiled; last = only.last }
 
 -- why it was not opened
 abbrev pub IsUnopened : RunJob → Contents → Option (List ℕ × ℕ) → CaptureError → Type 0
@@ -48,21 +48,22 @@ pub by_name : (run : RunJob) (h : Option Contents) (error : CaptureError) (old l
 by_name run None error old last opened failed = tt
 by_name run (Some m) error old last opened failed = by_format run m error old last (blocks.is_pcapng (content m run.input)) refl opened failed
 
-by_error : (run : RunJob) (plan : Tables) (slots : List Slot) (error : CaptureError) (m : Contents) (before now : World) → now.said ≡ before.said →
-    IsShort before.files now.files error →
-    IsUnopened run m now.files.last error → LeavesMade run plan slots (unopened_status error) before now None m m
-by_error run plan slots (failure.Bad refusal) m before now same short why = λ tables windows of. inr (why, record { files = refl; sink = same; none = refl })
-by_error run plan slots failure.ReadFault m before now same short why = λ tables windows of. inr (why, record { files = refl; sink = same; none = refl })
-by_error run plan slots failure.OutOfMemory m before now same short why = λ tables windows of. inl (record { files = refl; sink = same; none = refl }, short)
+by_error : (run : RunJob) (plan : Tables) (slots : List Slot) (error : CaptureError) (i m : Contents) (before now : World) → now.said ≡ before.said →
+    IsShort before now error →
+    IsUnopened run i now.reading.last error → LeavesMade run plan slots (unopened_status error) before now None i m m
+by_error run plan slots (failure.Bad refusal) i m before now same short why = λ tables windows of.
+    inr (why, record { files = refl; sink = same; none = refl })
+by_error run plan slots failure.ReadFault i m before now same short why = λ tables windows of. inr (why, record { files = refl; sink = same; none = refl })
+by_error run plan slots failure.OutOfMemory i m before now same short why = λ tables windows of.
+    inl (record { files = refl; sink = same; none = refl }, short)
 
-pub unopened_leaves : (run : RunJob) (plan : Tables) (slots : List Slot) (error : CaptureError) (before now : World) → now.files.held ≡ before.files.held →
-    now.said ≡ before.said →
-    IsShort before.files now.files error → Told before.files.held (λ m. IsUnopened run m now.files.last error) →
-    Moves before.files.held now.files.held (LeavesMade run plan slots (unopened_status error) before now None)
+pub unopened_leaves : (run : RunJob) (plan : Tables) (slots : List Slot) (error : CaptureError) (before now : World) →
+    now.writing.held ≡ before.writing.held → now.said ≡ before.said →
+    IsShort before now error → Told before.reading.held (λ i. IsUnopened run i now.reading.last error) →
+    Told before.reading.held (λ i. Moves before.writing.held now.writing.held (LeavesMade run plan slots (unopened_status error) before now None i))
 unopened_leaves run plan slots error before now held same short why =
-    let H : Option Contents → Type 0 = λ h. Moves before.files.held h (LeavesMade run plan slots (unopened_status error) before now None) in
-    subst H (sym held) (told_still before.files.held _ (LeavesMade run plan slots (unopened_status error) before now None)
-    (λ m because. by_error run plan slots error m before now same short because) why)
+    told_still before.reading.held before.writing.held now.writing.held _ (LeavesMade run plan slots (unopened_status error) before now None)
+    (λ i m because. by_error run plan slots error i m before now same short because) held why
 
 -- where the capture is not opened there is no history
 pub history_by_error : (input : List ℕ) (error : CaptureError) (last : Option (List ℕ × ℕ)) (said : Option (List ℕ)) → RefusesHeader error →

@@ -24,7 +24,7 @@ pub use Rattle.std.specs.List.{AllZip, Contains}
 pub use Rattle.std.specs.Option.{option_map}
 pub use Rattle.aftr_io.proofs.OutsideLemmas.{read_well}
 pub use Rattle.aftr_io.specs.Memory.{SinkInMemory}
-pub use Rattle.aftr_io.specs.Outside.{OnlyReads, OnlyWrites}
+pub use Rattle.aftr_io.specs.Outside.{OnlyReads}
 pub use Rattle.aftr_io.specs.Pieces.{AppendedAll}
 pub use Rattle.aftr_base.specs.declared.lists.OutOfMemory.{OutOfMemory}
 pub use Rattle.aftr_text.specs.Jobs.{AreWorkers, Asks, AsksRun, IsLimit, StandsOnce, names_of}
@@ -80,9 +80,9 @@ pub use Rattle.lwaftr_engine.specs.Words.{AreAllPoints, AreApart, AreCompiled, A
 pub use Rattle.lwaftr_engine.specs.Words.{Contents, Course, Ending, EndsInRecords, Entry, FailsAt, Fault, FileRefused, Form, HasAsked, HasOutcomes}
 pub use Rattle.lwaftr_engine.specs.Words.{HasWholeShare, HistoryValue, IsCompiled, IsCourseOf, IsHistory, IsLawful, IsLimited, IsLoad, IsLoadedAs, IsOfRecord}
 pub use Rattle.lwaftr_engine.specs.Words.{IsPlaced, IsRate, IsRendered, IsSettled, IsSound, IsWithin, IsWorkers, Item, Left, LimitsAreSome, Load, LoadFile}
-pub use Rattle.lwaftr_engine.specs.Words.{LoadWords, Made, Moves, NamedSlot, NoTable, NoneIsDue, Outcome, Outside, Part, Pending, Precedes, Progress, Rec}
-pub use Rattle.lwaftr_engine.specs.Words.{Rises, Round, Router, RunJob, Seen, SettledPointsAreAll, Shift, Show, Slot, Status, TableOf, Tables}
-pub use Rattle.lwaftr_engine.specs.Words.{TextOf, Told, Totals, V4, V6, Window, Writes, Written, accepted, asks, bound, capture_of, content}
+pub use Rattle.lwaftr_engine.specs.Words.{LoadWords, Made, Moves, NamedSlot, NoTable, NoneIsDue, Outcome, Part, Pending, Precedes, Progress, Rec}
+pub use Rattle.lwaftr_engine.specs.Words.{Readable, Rises, Round, Router, RunJob, Seen, SettledPointsAreAll, Shift, Show, Slot, Stands, Status, TableOf, Tables}
+pub use Rattle.lwaftr_engine.specs.Words.{TextOf, Told, Totals, V4, V6, Window, Writes, Written, WrittenFiles, accepted, asks, bound, capture_of, content}
 pub use Rattle.lwaftr_engine.specs.Words.{ended_text, entries_of, file_head, has_failed, in_force, initial_text, is_cut, items_in, lines_from, lines_in}
 pub use Rattle.lwaftr_engine.specs.Words.{load_lines, migrated_text, named, no_totals, output_of, packets_from, packets_in, rate_of, slot_text, slots_from}
 pub use Rattle.lwaftr_engine.specs.Words.{summary_text, table, table_from, totals_from, totals_of, unfinished_of, verdict_at, verdict_of, verdicts_of, window}
@@ -112,7 +112,11 @@ pub use Rattle.lwaftr_engine.specs.Shows.{IsDemoJob, IsDemoMade, IsShow}
 pub use Rattle.lwaftr_engine.specs.Tables.{Answer, AreAnswers, slots_in, some_refused, table_by, tables_in, windows_in}
 pub use Rattle.lwaftr_engine.specs.Underway.{CanGoOn, CanJudge, HasJudged, HasRead, IsAtStart, IsFirst, IsInHand, IsNext, IsNothing, IsPending, IsSettledAt}
 pub use Rattle.lwaftr_engine.specs.Underway.{IsUnderWay, PutsAndReads, ReadsPast, StandsBetween, StaysOnDuty, WentWell, steps_of}
-pub use Rattle.lwaftr_engine.specs.Worlds.{World, world}
-pub use Rattle.lwaftr_engine.specs.Writing.{BreaksLast, Did, DidBoth, DidFront, File, Step, add, adds, holds, make, making_steps, name_of, opening_steps}
-pub use Rattle.lwaftr_engine.specs.Writing.{out_file, round_steps, same_file, verdicts_file, versions_file}
+pub use Rattle.lwaftr_engine.specs.Worlds.{Halves, World, halves, world}
+pub use Rattle.lwaftr_engine.specs.Writing.{BreaksLast, Did, DidBoth, DidFront, opening_steps, outputs_of}
+pub use Rattle.output_journal.proofs.LogLemmas.{behind, did_join, did_none, holds_adds, holds_round, holds_two, logs_done, logs_front, logs_others}
+pub use Rattle.output_journal.proofs.LogLemmas.{logs_spoiled, take_adds, take_both, take_round}
+pub use Rattle.output_journal.specs.Ends.{Ends, OneRises, Puts as PutsLine, SinkState, sink_state}
+pub use Rattle.output_journal.specs.Log.{AreDistinct, Logged, Logs, OutputNames, Step, adds, holds, last_log, make, name_of, opening_log, round_log}
+pub use Rattle.output_journal.specs.declared.names.Output.{Output}
 pub use Rattle.lwaftr_engine.specs.declared.rounds.UnderWay.{UnderWay}

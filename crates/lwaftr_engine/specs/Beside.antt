@@ -1,9 +1,10 @@
 -- Rounds of which each is judged by one side, while the other one writes what the round before wrote and reads the next one. Ours.
 use Rattle.std.specs.Prelude.{Err, IfOk, IsOk, List, None, Ok, Result, ℕ, [], ◌++◌, ◌∷◌, ◌≡◌}
-use Rattle.lwaftr_engine.specs.Words.{Fault, Outside, Pending, Round, Router}
+use Rattle.lwaftr_engine.specs.Words.{Fault, Pending, Round, Router}
 use Rattle.lwaftr_engine.specs.declared.beside.Assignment.{Assignment}
 use Rattle.lwaftr_engine.specs.declared.beside.Report.{Report}
 use Rattle.lwaftr_engine.specs.Progress.{Setup, Spot}
+use Rattle.lwaftr_engine.specs.Worlds.{Halves}
 use Rattle.lwaftr_engine.specs.Underway.{PutsAndReads, StaysOnDuty, WentWell, steps_of}
 
 -- a round that went over to be judged, and what came back
@@ -46,17 +47,17 @@ pub record HaveTaken (x : Setup) (start now : Router) (took : List Assignment) (
 
 -- Where the side of the files stands: what it wrote, the reader, the round that is not judged yet, and what is not written yet.
 pub record Standing (C : Type 0) : Type 0 where
-  pub files : Outside
+  pub files : Halves
   pub reader : C
   pub round : Round
   pub pending : Pending
 
-abbrev pub standing : {C : Type 0} → Outside → C → Round → Pending → Standing C
+abbrev pub standing : {C : Type 0} → Halves → C → Round → Pending → Standing C
 standing files reader round pending = record { files = files; reader = reader; round = round; pending = pending }
 
 module _ {C : Type 0} (x : Setup) (place : C → Spot) (Ready : C → ℕ → Type 0) where
   -- what it makes of an exchange, where the files, the reader and what was read are these
-  pub record Hands (before : Standing C) (e : Exchange) (files : Outside) (reader : C) (r : Result Round Fault) : Type 0 where
+  pub record Hands (before : Standing C) (e : Exchange) (files : Halves) (reader : C) (r : Result Round Fault) : Type 0 where
     pub asked : e.assignment.round ≡ before.round
     pub going : before.round.ending ≡ None
     pub outside : PutsAndReads x (steps_of before.pending) before.round.number (place before.reader) (place reader) (Ready reader) before.files files r
@@ -72,7 +73,7 @@ module _ {C : Type 0} (x : Setup) (place : C → Spot) (Ready : C → ℕ → Ty
   HaveFetched start (e ∷ es) now = (before : Standing C) × HaveFetched start es before × Fetches before now e
 
   -- the last exchange did not go well
-  abbrev pub HaveBroken : Standing C → List Exchange → Outside → C → Fault → Type 0
+  abbrev pub HaveBroken : Standing C → List Exchange → Halves → C → Fault → Type 0
   HaveBroken start [] files reader fault = ⊥
   HaveBroken start (e ∷ es) files reader fault = (before : Standing C) × HaveFetched start es before × Hands before e files reader (Err fault)
 

@@ -1,12 +1,12 @@
 -- What the outputs hold where rounds were ended by a fault.
 use Rattle.std.specs.Prelude.{List, Option, drop, length, take, ℕ, ◌++◌, ◌<◌, ◌≡◌, ◌≤◌, ◌⊎◌}
-use Rattle.lwaftr_engine.specs.Words.{CaptureBad, Contents, Course, NoneIsDue, Outside, Rec, Rose, content, entries_of, lines_from, load_lines, packets_from}
+use Rattle.lwaftr_engine.specs.Words.{CaptureBad, Contents, Course, NoneIsDue, Readable, Rec, Rose, entries_of, lines_from, load_lines, packets_from}
 use Rattle.lwaftr_engine.specs.Endings.{AreBefore}
 use Rattle.lwaftr_engine.specs.Fronts.{IsFrontOf}
 use Rattle.lwaftr_engine.specs.Progress.{IsLimitedRun, IsUpToDate, Setup, Spot, State, Suits, Wrote, loads_of}
 
 -- these are all records where no read of this file failed, and those before the read that failed where one did
-abbrev pub Takes : List ℕ → Spot → List ℕ → List Rec → Outside → Outside → Type 0
+abbrev pub Takes : List ℕ → Spot → List ℕ → List Rec → Readable → Readable → Type 0
 Takes name reader bytes rs a b = ((b.lost ≡ a.lost) × ((ended : Option CaptureBad) × reader.left bytes 0 rs ended))
     ⊎ (Rose a.lost b.lost × AreBefore (reader.left bytes 0) name reader.at rs b.last)
 
@@ -40,13 +40,13 @@ pub record IsCutFrom (x : Setup) (s : State) (opened now : Contents) (records : 
   pub begun : (later : List ℕ) (c : Course) → Suits s.plan s.draws c →
       HasBegun x c (s.points ++ later) (lines_from c 0 (entries_of x.form taken)) opened now taken
 
--- rounds were ended by a fault: no more records were drawn than there are, and each table whose window is open is in force
-pub record IsBrokenFrom (x : Setup) (s : State) (first : Spot) (a b : Outside) (opened now : Contents) : Type 0 where
+-- rounds over the capture with these bytes were ended by a fault: no more records were drawn than there are, and each table whose window is open is in force
+pub record IsBrokenFrom (x : Setup) (s : State) (first : Spot) (a b : Readable) (bytes : List ℕ) (opened now : Contents) : Type 0 where
   pub records : List Rec
-  pub taken : Takes x.run.input first (content opened x.run.input) records a b
+  pub taken : Takes x.run.input first bytes records a b
   pub drawn : length s.draws ≤ length records
   pub up_to_date : IsUpToDate s.plan (length s.draws) s.points
   pub part : IsCutFrom x s opened now records
 
-abbrev pub Breaks : Setup → State → Spot → Outside → Outside → Contents → Contents → Type 0
-Breaks x s first a b opened now = first.stood (content opened x.run.input) → IsBrokenFrom x s first a b opened now
+abbrev pub Breaks : Setup → State → Spot → Readable → Readable → List ℕ → Contents → Contents → Type 0
+Breaks x s first a b bytes opened now = first.stood bytes → IsBrokenFrom x s first a b bytes opened now

@@ -45,7 +45,8 @@ HasDemoHistory seed count _ history = history ≡ None
 
 -- What the demonstration leaves: the files as they were, and the summary. It fails only where the sink or memory does.
 pub record KeepsDemo (seed count : ℕ) (result : Status) (before now : World) (history : Option HistoryValue) : Type 0 where
-  pub kept : now.files ≡ before.files
+  pub read_kept : now.reading ≡ before.reading
+  pub kept : now.writing ≡ before.writing
   pub line : Answers (IsDemoLine seed count) result before.said now.said
   pub cause : HasOneCause result before now
   pub due : (result ≡ status.Done) ⊎ ((result ≡ status.WriteFault) ⊎ (result ≡ status.OutOfMemory))

@@ -2,10 +2,10 @@
 use Rattle.std.specs.Prelude.{Bool, Err, List, None, Ok, Option, Result, drop, false, flat_map, length, take, ℕ, [], ◌++◌, ◌≡◌, ◌⊎◌}
 use Rattle.std.specs.Option.{option_map}
 use Rattle.lwaftr_engine.specs.Words.{Contents, Ending, Fault, HistoryValue, Progress, Rec, Rises, Stands, ended_text, load_lines, summary_text}
-use Rattle.lwaftr_engine.specs.Words.{unfinished_of, with_version}
+use Rattle.lwaftr_engine.specs.Words.{Step, last_log, unfinished_of, with_version}
 use Rattle.lwaftr_engine.specs.Promises.{HasSummary}
 use Rattle.lwaftr_engine.specs.Progress.{Setup, loads_of}
-use Rattle.lwaftr_engine.specs.Writing.{Did, DidFront, Step, round_steps}
+use Rattle.lwaftr_engine.specs.Writing.{Did, DidFront}
 
 -- the last lines of tables, of the points of the whole run, and those of the datagrams that were never whole
 abbrev pub last_versions : Setup → Progress → List ℕ → List ℕ
@@ -18,7 +18,7 @@ abbrev pub last_line : Progress → List ℕ → List ℕ
 last_line p points = summary_text (with_version p.totals (length points))
 
 abbrev pub last_round : Setup → Progress → List ℕ → List ℕ → List Step
-last_round x p points lines = round_steps (last_versions x p points) [] lines
+last_round x p points lines = last_log (last_versions x p points) lines
 
 abbrev pub last_steps : Setup → Progress → List ℕ → List Rec → List Step
 last_steps x p points taken = last_round x p points (last_lines p taken)

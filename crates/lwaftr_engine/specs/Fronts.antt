@@ -65,7 +65,7 @@ stop_by why before after = record { failed = is_failure why; before = before; af
 
 -- where a call failed it is one of the files, and the sink took nothing
 abbrev pub NothingPut : Stop → Type 0
-NothingPut stop = Rises stop.failed stop.before.files.spoiled stop.after.files.spoiled × (stop.after.said ≡ stop.before.said)
+NothingPut stop = Rises stop.failed stop.before.writing.spoiled stop.after.writing.spoiled × (stop.after.said ≡ stop.before.said)
 
 -- The outputs are whole, and the sink took a front of the summary.
 pub record IsAtSummary (run : RunJob) (slots : List Slot) (c : Course) (points : List ℕ) (form : Form) (written : Written) (rs : List Rec) (new : Contents)
@@ -92,29 +92,29 @@ pub record IsFront (run : RunJob) (tables : ℕ → BindingTable) (windows : Lis
   pub verdicts : HoldsFront (nat_lt 1 made) (verdicts_of shown form rs) (content old run.verdicts) (content new run.verdicts)
   pub versions : HoldsFront (nat_lt 2 made) (versions_of run.table (named run.loads slots) points) (content old run.versions) (content new run.versions)
   pub others : OthersKept run old new
-  pub sink : NothingPut stop ⊎ ((stop.after.files.spoiled ≡ stop.before.files.spoiled)
+  pub sink : NothingPut stop ⊎ ((stop.after.writing.spoiled ≡ stop.before.writing.spoiled)
       × IsAtSummary run slots course points form written rs new stop.before.said stop.after.said)
 
 -- These are all whole records of the capture where no read failed, and those before it where one did: then all outputs were made.
 abbrev pub AreTaken : RunJob → Contents → Header → List Rec → ℕ → Stop → Type 0
-AreTaken run old header rs made stop =
-    ((stop.after.files.lost ≡ stop.before.files.lost) × ((ending : Option CaptureBad) × IsInput (content old run.input) header rs ending))
-    ⊎ ((2 < made) × (Rose stop.before.files.lost stop.after.files.lost
-    × AreBefore (IsInput (content old run.input) header) run.input header.ends_at rs stop.after.files.last))
+AreTaken run inputs header rs made stop =
+    ((stop.after.reading.lost ≡ stop.before.reading.lost) × ((ending : Option CaptureBad) × IsInput (content inputs run.input) header rs ending))
+    ⊎ ((2 < made) × (Rose stop.before.reading.lost stop.after.reading.lost
+    × AreBefore (IsInput (content inputs run.input) header) run.input header.ends_at rs stop.after.reading.last))
 
 -- the run began under a header that is accepted, and was ended by a fault
-pub record IsBroken (run : RunJob) (tables : ℕ → BindingTable) (windows : List Window) (slots : List Slot) (old new : Contents) (stop : Stop) : Type 0 where
+pub record IsBroken (run : RunJob) (tables : ℕ → BindingTable) (windows : List Window) (slots : List Slot) (inputs old new : Contents) (stop : Stop) : Type 0 where
   pub header : Header
-  pub sound : header_of (content old run.input) ≡ Ok header
+  pub sound : header_of (content inputs run.input) ≡ Ok header
   pub records : List Rec
   pub made : ℕ
-  pub taken : AreTaken run old header records made stop
+  pub taken : AreTaken run inputs header records made stop
   pub front : IsFront run tables windows slots header.form header.written records made old new stop
 
 -- it began under tables that are accepted
-pub record IsBrokenRun (run : RunJob) (old new : Contents) (stop : Stop) (history : Option HistoryValue) : Type 0 where
+pub record IsBrokenRun (run : RunJob) (inputs old new : Contents) (stop : Stop) (history : Option HistoryValue) : Type 0 where
   pub first : BindingTable
   pub answers : List Answer
-  pub tables : AreTables run old first answers
-  pub broken : IsBroken run (table_by first answers) (windows_in run.loads answers) (slots_in 0 answers) old new stop
+  pub tables : AreTables run inputs first answers
+  pub broken : IsBroken run (table_by first answers) (windows_in run.loads answers) (slots_in 0 answers) inputs old new stop
   pub none : history ≡ None

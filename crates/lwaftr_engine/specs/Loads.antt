@@ -1,7 +1,7 @@
 -- The loads of a run as they are read.
 use Rattle.std.specs.Prelude.{Bool, List, Option, false, take, true, ℕ, ◌≡◌}
 use Rattle.std.specs.List.{AllZip}
-use Rattle.lwaftr_engine.specs.Words.{Contents, IsLoadedAs, IsSound, Load, LoadFile, LoadWords, Outside, Rises, TableOf, content}
+use Rattle.lwaftr_engine.specs.Words.{Contents, IsLoadedAs, IsSound, Load, LoadFile, LoadWords, Readable, Rises, TableOf, content}
 use Rattle.lwaftr_engine.specs.Causes.{IsReadOf}
 use Rattle.lwaftr_engine.specs.Tables.{Answer}
 
@@ -35,9 +35,7 @@ FailsAmong true names before now = IsReadOf names now
 FailsAmong false names before now = now ≡ before
 
 -- a call that reads these files and does nothing else
-pub record OnlyReadsAmong (failed : Bool) (names : List (List ℕ)) (before now : Outside) : Type 0 where
+pub record OnlyReadsAmong (failed : Bool) (names : List (List ℕ)) (before now : Readable) : Type 0 where
   pub held : now.held ≡ before.held
-  pub faults : Rises failed before.faults now.faults
   pub lost : Rises failed before.lost now.lost
-  pub spoiled : now.spoiled ≡ before.spoiled
   pub last : FailsAmong failed names before.last now.last

@@ -81,35 +81,35 @@ pub record AreSlotsOf (run : RunJob) (windows : List Window) (slots : List Slot)
   pub loads_are : length slots ≡ length run.loads
 
 -- the run was ended by a fault, and there is no history
-abbrev pub IsStopped : RunJob → (ℕ → BindingTable) → List Window → List Slot → Stop → Option HistoryValue → Contents → Contents → Type 0
-IsStopped run tables windows slots stop history old new =
-    (AreSlotsOf run windows slots → IsBroken run tables windows slots old new stop) × (history ≡ None)
+abbrev pub IsStopped : RunJob → (ℕ → BindingTable) → List Window → List Slot → Stop → Option HistoryValue → Contents → Contents → Contents → Type 0
+IsStopped run tables windows slots stop history inputs old new =
+    (AreSlotsOf run windows slots → IsBroken run tables windows slots inputs old new stop) × (history ≡ None)
 
 -- what a run leaves under tables that were read, by its status
-abbrev pub LeavesBy : RunJob → (ℕ → BindingTable) → List Window → List Slot → Status → World → World → Option HistoryValue → Contents → Contents → Type 0
-LeavesBy run tables windows slots status.Done before now history old new =
-    IsWhole run tables windows slots old new before.said now.said history None × (some_slot_refused slots ≡ false)
-LeavesBy run tables windows slots status.DoneRefused before now history old new =
-    IsWhole run tables windows slots old new before.said now.said history None × (some_slot_refused slots ≡ true)
-LeavesBy run tables windows slots (status.BadCapture refusal) before now history old new =
-    IsWhole run tables windows slots old new before.said now.said history (Some refusal)
-    ⊎ ((header_of (content old run.input) ≡ Err refusal) × IsUntouched old new before.said now.said history)
-LeavesBy run tables windows slots status.ReadFault before now history old new =
-    IsCut run tables windows slots old new before.said now.said history now.files.last
-    ⊎ (IsEarly run.input (content old run.input) now.files.last × IsUntouched old new before.said now.said history)
-LeavesBy run tables windows slots status.WriteFault before now history old new =
-    IsStopped run tables windows slots (stop_by fault.Failed before now) history old new
-LeavesBy run tables windows slots status.OutOfMemory before now history old new =
-    (IsUntouched old new before.said now.said history × NoneOfFilesRose before.files now.files)
-    ⊎ IsStopped run tables windows slots (stop_by fault.OutOfMemory before now) history old new
-LeavesBy run tables windows slots _ before now history old new = ⊥
+abbrev pub LeavesBy : RunJob → (ℕ → BindingTable) → List Window → List Slot → Status → World → World → Option HistoryValue → Contents → Contents → Contents → Type 0
+LeavesBy run tables windows slots status.Done before now history inputs old new =
+    IsWhole run tables windows slots inputs old new before.said now.said history None × (some_slot_refused slots ≡ false)
+LeavesBy run tables windows slots status.DoneRefused before now history inputs old new =
+    IsWhole run tables windows slots inputs old new before.said now.said history None × (some_slot_refused slots ≡ true)
+LeavesBy run tables windows slots (status.BadCapture refusal) before now history inputs old new =
+    IsWhole run tables windows slots inputs old new before.said now.said history (Some refusal)
+    ⊎ ((header_of (content inputs run.input) ≡ Err refusal) × IsUntouched old new before.said now.said history)
+LeavesBy run tables windows slots status.ReadFault before now history inputs old new =
+    IsCut run tables windows slots inputs old new before.said now.said history now.reading.last
+    ⊎ (IsEarly run.input (content inputs run.input) now.reading.last × IsUntouched old new before.said now.said history)
+LeavesBy run tables windows slots status.WriteFault before now history inputs old new =
+    IsStopped run tables windows slots (stop_by fault.Failed before now) history inputs old new
+LeavesBy run tables windows slots status.OutOfMemory before now history inputs old new =
+    (IsUntouched old new before.said now.said history × NoneOfFilesRose before now)
+    ⊎ IsStopped run tables windows slots (stop_by fault.OutOfMemory before now) history inputs old new
+LeavesBy run tables windows slots _ before now history inputs old new = ⊥
 
 -- under every list of tables of which the plan's words are
-abbrev pub LeavesMade : RunJob → Tables → List Slot → Status → World → World → Option HistoryValue → Contents → Contents → Type 0
-LeavesMade run plan slots result before now history old new = (tables : ℕ → BindingTable) (windows : List Window) → IsPlanOf tables windows plan →
-    LeavesBy run tables windows slots result before now history old new
+abbrev pub LeavesMade : RunJob → Tables → List Slot → Status → World → World → Option HistoryValue → Contents → Contents → Contents → Type 0
+LeavesMade run plan slots result before now history inputs old new = (tables : ℕ → BindingTable) (windows : List Window) → IsPlanOf tables windows plan →
+    LeavesBy run tables windows slots result before now history inputs old new
 
 -- the same from the opening of its outputs on, where the reader stands before the first record
-abbrev pub LeavesOpened : Setup → Tables → Spot → Result Ending Fault → World → World → Option HistoryValue → Contents → Contents → Type 0
-LeavesOpened x plan reader ended before now history old new = IsAtFirst reader x.form x.written (content old x.run.input) →
-    LeavesMade x.run plan x.slots (ended_status ended (some_slot_refused x.slots)) before now history old new
+abbrev pub LeavesOpened : Setup → Tables → Spot → Result Ending Fault → World → World → Option HistoryValue → Contents → Contents → Contents → Type 0
+LeavesOpened x plan reader ended before now history inputs old new = IsAtFirst reader x.form x.written (content inputs x.run.input) →
+    LeavesMade x.run plan x.slots (ended_status ended (some_slot_refused x.slots)) before now history inputs old new

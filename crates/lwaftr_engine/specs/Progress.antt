@@ -1,12 +1,13 @@
 -- How far a run has come, and what its outputs hold by then.
 use Rattle.std.specs.Prelude.{All, Bool, List, None, Option, Some, drop, false, length, take, true, ℕ, [], ◌++◌, ◌+◌, ◌<◌, ◌^◌, ◌∷◌, ◌≡◌, ◌≤◌, ◌⊎◌}
-use Rattle.lwaftr_engine.specs.Words.{AreDrawn, CaptureBad, Contents, Course, Ending, FailsAt, Form, HasAsked, HasWholeShare, HistoryValue, IsCompiled}
-use Rattle.lwaftr_engine.specs.Words.{IsHistory, IsIdle, IsLimited, IsOf, IsResting, IsWithin, Left, Moves, NamedSlot, NoneIsDue, Outside, Precedes, Progress}
-use Rattle.lwaftr_engine.specs.Words.{Rec, Rises, Rose, Router, RunJob, Shift, Slot, Stands, Tables, Task, Written, content, entries_of, items_in, lines_from}
+use Rattle.lwaftr_engine.specs.Words.{AreDrawn, CaptureBad, Contents, Course, Ending, Form, HasAsked, HasWholeShare, HistoryValue, IsCompiled}
+use Rattle.lwaftr_engine.specs.Words.{IsHistory, IsIdle, IsLimited, IsOf, IsResting, IsWithin, Left, Moves, NamedSlot, NoneIsDue, OnlyReads, Precedes, Progress}
+use Rattle.lwaftr_engine.specs.Words.{Readable, Rec, Rose, Router, RunJob, Shift, Slot, Stands, Tables, Task, Written, content, entries_of, items_in, lines_from}
 use Rattle.lwaftr_engine.specs.Words.{load_lines, named, no_totals, packets_from, rate_of, table, totals_from, window}
 use Rattle.capture_io.specs.declared.rounds.Ending.TheVariants as ending
 use Rattle.lwaftr_engine.specs.Causes.{MayFailIn}
 use Rattle.lwaftr_engine.specs.Runs.{OthersKept, all_asking}
+use Rattle.lwaftr_engine.specs.Worlds.{Halves}
 
 -- what a run is told before its first record
 pub record Setup : Type 0 where
@@ -141,27 +142,23 @@ pub record HasTaken (name : List ℕ) (first now : Spot) (bytes : List ℕ) (rs 
   pub within : All (λ r. r.next_at ≤ now.at) rs
   pub stopped : Stops name now bytes number stop last
 
--- rounds took these records of the capture, and wrote what they write
-pub record TakesOn (x : Setup) (s : State) (first reader : Spot) (stop : Option Ending) (last : Option (List ℕ × ℕ)) (opened now : Contents) : Type 0 where
+-- rounds took these records of the capture with these bytes, and wrote what they write
+pub record TakesOn (x : Setup) (s : State) (first reader : Spot) (stop : Option Ending) (last : Option (List ℕ × ℕ)) (bytes : List ℕ)
+    (opened now : Contents) : Type 0 where
   pub records : List Rec
-  pub taken : HasTaken x.run.input first reader (content opened x.run.input) records s.progress.number stop last
+  pub taken : HasTaken x.run.input first reader bytes records s.progress.number stop last
   pub written : AreWritten x opened now s records
 
-abbrev pub Goes : Setup → State → Spot → Spot → Option Ending → Option (List ℕ × ℕ) → Contents → Contents → Type 0
-Goes x s first reader stop last opened now = first.stood (content opened x.run.input) → TakesOn x s first reader stop last opened now
+abbrev pub Goes : Setup → State → Spot → Spot → Option Ending → Option (List ℕ × ℕ) → List ℕ → Contents → Contents → Type 0
+Goes x s first reader stop last bytes opened now = first.stood bytes → TakesOn x s first reader stop last bytes opened now
 
--- A call that reads this file, and writes: where a read failed, it is one of this file.
-pub record ReadsOf (failed : Bool) (name : List ℕ) (before now : Outside) : Type 0 where
-  pub faults : Rises failed before.faults now.faults
-  pub lost : Rises failed before.lost now.lost
-  pub last : FailsAt failed name (λ _. Unit {0}) before.last now.last
+-- A call that reads this file alone.
+abbrev pub ReadsOf : Bool → List ℕ → Readable → Readable → Type 0
+ReadsOf failed name before now = OnlyReads failed name (λ place. Unit {0}) before now
 
--- whatever came of a run's steps: other names hold what they held, and no read failed, or one of the capture
-pub record KeepsRest (run : RunJob) (before now : Outside) : Type 0 where
-  pub others : Moves before.held now.held (OthersKept run)
-  pub capture_read : MayFailIn run.input before now
-
--- counts of writes and of puts that failed: one of them rose exactly where a call failed
-abbrev pub OneRises : Bool → ℕ → ℕ → ℕ → ℕ → Type 0
-OneRises true spoiled spoiled_now puts puts_now = Rose spoiled spoiled_now ⊎ Rose puts puts_now
-OneRises false spoiled spoiled_now puts puts_now = (spoiled_now ≡ spoiled) × (puts_now ≡ puts)
+-- Whatever came of a run's steps: what is read holds what it held, and of what is written other names do; no read failed, or one of the
+-- capture.
+pub record KeepsRest (run : RunJob) (before now : Halves) : Type 0 where
+  pub inputs : now.reading.held ≡ before.reading.held
+  pub others : Moves before.writing.held now.writing.held (OthersKept run)
+  pub capture_read : MayFailIn run.input before.reading now.reading

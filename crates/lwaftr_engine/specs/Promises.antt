@@ -13,22 +13,23 @@ use Rattle.lwaftr_engine.specs.Tables.{Answer, some_refused}
 use Rattle.lwaftr_engine.specs.Worlds.{World}
 use Rattle.lwaftr_engine.specs.declared.status.Status.TheVariants as status
 
--- what the files hold at a status, what the sink took, and the history
-abbrev pub Leaves : RunJob → Status → World → World → Option HistoryValue → Contents → Contents → Type 0
-Leaves run status.Done before now history old new = IsWholeRun run old new before.said now.said history None false
-Leaves run status.DoneRefused before now history old new = IsWholeRun run old new before.said now.said history None true
-Leaves run (status.BadCapture refusal) before now history old new =
-    ((refused : Bool) × IsWholeRun run old new before.said now.said history (Some refusal) refused)
-    ⊎ IsBadHeader run old new before.said now.said history refusal
-Leaves run status.ReadFault before now history old new =
-    IsCutRun run old new before.said now.said history now.files.last ⊎ IsUnread run old new before.said now.said history now.files.last
-Leaves run (status.BadTable refusal) before now history old new =
-    TableOf (content old run.table) (Err refusal) × IsUntouched old new before.said now.said history
-Leaves run status.WriteFault before now history old new = IsBrokenRun run old new (stop_by fault.Failed before now) history
-Leaves run status.OutOfMemory before now history old new =
-    (IsUntouched old new before.said now.said history × NoneOfFilesRose before.files now.files)
-    ⊎ IsBrokenRun run old new (stop_by fault.OutOfMemory before now) history
-Leaves run status.Usage before now history old new = ⊥
+-- What the files hold at a status, what the sink took, and the history: `inputs` is what the files hold that are read, `old` and `new` what
+-- those hold that are written.
+abbrev pub Leaves : RunJob → Status → World → World → Option HistoryValue → Contents → Contents → Contents → Type 0
+Leaves run status.Done before now history inputs old new = IsWholeRun run inputs old new before.said now.said history None false
+Leaves run status.DoneRefused before now history inputs old new = IsWholeRun run inputs old new before.said now.said history None true
+Leaves run (status.BadCapture refusal) before now history inputs old new =
+    ((refused : Bool) × IsWholeRun run inputs old new before.said now.said history (Some refusal) refused)
+    ⊎ IsBadHeader run inputs old new before.said now.said history refusal
+Leaves run status.ReadFault before now history inputs old new =
+    IsCutRun run inputs old new before.said now.said history now.reading.last ⊎ IsUnread run inputs old new before.said now.said history now.reading.last
+Leaves run (status.BadTable refusal) before now history inputs old new =
+    TableOf (content inputs run.table) (Err refusal) × IsUntouched old new before.said now.said history
+Leaves run status.WriteFault before now history inputs old new = IsBrokenRun run inputs old new (stop_by fault.Failed before now) history
+Leaves run status.OutOfMemory before now history inputs old new =
+    (IsUntouched old new before.said now.said history × NoneOfFilesRose before now)
+    ⊎ IsBrokenRun run inputs old new (stop_by fault.OutOfMemory before now) history
+Leaves run status.Usage before now history inputs old new = ⊥
 
 -- The status that the table files and the capture ask for, whatever the outside does: the first table's refusal, else the
 -- capture's, else `DoneRefused` where a load is refused, else `Done`.
@@ -94,12 +95,13 @@ HasHistory input _ last said now history = history ≡ None
 -- a run, and what it leaves
 pub record KeepsRun (run : RunJob) (result : Status) (before now : World) (history : Option HistoryValue) : Type 0 where
   -- what the files hold, what the sink took, and the history
-  pub files : Moves before.files.held now.files.held (Leaves run result before now history)
-  -- other names hold what they held
-  pub others : Moves before.files.held now.files.held (OthersKept run)
+  pub files : Told before.reading.held (λ inputs. Moves before.writing.held now.writing.held (Leaves run result before now history inputs))
+  -- what is read holds what it held, and of what is written other names do
+  pub read_kept : now.reading.held ≡ before.reading.held
+  pub others : Moves before.writing.held now.writing.held (OthersKept run)
   -- which status it is
-  pub due : Told before.files.held (λ m. (s : Status) → IsAskedFor run m s → (result ≡ s) ⊎ IsFault result)
+  pub due : Told before.reading.held (λ inputs. Told before.writing.held (λ old. (s : Status) → IsAskedFor run inputs s → (result ≡ s) ⊎ IsFault result))
   pub cause : HasCause result before now
-  pub failed_read : FailsIn (table_names run ++ run.input ∷ []) result before.files.last now.files.last
-  pub capture_read : FailsBehind run.input result before.files now.files
-  pub has_history : HasHistory run.input result now.files.last before.said now.said history
+  pub failed_read : FailsIn (table_names run ++ run.input ∷ []) result before.reading.last now.reading.last
+  pub capture_read : FailsBehind run.input result before.reading now.reading
+  pub has_history : HasHistory run.input result now.reading.last before.said now.said history

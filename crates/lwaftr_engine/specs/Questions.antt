@@ -74,12 +74,12 @@ FailedIn name _ old new = new ≡ old
 -- What a question about a file leaves: every name holds what it held, and the sink took the line.
 pub record KeepsQuestion (Asks : BindingTable → List ℕ → Type 0) (name : List ℕ) (result : Status) (before now : World)
     (history : Option HistoryValue) : Type 0 where
-  pub kept : now.files.held ≡ before.files.held
-  -- no file is made or written to, so none of that fails
-  pub spoiled : now.files.spoiled ≡ before.files.spoiled
-  pub line : Answers (λ line. IsLineOf Asks before.files.held name line) result before.said now.said
-  pub refused : Told before.files.held (λ m. RefusesAs (content m name) result)
+  pub read_kept : now.reading.held ≡ before.reading.held
+  -- no file is made or written to
+  pub kept : now.writing ≡ before.writing
+  pub line : Answers (λ line. IsLineOf Asks before.reading.held name line) result before.said now.said
+  pub refused : Told before.reading.held (λ m. RefusesAs (content m name) result)
   pub cause : HasOneCause result before now
-  pub failed_read : FailedIn name result before.files.last now.files.last
-  pub complete : Told before.files.held (λ m. IsComplete (content m name) result before now)
+  pub failed_read : FailedIn name result before.reading.last now.reading.last
+  pub complete : Told before.reading.held (λ m. IsComplete (content m name) result before now)
   pub none : history ≡ None

@@ -22,5 +22,5 @@ pub record IsDemoMade (count : ℕ) (first second : BindingTable) (made : Made) 
 
 pub record IsShow (seed count : ℕ) (s : Show) : Type 0 where
   pub job : IsDemoJob count s.job
-  pub holds : content s.files s.job.input ≡ capture_of seed count
+  pub holds : content s.files.reading s.job.input ≡ capture_of seed count
   pub made : IsDemoMade count (table_from 0) (table_from 64) s.made

@@ -1,19 +1,20 @@
 -- Rounds under way: what was judged and is not written yet, and the round that was read and is not judged yet.
 use Rattle.std.specs.Prelude.{All, IfOk, List, None, Option, Result, Some, drop, length, string_bytes, ℕ, [], ◌++◌, ◌+◌, ◌<◌, ◌^◌, ◌≡◌, ◌≤◌, ◌⊎◌}
 use Rattle.lwaftr_engine.specs.Words.{AreCompiled, Bucket, Contents, Course, EndsInRecords, Entry, Fault, Form, GoesOn, HasAsked, HasOutcomes, IsCourseOf}
-use Rattle.lwaftr_engine.specs.Words.{IsLimited, IsPlaced, IsRendered, IsSettled, Moves, NoneIsDue, Outcome, Outside, Part, Pending, Progress, Rec, Rises}
+use Rattle.lwaftr_engine.specs.Words.{IsLimited, IsPlaced, IsRendered, IsSettled, Moves, NoneIsDue, Outcome, Part, Pending, Progress, Readable, Rec, Rises}
 use Rattle.lwaftr_engine.specs.Words.{Rose, Round, Router, Shift, Staged, Stands, Told, Totals, between, content, entries_of, has_failed, is_cut, items_in}
-use Rattle.lwaftr_engine.specs.Words.{lines_in, load_lines, no_totals, packets_in, rate_of}
+use Rattle.lwaftr_engine.specs.Words.{lines_in, load_lines, no_totals, packets_in, rate_of, round_log, Step}
 use Rattle.capture_io.specs.declared.rounds.Ending.TheVariants as ending
 use Rattle.lwaftr_engine.specs.Broken.{IsCutFrom}
 use Rattle.lwaftr_engine.specs.Progress.{AddsTo, AreWritten, HasTaken, IsInRange, IsOnDuty, IsUpToDate, KeepsRest, ReadsOf, Setup, Spot, State, Stops, Suits}
 use Rattle.lwaftr_engine.specs.Progress.{loads_of, state_of}
 use Rattle.lwaftr_engine.specs.Runs.{all_asking}
-use Rattle.lwaftr_engine.specs.Writing.{Did, DidFront, Step, round_steps}
+use Rattle.lwaftr_engine.specs.Worlds.{Halves}
+use Rattle.lwaftr_engine.specs.Writing.{Did, DidFront}
 
 -- what is not written yet
 abbrev pub steps_of : Pending → List Step
-steps_of p = round_steps (string_bytes p.versions) (packets_in p.rendered) (lines_in p.rendered)
+steps_of p = round_log (string_bytes p.versions) (packets_in p.rendered) (lines_in p.rendered)
 
 -- what the stage says of the round's records
 pub record IsStaged (before after : Staged) (records : List Rec) (es : List Entry) : Type 0 where
@@ -54,7 +55,6 @@ pub record HasJudged (x : Setup) (p q : State) (records : List Rec) (made : Pend
 
 -- Since the outputs were opened these records were judged; what the last of them write is not in the outputs yet.
 pub record IsPending (x : Setup) (s : State) (steps : List Step) (opened now : Contents) (records : List Rec) : Type 0 where
-  pub input : content now x.run.input ≡ content opened x.run.input
   pub whole : (next : Contents) → Did x.run steps now next → AreWritten x opened next s records
   pub part : (next : Contents) → DidFront x.run steps now next → IsCutFrom x s opened next records
 
@@ -72,18 +72,18 @@ pub record IsCutNext (name : List ℕ) (before now : Spot) (number : ℕ) (bytes
   pub next : before.stood bytes → IsNext name before now number bytes round last
 
 -- no read failed, or one did in the round that was read
-abbrev pub ReadsPast : List ℕ → Spot → Spot → ℕ → List ℕ → Outside → Outside → Type 0
+abbrev pub ReadsPast : List ℕ → Spot → Spot → ℕ → List ℕ → Readable → Readable → Type 0
 ReadsPast name before now number bytes a b = (b.lost ≡ a.lost) ⊎ (Rose a.lost b.lost × IsCutNext name before now number bytes b.last)
 
 -- some records were judged, the last of them are not written, and the next round is read
-pub record IsUnderWay (x : Setup) (s : State) (steps : List Step) (first reader : Spot) (round : Round) (last : Option (List ℕ × ℕ))
+pub record IsUnderWay (x : Setup) (s : State) (steps : List Step) (first reader : Spot) (round : Round) (last : Option (List ℕ × ℕ)) (bytes : List ℕ)
     (opened now : Contents) : Type 0 where
   pub records : List Rec
   pub pending : IsPending x s steps opened now records
-  pub taken : HasTaken x.run.input first reader (content opened x.run.input) (records ++ round.records) round.number round.ending last
+  pub taken : HasTaken x.run.input first reader bytes (records ++ round.records) round.number round.ending last
 
-abbrev pub StandsBetween : Setup → State → List Step → Spot → Spot → Round → Option (List ℕ × ℕ) → Contents → Contents → Type 0
-StandsBetween x s steps first reader round last opened now = first.stood (content opened x.run.input) → IsUnderWay x s steps first reader round last opened now
+abbrev pub StandsBetween : Setup → State → List Step → Spot → Spot → Round → Option (List ℕ × ℕ) → List ℕ → Contents → Contents → Type 0
+StandsBetween x s steps first reader round last bytes opened now = first.stood bytes → IsUnderWay x s steps first reader round last bytes opened now
 
 -- the round that is judged next
 pub record IsInHand (number : ℕ) (round : Round) : Type 0 where
@@ -152,24 +152,25 @@ pub record WentWell (x : Setup) (before now : Router) (round : Round) (made : Pe
 pub record HasRead (x : Setup) (before now : Spot) (number : ℕ) (held : Option Contents) (last : Option (List ℕ × ℕ)) (round : Round) : Type 0 where
   pub in_hand : IsInHand number round
   pub placed : IsPlaced before.at now.at round
-  pub told : Told held (λ m. before.stood (content m x.run.input) → IsNext x.run.input before now number (content m x.run.input) round last)
+  pub told : Told held (λ inputs. before.stood (content inputs x.run.input) →
+      IsNext x.run.input before now number (content inputs x.run.input) round last)
 
 -- what a round wrote is in the outputs, and the next one was read
-pub record HasPutAndRead (x : Setup) (u : List Step) (number : ℕ) (before now : Spot) (Ready : ℕ → Type 0) (a b : Outside) (round : Round) : Type 0 where
-  pub wrote : Moves a.held b.held (Did x.run u)
-  pub read : HasRead x before now number b.held b.last round
+pub record HasPutAndRead (x : Setup) (u : List Step) (number : ℕ) (before now : Spot) (Ready : ℕ → Type 0) (a b : Halves) (round : Round) : Type 0 where
+  pub wrote : Moves a.writing.held b.writing.held (Did x.run u)
+  pub read : HasRead x before now number a.reading.held b.reading.last round
   pub ready : Ready round.number
-  pub reads : ReadsOf (is_cut round.ending) x.run.input a b
+  pub reads : ReadsOf (is_cut round.ending) x.run.input a.reading b.reading
 
 -- What a round wrote is put into the outputs, and the next one is read. Where the call is ended by a fault, some of the first is
 -- done, and a read of the capture may have failed.
-pub record PutsAndReads (x : Setup) (u : List Step) (number : ℕ) (before now : Spot) (Ready : ℕ → Type 0) (a b : Outside)
+pub record PutsAndReads (x : Setup) (u : List Step) (number : ℕ) (before now : Spot) (Ready : ℕ → Type 0) (a b : Halves)
     (r : Result Round Fault) : Type 0 where
   pub well : IfOk r (HasPutAndRead x u number before now Ready a b)
-  pub part : Moves a.held b.held (DidFront x.run u)
-  pub past : Told b.held (λ m. ReadsPast x.run.input before now number (content m x.run.input) a b)
+  pub part : Moves a.writing.held b.writing.held (DidFront x.run u)
+  pub past : Told a.reading.held (λ inputs. ReadsPast x.run.input before now number (content inputs x.run.input) a.reading b.reading)
   pub rest : KeepsRest x.run a b
-  pub spoiled : Rises (has_failed r) a.spoiled b.spoiled
+  pub spoiled : Rises (has_failed r) a.writing.spoiled b.writing.spoiled
 
 -- it has nothing that is to be written
 pub record IsNothing (p : Pending) : Type 0 where

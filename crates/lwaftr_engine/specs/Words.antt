@@ -1,7 +1,7 @@
 -- The names that the specs of this crate take from the crates below, and its own types.
 pub use Rattle.addr_text.specs.Canonical.{IsCanonical, groups_of}
 pub use Rattle.aftr_io.specs.Contents.{Contents, Moves, Told, Writes, content}
-pub use Rattle.aftr_io.specs.Outside.{FailsAt, Outside, Rises, Rose, has_failed}
+pub use Rattle.aftr_io.specs.Outside.{FailsAt, OnlyReads, Readable, Rises, Rose, Written as WrittenFiles, has_failed}
 pub use Rattle.aftr_base.specs.declared.numbers.V4.{V4}
 pub use Rattle.aftr_base.specs.declared.numbers.V6.{V6}
 pub use Rattle.aftr_io.specs.declared.outside.Fault.{Fault}
@@ -36,6 +36,8 @@ pub use Rattle.item_stage.specs.Stages.{Staged, Stands}
 pub use Rattle.item_stage.specs.declared.entries.Entry.{Entry}
 pub use Rattle.load_files.specs.Texts.{IsLoadedAs}
 pub use Rattle.load_files.specs.declared.files.LoadFile.{LoadFile}
+pub use Rattle.output_journal.specs.Ends.{Ends, OneRises, Puts as PutsLine, SinkState, sink_state}
+pub use Rattle.output_journal.specs.Log.{Logged, Logs, OutputNames, Step, last_log, opening_log, round_log}
 pub use Rattle.packet_render.specs.Counted.{Sends}
 pub use Rattle.packet_render.specs.Sent.{sent}
 pub use Rattle.pcapng_io.specs.Seen.{Seen}

@@ -17,7 +17,7 @@ ghost use Rattle.lwaftr_engine.specs.declared.status.Status.TheVariants as statu
 use crate::migrating::migrate;
 use crate::queries::{check_table, who_owns};
 use crate::status::Status;
-use aftr_io::{Files, Sink};
+use aftr_io::{Outside, Reading, Sink, Writing};
 use aftr_text::{Job, RunJob, UsageError, read_words};
 use std::alloc::Global;
 
@@ -35,11 +35,11 @@ pub enum AtOnce {
 /// Does the job that the command words ask for, as `lwaftr` does it, where that waits for nobody: `check`, `who` and `migrate`, and
 /// words that ask for no job. A job that may wait is handed back, and nothing is touched. It takes no right to wait, so it returns,
 /// whatever the files and the words hold, if the calls of `files` and `out` do.
-pub fn do_at_once<F: Files, O: Sink>(
+pub fn do_at_once<I: Reading, O: Writing, S: Sink>(
     alloc: Global,
     words: &[&str],
-    files: &mut F,
-    out: &mut O,
+    files: &mut Outside<I, O>,
+    out: &mut S,
 ) -> AtOnce
 
     // Which words ask for nothing, and which for a job that may wait.
@@ -54,20 +54,20 @@ pub fn do_at_once<F: Files, O: Sink>(
 
     // What each other job leaves.
     ensures check { (name : List ℕ) → Asks (texts words.now) (asked.Check name) → EndsSo (λ s. KeepsQuestion IsValidLine name s
-        (world (F.outside files.old) (O.out out.old) (O.faults out.old))
-        (world (F.outside files.new) (O.out out.new) (O.faults out.new)) None) result }
+        (world (I.readable files.old.reading) (O.written files.old.writing) (S.out out.old) (S.faults out.old))
+        (world (I.readable files.new.reading) (O.written files.new.writing) (S.out out.new) (S.faults out.new)) None) result }
     ensures who { (name : List ℕ) (v4 : Address) (port : ℕ) → Asks (texts words.now) (asked.Who name v4 port) → EndsSo (λ s.
         KeepsQuestion (IsOwnerLine v4 port) name s
-        (world (F.outside files.old) (O.out out.old) (O.faults out.old))
-        (world (F.outside files.new) (O.out out.new) (O.faults out.new)) None) result }
+        (world (I.readable files.old.reading) (O.written files.old.writing) (S.out out.old) (S.faults out.old))
+        (world (I.readable files.new.reading) (O.written files.new.writing) (S.out out.new) (S.faults out.new)) None) result }
     ensures migrate { (input output : List ℕ) → Asks (texts words.now) (asked.Migrate input output) → EndsSo (λ s. KeepsMigration input output s
-        (world (F.outside files.old) (O.out out.old) (O.faults out.old))
-        (world (F.outside files.new) (O.out out.new) (O.faults out.new)) None) result }
+        (world (I.readable files.old.reading) (O.written files.old.writing) (S.out out.old) (S.faults out.old))
+        (world (I.readable files.new.reading) (O.written files.new.writing) (S.out out.new) (S.faults out.new)) None) result }
 
     // Why it ended so.
     ensures cause { (s : Ending) → result ≡ at_once.Ended s → HasOneCause s
-        (world (F.outside files.old) (O.out out.old) (O.faults out.old))
-        (world (F.outside files.new) (O.out out.new) (O.faults out.new)) }
+        (world (I.readable files.old.reading) (O.written files.old.writing) (S.out out.old) (S.faults out.old))
+        (world (I.readable files.new.reading) (O.written files.new.writing) (S.out out.new) (S.faults out.new)) }
 {
     let job = match read_words(alloc, words) {
         Ok(job) => job,
@@ -85,9 +85,14 @@ pub fn do_at_once<F: Files, O: Sink>(
             count,
             workers,
         },
-        Job::Check { name } => AtOnce::Ended(check_table(alloc, name.as_str(), files, out)),
+        Job::Check { name } => AtOnce::Ended(check_table(
+            alloc,
+            name.as_str(),
+            &mut files.reading,
+            out,
+        )),
         Job::Who { name, v4, port } => {
-            AtOnce::Ended(who_owns(alloc, name.as_str(), v4, port, files, out))
+            AtOnce::Ended(who_owns(alloc, name.as_str(), v4, port, &mut files.reading, out))
         }
         Job::Migrate { input, output } => {
             AtOnce::Ended(migrate(alloc, input.as_str(), output.as_str(), files, out))

@@ -5,12 +5,13 @@ ghost use Rattle.aftr_text.specs.Jobs.{AreApart};
 ghost use Rattle.hand_over.specs.Lines.{IsNewLine, SameAnswerer, SameAsker, asked, given, heard, taken};
 ghost use Rattle.lwaftr_engine.specs.Beside.{Asks, Go, HaveTaken, reached, standing};
 ghost use Rattle.lwaftr_engine.specs.Progress.{setup_of, spot};
+ghost use Rattle.lwaftr_engine.specs.Worlds.{halves};
 ghost use Rattle.lwaftr_engine.specs.Underway.{CanGoOn, CanJudge, IsInHand};
 
 use crate::rounds::{Free, Pending, Router, UnderWay, judge, put_and_read};
 use crate::tasks::{Means, Task};
 use aftr_base::OutOfMemory;
-use aftr_io::{Fault, Files};
+use aftr_io::{Fault, Outside, Reading, Writing};
 use capture_io::{CaptureReader, Records, Round};
 use hand_over::{Answerer, Asker, Protocol};
 use std::alloc::Global;
@@ -100,9 +101,9 @@ fn no_round(alloc: Global, number: u32) -> Round {
 
 // Hands rounds over until the last one is under way: while one is judged, what the round before wrote is put into the outputs, and
 // then the next one is read. Where the other side does not begin, nothing is done.
-fn fetch_rounds<R: Threads + Wait + Sync, F: Files, C: CaptureReader, G: Gate + Sync>(
+fn fetch_rounds<R: Threads + Wait + Sync, I: Reading, O: Writing, C: CaptureReader, G: Gate + Sync>(
     means: &Means<'_, R, G>,
-    files: &mut F,
+    files: &mut Outside<I, O>,
     task: Task<'_>,
     reader: &mut C,
     under_way: &mut UnderWay,
@@ -115,8 +116,8 @@ fn fetch_rounds<R: Threads + Wait + Sync, F: Files, C: CaptureReader, G: Gate + 
     requires nothing { (asked asker.old ≡ []) × (heard asker.old ≡ []) }
     ensures same { SameAsker asker.old asker.new }
     ensures asks { Asks (setup_of task.entry) (λ r. spot (C.stands r) (C.left r) (C.at r)) (λ r n. C.ready r n)
-        (standing (F.outside files.old) reader.old under_way.old.round under_way.old.pending)
-        (standing (F.outside files.new) reader.new under_way.new.round under_way.new.pending) (asked asker.new) (heard asker.new) result }
+        (standing (halves (I.readable files.old.reading) (O.written files.old.writing)) reader.old under_way.old.round under_way.old.pending)
+        (standing (halves (I.readable files.new.reading) (O.written files.new.writing)) reader.new under_way.new.round under_way.new.pending) (asked asker.new) (heard asker.new) result }
     ensures all { length (heard asker.new) ≡ length (asked asker.new) }
 {
     if !asker.wait_for_answerer(means.rt) {
@@ -160,9 +161,15 @@ fn fetch_rounds<R: Threads + Wait + Sync, F: Files, C: CaptureReader, G: Gate + 
 
 /// Takes rounds until the last one is under way: a thread judges them, while the calling one has the files. Where no thread can be
 /// made, or it does not begin, nothing is done.
-pub fn rounds_beside<R: Threads + Wait + Sync, F: Files, C: CaptureReader, G: Gate + Sync>(
+pub fn rounds_beside<
+    R: Threads + Wait + Sync,
+    I: Reading,
+    O: Writing,
+    C: CaptureReader,
+    G: Gate + Sync,
+>(
     means: &Means<'_, R, G>,
-    files: &mut F,
+    files: &mut Outside<I, O>,
     task: Task<'_>,
     reader: &mut C,
     router: &mut Router,
@@ -175,8 +182,8 @@ pub fn rounds_beside<R: Threads + Wait + Sync, F: Files, C: CaptureReader, G: Ga
     requires ready { C.ready reader.old under_way.old.round.number }
     requires line { IsNewLine sides.asker sides.answerer }
     ensures { Go (setup_of task.entry) (λ r. spot (C.stands r) (C.left r) (C.at r)) (λ r n. C.ready r n)
-        (standing (F.outside files.old) reader.old under_way.old.round under_way.old.pending)
-        (standing (F.outside files.new) reader.new under_way.new.round under_way.new.pending) router.old router.new result }
+        (standing (halves (I.readable files.old.reading) (O.written files.old.writing)) reader.old under_way.old.round under_way.old.pending)
+        (standing (halves (I.readable files.new.reading) (O.written files.new.writing)) reader.new under_way.new.round under_way.new.pending) router.old router.new result }
 {
     let Sides {
         free,
@@ -202,8 +209,8 @@ pub fn rounds_beside<R: Threads + Wait + Sync, F: Files, C: CaptureReader, G: Ga
             × (((asked asker.now ≡ []) × (heard asker.now ≡ [])) × IsSome free.now))) }
         ensures { SameAsker asker.entry.now asker.exit.now
             × (Asks (setup_of task.entry) (λ r. spot (C.stands r) (C.left r) (C.at r)) (λ r n. C.ready r n)
-            (standing (F.outside files.entry.now) reader.entry.now under_way.entry.now.round under_way.entry.now.pending)
-            (standing (F.outside files.exit.now) reader.exit.now under_way.exit.now.round under_way.exit.now.pending)
+            (standing (halves (I.readable files.entry.now.reading) (O.written files.entry.now.writing)) reader.entry.now under_way.entry.now.round under_way.entry.now.pending)
+            (standing (halves (I.readable files.exit.now.reading) (O.written files.exit.now.writing)) reader.exit.now under_way.exit.now.round under_way.exit.now.pending)
             (asked asker.exit.now) (heard asker.exit.now) result
             × (length (heard asker.exit.now) ≡ length (asked asker.exit.now))) }
     {

@@ -1,6 +1,6 @@
 // The demonstration: a run over generated traffic.
 ghost use Rattle.std.specs.Prelude.{◌≡◌, ◌⊎◌, ◌≤◌, IfOk, None};
-ghost use Rattle.aftr_io.specs.Outside.{Outside};
+ghost use Rattle.aftr_io.specs.Outside.{Readable, Written as WrittenFiles};
 ghost use Rattle.lwaftr_engine.specs.Causes.{HasOneCause};
 ghost use Rattle.lwaftr_engine.specs.Demos.{HasDemoHistory, IsDemoLine, half_way};
 ghost use Rattle.lwaftr_engine.specs.Questions.{Answers};
@@ -12,7 +12,7 @@ use crate::queries::put_line;
 use crate::status::Status;
 use crate::tasks::Means;
 use aftr_base::{OutOfMemory, Text};
-use aftr_io::{MemSink, QuietFiles, Sink};
+use aftr_io::{MemSink, Outside, QuietReading, QuietWriting, Sink};
 use aftr_text::{LoadList, LoadWords, RunJob};
 use area_swap::History;
 use binding_rules::Table;
@@ -30,7 +30,7 @@ use worker_gate::Gate;
 #[derive(Drop)]
 struct Show {
     /// They hold the capture.
-    files: QuietFiles,
+    files: Outside<QuietReading, QuietWriting>,
     job: RunJob,
     made: Made,
 }
@@ -93,18 +93,20 @@ fn prepared(alloc: Global, seed: u64, count: u32, workers: u32) -> Result<Show, 
     let traffic = traffic_of(alloc, seed, count)?;
     let job = demo_job(alloc, count, workers)?;
     let made = demo_made(alloc, count, &traffic.first, &traffic.second)?;
-    let mut files = QuietFiles::new(alloc);
-    files.set(alloc, job.input.as_str(), traffic.capture.as_slice())?;
+    let mut reading = QuietReading::new(alloc);
+    reading.set(alloc, job.input.as_str(), traffic.capture.as_slice())?;
+    let writing = QuietWriting::new(alloc);
+    let files = Outside { reading, writing };
     Ok(Show { files, job, made })
 }
 
 /// Runs over the generated traffic of a seed, in files of its own, and puts the summary.
-pub fn show_demo<R: Threads + Wait + Sync, O: Sink, G: Gate + Sync>(
+pub fn show_demo<R: Threads + Wait + Sync, S: Sink, G: Gate + Sync>(
     means: &Means<'_, R, G>,
     seed: u64,
     count: u32,
     workers: u32,
-    out: &mut O,
+    out: &mut S,
     history: &mut Option<History>,
 ) -> Status
     requires some { 1 ≤ count }
@@ -112,8 +114,9 @@ pub fn show_demo<R: Threads + Wait + Sync, O: Sink, G: Gate + Sync>(
     requires some_worker { 1 ≤ workers }
     requires few_workers { workers ≤ 16 }
     requires none { history.old ≡ None }
-    ensures line { Answers (IsDemoLine seed count) result (O.out out.old) (O.out out.new) }
-    ensures cause { (files : Outside) → HasOneCause result (world files (O.out out.old) (O.faults out.old)) (world files (O.out out.new) (O.faults out.new)) }
+    ensures line { Answers (IsDemoLine seed count) result (S.out out.old) (S.out out.new) }
+    ensures cause { (reading : Readable) (writing : WrittenFiles) →
+        HasOneCause result (world reading writing (S.out out.old) (S.faults out.old)) (world reading writing (S.out out.new) (S.faults out.new)) }
     ensures due { (result ≡ Status.Done) ⊎ ((result ≡ Status.WriteFault) ⊎ (result ≡ Status.OutOfMemory)) }
     ensures history { HasDemoHistory seed count result history.new }
 {

@@ -9,17 +9,20 @@ ghost use Rattle.capture_io.specs.declared.forms.Rec.{Rec as Record};
 ghost use Rattle.item_stage.specs.Items.{unfinished_of};
 ghost use Rattle.item_stage.specs.Stages.{Stands};
 ghost use Rattle.lwaftr_engine.specs.Finishing.{Finishes, FinishesPart, last_line};
-ghost use Rattle.lwaftr_engine.specs.Progress.{OneRises, loads_of, setup_of};
+ghost use Rattle.lwaftr_engine.specs.Progress.{loads_of, setup_of};
 ghost use Rattle.lwaftr_engine.specs.Runs.{OthersKept};
+ghost use Rattle.output_journal.specs.Ends.{OneRises};
 ghost use Rattle.run_output.specs.Counting.{with_version};
 ghost use Rattle.run_output.specs.Versions.{load_lines};
 
+use crate::outputs::names_of;
 use crate::rounds::Progress;
 use crate::tasks::Task;
 use aftr_base::OutOfMemory;
-use aftr_io::{Fault, Files, Sink, append_all, put_all};
+use aftr_io::{Fault, Sink, Writing};
 use aftr_text::{Totals, summary};
 use item_stage::Stage;
+use output_journal::{Last, write_last};
 use run_output::{push_ended_lines, push_last_versions};
 use std::alloc::Global;
 
@@ -70,10 +73,10 @@ fn totals_with(totals: Totals, points: &[u32]) -> Totals
 
 /// Writes what is left when the records have ended: the lines of the loads that were not told yet, those of unfinished datagrams,
 /// and the summary.
-pub fn finish<F: Files, O: Sink>(
+pub fn finish<O: Writing, S: Sink>(
     alloc: Global,
-    files: &mut F,
-    out: &mut O,
+    files: &mut O,
+    out: &mut S,
     task: Task<'_>,
     progress: &Progress,
     points: &[u32],
@@ -82,28 +85,22 @@ pub fn finish<F: Files, O: Sink>(
     requires same { length (setup_of task).slots ≡ length (setup_of task).run.loads }
     requires inside { progress.now.printed ≤ length (setup_of task).slots }
     requires few { length points.now < 2 ^ 32 }
-    ensures finished { IfOk result (λ _. Moves (F.outside files.old).held (F.outside files.new).held
-        (Finishes (setup_of task.entry) progress.now points.now (O.out out.old) (O.out out.new))) }
-    ensures cut { IfErr result (λ _. Moves (F.outside files.old).held (F.outside files.new).held
-        (FinishesPart (setup_of task.entry) progress.now points.now (has_failed result) (F.outside files.old).spoiled (F.outside files.new).spoiled
-        (O.out out.old) (O.out out.new))) }
-    ensures others { Moves (F.outside files.old).held (F.outside files.new).held (OthersKept (setup_of task.entry).run) }
-    ensures summary { OnOk result (O.out out.new ≡ option_map (λ taken. taken ++ last_line progress.now points.now) (O.out out.old)) }
-    ensures faults { OnOk result ((F.outside files.new).faults ≡ (F.outside files.old).faults) }
-    ensures lost { (F.outside files.new).lost ≡ (F.outside files.old).lost }
-    ensures last { (F.outside files.new).last ≡ (F.outside files.old).last }
-    ensures writing { OneRises (has_failed result) (F.outside files.old).spoiled (F.outside files.new).spoiled (O.faults out.old) (O.faults out.new) }
+    ensures finished { IfOk result (λ _. Moves (O.written files.old).held (O.written files.new).held
+        (Finishes (setup_of task.entry) progress.now points.now (S.out out.old) (S.out out.new))) }
+    ensures cut { IfErr result (λ _. Moves (O.written files.old).held (O.written files.new).held
+        (FinishesPart (setup_of task.entry) progress.now points.now (has_failed result) (O.written files.old).spoiled (O.written files.new).spoiled
+        (S.out out.old) (S.out out.new))) }
+    ensures others { Moves (O.written files.old).held (O.written files.new).held (OthersKept (setup_of task.entry).run) }
+    ensures summary { OnOk result (S.out out.new ≡ option_map (λ taken. taken ++ last_line progress.now points.now) (S.out out.old)) }
+    ensures writing { OneRises (has_failed result) (O.written files.old).spoiled (O.written files.new).spoiled (S.faults out.old) (S.faults out.new) }
 {
     let versions = last_versions(alloc, task, points, progress.printed)?;
     let lines = unfinished_lines(alloc, &progress.stage)?;
     let line = summary(alloc, totals_with(progress.totals, points))?;
-    append_all(
-        alloc,
-        files,
-        task.job.versions.as_str(),
-        versions.as_bytes(),
-    )?;
-    append_all(alloc, files, task.job.verdicts.as_str(), &lines)?;
-    put_all(alloc, out, line.as_str().as_bytes())?;
-    Ok(())
+    let last = Last {
+        versions: versions.as_bytes(),
+        verdicts: &lines,
+        summary: line.as_str().as_bytes(),
+    };
+    write_last(alloc, files, out, names_of(task.job), last)
 }

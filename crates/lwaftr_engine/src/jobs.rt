@@ -7,7 +7,7 @@ ghost use Rattle.lwaftr_engine.specs.Loads.{AreFitFor};
 ghost use Rattle.lwaftr_engine.specs.Planned.{IsAtFirst, IsMade, IsRunJob, LeavesMade, done_status, ended_status, some_slot_refused, unopened_status};
 ghost use Rattle.lwaftr_engine.specs.Progress.{KeepsRest, setup_of, spot};
 ghost use Rattle.lwaftr_engine.specs.Promises.{HasHistory, KeepsRun};
-ghost use Rattle.lwaftr_engine.specs.Worlds.{world};
+ghost use Rattle.lwaftr_engine.specs.Worlds.{halves, world};
 ghost use Rattle.table_words.specs.Layout.{AreCompiled, IsCompiled};
 
 use crate::loads::loads_in;
@@ -16,7 +16,7 @@ use crate::status::Status;
 use crate::table_file::{NoTable, table_in};
 use crate::tasks::{Means, Task};
 use aftr_base::{OutOfMemory, WordList};
-use aftr_io::{Fault, Files, Sink};
+use aftr_io::{Fault, Outside, Reading, Sink, Writing};
 use aftr_text::RunJob;
 use area_swap::History;
 use binding_file::one_table;
@@ -96,10 +96,17 @@ fn done_status(refused: bool) -> Status
 }
 
 // What a run does once its tables are read and its capture is opened: the reader stands before the first record.
-fn run_opened<R: Threads + Wait + Sync, F: Files, O: Sink, C: CaptureReader, G: Gate + Sync>(
+fn run_opened<
+    R: Threads + Wait + Sync,
+    I: Reading,
+    O: Writing,
+    S: Sink,
+    C: CaptureReader,
+    G: Gate + Sync,
+>(
     means: &Means<'_, R, G>,
-    files: &mut F,
-    out: &mut O,
+    files: &mut Outside<I, O>,
+    out: &mut S,
     task: Task<'_>,
     plan: Plan,
     reader: &mut C,
@@ -109,17 +116,19 @@ fn run_opened<R: Threads + Wait + Sync, F: Files, O: Sink, C: CaptureReader, G: 
     requires compiled { All AreCompiled plan.tables }
     requires count { length (setup_of task).slots ≡ length (setup_of task).run.loads }
     requires ready { C.ready reader.old 0 }
-    requires opened { Told (F.outside files.old).held (λ m. IsAtFirst (spot (C.stands reader.old) (C.left reader.old) (C.at reader.old))
+    requires opened { Told (I.readable files.old.reading).held (λ m. IsAtFirst (spot (C.stands reader.old) (C.left reader.old) (C.at reader.old))
         (setup_of task).form (setup_of task).written (content m (setup_of task).run.input)) }
     requires none { history.old ≡ None }
-    ensures left { Moves (F.outside files.old).held (F.outside files.new).held (LeavesMade (setup_of task.entry).run plan (setup_of task.entry).slots result
-        (world (F.outside files.old) (O.out out.old) (O.faults out.old))
-        (world (F.outside files.new) (O.out out.new) (O.faults out.new)) history.new) }
-    ensures cause { HasCause result (world (F.outside files.old) (O.out out.old) (O.faults out.old))
-        (world (F.outside files.new) (O.out out.new) (O.faults out.new)) }
-    ensures failed_read { FailsIn ((setup_of task.entry).run.input ∷ []) result (F.outside files.old).last (F.outside files.new).last }
-    ensures rest { KeepsRest (setup_of task.entry).run (F.outside files.old) (F.outside files.new) }
-    ensures has_history { HasHistory (setup_of task.entry).run.input result (F.outside files.new).last (O.out out.old) (O.out out.new) history.new }
+    ensures left { Told (I.readable files.old.reading).held (λ inputs.
+        Moves (O.written files.old.writing).held (O.written files.new.writing).held (LeavesMade (setup_of task.entry).run plan (setup_of task.entry).slots result
+        (world (I.readable files.old.reading) (O.written files.old.writing) (S.out out.old) (S.faults out.old))
+        (world (I.readable files.new.reading) (O.written files.new.writing) (S.out out.new) (S.faults out.new)) history.new inputs)) }
+    ensures cause { HasCause result (world (I.readable files.old.reading) (O.written files.old.writing) (S.out out.old) (S.faults out.old))
+        (world (I.readable files.new.reading) (O.written files.new.writing) (S.out out.new) (S.faults out.new)) }
+    ensures failed_read { FailsIn ((setup_of task.entry).run.input ∷ []) result (I.readable files.old.reading).last (I.readable files.new.reading).last }
+    ensures rest { KeepsRest (setup_of task.entry).run
+        (halves (I.readable files.old.reading) (O.written files.old.writing)) (halves (I.readable files.new.reading) (O.written files.new.writing)) }
+    ensures has_history { HasHistory (setup_of task.entry).run.input result (I.readable files.new.reading).last (S.out out.old) (S.out out.new) history.new }
 {
     let refused = has_refused(task.slots);
     let ended = run_capture(means, files, out, task, plan, reader, history);
@@ -127,10 +136,10 @@ fn run_opened<R: Threads + Wait + Sync, F: Files, O: Sink, C: CaptureReader, G: 
 }
 
 /// Opens the capture, which may be of either format, and takes its records: the steps of a run behind the reading of its tables.
-pub fn run_made<R: Threads + Wait + Sync, F: Files, O: Sink, G: Gate + Sync>(
+pub fn run_made<R: Threads + Wait + Sync, I: Reading, O: Writing, S: Sink, G: Gate + Sync>(
     means: &Means<'_, R, G>,
-    files: &mut F,
-    out: &mut O,
+    files: &mut Outside<I, O>,
+    out: &mut S,
     job: &RunJob,
     made: Made,
     history: &mut Option<History>,
@@ -139,17 +148,19 @@ pub fn run_made<R: Threads + Wait + Sync, F: Files, O: Sink, G: Gate + Sync>(
     requires compiled { All AreCompiled made.plan.tables }
     requires count { length made.slots ≡ length job.now.loads }
     requires none { history.old ≡ None }
-    ensures left { Moves (F.outside files.old).held (F.outside files.new).held (LeavesMade job.now made.plan made.slots result
-        (world (F.outside files.old) (O.out out.old) (O.faults out.old))
-        (world (F.outside files.new) (O.out out.new) (O.faults out.new)) history.new) }
-    ensures cause { HasCause result (world (F.outside files.old) (O.out out.old) (O.faults out.old))
-        (world (F.outside files.new) (O.out out.new) (O.faults out.new)) }
-    ensures failed_read { FailsIn (job.now.input ∷ []) result (F.outside files.old).last (F.outside files.new).last }
-    ensures rest { KeepsRest job.now (F.outside files.old) (F.outside files.new) }
-    ensures has_history { HasHistory job.now.input result (F.outside files.new).last (O.out out.old) (O.out out.new) history.new }
+    ensures left { Told (I.readable files.old.reading).held (λ inputs.
+        Moves (O.written files.old.writing).held (O.written files.new.writing).held (LeavesMade job.now made.plan made.slots result
+        (world (I.readable files.old.reading) (O.written files.old.writing) (S.out out.old) (S.faults out.old))
+        (world (I.readable files.new.reading) (O.written files.new.writing) (S.out out.new) (S.faults out.new)) history.new inputs)) }
+    ensures cause { HasCause result (world (I.readable files.old.reading) (O.written files.old.writing) (S.out out.old) (S.faults out.old))
+        (world (I.readable files.new.reading) (O.written files.new.writing) (S.out out.new) (S.faults out.new)) }
+    ensures failed_read { FailsIn (job.now.input ∷ []) result (I.readable files.old.reading).last (I.readable files.new.reading).last }
+    ensures rest { KeepsRest job.now
+        (halves (I.readable files.old.reading) (O.written files.old.writing)) (halves (I.readable files.new.reading) (O.written files.new.writing)) }
+    ensures has_history { HasHistory job.now.input result (I.readable files.new.reading).last (S.out out.old) (S.out out.new) history.new }
 {
     let Made { plan, slots } = made;
-    match Reader::open(means.alloc, files, job.input.as_str()) {
+    match Reader::open(means.alloc, &mut files.reading, job.input.as_str()) {
         Ok(mut reader) => {
             let task = Task {
                 job,
@@ -164,24 +175,24 @@ pub fn run_made<R: Threads + Wait + Sync, F: Files, O: Sink, G: Gate + Sync>(
 }
 
 /// Does the run.
-pub fn run_job<R: Threads + Wait + Sync, F: Files, O: Sink, G: Gate + Sync>(
+pub fn run_job<R: Threads + Wait + Sync, I: Reading, O: Writing, S: Sink, G: Gate + Sync>(
     means: &Means<'_, R, G>,
     job: &RunJob,
-    files: &mut F,
-    out: &mut O,
+    files: &mut Outside<I, O>,
+    out: &mut S,
     history: &mut Option<History>,
 ) -> Status
     requires job { IsRunJob job.now }
     requires none { history.old ≡ None }
-    ensures { KeepsRun job.now result (world (F.outside files.old) (O.out out.old) (O.faults out.old))
-        (world (F.outside files.new) (O.out out.new) (O.faults out.new)) history.new }
+    ensures { KeepsRun job.now result (world (I.readable files.old.reading) (O.written files.old.writing) (S.out out.old) (S.faults out.old))
+        (world (I.readable files.new.reading) (O.written files.new.writing) (S.out out.new) (S.faults out.new)) history.new }
 {
     // Laws, and no steps: a table file has one answer, and a capture one reading.
     one_table();
     one_reading();
     NgReader::one_left();
     let alloc = means.alloc;
-    let table = match table_in(alloc, files, job.table.as_str()) {
+    let table = match table_in(alloc, &mut files.reading, job.table.as_str()) {
         Ok(table) => table,
         Err(NoTable::ReadFault) => return Status::ReadFault,
         Err(NoTable::Refused(refusal)) => return Status::BadTable(refusal),
@@ -191,7 +202,13 @@ pub fn run_job<R: Threads + Wait + Sync, F: Files, O: Sink, G: Gate + Sync>(
         return Status::OutOfMemory;
     };
     drop(table);
-    let loads = match loads_in(means.rt, alloc, files, job.loads.as_slice(), job.workers) {
+    let loads = match loads_in(
+        means.rt,
+        alloc,
+        &mut files.reading,
+        job.loads.as_slice(),
+        job.workers,
+    ) {
         Ok(loads) => loads,
         Err(Fault::Failed) => return Status::ReadFault,
         Err(Fault::OutOfMemory) => return Status::OutOfMemory,

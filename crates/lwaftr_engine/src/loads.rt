@@ -7,7 +7,7 @@ ghost use Rattle.lwaftr_engine.specs.Loads.{AreFitFor, AreLoadsOf, HasWindowOf, 
 
 use crate::table_file::{ENOUGH, file_front};
 use aftr_base::OutOfMemory;
-use aftr_io::{Fault, Files};
+use aftr_io::{Fault, Reading};
 use aftr_text::LoadWords;
 use load_files::{LoadFile, loads_of};
 use reload_plan::Load;
@@ -17,17 +17,17 @@ use std::thread::Threads;
 /// The loads of these words, each with the words of its table or with the reason why its file is none, in their order. As many
 /// files as there are workers are read one after another, and then turned into loads side by side: no more texts are held at a
 /// time, and no more threads are at work. A fault of reading is told as it comes, whatever the files read before it hold.
-pub fn loads_in<R: Threads, F: Files>(
+pub fn loads_in<R: Threads, I: Reading>(
     rt: &R,
     alloc: Global,
-    files: &mut F,
+    files: &mut I,
     words: &[LoadWords],
     workers: u32,
 ) -> Result<Vec<Load>, Fault>
     requires some_one { 1 ≤ workers }
-    ensures loads { IfOk result (λ loads. Told (F.outside files.old).held (λ m. AreLoadsOf m words.now loads.items)) }
+    ensures loads { IfOk result (λ loads. Told (I.readable files.old).held (λ m. AreLoadsOf m words.now loads.items)) }
     ensures fit { IfOk result (λ loads. AreFitFor words.now loads.items) }
-    ensures reads { OnlyReadsAmong (has_failed result) (map (λ load. load.name) words.now) (F.outside files.old) (F.outside files.new) }
+    ensures reads { OnlyReadsAmong (has_failed result) (map (λ load. load.name) words.now) (I.readable files.old) (I.readable files.new) }
 {
     let mut loads = Vec::with_capacity(alloc, words.len())?;
     let mut at = 0;
@@ -41,15 +41,15 @@ pub fn loads_in<R: Threads, F: Files>(
 }
 
 // The loads of so few words that all their files are read before any text is judged.
-fn batch_in<R: Threads, F: Files>(
+fn batch_in<R: Threads, I: Reading>(
     rt: &R,
     alloc: Global,
-    files: &mut F,
+    files: &mut I,
     words: &[LoadWords],
 ) -> Result<Vec<Load>, Fault>
-    ensures loads { IfOk result (λ loads. Told (F.outside files.old).held (λ m. AreLoadsOf m words.now loads.items)) }
+    ensures loads { IfOk result (λ loads. Told (I.readable files.old).held (λ m. AreLoadsOf m words.now loads.items)) }
     ensures fit { IfOk result (λ loads. AreFitFor words.now loads.items) }
-    ensures reads { OnlyReadsAmong (has_failed result) (map (λ load. load.name) words.now) (F.outside files.old) (F.outside files.new) }
+    ensures reads { OnlyReadsAmong (has_failed result) (map (λ load. load.name) words.now) (I.readable files.old) (I.readable files.new) }
 {
     let read = files_in(alloc, files, words)?;
     match loads_of(rt, alloc, read) {
@@ -59,14 +59,14 @@ fn batch_in<R: Threads, F: Files>(
 }
 
 // The files of these words, in their order.
-fn files_in<F: Files>(
+fn files_in<I: Reading>(
     alloc: Global,
-    files: &mut F,
+    files: &mut I,
     words: &[LoadWords],
 ) -> Result<Vec<LoadFile>, Fault>
-    ensures texts { IfOk result (λ read. Told (F.outside files.old).held (λ m. AllZip (IsFileOf m) words.now read.items)) }
+    ensures texts { IfOk result (λ read. Told (I.readable files.old).held (λ m. AllZip (IsFileOf m) words.now read.items)) }
     ensures windows { IfOk result (λ read. AllZip HasWindowOf words.now read.items) }
-    ensures reads { OnlyReadsAmong (has_failed result) (map (λ load. load.name) words.now) (F.outside files.old) (F.outside files.new) }
+    ensures reads { OnlyReadsAmong (has_failed result) (map (λ load. load.name) words.now) (I.readable files.old) (I.readable files.new) }
 {
     let mut read = Vec::with_capacity(alloc, words.len())?;
     let mut at = 0;
@@ -79,10 +79,10 @@ fn files_in<F: Files>(
 }
 
 // One of them.
-fn file_in<F: Files>(alloc: Global, files: &mut F, words: &LoadWords) -> Result<LoadFile, Fault>
-    ensures text { IfOk result (λ file. Told (F.outside files.old).held (λ m. IsFileOf m words.now file)) }
+fn file_in<I: Reading>(alloc: Global, files: &mut I, words: &LoadWords) -> Result<LoadFile, Fault>
+    ensures text { IfOk result (λ file. Told (I.readable files.old).held (λ m. IsFileOf m words.now file)) }
     ensures window { IfOk result (HasWindowOf words.now) }
-    ensures reads { OnlyReads (has_failed result) words.now.name (λ _. Unit {0}) (F.outside files.old) (F.outside files.new) }
+    ensures reads { OnlyReads (has_failed result) words.now.name (λ _. Unit {0}) (I.readable files.old) (I.readable files.new) }
 {
     let text = file_front(alloc, files, words.name.as_str(), ENOUGH)?;
     Ok(LoadFile {

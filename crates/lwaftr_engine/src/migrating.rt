@@ -15,7 +15,7 @@ use crate::queries::put_line;
 use crate::status::Status;
 use crate::table_file::{NoTable, table_in};
 use aftr_base::{OutOfMemory, Text};
-use aftr_io::{Fault, Files, Sink, append_all};
+use aftr_io::{Fault, Outside, Reading, Sink, Writing, append_all};
 use aftr_text::migrated_line;
 use binding_file::{one_table, write_table};
 use binding_rules::Table;
@@ -23,29 +23,32 @@ use std::alloc::Global;
 
 /// Reads the table of a file, writes it in the newer edition to another one, which is made for it, and puts
 /// `migrated N bindings` and a line feed. A refused file is answered as by `check_table`.
-pub fn migrate<F: Files, O: Sink>(
+pub fn migrate<I: Reading, O: Writing, S: Sink>(
     alloc: Global,
     input: &str,
     output: &str,
-    files: &mut F,
-    out: &mut O,
+    files: &mut Outside<I, O>,
+    out: &mut S,
 ) -> Status
-    requires apart { input.now ≢ output.now }
-    ensures files { Moves (F.outside files.old).held (F.outside files.new).held (LeavesMigrated input.now output.now result
-        (world (F.outside files.old) (O.out out.old) (O.faults out.old))
-        (world (F.outside files.new) (O.out out.new) (O.faults out.new))) }
-    ensures line { Answers IsMigratedLine result (O.out out.old) (O.out out.new) }
-    ensures refused { Told (F.outside files.old).held (λ m. RefusesAs (content m input.now) result) }
-    ensures cause { HasOneCause result (world (F.outside files.old) (O.out out.old) (O.faults out.old))
-        (world (F.outside files.new) (O.out out.new) (O.faults out.new)) }
-    ensures failed_read { FailedIn input.now result (F.outside files.old).last (F.outside files.new).last }
-    ensures complete { Told (F.outside files.old).held (λ m. IsComplete (content m input.now) result
-        (world (F.outside files.old) (O.out out.old) (O.faults out.old))
-        (world (F.outside files.new) (O.out out.new) (O.faults out.new))) }
+    ensures files { Told (I.readable files.old.reading).held (λ inputs. Moves (O.written files.old.writing).held (O.written files.new.writing).held
+        (LeavesMigrated input.now output.now result
+        (world (I.readable files.old.reading) (O.written files.old.writing) (S.out out.old) (S.faults out.old))
+        (world (I.readable files.new.reading) (O.written files.new.writing) (S.out out.new) (S.faults out.new)) inputs)) }
+    ensures read_kept { (I.readable files.new.reading).held ≡ (I.readable files.old.reading).held }
+    ensures line { Answers IsMigratedLine result (S.out out.old) (S.out out.new) }
+    ensures refused { Told (I.readable files.old.reading).held (λ m. RefusesAs (content m input.now) result) }
+    ensures cause { HasOneCause result (world (I.readable files.old.reading) (O.written files.old.writing) (S.out out.old) (S.faults out.old))
+        (world (I.readable files.new.reading) (O.written files.new.writing) (S.out out.new) (S.faults out.new)) }
+    ensures failed_read { FailedIn input.now result (I.readable files.old.reading).last (I.readable files.new.reading).last }
+    ensures complete { Told (I.readable files.old.reading).held (λ m. IsComplete (content m input.now) result
+        (world (I.readable files.old.reading) (O.written files.old.writing) (S.out out.old) (S.faults out.old))
+        (world (I.readable files.new.reading) (O.written files.new.writing) (S.out out.new) (S.faults out.new))) }
 {
     // A law, and no step: a table file has one answer.
     one_table();
-    let table = match table_in(alloc, files, input) {
+    let reading = &mut files.reading;
+    let writing = &mut files.writing;
+    let table = match table_in(alloc, reading, input) {
         Ok(table) => table,
         Err(NoTable::ReadFault) => return Status::ReadFault,
         Err(NoTable::Refused(refusal)) => return Status::BadTable(refusal),
@@ -55,12 +58,12 @@ pub fn migrate<F: Files, O: Sink>(
     let Ok(text) = newer_text(alloc, table) else {
         return Status::OutOfMemory;
     };
-    match files.create(alloc, output) {
+    match writing.create(alloc, output) {
         Ok(()) => {}
         Err(Fault::Failed) => return Status::WriteFault,
         Err(Fault::OutOfMemory) => return Status::OutOfMemory,
     }
-    match append_all(alloc, files, output, text.as_str().as_bytes()) {
+    match append_all(alloc, writing, output, text.as_str().as_bytes()) {
         Ok(()) => {}
         Err(Fault::Failed) => return Status::WriteFault,
         Err(Fault::OutOfMemory) => return Status::OutOfMemory,
@@ -77,10 +80,10 @@ fn newer_text(alloc: Global, table: Table) -> Result<Text, OutOfMemory>
 }
 
 // Puts the line of so many bindings.
-fn put_count<O: Sink>(alloc: Global, out: &mut O, count: usize) -> Status
+fn put_count<S: Sink>(alloc: Global, out: &mut S, count: usize) -> Status
     requires { count ≤ 65536 }
-    ensures puts { Puts result (migrated_text count) (O.out out.old) (O.out out.new) }
-    ensures faults { Rises (is_unput result) (O.faults out.old) (O.faults out.new) }
+    ensures puts { Puts result (migrated_text count) (S.out out.old) (S.out out.new) }
+    ensures faults { Rises (is_unput result) (S.faults out.old) (S.faults out.new) }
 {
     match migrated_line(alloc, count as u32) {
         Ok(line) => put_line(alloc, out, line.as_str().as_bytes()),

@@ -1,7 +1,7 @@
 // Questions about a table file, each answered by one line.
 ghost use Rattle.std.specs.Prelude.{◌≡◌, ◌++◌, ℕ, ◌<◌, IfOk, codes, decimal, length};
 ghost use Rattle.aftr_io.specs.Contents.{Told, content};
-ghost use Rattle.aftr_io.specs.Outside.{Rises};
+ghost use Rattle.aftr_io.specs.Outside.{Rises, Written as WrittenFiles};
 ghost use Rattle.binding_rules.specs.Bindings.{bound};
 ghost use Rattle.binding_rules.specs.Tables.{BindingTable};
 ghost use Rattle.binding_rules.specs.declared.binding.Want.TheVariants as want;
@@ -16,7 +16,7 @@ use crate::status::Status;
 use crate::table_file::{NoTable, table_in};
 use addr_text::write_v6;
 use aftr_base::{OutOfMemory, Text, V4, V6};
-use aftr_io::{Fault, Files, Sink, put_all};
+use aftr_io::{Fault, Reading, Sink, put_all};
 use binding_file::one_table;
 use binding_rules::Want;
 use std::alloc::Global;
@@ -26,22 +26,21 @@ use table_words::{SliceWords, Steps, compile, look};
 
 /// Says whether a table file is valid: puts `valid N bindings` and a line feed, or answers `BadTable` with the first thing
 /// that is wrong. It writes no file.
-pub fn check_table<F: Files, O: Sink>(
+pub fn check_table<I: Reading, S: Sink>(
     alloc: Global,
     name: &str,
-    files: &mut F,
-    out: &mut O,
+    files: &mut I,
+    out: &mut S,
 ) -> Status
-    ensures held { (F.outside files.new).held ≡ (F.outside files.old).held }
-    ensures spoiled { (F.outside files.new).spoiled ≡ (F.outside files.old).spoiled }
-    ensures line { Answers (λ line. IsLineOf IsValidLine (F.outside files.old).held name.now line) result (O.out out.old) (O.out out.new) }
-    ensures refused { Told (F.outside files.old).held (λ m. RefusesAs (content m name.now) result) }
-    ensures cause { HasOneCause result (world (F.outside files.old) (O.out out.old) (O.faults out.old))
-        (world (F.outside files.new) (O.out out.new) (O.faults out.new)) }
-    ensures failed_read { FailedIn name.now result (F.outside files.old).last (F.outside files.new).last }
-    ensures complete { Told (F.outside files.old).held (λ m. IsComplete (content m name.now) result
-        (world (F.outside files.old) (O.out out.old) (O.faults out.old))
-        (world (F.outside files.new) (O.out out.new) (O.faults out.new))) }
+    ensures held { (I.readable files.new).held ≡ (I.readable files.old).held }
+    ensures line { Answers (λ line. IsLineOf IsValidLine (I.readable files.old).held name.now line) result (S.out out.old) (S.out out.new) }
+    ensures refused { Told (I.readable files.old).held (λ m. RefusesAs (content m name.now) result) }
+    ensures cause { (writing : WrittenFiles) → HasOneCause result (world (I.readable files.old) writing (S.out out.old) (S.faults out.old))
+        (world (I.readable files.new) writing (S.out out.new) (S.faults out.new)) }
+    ensures failed_read { FailedIn name.now result (I.readable files.old).last (I.readable files.new).last }
+    ensures complete { (writing : WrittenFiles) → Told (I.readable files.old).held (λ m. IsComplete (content m name.now) result
+        (world (I.readable files.old) writing (S.out out.old) (S.faults out.old))
+        (world (I.readable files.new) writing (S.out out.new) (S.faults out.new))) }
 {
     // A law, and no step: a table file has one answer.
     one_table();
@@ -59,24 +58,23 @@ pub fn check_table<F: Files, O: Sink>(
 
 /// Says who owns a port of an address under the table of a file: puts the end of the tunnel in its canonical text (RFC 5952,
 /// section 4), or `none`, and a line feed. A refused file is answered as by `check_table`. It writes no file.
-pub fn who_owns<F: Files, O: Sink>(
+pub fn who_owns<I: Reading, S: Sink>(
     alloc: Global,
     name: &str,
     v4: V4,
     port: u16,
-    files: &mut F,
-    out: &mut O,
+    files: &mut I,
+    out: &mut S,
 ) -> Status
-    ensures held { (F.outside files.new).held ≡ (F.outside files.old).held }
-    ensures spoiled { (F.outside files.new).spoiled ≡ (F.outside files.old).spoiled }
-    ensures line { Answers (λ line. IsLineOf (IsOwnerLine v4 port) (F.outside files.old).held name.now line) result (O.out out.old) (O.out out.new) }
-    ensures refused { Told (F.outside files.old).held (λ m. RefusesAs (content m name.now) result) }
-    ensures cause { HasOneCause result (world (F.outside files.old) (O.out out.old) (O.faults out.old))
-        (world (F.outside files.new) (O.out out.new) (O.faults out.new)) }
-    ensures failed_read { FailedIn name.now result (F.outside files.old).last (F.outside files.new).last }
-    ensures complete { Told (F.outside files.old).held (λ m. IsComplete (content m name.now) result
-        (world (F.outside files.old) (O.out out.old) (O.faults out.old))
-        (world (F.outside files.new) (O.out out.new) (O.faults out.new))) }
+    ensures held { (I.readable files.new).held ≡ (I.readable files.old).held }
+    ensures line { Answers (λ line. IsLineOf (IsOwnerLine v4 port) (I.readable files.old).held name.now line) result (S.out out.old) (S.out out.new) }
+    ensures refused { Told (I.readable files.old).held (λ m. RefusesAs (content m name.now) result) }
+    ensures cause { (writing : WrittenFiles) → HasOneCause result (world (I.readable files.old) writing (S.out out.old) (S.faults out.old))
+        (world (I.readable files.new) writing (S.out out.new) (S.faults out.new)) }
+    ensures failed_read { FailedIn name.now result (I.readable files.old).last (I.readable files.new).last }
+    ensures complete { (writing : WrittenFiles) → Told (I.readable files.old).held (λ m. IsComplete (content m name.now) result
+        (world (I.readable files.old) writing (S.out out.old) (S.faults out.old))
+        (world (I.readable files.new) writing (S.out out.new) (S.faults out.new))) }
 {
     // A law, and no step: a table file has one answer.
     one_table();
@@ -129,9 +127,9 @@ fn owner_line(alloc: Global, owner: Option<V6>) -> Result<Text, OutOfMemory>
 }
 
 /// Puts a line.
-pub fn put_line<O: Sink>(alloc: Global, out: &mut O, line: &[u8]) -> Status
-    ensures puts { Puts result line.now (O.out out.old) (O.out out.new) }
-    ensures faults { Rises (is_unput result) (O.faults out.old) (O.faults out.new) }
+pub fn put_line<S: Sink>(alloc: Global, out: &mut S, line: &[u8]) -> Status
+    ensures puts { Puts result line.now (S.out out.old) (S.out out.new) }
+    ensures faults { Rises (is_unput result) (S.faults out.old) (S.faults out.new) }
 {
     match put_all(alloc, out, line) {
         Ok(()) => Status::Done,

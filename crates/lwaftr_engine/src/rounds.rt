@@ -1,8 +1,8 @@
 // The records of a capture, taken in rounds: while one is judged, what the one before it writes is put into the outputs, and then
 // the next one is read.
 ghost use Rattle.std.specs.Prelude.{◌≡◌, ◌≤◌, ◌^◌, IfErr, IfOk, None, OnOk, Some};
-ghost use Rattle.aftr_io.specs.Contents.{Moves};
-ghost use Rattle.aftr_io.specs.Outside.{OnlyWrites, Rises, has_failed};
+ghost use Rattle.aftr_io.specs.Contents.{Moves, Told, content};
+ghost use Rattle.aftr_io.specs.Outside.{Rises, has_failed};
 ghost use Rattle.aftr_text.specs.Jobs.{AreApart};
 ghost use Rattle.capture_io.specs.Refusals.{EndsInRecords};
 ghost use Rattle.capture_io.specs.Rounds.{is_cut};
@@ -12,19 +12,22 @@ ghost use Rattle.lwaftr_engine.specs.Progress.{Goes, IsOnDuty, KeepsRest, ReadsO
 ghost use Rattle.lwaftr_engine.specs.Runs.{OthersKept};
 ghost use Rattle.lwaftr_engine.specs.Underway.{CanJudge, HasRead, IsAtStart, IsNothing, IsSettledAt};
 ghost use Rattle.lwaftr_engine.specs.Underway.{PutsAndReads, StaysOnDuty, WentWell, steps_of};
-ghost use Rattle.lwaftr_engine.specs.Writing.{BreaksLast, Did, DidBoth, DidFront};
+ghost use Rattle.lwaftr_engine.specs.Worlds.{halves};
+ghost use Rattle.lwaftr_engine.specs.Writing.{BreaksLast, DidBoth, outputs_of};
+ghost use Rattle.output_journal.specs.Log.{Logs};
 
 use crate::beside::{Sides, rounds_beside};
 use crate::known::run_laws;
-use crate::outputs::write_round;
+use crate::outputs::names_of;
 use crate::shift::{Shift, judge_round};
 use crate::tasks::{Means, Task};
 use aftr_base::OutOfMemory;
-use aftr_io::{Fault, Files};
+use aftr_io::{Fault, Outside, Reading, Writing};
 use aftr_text::Totals;
 use capture_io::{CaptureReader, Ending, Records, Round};
 use error_limit::Limiter;
 use item_stage::{RoundItems, Stage};
+use output_journal::write_round;
 use run_output::{Rendered, RoundRecords, push_new_versions, render_round};
 use std::alloc::Global;
 use std::mem;
@@ -152,23 +155,19 @@ pub fn judge<R: Threads + Wait + Sync, G: Gate + Sync>(
 }
 
 // Puts what a round wrote into the outputs.
-fn put<F: Files>(
+fn put<O: Writing>(
     alloc: Global,
-    files: &mut F,
+    files: &mut O,
     task: Task<'_>,
     pending: &Pending,
 ) -> Result<(), Fault>
     requires apart { AreApart (setup_of task).run }
-    ensures wrote { OnOk result (Moves (F.outside files.old).held (F.outside files.new).held (Did (setup_of task.entry).run (steps_of pending.now))) }
-    ensures begun { IfErr result (λ _. Moves (F.outside files.old).held (F.outside files.new).held
-        (DidFront (setup_of task.entry).run (steps_of pending.now))) }
-    ensures others { Moves (F.outside files.old).held (F.outside files.new).held (OthersKept (setup_of task.entry).run) }
-    ensures writes { OnlyWrites (has_failed result) (F.outside files.old) (F.outside files.new) }
+    ensures log { Logs (outputs_of (setup_of task.entry).run) result (steps_of pending.now) (O.written files.old) (O.written files.new) }
 {
     write_round(
         alloc,
         files,
-        task.job,
+        names_of(task.job),
         pending.versions.as_bytes(),
         pending.rendered.parts(),
     )
@@ -195,9 +194,9 @@ fn enough_bytes(workers: u32, records: usize) -> usize
 }
 
 // Reads the next round.
-fn read_next<F: Files, C: CaptureReader>(
+fn read_next<I: Reading, C: CaptureReader>(
     alloc: Global,
-    files: &mut F,
+    files: &mut I,
     task: Task<'_>,
     reader: &mut C,
     number: u32,
@@ -207,13 +206,12 @@ fn read_next<F: Files, C: CaptureReader>(
     requires ready { C.ready reader.old number }
     ensures read { IfOk result (HasRead (setup_of task.entry)
         (spot (C.stands reader.old) (C.left reader.old) (C.at reader.old)) (spot (C.stands reader.new) (C.left reader.new) (C.at reader.new))
-        number (F.outside files.old).held (F.outside files.new).last) }
+        number (I.readable files.old).held (I.readable files.new).last) }
     ensures ready { IfOk result (λ round. C.ready reader.new round.number) }
-    ensures held { (F.outside files.new).held ≡ (F.outside files.old).held }
-    ensures spoiled { (F.outside files.new).spoiled ≡ (F.outside files.old).spoiled }
-    ensures lost { IfErr result (λ _. (F.outside files.new).lost ≡ (F.outside files.old).lost) }
-    ensures last { IfErr result (λ _. (F.outside files.new).last ≡ (F.outside files.old).last) }
-    ensures reads { IfOk result (λ round. ReadsOf (is_cut round.ending) (setup_of task.entry).run.input (F.outside files.old) (F.outside files.new)) }
+    ensures held { (I.readable files.new).held ≡ (I.readable files.old).held }
+    ensures lost { IfErr result (λ _. (I.readable files.new).lost ≡ (I.readable files.old).lost) }
+    ensures last { IfErr result (λ _. (I.readable files.new).last ≡ (I.readable files.old).last) }
+    ensures reads { IfOk result (λ round. ReadsOf (is_cut round.ending) (setup_of task.entry).run.input (I.readable files.old) (I.readable files.new)) }
 {
     let name = task.job.input.as_str();
     let enough = enough_bytes(task.job.workers, room.len());
@@ -222,9 +220,9 @@ fn read_next<F: Files, C: CaptureReader>(
 }
 
 // Puts what a round wrote into the outputs, and then reads the next round.
-pub fn put_and_read<F: Files, C: CaptureReader>(
+pub fn put_and_read<I: Reading, O: Writing, C: CaptureReader>(
     alloc: Global,
-    files: &mut F,
+    files: &mut Outside<I, O>,
     task: Task<'_>,
     reader: &mut C,
     pending: &Pending,
@@ -236,18 +234,19 @@ pub fn put_and_read<F: Files, C: CaptureReader>(
     requires ready { C.ready reader.old number }
     ensures { PutsAndReads (setup_of task.entry) (steps_of pending.now) number
         (spot (C.stands reader.old) (C.left reader.old) (C.at reader.old)) (spot (C.stands reader.new) (C.left reader.new) (C.at reader.new))
-        (λ n. C.ready reader.new n) (F.outside files.old) (F.outside files.new) result }
+        (λ n. C.ready reader.new n)
+        (halves (I.readable files.old.reading) (O.written files.old.writing)) (halves (I.readable files.new.reading) (O.written files.new.writing)) result }
 {
-    put(alloc, files, task, pending)?;
+    put(alloc, &mut files.writing, task, pending)?;
     let room = room_of(alloc, spare);
-    let round = read_next(alloc, files, task, reader, number, room)?;
+    let round = read_next(alloc, &mut files.reading, task, reader, number, room)?;
     Ok(round)
 }
 
 // Puts what the round before wrote into the outputs, reads the next one, and then judges the one between them.
-fn step<R: Threads + Wait + Sync, F: Files, C: CaptureReader, G: Gate + Sync>(
+fn step<R: Threads + Wait + Sync, I: Reading, O: Writing, C: CaptureReader, G: Gate + Sync>(
     means: &Means<'_, R, G>,
-    files: &mut F,
+    files: &mut Outside<I, O>,
     task: Task<'_>,
     reader: &mut C,
     router: &mut Router,
@@ -261,7 +260,8 @@ fn step<R: Threads + Wait + Sync, F: Files, C: CaptureReader, G: Gate + Sync>(
     ensures duty { StaysOnDuty router.old.shift router.new.shift under_way.now.round.number }
     ensures outside { PutsAndReads (setup_of task.entry) (steps_of under_way.now.pending) under_way.now.round.number
         (spot (C.stands reader.old) (C.left reader.old) (C.at reader.old)) (spot (C.stands reader.new) (C.left reader.new) (C.at reader.new))
-        (λ n. C.ready reader.new n) (F.outside files.old) (F.outside files.new) result }
+        (λ n. C.ready reader.new n)
+        (halves (I.readable files.old.reading) (O.written files.old.writing)) (halves (I.readable files.new.reading) (O.written files.new.writing)) result }
 {
     let alloc = means.alloc;
     let round = &under_way.round;
@@ -282,9 +282,9 @@ fn step<R: Threads + Wait + Sync, F: Files, C: CaptureReader, G: Gate + Sync>(
 }
 
 // Puts what the round before the last one wrote, and judges and puts the last one.
-fn last_steps<R: Threads + Wait + Sync, F: Files, G: Gate + Sync>(
+fn last_steps<R: Threads + Wait + Sync, O: Writing, G: Gate + Sync>(
     means: &Means<'_, R, G>,
-    files: &mut F,
+    files: &mut O,
     task: Task<'_>,
     router: &mut Router,
     under_way: &UnderWay,
@@ -294,13 +294,13 @@ fn last_steps<R: Threads + Wait + Sync, F: Files, G: Gate + Sync>(
     requires can { CanJudge (setup_of task) router.old under_way.now.round }
     ensures well { IfOk result (λ _. WentWell (setup_of task.entry) router.old router.new under_way.now.round made.new) }
     ensures duty { StaysOnDuty router.old.shift router.new.shift under_way.now.round.number }
-    ensures wrote { IfOk result (λ _. Moves (F.outside files.old).held (F.outside files.new).held
+    ensures wrote { IfOk result (λ _. Moves (O.written files.old).held (O.written files.new).held
         (DidBoth (setup_of task.entry).run (steps_of under_way.now.pending) (steps_of made.new))) }
-    ensures begun { IfErr result (λ _. Moves (F.outside files.old).held (F.outside files.new).held
+    ensures begun { IfErr result (λ _. Moves (O.written files.old).held (O.written files.new).held
         (BreaksLast (setup_of task.entry).run (steps_of under_way.now.pending)
         (WentWell (setup_of task.entry) router.old router.new under_way.now.round made.new) (steps_of made.new))) }
-    ensures others { Moves (F.outside files.old).held (F.outside files.new).held (OthersKept (setup_of task.entry).run) }
-    ensures writes { OnlyWrites (has_failed result) (F.outside files.old) (F.outside files.new) }
+    ensures others { Moves (O.written files.old).held (O.written files.new).held (OthersKept (setup_of task.entry).run) }
+    ensures spoiled { Rises (has_failed result) (O.written files.old).spoiled (O.written files.new).spoiled }
 {
     put(means.alloc, files, task, &under_way.pending)?;
     judge(means, task, router, &under_way.round, made)?;
@@ -308,9 +308,15 @@ fn last_steps<R: Threads + Wait + Sync, F: Files, G: Gate + Sync>(
 }
 
 /// Takes all records in rounds, and answers how they ended. A fault is one of writing.
-pub fn run_records<R: Threads + Wait + Sync, F: Files, C: CaptureReader, G: Gate + Sync>(
+pub fn run_records<
+    R: Threads + Wait + Sync,
+    I: Reading,
+    O: Writing,
+    C: CaptureReader,
+    G: Gate + Sync,
+>(
     means: &Means<'_, R, G>,
-    files: &mut F,
+    files: &mut Outside<I, O>,
     task: Task<'_>,
     reader: &mut C,
     router: &mut Router,
@@ -324,23 +330,27 @@ pub fn run_records<R: Threads + Wait + Sync, F: Files, C: CaptureReader, G: Gate
     requires line { IsNewLine room.sides.asker room.sides.answerer }
 
     // Where all went well.
-    ensures went { IfOk result (λ ending. Moves (F.outside files.old).held (F.outside files.new).held
+    ensures went { IfOk result (λ ending. Told (I.readable files.old.reading).held (λ inputs.
+        Moves (O.written files.old.writing).held (O.written files.new.writing).held
         (Goes (setup_of task.entry) (state_of router.new) (spot (C.stands reader.old) (C.left reader.old) (C.at reader.old))
-        (spot (C.stands reader.new) (C.left reader.new) (C.at reader.new)) (Some ending) (F.outside files.new).last)) }
+        (spot (C.stands reader.new) (C.left reader.new) (C.at reader.new)) (Some ending) (I.readable files.new.reading).last
+        (content inputs (setup_of task.entry).run.input)))) }
     ensures after { IfOk result (λ _. IsSettledAt (setup_of task.entry) router.new) }
-    ensures reads { IfOk result (λ ending. ReadsOf (is_cut (Some ending)) (setup_of task.entry).run.input (F.outside files.old) (F.outside files.new)) }
+    ensures reads { IfOk result (λ ending. ReadsOf (is_cut (Some ending)) (setup_of task.entry).run.input (I.readable files.old.reading) (I.readable files.new.reading)) }
     ensures in_records { IfOk result (λ ending. EndsInRecords (Some ending)) }
 
     // Where they could not be written to their end.
-    ensures broken { IfErr result (λ _. Moves (F.outside files.old).held (F.outside files.new).held
+    ensures broken { IfErr result (λ _. Told (I.readable files.old.reading).held (λ inputs.
+        Moves (O.written files.old.writing).held (O.written files.new.writing).held
         (Breaks (setup_of task.entry) (state_of router.new) (spot (C.stands reader.old) (C.left reader.old) (C.at reader.old))
-        (F.outside files.old) (F.outside files.new))) }
+        (I.readable files.old.reading) (I.readable files.new.reading) (content inputs (setup_of task.entry).run.input)))) }
 
     // Whatever came.
-    ensures rest { KeepsRest (setup_of task.entry).run (F.outside files.old) (F.outside files.new) }
+    ensures rest { KeepsRest (setup_of task.entry).run
+        (halves (I.readable files.old.reading) (O.written files.old.writing)) (halves (I.readable files.new.reading) (O.written files.new.writing)) }
     ensures areas { router.new.shift.areas ≡ router.old.shift.areas }
     ensures duty { IsOnDuty router.new.shift.areas.plan router.new.shift }
-    ensures spoiled { Rises (has_failed result) (F.outside files.old).spoiled (F.outside files.new).spoiled }
+    ensures spoiled { Rises (has_failed result) (O.written files.old.writing).spoiled (O.written files.new.writing).spoiled }
 {
     // Laws, and no steps: whatever is left has some ending, and what holds of every run.
     C::some_left();
@@ -351,12 +361,26 @@ pub fn run_records<R: Threads + Wait + Sync, F: Files, C: CaptureReader, G: Gate
         sides,
     } = room;
     let number = router.progress.number;
-    let round = read_next(means.alloc, files, task, reader, number, records)?;
+    let round = read_next(
+        means.alloc,
+        &mut files.reading,
+        task,
+        reader,
+        number,
+        records,
+    )?;
     let mut under_way = UnderWay { round, pending };
     let mut free = rounds_beside(means, files, task, reader, router, &mut under_way, sides)?;
     'rounds: loop {
         if let Some(ending) = under_way.round.ending {
-            last_steps(means, files, task, router, &under_way, &mut free.made)?;
+            last_steps(
+                means,
+                &mut files.writing,
+                task,
+                router,
+                &under_way,
+                &mut free.made,
+            )?;
             return Ok(ending);
         }
         let next = step(means, files, task, reader, router, &under_way, &mut free)?;

@@ -1,6 +1,6 @@
 // The run, from its table files to the summary.
 ghost use Rattle.std.specs.Prelude.{◌≡◌, ◌≤◌, All, IfOk, IfSome, None, Some, length};
-ghost use Rattle.aftr_io.specs.Contents.{Moves};
+ghost use Rattle.aftr_io.specs.Contents.{Moves, Told};
 ghost use Rattle.aftr_io.specs.Outside.{has_failed};
 ghost use Rattle.aftr_text.specs.Jobs.{AreApart, IsRate, IsWorkers};
 ghost use Rattle.capture_io.specs.Refusals.{EndsInRecords};
@@ -8,9 +8,10 @@ ghost use Rattle.capture_io.specs.Rounds.{is_cut};
 ghost use Rattle.hand_over.specs.Lines.{IsNewLine};
 ghost use Rattle.lwaftr_engine.specs.Finishing.{HasHistoryBy};
 ghost use Rattle.lwaftr_engine.specs.Planned.{LeavesOpened};
-ghost use Rattle.lwaftr_engine.specs.Progress.{KeepsRest, OneRises, ReadsOf, setup_of, spot};
+ghost use Rattle.lwaftr_engine.specs.Progress.{KeepsRest, ReadsOf, setup_of, spot};
 ghost use Rattle.lwaftr_engine.specs.Underway.{IsAtStart, IsFirst, IsNothing};
-ghost use Rattle.lwaftr_engine.specs.Worlds.{world};
+ghost use Rattle.lwaftr_engine.specs.Worlds.{halves, world};
+ghost use Rattle.output_journal.specs.Ends.{OneRises};
 ghost use Rattle.table_words.specs.Layout.{AreCompiled};
 
 use crate::beside::Sides;
@@ -21,7 +22,7 @@ use crate::rounds::{Free, Pending, Progress, Room, Router, run_records};
 use crate::shift::{begin_shift, end_shift};
 use crate::tasks::{Means, Task};
 use aftr_base::OutOfMemory;
-use aftr_io::{Fault, Files, Sink};
+use aftr_io::{Fault, Outside, Reading, Sink, Writing};
 use aftr_text::NO_TOTALS;
 use area_swap::History;
 use capture_io::{CaptureReader, Ending, Form, Records};
@@ -103,10 +104,17 @@ fn no_pending(alloc: Global, workers: u32) -> Result<Pending, OutOfMemory>
 
 /// Makes the outputs, takes all records, and writes what is left: the steps of a run from the opening of its outputs on. The
 /// reader stands before the first record. However it ends, the areas are closed; they become the history where all is written.
-pub fn run_capture<R: Threads + Wait + Sync, F: Files, O: Sink, C: CaptureReader, G: Gate + Sync>(
+pub fn run_capture<
+    R: Threads + Wait + Sync,
+    I: Reading,
+    O: Writing,
+    S: Sink,
+    C: CaptureReader,
+    G: Gate + Sync,
+>(
     means: &Means<'_, R, G>,
-    files: &mut F,
-    out: &mut O,
+    files: &mut Outside<I, O>,
+    out: &mut S,
     task: Task<'_>,
     plan: Plan,
     reader: &mut C,
@@ -119,15 +127,16 @@ pub fn run_capture<R: Threads + Wait + Sync, F: Files, O: Sink, C: CaptureReader
     requires compiled { All AreCompiled plan.tables }
     requires ready { C.ready reader.old 0 }
     requires none { history.old ≡ None }
-    ensures left { Moves (F.outside files.old).held (F.outside files.new).held (LeavesOpened (setup_of task.entry) plan
+    ensures left { Told (I.readable files.old.reading).held (λ inputs. Moves (O.written files.old.writing).held (O.written files.new.writing).held (LeavesOpened (setup_of task.entry) plan
         (spot (C.stands reader.old) (C.left reader.old) (C.at reader.old)) result
-        (world (F.outside files.old) (O.out out.old) (O.faults out.old))
-        (world (F.outside files.new) (O.out out.new) (O.faults out.new)) history.new) }
-    ensures history { HasHistoryBy result (O.out out.old) (O.out out.new) history.new }
+        (world (I.readable files.old.reading) (O.written files.old.writing) (S.out out.old) (S.faults out.old))
+        (world (I.readable files.new.reading) (O.written files.new.writing) (S.out out.new) (S.faults out.new)) history.new inputs)) }
+    ensures history { HasHistoryBy result (S.out out.old) (S.out out.new) history.new }
     ensures in_records { IfOk result (λ ending. EndsInRecords (Some ending)) }
-    ensures reads { IfOk result (λ ending. ReadsOf (is_cut (Some ending)) (setup_of task.entry).run.input (F.outside files.old) (F.outside files.new)) }
-    ensures rest { KeepsRest (setup_of task.entry).run (F.outside files.old) (F.outside files.new) }
-    ensures writing { OneRises (has_failed result) (F.outside files.old).spoiled (F.outside files.new).spoiled (O.faults out.old) (O.faults out.new) }
+    ensures reads { IfOk result (λ ending. ReadsOf (is_cut (Some ending)) (setup_of task.entry).run.input (I.readable files.old.reading) (I.readable files.new.reading)) }
+    ensures rest { KeepsRest (setup_of task.entry).run
+        (halves (I.readable files.old.reading) (O.written files.old.writing)) (halves (I.readable files.new.reading) (O.written files.new.writing)) }
+    ensures writing { OneRises (has_failed result) (O.written files.old.writing).spoiled (O.written files.new.writing).spoiled (S.faults out.old) (S.faults out.new) }
 {
     // Laws, and no steps: whatever is left has some ending, and what holds of every run and plan.
     C::some_left();
@@ -137,7 +146,7 @@ pub fn run_capture<R: Threads + Wait + Sync, F: Files, O: Sink, C: CaptureReader
     let mut router = router_of(alloc, task, plan)?;
     let bells = Bells::new();
     let room = first_room(alloc, task.job.workers, &bells)?;
-    open_outputs(alloc, files, task.job, task.written)?;
+    open_outputs(alloc, &mut files.writing, task.job, task.written)?;
     let taken = run_records(means, files, task, reader, &mut router, room);
     let Router {
         shift,
@@ -146,7 +155,14 @@ pub fn run_capture<R: Threads + Wait + Sync, F: Files, O: Sink, C: CaptureReader
     } = router;
     let closed = end_shift(shift);
     let ending = taken?;
-    finish(alloc, files, out, task, &progress, closed.points())?;
+    finish(
+        alloc,
+        &mut files.writing,
+        out,
+        task,
+        &progress,
+        closed.points(),
+    )?;
     *history = Some(closed);
     Ok(ending)
 }

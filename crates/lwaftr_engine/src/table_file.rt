@@ -6,7 +6,7 @@ ghost use Rattle.binding_file.specs.Files.{TableOf};
 ghost use Rattle.lwaftr_engine.specs.Answered.{IsNoTable, is_unread};
 
 use aftr_base::Bytes;
-use aftr_io::{Fault, Files, bytes_at};
+use aftr_io::{Fault, Reading, bytes_at};
 use binding_file::{FileError, FileRefused, read_table};
 use binding_rules::Table;
 use std::alloc::Global;
@@ -30,10 +30,10 @@ pub enum NoTable {
 
 /// The table that the file spells; a file that is not there holds no bytes. It is read from its start on, in pieces that
 /// double, and never more of it than decides that it is too big: one byte more than 16,777,216.
-pub fn table_in<F: Files>(alloc: Global, files: &mut F, name: &str) -> Result<Table, NoTable>
-    ensures table { IfOk result (λ t. Told (F.outside files.old).held (λ m. TableOf (content m name.now) (Ok t))) }
-    ensures refused { IfErr result (λ why. Told (F.outside files.old).held (λ m. IsNoTable (content m name.now) why)) }
-    ensures reads { OnlyReads (is_unread result) name.now (λ _. Unit {0}) (F.outside files.old) (F.outside files.new) }
+pub fn table_in<I: Reading>(alloc: Global, files: &mut I, name: &str) -> Result<Table, NoTable>
+    ensures table { IfOk result (λ t. Told (I.readable files.old).held (λ m. TableOf (content m name.now) (Ok t))) }
+    ensures refused { IfErr result (λ why. Told (I.readable files.old).held (λ m. IsNoTable (content m name.now) why)) }
+    ensures reads { OnlyReads (is_unread result) name.now (λ _. Unit {0}) (I.readable files.old) (I.readable files.new) }
 {
     let bytes = match file_front(alloc, files, name, ENOUGH) {
         Ok(bytes) => bytes,
@@ -48,15 +48,15 @@ pub fn table_in<F: Files>(alloc: Global, files: &mut F, name: &str) -> Result<Ta
 }
 
 /// The first bytes of a file, at most so many, in pieces that double.
-pub fn file_front<F: Files>(
+pub fn file_front<I: Reading>(
     alloc: Global,
-    files: &mut F,
+    files: &mut I,
     name: &str,
     most: usize,
 ) -> Result<Bytes, Fault>
     requires { most ≤ 2 ^ 32 }
-    ensures bytes { IfOk result (λ bytes. Told (F.outside files.old).held (λ m. bytes ≡ take most (content m name.now))) }
-    ensures reads { OnlyReads (has_failed result) name.now (λ place. place < most) (F.outside files.old) (F.outside files.new) }
+    ensures bytes { IfOk result (λ bytes. Told (I.readable files.old).held (λ m. bytes ≡ take most (content m name.now))) }
+    ensures reads { OnlyReads (has_failed result) name.now (λ place. place < most) (I.readable files.old) (I.readable files.new) }
 {
     let mut list = Vec::new(alloc);
     'pieces: while list.len() < most {

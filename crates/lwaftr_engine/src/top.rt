@@ -17,7 +17,7 @@ use crate::demo::show_demo;
 use crate::jobs::run_job;
 use crate::status::Status;
 use crate::tasks::Means;
-use aftr_io::{Files, Sink};
+use aftr_io::{Outside, Reading, Sink, Writing};
 use area_swap::History;
 use std::alloc::Global;
 use std::sync::Wait;
@@ -45,12 +45,12 @@ use worker_gate::Gate;
 ///
 /// `run` and `demo` may wait, as workers wait for one another and for the tables that are due. All else is done by `do_at_once`, which
 /// waits for nobody.
-pub fn lwaftr<R: Threads + Wait + Sync, F: Files, O: Sink, G: Gate + Sync>(
+pub fn lwaftr<R: Threads + Wait + Sync, I: Reading, O: Writing, S: Sink, G: Gate + Sync>(
     rt: &R,
     alloc: Global,
     words: &[&str],
-    files: &mut F,
-    out: &mut O,
+    files: &mut Outside<I, O>,
+    out: &mut S,
     gate: &G,
     history: &mut Option<History>,
 ) -> Status
@@ -63,25 +63,25 @@ pub fn lwaftr<R: Threads + Wait + Sync, F: Files, O: Sink, G: Gate + Sync>(
 
     // What each job leaves.
     ensures run { (run : Run) → Asks (texts words.now) (asked.Run run) → KeepsRun run result
-        (world (F.outside files.old) (O.out out.old) (O.faults out.old))
-        (world (F.outside files.new) (O.out out.new) (O.faults out.new)) history.new }
+        (world (I.readable files.old.reading) (O.written files.old.writing) (S.out out.old) (S.faults out.old))
+        (world (I.readable files.new.reading) (O.written files.new.writing) (S.out out.new) (S.faults out.new)) history.new }
     ensures check { (name : List ℕ) → Asks (texts words.now) (asked.Check name) → KeepsQuestion IsValidLine name result
-        (world (F.outside files.old) (O.out out.old) (O.faults out.old))
-        (world (F.outside files.new) (O.out out.new) (O.faults out.new)) history.new }
+        (world (I.readable files.old.reading) (O.written files.old.writing) (S.out out.old) (S.faults out.old))
+        (world (I.readable files.new.reading) (O.written files.new.writing) (S.out out.new) (S.faults out.new)) history.new }
     ensures who { (name : List ℕ) (v4 : Address) (port : ℕ) → Asks (texts words.now) (asked.Who name v4 port) → KeepsQuestion (IsOwnerLine v4 port) name result
-        (world (F.outside files.old) (O.out out.old) (O.faults out.old))
-        (world (F.outside files.new) (O.out out.new) (O.faults out.new)) history.new }
+        (world (I.readable files.old.reading) (O.written files.old.writing) (S.out out.old) (S.faults out.old))
+        (world (I.readable files.new.reading) (O.written files.new.writing) (S.out out.new) (S.faults out.new)) history.new }
     ensures demo { (seed count workers : ℕ) → Asks (texts words.now) (asked.Demo seed count workers) → KeepsDemo seed count result
-        (world (F.outside files.old) (O.out out.old) (O.faults out.old))
-        (world (F.outside files.new) (O.out out.new) (O.faults out.new)) history.new }
+        (world (I.readable files.old.reading) (O.written files.old.writing) (S.out out.old) (S.faults out.old))
+        (world (I.readable files.new.reading) (O.written files.new.writing) (S.out out.new) (S.faults out.new)) history.new }
     ensures migrate { (input output : List ℕ) → Asks (texts words.now) (asked.Migrate input output) → KeepsMigration input output result
-        (world (F.outside files.old) (O.out out.old) (O.faults out.old))
-        (world (F.outside files.new) (O.out out.new) (O.faults out.new)) history.new }
+        (world (I.readable files.old.reading) (O.written files.old.writing) (S.out out.old) (S.faults out.old))
+        (world (I.readable files.new.reading) (O.written files.new.writing) (S.out out.new) (S.faults out.new)) history.new }
 
     // Why it ended so.
     ensures cause { HasCause result
-        (world (F.outside files.old) (O.out out.old) (O.faults out.old))
-        (world (F.outside files.new) (O.out out.new) (O.faults out.new)) }
+        (world (I.readable files.old.reading) (O.written files.old.writing) (S.out out.old) (S.faults out.old))
+        (world (I.readable files.new.reading) (O.written files.new.writing) (S.out out.new) (S.faults out.new)) }
 {
     let means = Means { rt, alloc, gate };
     match do_at_once(alloc, words, files, out) {

@@ -6,7 +6,7 @@ use crate::lines::lines_below;
 use crate::same_files::same_file_lines;
 use crate::tables::table_lines;
 use aftr_base::OutOfMemory;
-use aftr_io::{RealFiles, RealSink};
+use aftr_io::{RealSink, real_files};
 use lwaftr_engine::{Status, code, lwaftr, status_line};
 use std::alloc::Global;
 use std::env;
@@ -53,7 +53,7 @@ pub fn run_program<
 
 // Does the job over a system's files, says how it ended, and answers the exit code.
 fn do_job<
-    F: Files + Drop,
+    F: Files + Copy + Drop,
     R: Alloc<A = Global> + Files + Print + Eprint + Threads + Wait + Sync + Drop,
 >(system: F, rt: &R, alloc: Global, words: &[&str]) -> u8
     ensures code { result ≤ 7 }
@@ -63,7 +63,7 @@ fn do_job<
         Ok(Some(lines)) => return end_early(rt, alloc, &Status::Usage, lines.as_str()),
         Err(OutOfMemory) => return end_early(rt, alloc, &Status::OutOfMemory, NO_MEMORY),
     }
-    let mut files = RealFiles::new(system, alloc);
+    let mut files = real_files(system, alloc);
     let mut out = RealSink::new(rt);
     let mut history = None;
     let status = lwaftr(
@@ -76,7 +76,8 @@ fn do_job<
         &mut history,
     );
     let said = Said {
-        file: files.last_error(),
+        reading: files.reading.last_error(),
+        writing: files.writing.last_error(),
         sink: out.last_error(),
     };
     report(rt, alloc, words, &status, said);

@@ -5,7 +5,7 @@ use Rattle.std.proofs.lemmas.List.Elements.{All-nil, All-cons}
 use Rattle.std.proofs.lemmas.Bool.{true≢false}
 use Rattle.aftr_io.specs.Contents.{Contents, content, Told}
 use Rattle.aftr_base.specs.Numbers.{span}
-use Rattle.aftr_io.specs.Outside.{OnlyReads, Outside}
+use Rattle.aftr_io.specs.Outside.{OnlyReads, Readable}
 use Rattle.aftr_io.proofs.OutsideLemmas.{reads_wider}
 use Rattle.capture_io.specs.declared.forms.CaptureBad.{CaptureBad}
 use Rattle.capture_io.specs.declared.forms.CaptureError.{CaptureError}
@@ -193,7 +193,7 @@ module _ (held : Option Contents) (name : List ℕ) (old : Seen) (first window :
       by_held None t = tt
       by_held (Some m) t = λ s r rs e splits. block_before old (drop old.known.at (content m name)) number place r splits.0 (t (open_front old first number (content m name) more s)) splits.1
 
-  pub long_reads : (e : CaptureError) (taken : Taken) (a b : Outside) → a.held ≡ held → e ≡ error.ReadFault → taken ≡ record { used = length window.bytes; known = old.known; number = number; ending = Some end.ReadFault } →
+  pub long_reads : (e : CaptureError) (taken : Taken) (a b : Readable) → a.held ≡ held → e ≡ error.ReadFault → taken ≡ record { used = length window.bytes; known = old.known; number = number; ending = Some end.ReadFault } →
       OnlyReads (is_read_fault {T = Block} (Err e)) name (IsInLong held name old number first) a b →
       OnlyReads (is_cut taken.ending) name (IsInNext name (λ all. IsStart first.bytes (drop old.known.at all)) (left_of (seen_by taken.known old.interfaces)) taken.known.at a.held taken.number) a b
   long_reads e taken a b same is t reads =
@@ -239,7 +239,7 @@ pub told_by : (held : Option Contents) (name : List ℕ) (first : Ahead) (known 
 told_by held name first known slice list number answer is told =
     subst (λ (l : List Interface). WithFront held name known.at first (λ all. Agrees answer (block_in (seen_by known l) (drop known.at all) number))) is told
 
-pub reads_by : (held : Option Contents) (name : List ℕ) (first : Ahead) (known : Known) (slice list : List Interface) (number : ℕ) (e : CaptureError) (a b : Outside) → slice ≡ list →
+pub reads_by : (held : Option Contents) (name : List ℕ) (first : Ahead) (known : Known) (slice list : List Interface) (number : ℕ) (e : CaptureError) (a b : Readable) → slice ≡ list →
     OnlyReads (is_read_fault {T = Block} (Err e)) name (IsInLong held name (seen_by known slice) number first) a b → OnlyReads (is_read_fault {T = Block} (Err e)) name (IsInLong held name (seen_by known list) number first) a b
 reads_by held name first known slice list number e a b is reads =
     subst (λ (l : List Interface). OnlyReads (is_read_fault {T = Block} (Err e)) name (IsInLong held name (seen_by known l) number first) a b) is reads
@@ -312,5 +312,5 @@ pub long_is : (held : Option Contents) (name : List ℕ) (old : Seen) (interface
     IsLongTaken held name old interfaces ahead window places number most l → IsLongTaken held name old interfaces ahead window places number most other
 long_is held name old interfaces ahead window places number most l other is taken = subst (λ (x : Long). IsLongTaken held name old interfaces ahead window places number most x) is taken
 
-pub long_read : (name : List ℕ) (old : Seen) (interfaces : List Interface) (ahead : List ℕ) (a b : Outside) (l other : Long) → l ≡ other → LongReads (Ok l) name old interfaces ahead a b → LongReads (Ok other) name old interfaces ahead a b
+pub long_read : (name : List ℕ) (old : Seen) (interfaces : List Interface) (ahead : List ℕ) (a b : Readable) (l other : Long) → l ≡ other → LongReads (Ok l) name old interfaces ahead a b → LongReads (Ok other) name old interfaces ahead a b
 long_read name old interfaces ahead a b l other is reads = subst (λ (x : Long). LongReads (Ok x) name old interfaces ahead a b) is reads

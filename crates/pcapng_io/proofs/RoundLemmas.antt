@@ -1,7 +1,7 @@
 -- A round, from the packets that were found.
 use Rattle.std.proofs.Common.{◌≡◌, ℕ, ◌<◌, Bool, false, List, drop, map, All, Option, Some, None, sym, subst}
 use Rattle.aftr_io.specs.Contents.{Contents, content, Told}
-use Rattle.aftr_io.specs.Outside.{OnlyReads, Outside}
+use Rattle.aftr_io.specs.Outside.{OnlyReads, Readable}
 use Rattle.capture_io.specs.declared.forms.Rec.{Rec}
 use Rattle.capture_io.specs.declared.records.Place.{Place}
 use Rattle.capture_io.specs.declared.rounds.Round.{Round}
@@ -47,17 +47,17 @@ told_with (Some m) name before after given bytes number records places taken g i
     })
 
 -- a call in which no read failed
-pub quiet_reads : (name : List ℕ) (P Q : ℕ → Type 0) (cut : Bool) (a b : Outside) → cut ≡ false → OnlyReads cut name P a b → OnlyReads false name Q a b
+pub quiet_reads : (name : List ℕ) (P Q : ℕ → Type 0) (cut : Bool) (a b : Readable) → cut ≡ false → OnlyReads cut name P a b → OnlyReads false name Q a b
 quiet_reads name P Q cut a b same r =
     let given : OnlyReads false name P a b = subst (λ (c : Bool). OnlyReads c name P a b) same r in
-    record { held = given.held; faults = given.faults; lost = given.lost; spoiled = given.spoiled; last = given.last }
+    record { held = given.held; lost = given.lost; last = given.last }
 
 -- other interfaces, each with some ticks
 pub sound_with : (known : Known) (before now : List Interface) → IsSoundSeen (seen_by known before) → All (λ (i : Interface). 0 < i.ticks) now → IsSoundSeen (seen_by known now)
 sound_with known before now sound counted = record { time = sound.time; counted = counted; linked = sound.linked }
 
 -- a call that reads, from where the reader stands
-pub reads_with : (name : List ℕ) (before seen : Standing) (given : List ℕ) (later : Seen) (taken : Taken) (a b : Outside) → seen ≡ before → given ≡ seen.ahead →
+pub reads_with : (name : List ℕ) (before seen : Standing) (given : List ℕ) (later : Seen) (taken : Taken) (a b : Readable) → seen ≡ before → given ≡ seen.ahead →
     OnlyReads (is_cut taken.ending) name (IsInNext name (λ all. IsStart given (drop seen.seen.known.at all)) (left_of later) later.known.at a.held taken.number) a b →
     OnlyReads (is_cut taken.ending) name (IsInNext name (stands_in before) (left_of later) later.known.at a.held taken.number) a b
 reads_with name before seen given later taken a b view g r =

@@ -4,7 +4,7 @@ use Rattle.std.proofs.lemmas.List.{drop-drop, length-drop, length-take, take-tak
 use Rattle.std.proofs.lemmas.List.Elements.{All-nil, All-cons, All-append}
 use Rattle.std.proofs.lemmas.Bool.Decides.{nat_tests}
 use Rattle.aftr_io.specs.Contents.{Contents, content, Told}
-use Rattle.aftr_io.specs.Outside.{OnlyReads, Outside}
+use Rattle.aftr_io.specs.Outside.{OnlyReads, Readable}
 use Rattle.capture_io.specs.declared.forms.Rec.{Rec}
 use Rattle.capture_io.specs.declared.forms.CaptureBad.{CaptureBad}
 use Rattle.capture_io.specs.declared.forms.CaptureBad.TheVariants as bad
@@ -300,7 +300,7 @@ inside_moved after held name here number place section list same is within =
     subst Of is (subst At same within)
 
 -- nothing failed
-pub quiet : (name : List ℕ) (Q : ℕ → Type 0) (a c : Outside) → c ≡ a → OnlyReads false name Q a c
+pub quiet : (name : List ℕ) (Q : ℕ → Type 0) (a c : Readable) → c ≡ a → OnlyReads false name Q a c
 quiet name Q a c same =
-    let R : Outside → Type 0 = λ o. OnlyReads false name Q a o in
-    subst R (sym same) (record { held = refl; faults = refl; lost = refl; spoiled = refl; last = refl })
+    let R : Readable → Type 0 = λ o. OnlyReads false name Q a o in
+    subst R (sym same) (record { held = refl; lost = refl; last = refl })

@@ -5,7 +5,7 @@ use Rattle.std.proofs.lemmas.Bool.{true≢false}
 use Rattle.aftr_io.specs.Contents.{Contents, content, Told}
 use Rattle.aftr_io.specs.declared.outside.Fault.{Fault}
 use Rattle.aftr_io.specs.declared.outside.Fault.TheVariants as fault
-use Rattle.aftr_io.specs.Outside.{OnlyReads, Outside, has_failed}
+use Rattle.aftr_io.specs.Outside.{OnlyReads, Readable, has_failed}
 use Rattle.capture_io.specs.declared.records.Place.{Place}
 use Rattle.capture_io.specs.declared.rounds.Ending.{Ending}
 use Rattle.capture_io.specs.declared.rounds.Ending.TheVariants as end
@@ -186,7 +186,7 @@ failed_found held name old later ahead rest more number places cut none search s
     subst (λ (a : Ahead). IsFound held name old later ahead a.bytes places number cut) (sym same) (subst (λ (l : List Place). IsFound held name old later ahead rest.bytes l number cut) (sym none) found)
 
 -- a read that failed, by its error
-pub failed_reads : (T : Type 0) (name : List ℕ) (P : ℕ → Type 0) (e : Fault) (a b : Outside) → e ≡ fault.Failed → OnlyReads (has_failed {T = T} (Err e)) name P a b → OnlyReads true name P a b
+pub failed_reads : (T : Type 0) (name : List ℕ) (P : ℕ → Type 0) (e : Fault) (a b : Readable) → e ≡ fault.Failed → OnlyReads (has_failed {T = T} (Err e)) name P a b → OnlyReads true name P a b
 failed_reads T name P e a b is r = subst (λ (x : Fault). OnlyReads (has_failed {T = T} (Err x)) name P a b) is r
 
 -- a turn reads more, or nothing more comes

@@ -2,7 +2,7 @@
 use Rattle.std.specs.Prelude.{◌≡◌, ℕ, ◌+◌, ◌-◌, ◌^◌, ◌<◌, ◌≤◌, Bool, false, List, [], length, get_or, drop, map, All, Option, Result, Ok, Err}
 use Rattle.aftr_base.specs.declared.lists.OutOfMemory.{OutOfMemory}
 use Rattle.aftr_io.specs.Contents.{Contents, content, Told}
-use Rattle.aftr_io.specs.Outside.{OnlyReads, Outside}
+use Rattle.aftr_io.specs.Outside.{OnlyReads, Readable}
 use Rattle.capture_io.specs.declared.forms.Rec.{Rec}
 use Rattle.capture_io.specs.declared.records.Place.{Place}
 use Rattle.capture_io.specs.declared.rounds.Ending.{Ending}
@@ -77,7 +77,7 @@ IsFound held name old now ahead bytes places number taken = Told held (λ m. IsS
     GoesOn (λ all. IsStart (drop taken.used bytes) (drop now.known.at all)) (left_of old) (left_of now) (content m name) number (round_of bytes places taken))
 
 -- where a read failed, it was one of the next packet
-abbrev pub FindReads : Result Taken OutOfMemory → List ℕ → Seen → List Interface → List ℕ → Outside → Outside → Type 0
+abbrev pub FindReads : Result Taken OutOfMemory → List ℕ → Seen → List Interface → List ℕ → Readable → Readable → Type 0
 FindReads (Ok taken) name old interfaces ahead before after = OnlyReads (is_cut taken.ending) name
     (IsInNext name (λ all. IsStart ahead (drop old.known.at all)) (left_of (seen_by taken.known interfaces)) taken.known.at before.held taken.number)
     before after
@@ -114,7 +114,7 @@ abbrev pub EndsLong : Long → Type 0
 EndsLong (long.Passed known) = Unit {0}
 EndsLong (long.Taken taken) = EndsInRecords taken.ending
 
-abbrev pub LongReads : Result Long OutOfMemory → List ℕ → Seen → List Interface → List ℕ → Outside → Outside → Type 0
+abbrev pub LongReads : Result Long OutOfMemory → List ℕ → Seen → List Interface → List ℕ → Readable → Readable → Type 0
 LongReads (Ok (long.Passed known)) name old interfaces ahead before after = OnlyReads false name (λ _. Unit {0}) before after
 LongReads (Ok (long.Taken taken)) name old interfaces ahead before after = FindReads (Ok taken) name old interfaces ahead before after
 LongReads (Err e) name old interfaces ahead before after = OnlyReads false name (λ _. Unit {0}) before after

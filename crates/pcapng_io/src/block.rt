@@ -14,7 +14,7 @@ use crate::fronts::{Sight, quick_sight_of};
 use crate::interface::Interface;
 use crate::long::{MOST_KEPT, read_long};
 use crate::walk::len_of;
-use aftr_io::Files;
+use aftr_io::Reading;
 use capture_io::{CaptureBad, CaptureError, Window};
 use std::alloc::Global;
 
@@ -82,9 +82,9 @@ pub enum Passed {
 /// What stands at the place that is known, for a packet of this number. The window has the bytes from there on, as far as they
 /// were read, and behind them those are read that are missing. Then it stands behind the block; where that is a packet's, it has still
 /// the front of it, up to the packet's last byte.
-pub fn read_block<F: Files>(
+pub fn read_block<I: Reading>(
     alloc: Global,
-    files: &mut F,
+    files: &mut I,
     name: &str,
     known: Known,
     interfaces: &[Interface],
@@ -94,16 +94,16 @@ pub fn read_block<F: Files>(
     requires number { number ≤ 2 ^ 31 }
     requires time { known.nanos < 1000000000 }
     requires counted { All (λ interface. 0 < interface.ticks) interfaces.now }
-    requires stands { IsAtFront (F.outside files.old).held name.now known.at window.old }
-    ensures told { Told (F.outside files.old).held
+    requires stands { IsAtFront (I.readable files.old).held name.now known.at window.old }
+    ensures told { Told (I.readable files.old).held
         (λ m. Agrees result (block_in (seen_by known interfaces.now) (left_at m name.now known.at) number)) }
     ensures refused { IfErr result (RefusesBlock (seen_by known interfaces.now)) }
     ensures sound { IfOk result (λ block. IsSound number block) }
     ensures near { IfOk result (λ _. known.at ≤ 2 ^ 62) }
-    ensures stands { IfOk result (λ block. StandsBy (F.outside files.old).held name.now known.at window.new block) }
+    ensures stands { IfOk result (λ block. StandsBy (I.readable files.old).held name.now known.at window.new block) }
     ensures reads { OnlyReads (is_read_fault result) name.now
-        (IsInBlock (F.outside files.old).held name.now (seen_by known interfaces.now) number)
-        (F.outside files.old) (F.outside files.new) }
+        (IsInBlock (I.readable files.old).held name.now (seen_by known interfaces.now) number)
+        (I.readable files.old) (I.readable files.new) }
 {
     'reading: loop {
         match quick_sight_of(

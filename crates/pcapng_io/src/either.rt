@@ -9,7 +9,7 @@ ghost use Rattle.pcapng_io.specs.Either.{IsFresh, IsInHead, OpensEither, written
 use crate::NgReader;
 use crate::reader::begins_section;
 use aftr_base::OutOfMemory;
-use aftr_io::{Files, fill};
+use aftr_io::{Reading, fill};
 use capture_io::{
     CaptureError, CaptureReader, ClassicReader, Form, Records, Round, Window, Written,
 };
@@ -26,13 +26,17 @@ impl Reader {
     /// Reads the file header. What tells the format is not read again, so that the file may be a pipe. `ReadFault` comes only where a
     /// read of this file failed in this call: of a pcapng file before the end of the first interface's block, where there is one, and
     /// else at a place below 24.
-    pub fn open<F: Files>(alloc: Global, files: &mut F, name: &str) -> Result<Reader, CaptureError>
-        ensures told { Told (F.outside files.old).held (λ m. OpensEither result (content m name.now)) }
+    pub fn open<I: Reading>(
+        alloc: Global,
+        files: &mut I,
+        name: &str,
+    ) -> Result<Reader, CaptureError>
+        ensures told { Told (I.readable files.old).held (λ m. OpensEither result (content m name.now)) }
         ensures refused { IfErr result RefusesHeader }
         ensures fresh { IfOk result IsFresh }
         ensures ready { IfOk result (λ reader. ⟦<Reader as CaptureReader>⟧.ready reader 0) }
-        ensures reads { OnlyReads (is_read_fault result) name.now (IsInHead (F.outside files.old).held name.now)
-            (F.outside files.old) (F.outside files.new) }
+        ensures reads { OnlyReads (is_read_fault result) name.now (IsInHead (I.readable files.old).held name.now)
+            (I.readable files.old) (I.readable files.new) }
     {
         let mut first = [0; 4];
         let count = fill(alloc, files, name, 0, &mut first)?;
@@ -82,10 +86,10 @@ impl CaptureReader for Reader {
         }
     }
 
-    fn read_round<F: Files>(
+    fn read_round<I: Reading>(
         &mut self,
         alloc: Global,
-        files: &mut F,
+        files: &mut I,
         name: &str,
         number: u32,
         most_bytes: usize,

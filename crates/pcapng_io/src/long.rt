@@ -18,7 +18,7 @@ use crate::frame::{Frame, INTERFACE, head_of};
 use crate::fronts::body_of_fields;
 use crate::interface::{Interface, Walked, block_of, start_of, walk_options};
 use aftr_base::OutOfMemory;
-use aftr_io::{Fault, Files};
+use aftr_io::{Fault, Reading};
 use capture_io::{CaptureBad, CaptureError, NgBad, Window, word};
 use std::alloc::Global;
 
@@ -34,9 +34,9 @@ const OPTIONS: u64 = 16;
 /// block's last byte and let go; so no block takes more memory than another. Behind a packet the window is as it was, and behind another block
 /// it stands behind that. It is rare, and stands apart from the ways of short blocks.
 #[inline(never)]
-pub fn read_long<F: Files>(
+pub fn read_long<I: Reading>(
     alloc: Global,
-    files: &mut F,
+    files: &mut I,
     name: &str,
     sought: Sought,
     interfaces: &[Interface],
@@ -47,18 +47,18 @@ pub fn read_long<F: Files>(
     requires counted { All (λ interface. 0 < interface.ticks) interfaces.now }
     requires is_open { front_in (seen_by sought.known interfaces.now) window.old.bytes window.old.last sought.number ≡ front.More }
     requires kept { 262176 ≤ length window.old.bytes }
-    ensures told { WithFront (F.outside files.old).held name.now sought.known.at window.old
+    ensures told { WithFront (I.readable files.old).held name.now sought.known.at window.old
         (λ all. Agrees result (block_in (seen_by sought.known interfaces.now) (drop sought.known.at all) sought.number)) }
     ensures sound { IfOk result (λ block. IsSound sought.number block) }
     ensures near { IfOk result (λ _. sought.known.at ≤ 2 ^ 62) }
-    ensures stands { IfOk result (λ block. WithFront (F.outside files.old).held name.now sought.known.at window.old
+    ensures stands { IfOk result (λ block. WithFront (I.readable files.old).held name.now sought.known.at window.old
         (λ all. StandsIn all sought.known.at window.new block)) }
     ensures there { IfOk result (λ block. HasBytes block window.new) }
     ensures longer { IfOk result (IsLonger (length window.old.bytes)) }
     ensures refused { IfErr result (RefusesBlock (seen_by sought.known interfaces.now)) }
     ensures reads { OnlyReads (is_read_fault result) name.now
-        (IsInLong (F.outside files.old).held name.now (seen_by sought.known interfaces.now) sought.number window.old)
-        (F.outside files.old) (F.outside files.new) }
+        (IsInLong (I.readable files.old).held name.now (seen_by sought.known interfaces.now) sought.number window.old)
+        (I.readable files.old) (I.readable files.new) }
 {
     let frame = match head_of(sought.known.big, window.as_slice(), sought.known.at) {
         Ok(frame) => frame,
@@ -69,9 +69,9 @@ pub fn read_long<F: Files>(
 }
 
 // The block of a frame, of which the window has no more than the front.
-fn read_body<F: Files>(
+fn read_body<I: Reading>(
     alloc: Global,
-    files: &mut F,
+    files: &mut I,
     name: &str,
     sought: Sought,
     interfaces: &[Interface],
@@ -85,17 +85,17 @@ fn read_body<F: Files>(
     requires least { least_total frame.kind ≤ frame.total }
     requires kept { 262176 ≤ length window.old.bytes }
     requires less { length window.old.bytes < frame.total }
-    ensures told { WithFront (F.outside files.old).held name.now sought.known.at window.old
+    ensures told { WithFront (I.readable files.old).held name.now sought.known.at window.old
         (λ all. Agrees result (ended frame (drop sought.known.at all) sought.known.at
         (body_in (seen_by sought.known interfaces.now) (drop sought.known.at all) sought.number frame))) }
     ensures sound { IfOk result (λ block. IsSound sought.number block) }
-    ensures stands { IfOk result (λ block. WithFront (F.outside files.old).held name.now sought.known.at window.old
+    ensures stands { IfOk result (λ block. WithFront (I.readable files.old).held name.now sought.known.at window.old
         (λ all. StandsIn all sought.known.at window.new block)) }
     ensures there { IfOk result (λ block. HasBytes block window.new) }
     ensures longer { IfOk result (IsLonger (length window.old.bytes)) }
     ensures refused { IfErr result (RefusesBlock (seen_by sought.known interfaces.now)) }
     ensures reads { OnlyReads (is_read_fault result) name.now (λ place. (sought.known.at ≤ place) × (place < sought.known.at + frame.total))
-        (F.outside files.old) (F.outside files.new) }
+        (I.readable files.old) (I.readable files.new) }
 {
     if frame.kind == INTERFACE {
         let block = read_interface(alloc, files, name, sought.known, interfaces, frame, window)?;
@@ -144,9 +144,9 @@ fn read_body<F: Files>(
 }
 
 // Reads over the options behind a packet, whose bytes stay in the window.
-fn read_options<F: Files>(
+fn read_options<I: Reading>(
     alloc: Global,
-    files: &mut F,
+    files: &mut I,
     name: &str,
     frame: Frame,
     at: u64,
@@ -155,11 +155,11 @@ fn read_options<F: Files>(
     requires near { at ≤ 2 ^ 62 }
     requires kept { 262176 ≤ length window.now.bytes }
     requires less { length window.now.bytes < frame.total }
-    ensures told { WithFront (F.outside files.old).held name.now at window.now
+    ensures told { WithFront (I.readable files.old).held name.now at window.now
         (λ all. Agrees result (tail_of frame (drop at all) at)) }
     ensures refused { IfErr result (λ e. (seen : Seen) → RefusesBlock seen e) }
     ensures reads { OnlyReads (is_read_fault result) name.now (λ place. (at ≤ place) × (place < at + frame.total))
-        (F.outside files.old) (F.outside files.new) }
+        (I.readable files.old) (I.readable files.new) }
 {
     let mut rest = match rest_of(alloc, window) {
         Ok(rest) => rest,
@@ -181,9 +181,9 @@ fn rest_of(alloc: Global, window: &Window) -> Result<Window, OutOfMemory>
 }
 
 // The interface of such a block. Its options are walked over as they come.
-fn read_interface<F: Files>(
+fn read_interface<I: Reading>(
     alloc: Global,
-    files: &mut F,
+    files: &mut I,
     name: &str,
     known: Known,
     interfaces: &[Interface],
@@ -193,15 +193,15 @@ fn read_interface<F: Files>(
     requires near { known.at ≤ 2 ^ 62 }
     requires least { 20 ≤ frame.total }
     requires fields { 16 ≤ length window.old.bytes }
-    ensures told { WithFront (F.outside files.old).held name.now known.at window.old
+    ensures told { WithFront (I.readable files.old).held name.now known.at window.old
         (λ all. Agrees result (ended frame (drop known.at all) known.at (interface_in (seen_by known interfaces.now) (drop known.at all) frame))) }
     ensures sound { IfOk result (λ block. (number : ℕ) → IsSound number block) }
     ensures passed { IfOk result (IsPassed frame.total) }
-    ensures stands { IfOk result (λ block. WithFront (F.outside files.old).held name.now known.at window.old
+    ensures stands { IfOk result (λ block. WithFront (I.readable files.old).held name.now known.at window.old
         (StandsAt (known.at + frame.total) window.new)) }
     ensures refused { IfErr result (RefusesBlock (seen_by known interfaces.now)) }
     ensures reads { OnlyReads (is_read_fault result) name.now (λ place. (known.at ≤ place) × (place < known.at + frame.total))
-        (F.outside files.old) (F.outside files.new) }
+        (I.readable files.old) (I.readable files.new) }
 {
     let start = match start_of(known, interfaces, window.as_slice(), frame) {
         Ok(start) => start,
@@ -220,9 +220,9 @@ fn read_interface<F: Files>(
 
 // The resolution that the options of a block give, which stands at the place `at`; the window stands at the first of them, and then
 // behind the block.
-fn read_resolution<F: Files>(
+fn read_resolution<I: Reading>(
     alloc: Global,
-    files: &mut F,
+    files: &mut I,
     name: &str,
     frame: Frame,
     at: u64,
@@ -230,13 +230,13 @@ fn read_resolution<F: Files>(
 ) -> Result<Option<u8>, CaptureError>
     requires near { at ≤ 2 ^ 62 }
     requires least { 20 ≤ frame.total }
-    ensures told { WithFront (F.outside files.old).held name.now (at + 16) window.old
+    ensures told { WithFront (I.readable files.old).held name.now (at + 16) window.old
         (λ all. Agrees result (ended frame (drop at all) at (resolution_of at (options_in frame.big (option_bytes frame (drop at all)))))) }
-    ensures stands { IfOk result (λ _. WithFront (F.outside files.old).held name.now (at + 16) window.old
+    ensures stands { IfOk result (λ _. WithFront (I.readable files.old).held name.now (at + 16) window.old
         (StandsAt (at + frame.total) window.new)) }
     ensures refused { IfErr result (λ e. (seen : Seen) → RefusesBlock seen e) }
     ensures reads { OnlyReads (is_read_fault result) name.now (λ place. (at ≤ place) × (place < at + frame.total))
-        (F.outside files.old) (F.outside files.new) }
+        (I.readable files.old) (I.readable files.new) }
 {
     let end = at + u64::from(frame.total) - 4;
     let mut here = at + OPTIONS;
@@ -274,9 +274,9 @@ fn read_resolution<F: Files>(
 
 // Reads to the last byte of the block of a frame, which stands at the place `at`, and lets its bytes go; the window stands in it.
 // It answers the frame, unless the last four bytes refuse it.
-fn read_end<F: Files>(
+fn read_end<I: Reading>(
     alloc: Global,
-    files: &mut F,
+    files: &mut I,
     name: &str,
     frame: Frame,
     at: u64,
@@ -286,13 +286,13 @@ fn read_end<F: Files>(
     requires near { at ≤ 2 ^ 62 }
     requires behind { at ≤ from }
     requires inside { from + 4 ≤ at + frame.total }
-    ensures told { WithFront (F.outside files.old).held name.now from window.old
+    ensures told { WithFront (I.readable files.old).held name.now from window.old
         (λ all. Agrees result (tail_of frame (drop at all) at)) }
-    ensures stands { IfOk result (λ _. WithFront (F.outside files.old).held name.now from window.old
+    ensures stands { IfOk result (λ _. WithFront (I.readable files.old).held name.now from window.old
         (StandsAt (at + frame.total) window.new)) }
     ensures refused { IfErr result (λ e. (seen : Seen) → RefusesBlock seen e) }
     ensures reads { OnlyReads (is_read_fault result) name.now (λ place. (at ≤ place) × (place < at + frame.total))
-        (F.outside files.old) (F.outside files.new) }
+        (I.readable files.old) (I.readable files.new) }
 {
     let end = at + u64::from(frame.total) - 4;
     read_over(alloc, files, name, from, end, window)?;
@@ -307,9 +307,9 @@ fn read_end<F: Files>(
 
 // Reads up to the fourth byte from the place `end` on, as far as there are any, and lets those in front of it go; the window stands at the
 // place `from`.
-fn read_over<F: Files>(
+fn read_over<I: Reading>(
     alloc: Global,
-    files: &mut F,
+    files: &mut I,
     name: &str,
     from: u64,
     end: u64,
@@ -317,12 +317,12 @@ fn read_over<F: Files>(
 ) -> Result<(), Fault>
     requires near { end < 2 ^ 62 + 2 ^ 32 }
     requires order { from ≤ end }
-    ensures told { IfOk result (λ _. WithFront (F.outside files.old).held name.now from window.old
+    ensures told { IfOk result (λ _. WithFront (I.readable files.old).held name.now from window.old
         (λ all. IsEnd window.new.bytes (drop end all))) }
-    ensures stands { IfOk result (λ _. 4 ≤ length window.new.bytes → WithFront (F.outside files.old).held name.now from window.old
+    ensures stands { IfOk result (λ _. 4 ≤ length window.new.bytes → WithFront (I.readable files.old).held name.now from window.old
         (StandsAt end window.new)) }
     ensures reads { OnlyReads (has_failed result) name.now (λ place. (from ≤ place) × (place < end + 4))
-        (F.outside files.old) (F.outside files.new) }
+        (I.readable files.old) (I.readable files.new) }
 {
     let mut here = from;
     'passing: loop {

@@ -11,7 +11,7 @@ use crate::long::read_long;
 use crate::pieces::{Search, Taken, pass, place_of};
 use crate::walk::{behind_packet, behind_passed};
 use aftr_base::OutOfMemory;
-use aftr_io::Files;
+use aftr_io::Reading;
 use capture_io::{CaptureError, Ending, Place, Window};
 use std::alloc::Global;
 
@@ -26,9 +26,9 @@ pub enum Long {
 
 /// Takes the block at the place that is known, of which the window has as much as is kept and not all. Nothing behind it is read.
 #[inline(never)]
-pub fn take_long<F: Files>(
+pub fn take_long<I: Reading>(
     alloc: Global,
-    files: &mut F,
+    files: &mut I,
     name: &str,
     search: Search,
     interfaces: &mut Vec<Interface>,
@@ -42,13 +42,13 @@ pub fn take_long<F: Files>(
     requires sound { IsSoundSeen (seen_by search.from.known interfaces.old.items) }
     requires is_open { front_in (seen_by search.from.known interfaces.old.items) window.old.bytes window.old.last search.from.number ≡ front.More }
     requires kept { 262176 ≤ length window.old.bytes }
-    ensures taken { IfOk result (λ long. IsLongTaken (F.outside files.old).held name.now (seen_by search.from.known interfaces.old.items)
+    ensures taken { IfOk result (λ long. IsLongTaken (I.readable files.old).held name.now (seen_by search.from.known interfaces.old.items)
         interfaces.new.items window.old.bytes window.new places.new.items search.from.number search.most_bytes long) }
     ensures in_records { IfOk result EndsLong }
     ensures counted { All (λ interface. 0 < interface.ticks) interfaces.new.items }
     ensures room { 16384 ≤ vec_capacity places.new }
     ensures reads { LongReads result name.now (seen_by search.from.known interfaces.old.items) interfaces.new.items window.old.bytes
-        (F.outside files.old) (F.outside files.new) }
+        (I.readable files.old) (I.readable files.new) }
 {
     let block = match read_long(alloc, files, name, search.from, interfaces, window) {
         Ok(block) => block,

@@ -17,7 +17,7 @@ use crate::frame::SECTION;
 use crate::interface::Interface;
 use crate::record::find_record;
 use crate::walk::behind_passed;
-use aftr_io::{Files, fill};
+use aftr_io::{Reading, fill};
 use capture_io::{CaptureError, Form, MOST_PIECE, Next, PLAIN_IP, Window, word};
 use std::alloc::Global;
 use std::marker::Model;
@@ -34,10 +34,10 @@ const START: Known = Known {
 
 /// Whether a file begins as a pcapng file does, with the type of a section header. `ReadFault` comes only where a read of this
 /// file failed in this call, at a place below 4.
-pub fn is_ng<F: Files>(alloc: Global, files: &mut F, name: &str) -> Result<bool, CaptureError>
-    ensures told { IfOk result (λ is. Told (F.outside files.old).held (λ m. is ≡ is_pcapng (content m name.now))) }
+pub fn is_ng<I: Reading>(alloc: Global, files: &mut I, name: &str) -> Result<bool, CaptureError>
+    ensures told { IfOk result (λ is. Told (I.readable files.old).held (λ m. is ≡ is_pcapng (content m name.now))) }
     ensures total { IfErr result (λ e. IsFault e) }
-    ensures reads { OnlyReads (is_read_fault result) name.now (λ place. place < 4) (F.outside files.old) (F.outside files.new) }
+    ensures reads { OnlyReads (is_read_fault result) name.now (λ place. place < 4) (I.readable files.old) (I.readable files.new) }
 {
     let mut first = [0; 4];
     let count = fill(alloc, files, name, 0, &mut first)?;
@@ -76,31 +76,31 @@ impl Model for NgReader {
 impl NgReader {
     /// Reads the file header: the blocks up to the first interface, or all blocks where there is none. `ReadFault` comes only
     /// where a read of this file failed in this call, before the end of that interface's block, where there is one.
-    pub fn open<F: Files>(
+    pub fn open<I: Reading>(
         alloc: Global,
-        files: &mut F,
+        files: &mut I,
         name: &str,
     ) -> Result<NgReader, CaptureError>
-        ensures told { Told (F.outside files.old).held (λ m. Opens result (content m name.now)) }
+        ensures told { Told (I.readable files.old).held (λ m. Opens result (content m name.now)) }
         ensures refused { IfErr result RefusesHeader }
-        ensures reads { OnlyReads (is_read_fault result) name.now (IsInHeader (F.outside files.old).held name.now)
-            (F.outside files.old) (F.outside files.new) }
+        ensures reads { OnlyReads (is_read_fault result) name.now (IsInHeader (I.readable files.old).held name.now)
+            (I.readable files.old) (I.readable files.new) }
     {
         NgReader::open_behind(alloc, files, name, Window::new(alloc))
     }
 
     /// The same, where the first bytes were read already: they are not read again.
-    pub(crate) fn open_behind<F: Files>(
+    pub(crate) fn open_behind<I: Reading>(
         alloc: Global,
-        files: &mut F,
+        files: &mut I,
         name: &str,
         mut window: Window,
     ) -> Result<NgReader, CaptureError>
-        requires { IsAtFront (F.outside files.old).held name.now 0 window }
-        ensures told { Told (F.outside files.old).held (λ m. Opens result (content m name.now)) }
+        requires { IsAtFront (I.readable files.old).held name.now 0 window }
+        ensures told { Told (I.readable files.old).held (λ m. Opens result (content m name.now)) }
         ensures refused { IfErr result RefusesHeader }
-        ensures reads { OnlyReads (is_read_fault result) name.now (IsInHeader (F.outside files.old).held name.now)
-            (F.outside files.old) (F.outside files.new) }
+        ensures reads { OnlyReads (is_read_fault result) name.now (IsInHeader (I.readable files.old).held name.now)
+            (I.readable files.old) (I.readable files.new) }
     {
         let mut known = START;
         'opening: loop {
@@ -173,22 +173,22 @@ impl NgReader {
     /// otherwise the refusal of the first block that is refused. Where no packet is found the reader is as before. `ReadFault`
     /// comes only where a read of this file failed in this call, from the reader's place on, and before the end of the
     /// packet's block.
-    pub fn next<F: Files>(
+    pub fn next<I: Reading>(
         &mut self,
         alloc: Global,
-        files: &mut F,
+        files: &mut I,
         name: &str,
         number: u32,
     ) -> Result<Next, CaptureError>
         requires { number ≤ 2 ^ 31 }
-        ensures told { Told (F.outside files.old).held
+        ensures told { Told (I.readable files.old).held
             (λ m. IsNext result self.new.seen (next_in self.old.seen (left_at m name.now self.old.seen.known.at) number)) }
-        ensures step { Told (F.outside files.old).held (λ m. Continues result self.old.seen self.new.seen (content m name.now) number) }
+        ensures step { Told (I.readable files.old).held (λ m. Continues result self.old.seen self.new.seen (content m name.now) number) }
         ensures kept { IsKept result self.old.seen self.new.seen }
-        ensures stands { Told (F.outside files.old).held (λ m. stands_in self.old (content m name.now) → stands_in self.new (content m name.now)) }
+        ensures stands { Told (I.readable files.old).held (λ m. stands_in self.old (content m name.now) → stands_in self.new (content m name.now)) }
         ensures bounded { IsBounded result self.old.seen self.new.seen number }
         ensures reads { OnlyReads (is_read_fault result) name.now
-            (IsBeforePacket (F.outside files.old).held name.now self.old.seen number) (F.outside files.old) (F.outside files.new) }
+            (IsBeforePacket (I.readable files.old).held name.now self.old.seen number) (I.readable files.old) (I.readable files.new) }
     {
         let kept = self.interfaces.len();
         self.window.clear();

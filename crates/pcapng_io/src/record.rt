@@ -14,7 +14,7 @@ use crate::block::{Known, Packet};
 use crate::interface::Interface;
 use crate::walk::{behind_packet, find_packet};
 use aftr_base::{Bytes, OutOfMemory};
-use aftr_io::Files;
+use aftr_io::Reading;
 use capture_io::{CaptureError, Rec, Window};
 use std::alloc::Global;
 
@@ -28,9 +28,9 @@ pub struct Found {
 
 /// The record of the next packet, which has this number, from what is known on. The interfaces of blocks that are passed are
 /// put behind those that are kept. The window has the bytes from there on, as far as they were read.
-pub fn find_record<F: Files>(
+pub fn find_record<I: Reading>(
     alloc: Global,
-    files: &mut F,
+    files: &mut I,
     name: &str,
     known: Known,
     interfaces: &mut Vec<Interface>,
@@ -39,14 +39,14 @@ pub fn find_record<F: Files>(
 ) -> Result<Option<Found>, CaptureError>
     requires number { number ≤ 2 ^ 31 }
     requires sound { IsSoundSeen (seen_by known interfaces.old.items) }
-    requires stands { IsAtFront (F.outside files.old).held name.now known.at window.old }
+    requires stands { IsAtFront (I.readable files.old).held name.now known.at window.old }
     ensures front { take (length interfaces.old.items) interfaces.new.items ≡ interfaces.old.items }
-    ensures told { Told (F.outside files.old).held
+    ensures told { Told (I.readable files.old).held
         (λ m. IsFound result interfaces.new.items (next_in (seen_by known interfaces.old.items) (left_at m name.now known.at) number)) }
     ensures sound { IfOk result (λ found. IfSome found (λ f. IsSoundFound f known number interfaces.new.items)) }
     ensures reads { OnlyReads (is_read_fault result) name.now
-        (IsBeforePacket (F.outside files.old).held name.now (seen_by known interfaces.old.items) number)
-        (F.outside files.old) (F.outside files.new) }
+        (IsBeforePacket (I.readable files.old).held name.now (seen_by known interfaces.old.items) number)
+        (I.readable files.old) (I.readable files.new) }
 {
     let Some(sighted) = find_packet(alloc, files, name, known, interfaces, number, window)? else {
         return Ok(None);

@@ -16,7 +16,7 @@ use crate::long::MOST_KEPT;
 use crate::long_packets::{Long, take_long};
 use crate::pieces::{Search, Taken, take_blocks};
 use aftr_base::OutOfMemory;
-use aftr_io::{Fault, Files};
+use aftr_io::{Fault, Reading};
 use capture_io::{CaptureReader, Ending, Form, Place, Records, Round, Window, fitting, piece_of};
 use std::alloc::Global;
 
@@ -36,10 +36,10 @@ impl CaptureReader for NgReader {
         NgReader::form(self)
     }
 
-    fn read_round<F: Files>(
+    fn read_round<I: Reading>(
         &mut self,
         alloc: Global,
-        files: &mut F,
+        files: &mut I,
         name: &str,
         number: u32,
         most_bytes: usize,
@@ -83,9 +83,9 @@ impl CaptureReader for NgReader {
 
 // Takes the next packets off the bytes that were read, and reads until there are some, or they have ended. Blocks without
 // packets are let go.
-fn find_packets<F: Files>(
+fn find_packets<I: Reading>(
     alloc: Global,
-    files: &mut F,
+    files: &mut I,
     name: &str,
     search: Search,
     interfaces: &mut Vec<Interface>,
@@ -100,7 +100,7 @@ fn find_packets<F: Files>(
     requires piece { 1 ≤ search.piece }
     requires sound { IsSoundSeen (seen_by search.from.known interfaces.old.items) }
     requires begins { IsFalse window.old.last }
-    ensures told { IfOk result (λ taken. IsFound (F.outside files.old).held name.now (seen_by search.from.known interfaces.old.items)
+    ensures told { IfOk result (λ taken. IsFound (I.readable files.old).held name.now (seen_by search.from.known interfaces.old.items)
         (seen_by taken.known interfaces.new.items) window.old.bytes window.new.bytes places.new.items search.from.number taken) }
     ensures in_records { IfOk result (λ taken. EndsInRecords taken.ending) }
     ensures count { IfOk result (λ taken. IsCount search.from.number search.most_bytes (round_of window.new.bytes places.new.items taken)) }
@@ -111,7 +111,7 @@ fn find_packets<F: Files>(
     ensures sound { IfOk result (λ taken. IsSoundSeen (seen_by taken.known interfaces.new.items)) }
     ensures counted { All (λ interface. 0 < interface.ticks) interfaces.new.items }
     ensures reads { FindReads result name.now (seen_by search.from.known interfaces.old.items) interfaces.new.items window.old.bytes
-        (F.outside files.old) (F.outside files.new) }
+        (I.readable files.old) (I.readable files.new) }
 {
     let mut here = search.from.known;
     'reads: loop {

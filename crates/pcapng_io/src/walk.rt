@@ -13,7 +13,7 @@ ghost use Rattle.capture_io.specs.Windows.{IsAtFront};
 use crate::block::{Block, Known, Packet, Passed, read_block};
 use crate::interface::Interface;
 use aftr_base::OutOfMemory;
-use aftr_io::Files;
+use aftr_io::Reading;
 use capture_io::{CaptureError, Window};
 use std::alloc::Global;
 
@@ -27,9 +27,9 @@ pub struct Sighted {
 
 /// The next packet, which has this number, from what is known on; the front of its block is then in the window. The interfaces of
 /// blocks that are passed are put behind those that are kept.
-pub fn find_packet<F: Files>(
+pub fn find_packet<I: Reading>(
     alloc: Global,
-    files: &mut F,
+    files: &mut I,
     name: &str,
     known: Known,
     interfaces: &mut Vec<Interface>,
@@ -38,16 +38,16 @@ pub fn find_packet<F: Files>(
 ) -> Result<Option<Sighted>, CaptureError>
     requires number { number ≤ 2 ^ 31 }
     requires sound { IsSoundSeen (seen_by known interfaces.old.items) }
-    requires stands { IsAtFront (F.outside files.old).held name.now known.at window.old }
+    requires stands { IsAtFront (I.readable files.old).held name.now known.at window.old }
     ensures front { take (length interfaces.old.items) interfaces.new.items ≡ interfaces.old.items }
-    ensures told { Told (F.outside files.old).held
+    ensures told { Told (I.readable files.old).held
         (λ m. IsSighted result interfaces.new.items (content m name.now) (next_in (seen_by known interfaces.old.items) (left_at m name.now known.at) number)) }
-    ensures stands { IfOk result (λ found. IfSome found (λ s. IsAtFront (F.outside files.old).held name.now s.known.at window.new)) }
+    ensures stands { IfOk result (λ found. IfSome found (λ s. IsAtFront (I.readable files.old).held name.now s.known.at window.new)) }
     ensures there { IfOk result (λ found. IfSome found (λ s. s.packet.start + s.packet.count ≤ length window.new.bytes)) }
     ensures sound { IfOk result (λ found. IfSome found (λ s. IsSoundSight s known number interfaces.new.items)) }
     ensures reads { OnlyReads (is_read_fault result) name.now
-        (IsBeforePacket (F.outside files.old).held name.now (seen_by known interfaces.old.items) number)
-        (F.outside files.old) (F.outside files.new) }
+        (IsBeforePacket (I.readable files.old).held name.now (seen_by known interfaces.old.items) number)
+        (I.readable files.old) (I.readable files.new) }
 {
     let mut here = known;
     let mut first = 0;

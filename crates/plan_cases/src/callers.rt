@@ -1,7 +1,7 @@
 // The callers that the READMEs of reload_plan, load_files, error_limit, traffic_gen and aftr_text show, and what they answer.
 use crate::plans::words_of;
 use aftr_base::{Bytes, OutOfMemory, Text};
-use aftr_io::{Fault, Files, MemFiles, append_all};
+use aftr_io::{Fault, MemWriting, Writing, append_all};
 use aftr_text::{
     Job, JobError, Totals, fault_line, push_point_line, push_verdict_line, read_job, summary,
     verdict_line,
@@ -65,9 +65,9 @@ fn times_sent(alloc: Global, times: &[u64]) -> Result<Vec<u64>, OutOfMemory> {
 }
 
 /// Writes the capture of a seed, and answers the table that is in force first.
-fn write_capture<F: Files>(
+fn write_capture<O: Writing>(
     alloc: Global,
-    files: &mut F,
+    files: &mut O,
     name: &str,
     seed: u64,
 ) -> Result<Table, Fault> {
@@ -172,7 +172,7 @@ fn ten_errors_are_sent_in_a_second(rt: HostRuntime) -> Result<(), Fail> {
 // A record has 48 or 88 bytes; the capture's head is that of little-endian microseconds.
 #[test]
 fn a_capture_is_written(rt: HostRuntime) -> Result<(), Fail> {
-    let mut files = MemFiles::new(rt.alloc());
+    let mut files = MemWriting::new(rt.alloc());
     let table = write_capture(rt.alloc(), &mut files, "in", 7)?;
     assert_eq!(rt; table.bindings().len(), 256);
     let bytes = files.get("in").unwrap_or(&[]);

@@ -6,6 +6,7 @@ mod LimitLemmas
 mod MarkLemmas
 mod OutLemmas
 mod PartLemmas
+mod PassLemmas
 mod RoundLemmas
 mod StrangerLemmas
 mod SomeLemmas

@@ -20,6 +20,7 @@ use Rattle.run_output.specs.Outputs.{record_text, sent_unless}
 use Rattle.run_output.specs.Rendering.{AreFitting}
 use Rattle.worker_gate.specs.declared.outcomes.Outcome.{Outcome}
 use Rattle.run_output.specs.declared.parts.Part.{Part}
+use Rattle.run_output.specs.declared.rounds.DrawnRound.{DrawnRound}
 use Rattle.run_output.specs.declared.rounds.Round.{Round}
 use Rattle.packet_render.specs.Pushed.{ArePushed}
 use Rattle.packet_render.specs.Sent.{is_forwarded, sent}
@@ -135,18 +136,18 @@ abbrev pub FitsAt : List Entry → ℕ → Verdict → Type 0
 FitsAt entries index v = (i : Item) → slice_get (items_in entries) index ≡ Some i → Fits i v
 
 -- what the packets of the record at an index are made by: its verdict, which fits its item and names sizes that every link takes
-pub record CanBeSent (r : Round) (index : ℕ) (v : Verdict) : Type 0 where
+pub record CanBeSent (r : DrawnRound) (index : ℕ) (v : Verdict) : Type 0 where
   pub inside : index < length r.records.now
   pub fits : FitsAt r.items.now index v
   pub room : HasRoom v
 
 -- the same of a record whose own packet goes on
-pub record CanGoOn (r : Round) (index : ℕ) (v : Verdict) : Type 0 where
+pub record CanGoOn (r : DrawnRound) (index : ℕ) (v : Verdict) : Type 0 where
   pub can : CanBeSent r index v
   pub forwarded : is_forwarded v ≡ true
 
 -- what is sent for the record at an index by its verdict stands behind what was there, each packet with the record's time: so many
-pub record IsSent (r : Round) (number index seconds fraction : ℕ) (v : Verdict) (before after : List ℕ) (count : ℕ) : Type 0 where
+pub record IsSent (r : DrawnRound) (number index seconds fraction : ℕ) (v : Verdict) (before after : List ℕ) (count : ℕ) : Type 0 where
   pub pushed : (i : Item) → slice_get (items_in r.items.now) index ≡ Some i →
       ArePushed (packet_bytes r.written seconds fraction) (sent i v number) before after count
   pub few : count ≤ 128

@@ -3,6 +3,7 @@ pub mod Counting
 pub mod Laws
 pub mod Limiting
 pub mod Outputs
+pub mod Passing
 pub mod Rendering
 pub mod Versions
 pub mod Strangers

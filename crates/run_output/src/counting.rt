@@ -3,6 +3,7 @@ ghost use Rattle.std.specs.Prelude.{◌≡◌, ◌≤◌, ◌<◌, ◌+◌, ◌^
 ghost use Rattle.capture_io.specs.declared.written.Written.{Written};
 ghost use Rattle.run_output.specs.Counting.{IsWithin, with_record};
 ghost use Rattle.run_output.specs.Cells.{AreCounted, ArePartsUnless, Cell, plus};
+ghost use Rattle.run_output.specs.Passing.{HasCounted};
 
 use crate::parts::Part;
 use aftr_base::OutOfMemory;
@@ -35,6 +36,13 @@ pub(crate) fn add_counted(totals: &mut Totals, part: &Totals)
     totals.forwarded = totals.forwarded.saturating_add(part.forwarded);
     totals.dropped = totals.dropped.saturating_add(part.dropped);
     totals.packets = totals.packets.saturating_add(part.packets);
+}
+
+/// Adds the counts of a part to the totals of the records in front of it.
+pub fn count_part(part: &Part, totals: &mut Totals)
+    ensures { HasCounted part.now totals.old totals.new }
+{
+    add_counted(totals, &part.counted);
 }
 
 /// Counts the records of all parts, unless memory was wanted in one of them.

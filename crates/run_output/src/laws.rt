@@ -1,5 +1,6 @@
 // What follows from the definitions for whoever runs rounds, as laws: nothing is done here.
 ghost use Rattle.run_output.specs.Laws.{CountsAreTotals, LimitsAreSome, LimitsBegin, LoadLinesJoin, RoundsJoin};
+ghost use Rattle.run_output.specs.Passing.{PassesAreWhole, PassesGiveOutcomes};
 ghost use Rattle.run_output.specs.Strangers.{OutputsStay, OutputsStayUnlimited, StrangersAreTreatedAlike};
 
 /// The limit keeps back the same errors of a run's first records, whatever comes behind them.
@@ -10,6 +11,16 @@ pub fn limits_begin()
 /// Where a limiter was asked about all errors of a run, there is a course that keeps back just those that it does not let through.
 pub fn limits_are_some()
     ensures { LimitsAreSome }
+{}
+
+/// What a pass over a round leaves of its outcomes is what every form of a round leaves.
+pub fn passes_give_outcomes()
+    ensures { PassesGiveOutcomes }
+{}
+
+/// If a judge is made of a held seat, passes over the seat's round and ends, the seat has judged the round whole.
+pub fn passes_are_whole()
+    ensures { PassesAreWhole }
 {}
 
 /// What records write is what the first of them write, and then the others.

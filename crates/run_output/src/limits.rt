@@ -1,12 +1,13 @@
 // The limit on errors, asked record by record.
 ghost use Rattle.std.specs.Prelude.{◌≡◌, ◌≤◌, ◌++◌, IfOk, IfSome, IsTrue, Bool, List, ℕ, [], ◌∷◌, length, false, not, replicate, true};
 ghost use Rattle.capture_io.specs.declared.forms.Form.{Form as CaptureForm};
+ghost use Rattle.capture_io.specs.Record.{nanoseconds};
 ghost use Rattle.run_output.specs.Cells.{HasMarked};
 ghost use Rattle.run_output.specs.Limiting.{HasAsked, WasAsked, rate_of, tells};
 ghost use Rattle.run_output.specs.Outputs.{Course};
 
 use aftr_base::OutOfMemory;
-use capture_io::{Form, Records, time_of};
+use capture_io::{Form, RecordView, Records, time_of};
 use error_limit::Limiter;
 use verdict_core::{Reply, Verdict};
 use worker_gate::Outcomes;
@@ -75,6 +76,25 @@ fn is_kept_back(limit: &mut Option<Limiter>, verdict: Verdict, time: u64) -> boo
     match limit {
         Some(limiter) => !limiter.pass(time),
         None => false,
+    }
+}
+
+/// Asks the limit about the error of a record, if there is a limit and the record has an error. Whether the error is kept back.
+pub(crate) fn is_limited(
+    limit: &mut Option<Limiter>,
+    form: Form,
+    rec: &RecordView<'_>,
+    verdict: &Verdict,
+) -> bool
+    ensures error { tells verdict.now ≡ true → (times : List ℕ) (sent : List Bool) → WasAsked limit.old times sent →
+        WasAsked limit.new (times ++ nanoseconds form rec.now.seconds rec.now.fraction ∷ []) (sent ++ not result ∷ []) }
+    ensures same { tells verdict.now ≡ false → limit.new ≡ limit.old }
+    ensures none { tells verdict.now ≡ false → result ≡ false }
+    ensures rate { rate_of limit.new ≡ rate_of limit.old }
+{
+    match limit {
+        None => false,
+        Some(_) => is_kept_back(limit, *verdict, time_of(form, rec.seconds, rec.fraction)),
     }
 }
 

@@ -4,6 +4,7 @@ ghost use Rattle.run_output.specs.Counting.{no_totals};
 
 use aftr_base::OutOfMemory;
 use aftr_text::{NO_TOTALS, Totals};
+use output_journal::RoundPart;
 use std::alloc::Global;
 use std::marker::Model;
 
@@ -19,17 +20,18 @@ pub struct Part {
     pub packets: Vec<u8>,
     /// The lines of the records.
     pub lines: Vec<u8>,
-    /// What was counted of them.
-    pub(crate) counted: Totals,
+    /// The totals of these records alone.
+    pub counted: Totals,
     /// Memory was wanted, so that not all was written.
     pub(crate) failed: bool,
 }
 
 impl Part {
     /// Nothing, and no room yet.
-    fn new(alloc: Global) -> Part
+    pub fn new(alloc: Global) -> Part
         ensures packets { result.packets.items ≡ [] }
         ensures lines { result.lines.items ≡ [] }
+        ensures counted { result.counted ≡ no_totals }
     {
         Part {
             packets: Vec::new(alloc),
@@ -62,6 +64,20 @@ impl Part {
         self.packets.reserve(records * PACKET_ROOM)?;
         self.lines.reserve(records * LINE_ROOM)?;
         Ok(())
+    }
+}
+
+impl RoundPart for Part {
+    ghost packet_bytes = { λ part. part.packets.items };
+
+    ghost line_bytes = { λ part. part.lines.items };
+
+    fn packets(&self) -> &[u8] {
+        &self.packets
+    }
+
+    fn lines(&self) -> &[u8] {
+        &self.lines
     }
 }
 

@@ -1,6 +1,6 @@
 // What a round of records writes.
 ghost use Rattle.std.specs.Prelude.{◌≡◌, ◌≤◌, ◌<◌, ◌+◌, ◌-◌, ◌*◌, ◌++◌, ◌^◌, ℕ, List, [], IfOk, IfErr, true, false};
-ghost use Rattle.std.specs.Prelude.{flat_map, drop, length, slice_get, slice_index_or, string_bytes, take, Some};
+ghost use Rattle.std.specs.Prelude.{flat_map, drop, length, slice_get, string_bytes, take, Some};
 ghost use Rattle.std.specs.Thread.{IsSync};
 ghost use Rattle.capture_io.specs.declared.forms.Rec.{Rec as Record};
 ghost use Rattle.capture_io.specs.Packets.{packet_bytes};
@@ -20,7 +20,7 @@ use crate::counting::{count_parts, count_record};
 use crate::limits::mark_limited;
 use crate::lines::{push_ended_lines, push_record_line};
 use crate::parts::{Part, Rendered};
-use crate::rounds::{Round, RoundRecords};
+use crate::rounds::{DrawnRound, Round, RoundRecords};
 use aftr_base::OutOfMemory;
 use aftr_text::{RecordNumber, Totals};
 use capture_io::{Form, RecordView, Records, Written};
@@ -70,6 +70,7 @@ pub fn render_round<R: Threads + Sync>(
     let Rendered { parts, limited } = rendered;
     mark_limited(form, judged.records, judged.outcomes, limit, limited)?;
     let round = Round {
+        form,
         written,
         start: judged.start,
         records: judged.records,
@@ -198,12 +199,19 @@ fn render_records(
     ensures { IfOk result (λ _. IsPart round.now.written (take (to - from) (drop from (cells_in round.now))) part.new) }
 {
     part.reserve(to - from)?;
+    let drawn = DrawnRound {
+        form: round.form,
+        written: round.written,
+        start: round.start,
+        records: round.records,
+        items: round.items,
+    };
     let mut number = RecordNumber::of(round.start + from as u32);
     let mut i = from;
     'records: while i < to {
         let record = round.records.get(i);
         let outcome = round.outcomes.get(i);
-        render_record(round, i, &number, &record, outcome, part)?;
+        render_record(&drawn, i, &number, &record, outcome, round.limited[i], part)?;
         number.rise();
         i += 1;
     }
@@ -211,12 +219,13 @@ fn render_records(
 }
 
 // Puts what the record at an index of its round writes, under its number, behind what a part holds, and counts it.
-fn render_record(
-    round: &Round<'_>,
+pub(crate) fn render_record(
+    round: &DrawnRound<'_>,
     index: usize,
     number: &RecordNumber,
     rec: &RecordView<'_>,
     outcome: &Outcome,
+    limited: bool,
     part: &mut Part,
 ) -> Result<(), OutOfMemory>
     requires inside { index < length round.now.records.now }
@@ -225,10 +234,9 @@ fn render_record(
     requires within { IsWithin part.old.counted part.old.counted.records }
     requires few { part.old.counted.records < 2 ^ 31 }
     ensures more { IfOk result (λ _. (entry : Entry) → slice_get round.now.items.now index ≡ Some entry →
-        IsMore round.now.written (shown number.now rec.now entry outcome.now (slice_index_or round.now.limited.now index false)) part.old part.new) }
+        IsMore round.now.written (shown number.now rec.now entry outcome.now limited) part.old part.new) }
     ensures within { IfOk result (λ _. IsWithin part.new.counted part.new.counted.records) }
 {
-    let limited = round.limited[index];
     let count = push_sent(
         &mut part.packets,
         round,
@@ -255,7 +263,7 @@ fn render_record(
 // asked for than that packet.
 fn push_sent(
     packets: &mut Vec<u8>,
-    round: &Round<'_>,
+    round: &DrawnRound<'_>,
     number: u32,
     index: usize,
     rec: &RecordView<'_>,
@@ -286,7 +294,7 @@ fn push_sent(
 #[inline(never)]
 fn push_item(
     packets: &mut Vec<u8>,
-    round: &Round<'_>,
+    round: &DrawnRound<'_>,
     number: u32,
     index: usize,
     seconds: u32,
@@ -313,7 +321,7 @@ fn push_item(
 #[inline(never)]
 fn push_apart(
     packets: &mut Vec<u8>,
-    round: &Round<'_>,
+    round: &DrawnRound<'_>,
     number: u32,
     index: usize,
     seconds: u32,
@@ -330,7 +338,7 @@ fn push_apart(
 #[inline(always)]
 fn push_packet(
     packets: &mut Vec<u8>,
-    round: &Round<'_>,
+    round: &DrawnRound<'_>,
     number: u32,
     index: usize,
     seconds: u32,

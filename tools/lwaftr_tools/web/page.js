@@ -20,6 +20,8 @@
     return made;
   }
 
+  const swatch = (kind) => element("span", null, { class: "swatch", style: `background:${colour(kind)}`, "aria-hidden": "true" });
+
   // a table whose columns sort by their headings; a cell is text, a number, or { shown, value, choose, kind }
   function fill(id, caption, columns, rows, sortable = true) {
     const table = by(id);
@@ -48,12 +50,16 @@
         row.forEach((cell) => {
           const it = cell !== null && typeof cell === "object" ? cell : { shown: typeof cell === "number" ? number(cell) : cell };
           const td = element("td", it.choose ? null : it.shown, it.text ? { class: "text" } : {});
-          if (it.kind) td.prepend(element("span", null, { class: "swatch", style: `background:${colour(it.kind)}`, "aria-hidden": "true" }));
           if (it.choose) {
             const button = element("button", it.shown, { type: "button", "aria-pressed": String(it.chosen) });
             button.addEventListener("click", it.choose);
             td.append(button);
-            if (it.chosen) tr.setAttribute("aria-selected", "true");
+            if (it.chosen) tr.setAttribute("aria-current", "true");
+          }
+          if (it.kind) {
+            const box = element("span", null, { class: "kind" });
+            box.append(swatch(it.kind), ...td.childNodes);
+            td.replaceChildren(box);
           }
           tr.append(td);
         });
@@ -73,6 +79,9 @@
     state.rule = state.subscriber = null;
     state[what] = was === name ? null : name;
     show();
+    // the tables are new: give the focus back to the button that had it
+    const buttons = [...by(what === "rule" ? "t-rules" : "t-subscribers").querySelectorAll("td button")];
+    buttons.find((it) => it.textContent === name)?.focus({ preventScroll: true });
   }
 
   const chosenSubscriber = () => data.subscribers.find((it) => it.name === state.subscriber);
@@ -110,8 +119,8 @@
       const it = data.meaning[name];
       if (!it) return [];
       const title = element("h3", name);
-      title.prepend(element("span", null, { class: "swatch", style: `background:${colour(name)}`, "aria-hidden": "true" }));
-      return [title, element("p", `${it.meaning} ${it.action} (${it.source})`), ...it.commands.map((line) => element("pre", line))];
+      title.prepend(swatch(name));
+      return [title, element("p", `${it.meaning} (${it.source}) What to do: ${it.action[0].toLowerCase()}${it.action.slice(1)}`), ...it.commands.map((line) => element("pre", line))];
     }));
   }
 
@@ -134,6 +143,7 @@
       ctx.strokeStyle = ctx.fillStyle = style("--ink");
       ctx.font = "12px sans-serif";
       ctx.setLineDash([4, 4]);
+      ctx.lineJoin = "round";
       let end = -Infinity;
       for (const it of data.came) {
         const x = scales.x.getPixelForValue(it.place);
@@ -144,7 +154,14 @@
         const label = `table ${it.table}`;
         if (x > end) {
           const width = ctx.measureText(label).width;
-          ctx.fillText(label, Math.min(x + 4, area.right - width), area.top + 12);
+          const at = Math.min(x + 4, area.right - width);
+          ctx.save();
+          ctx.setLineDash([]);
+          ctx.strokeStyle = style("--paper");
+          ctx.lineWidth = 4;
+          ctx.strokeText(label, at, area.top + 12);
+          ctx.fillText(label, at, area.top + 12);
+          ctx.restore();
           end = x + width + 8;
         }
       }
@@ -179,7 +196,7 @@
     // a rule with few drops would not be seen next to one with many
     const isLog = state.scale === "log" || (!isShare && its.length > 1 && its[0][1] > 50 * its[its.length - 1][1]);
     const title = isShare ? "share of the drops, %" : isLog ? "drops, on a logarithmic scale" : "drops";
-    const made = options("", "", false, false, {});
+    const made = options("", "", isLog, false, {});
     made.indexAxis = "y";
     made.scales = { x: { ...made.scales.y, type: isLog ? "logarithmic" : "linear", min: isLog ? 0.5 : 0, title: { display: true, text: title, color: style("--soft") } }, y: { grid: { display: false }, ticks: { color: style("--ink"), autoSkip: false } } };
     made.plugins.legend.display = false;
@@ -193,6 +210,7 @@
 
   function options(x, y, isLog, isStacked, axis) {
     const ticks = { color: style("--soft"), maxRotation: 0 };
+    const tens = { ...ticks, callback: (value) => (Number.isInteger(Math.log10(value)) ? number(value) : "") };
     const grid = { color: style("--line") };
     const legend = { position: "bottom", labels: { color: style("--ink"), boxWidth: 12 }, onClick: (_, it) => it.text in data.rules && choose("rule", it.text) };
     return {
@@ -200,7 +218,7 @@
       plugins: { legend },
       scales: {
         x: { ...axis, title: { display: Boolean(x), text: x, color: style("--soft") }, ticks, grid },
-        y: { type: isLog ? "logarithmic" : "linear", stacked: isStacked, beginAtZero: true, title: { display: true, text: y, color: style("--soft") }, ticks, grid },
+        y: { type: isLog ? "logarithmic" : "linear", stacked: isStacked, beginAtZero: true, title: { display: true, text: y, color: style("--soft") }, ticks: isLog ? tens : ticks, grid },
       },
     };
   }

@@ -7,5 +7,5 @@ pub pieces-preserved : goal.pieces-preserved
 pieces-preserved g c = record {
   within = search (rules, arith);
   held = moves_then _ _ _ _ _ _ _ c.pieces.invariant.held c.in_ok-done.ensures.held (front_more c.args.bytes.now c.pieces.done c.in_ok-done.field-0);
-  writes = search rules;
+  spoiled = search rules;
 }

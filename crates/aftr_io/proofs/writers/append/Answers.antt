@@ -1,10 +1,10 @@
-use Rattle.aftr_io.specs.System.{WriteHandle}
+use Rattle.aftr_io.specs.System.{WritePlace}
 use Rattle.aftr_io.specs.declared.writers.Writer.{Writer}
 use Rattle.aftr_io.proofs.HandleLemmas.{ends_after}
 use Rattle.aftr_io.proofs.writers.append.Given as given
 use Rattle.aftr_io.proofs.writers.append.Goals as goal
 
-abbrev handle : (g : given.Over) → Writer g.row.S.Denot g.row.S-Reading.Denot g.row.S-Writing.Denot g.S.System → WriteHandle
+abbrev handle : (g : given.Over) → Writer g.row.S.Denot g.row.S-ReadHandle.Denot g.row.S-WriteHandle.Denot g.S.System → WritePlace
 handle g w = g.S.System.writes w.file
 
 pub returns-clause-ends : goal.returns-clause-ends

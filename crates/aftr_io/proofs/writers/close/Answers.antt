@@ -1,12 +1,12 @@
 use Rattle.std.proofs.Common.{refl}
-use Rattle.aftr_io.specs.System.{WriteHandle}
+use Rattle.aftr_io.specs.System.{WritePlace}
 use Rattle.aftr_io.specs.declared.writers.Writer.{Writer}
 use Rattle.aftr_io.proofs.HandleLemmas.{ends_removed, ends_same, named_handle, none_left, none_same}
 use Rattle.aftr_io.proofs.writers.close.Given as given
 use Rattle.aftr_io.proofs.writers.close.Goals as goal
 use Rattle.std.proofs.Common.{string_bytes}
 
-abbrev handle : (g : given.Over) → Writer g.row.S.Denot g.row.S-Reading.Denot g.row.S-Writing.Denot g.S.System → WriteHandle
+abbrev handle : (g : given.Over) → Writer g.row.S.Denot g.row.S-ReadHandle.Denot g.row.S-WriteHandle.Denot g.S.System → WritePlace
 handle g w = g.S.System.writes w.file
 
 pub returns-in-Some-clause-ends : goal.returns-in-Some-clause-ends

@@ -1,11 +1,11 @@
 use Rattle.std.proofs.Common.{refl, ap}
-use Rattle.aftr_io.specs.System.{WriteHandle}
+use Rattle.aftr_io.specs.System.{WritePlace}
 use Rattle.aftr_io.specs.declared.writers.Writer.{Writer}
 use Rattle.aftr_io.proofs.HandleLemmas.{ends_same, ends_pushed, ends_of_others, none_same, end_at_start}
 use Rattle.aftr_io.proofs.writers.create.Given as given
 use Rattle.aftr_io.proofs.writers.create.Goals as goal
 
-abbrev handle : (g : given.Over) → Writer g.row.S.Denot g.row.S-Reading.Denot g.row.S-Writing.Denot g.S.System → WriteHandle
+abbrev handle : (g : given.Over) → Writer g.row.S.Denot g.row.S-ReadHandle.Denot g.row.S-WriteHandle.Denot g.S.System → WritePlace
 handle g w = g.S.System.writes w.file
 
 pub returns-in_err-reserve-clause-ends : goal.returns-in_err-reserve-clause-ends

@@ -4,9 +4,9 @@ use Rattle.capture_io.specs.Windows.{IsMore}
 use Rattle.capture_io.proofs.classic.fetch.Given as goal
 
 abbrev pub invariant-reads : goal.invariant-reads
-invariant-reads g l = let f = g.F.Files in record {
-  told : IsMore (f.outside l.initial.files).held l.name l.next.at l.initial.window l.window;
-  outside : f.outside l.files ≡ f.outside l.initial.files;
+invariant-reads g l = let f = g.I.Reading in record {
+  told : IsMore (f.readable l.initial.files).held l.name l.next.at l.initial.window l.window;
+  readable : f.readable l.files ≡ f.readable l.initial.files;
 }
 
 abbrev pub decreases-reads : goal.decreases-reads

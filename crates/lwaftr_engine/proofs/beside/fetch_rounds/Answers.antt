@@ -1,4 +1,4 @@
-use Rattle.lwaftr_engine.proofs.Words.{Round, [], ap, refl, rules, ◌∙◌, ◌∷◌}
+use Rattle.lwaftr_engine.proofs.Words.{Round, [], ap, halves, refl, rules, ◌∙◌, ◌∷◌}
 use Rattle.lwaftr_engine.specs.Beside.{standing}
 use Rattle.lwaftr_engine.proofs.Besides.{as_many, asked_more, exchange, heard_more, in_vain, reached_more}
 use Rattle.lwaftr_engine.proofs.Exits.{handed}
@@ -29,7 +29,7 @@ pub returns-in_err-next-clause-asks : goal.returns-in_err-next-clause-asks
 returns-in_err-next-clause-asks g c =
     let known = c.rounds.invariant in
     let e = exchange c.replace-round.result c.rounds.room c.hear-records.result in
-    let before = standing (g.F.Files.outside c.rounds.files) c.rounds.reader c.rounds.under_way.round c.rounds.under_way.pending in
+    let before = standing (halves (g.I.Reading.readable c.rounds.files.reading) (g.O.Writing.written c.rounds.files.writing)) c.rounds.reader c.rounds.under_way.round c.rounds.under_way.pending in
     rw (handed c.from_residual.result c.from_residual.ensures.1) (record {
       exchanges = e ∷ known.exchanges;
       asked_are = asked_more known.exchanges e known.asked_are (c.hear-records.ensures.asked ∙ c.ask.ensures.asked);
@@ -41,7 +41,7 @@ pub returns-in_err-judged-clause-asks : goal.returns-in_err-judged-clause-asks
 returns-in_err-judged-clause-asks g c =
     let known = c.rounds.invariant in
     let e = exchange c.replace-round.result c.rounds.room c.hear-records.result in
-    let before = standing (g.F.Files.outside c.rounds.files) c.rounds.reader c.rounds.under_way.round c.rounds.under_way.pending in
+    let before = standing (halves (g.I.Reading.readable c.rounds.files.reading) (g.O.Writing.written c.rounds.files.writing)) c.rounds.reader c.rounds.under_way.round c.rounds.under_way.pending in
     rw (handed c.from_residual-in_err-judged.result c.from_residual-in_err-judged.ensures.1) (record {
       exchanges = e ∷ known.exchanges;
       asked_are = asked_more known.exchanges e known.asked_are (c.hear-records.ensures.asked ∙ c.ask.ensures.asked);
@@ -54,7 +54,7 @@ rounds-preserved g c =
     let known = c.rounds.invariant in
     let did = c.in_ok-next.ensures in
     let e = exchange c.replace-round.result c.rounds.room c.hear-records.result in
-    let before = standing (g.F.Files.outside c.rounds.files) c.rounds.reader c.rounds.under_way.round c.rounds.under_way.pending in
+    let before = standing (halves (g.I.Reading.readable c.rounds.files.reading) (g.O.Writing.written c.rounds.files.writing)) c.rounds.reader c.rounds.under_way.round c.rounds.under_way.pending in
     let asks = asked_more known.exchanges e known.asked_are (c.hear-records.ensures.asked ∙ c.ask.ensures.asked) in
     let hears = heard_more known.exchanges e (c.ask.ensures.heard ∙ known.heard_are) c.hear-records.ensures.heard in
     let number = reached_more known.exchanges e asks ∙ ap (λ (r : Round). r.number) c.replace-round.ensures.value in

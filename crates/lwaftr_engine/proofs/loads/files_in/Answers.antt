@@ -12,11 +12,11 @@ files-preserved g c =
     let words = c.index-words-at.result in
     let read = c.in_ok-file in
     let pushed = c.in_ok-push.ensures.items in
-    let text = rw c.files.invariant.outside at read.ensures.text in
+    let text = rw c.files.invariant.readable at read.ensures.text in
     record {
       within = omega (arith, c.files-test.true);
-      texts = rw pushed (told_both (g.F.Files.outside c.args.files.now).held _ _ _
+      texts = rw pushed (told_both (g.I.Reading.readable c.args.files.now).held _ _ _
           (λ m first one. zipped_more (IsFileOf m) ws items at words read.file there first one) c.files.invariant.texts text);
       windows = rw pushed (zipped_more HasWindowOf ws items at words read.file there c.files.invariant.windows read.ensures.window);
-      outside = read_well _ _ _ _ c.in_ok-file.ensures.reads ∙ c.files.invariant.outside;
+      readable = read_well _ _ _ _ c.in_ok-file.ensures.reads ∙ c.files.invariant.readable;
     }

@@ -13,21 +13,21 @@ batches-preserved g c =
     let items = c.batches.loads.items in
     let batch = c.in_ok-batch in
     let appended = c.in_ok-append.ensures.items in
-    let loads = rw (c.batches.invariant.outside, many) at batch.ensures.loads in
+    let loads = rw (c.batches.invariant.readable, many) at batch.ensures.loads in
     record {
       within = omega (arith, c.batches.invariant.within, c.min-count.ensures);
-      loads = rw appended (told_both (g.F.Files.outside c.args.files.now).held _ _ _
+      loads = rw appended (told_both (g.I.Reading.readable c.args.files.now).held _ _ _
           (λ m first next. zipped_on (IsLoadOf m) ws items batch.batch.items at count first next) c.batches.invariant.loads loads);
       fit = rw appended (zipped_on IsFitFor ws items batch.batch.items at count c.batches.invariant.fit (rw many at batch.ensures.fit));
-      outside = read_all c.batches.invariant.outside c.in_ok-batch.ensures.reads;
+      readable = read_all c.batches.invariant.readable c.in_ok-batch.ensures.reads;
     }
 
 pub returns-in_err-batch-clause-reads : goal.returns-in_err-batch-clause-reads
 returns-in_err-batch-clause-reads g c =
-    let f = g.F.Files in
+    let f = g.I.Reading in
     let at = c.batches.at in
-    let a = f.outside c.args.files.now in
-    let d = f.outside c.batch_in.new.files in
+    let a = f.readable c.args.files.now in
+    let d = f.readable c.batch_in.new.files in
     let r = c.from_residual-in_err-batch in
-    rw (ap (λ r. has_failed r) (handed r.result r.ensures.1)) (reads_within _ c.args.words.now at (at + c.min-count.result - at) a (f.outside c.batches.files) d
-    c.batches.invariant.outside c.in_err-batch.ensures.reads)
+    rw (ap (λ r. has_failed r) (handed r.result r.ensures.1)) (reads_within _ c.args.words.now at (at + c.min-count.result - at) a (f.readable c.batches.files) d
+    c.batches.invariant.readable c.in_err-batch.ensures.reads)

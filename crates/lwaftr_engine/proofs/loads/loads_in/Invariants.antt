@@ -2,11 +2,11 @@ use Rattle.lwaftr_engine.proofs.Words.{◌≡◌, ◌≤◌, ◌-◌, length, ta
 use Rattle.lwaftr_engine.proofs.loads.loads_in.Given as goal
 
 abbrev pub invariant-batches : goal.invariant-batches
-invariant-batches g l = let f = g.F.Files in record {
+invariant-batches g l = let f = g.I.Reading in record {
   within : l.at ≤ length l.words;
-  loads : Told (f.outside l.initial.files).held (λ m. AreLoadsOf m (take l.at l.words) l.loads.items);
+  loads : Told (f.readable l.initial.files).held (λ m. AreLoadsOf m (take l.at l.words) l.loads.items);
   fit : AreFitFor (take l.at l.words) l.loads.items;
-  outside : f.outside l.files ≡ f.outside l.initial.files;
+  readable : f.readable l.files ≡ f.readable l.initial.files;
 }
 
 abbrev pub decreases-batches : goal.decreases-batches

@@ -5,7 +5,7 @@ use Rattle.lwaftr_engine.proofs.table_file.file_front.Goals as goal
 
 pub pieces-preserved : goal.pieces-preserved
 pieces-preserved g c =
-    let h = (g.F.Files.outside c.args.files.now).held in
+    let h = (g.I.Reading.readable c.args.files.now).held in
     let list = c.pieces.list.items in
     let known = c.pieces.invariant in
     let piece = c.in_ok-piece in
@@ -13,6 +13,6 @@ pieces-preserved g c =
     record {
       within = grind arith;
       bytes = rw longer (front_longer h c.args.name.now list piece.piece c.len-have.result c.min-count.result (grind arith) (grind arith) known.bytes
-          (rw known.outside at piece.ensures.bytes));
-      outside = read_well c.args.name.now _ _ _ piece.ensures.reads ∙ known.outside;
+          (rw known.readable at piece.ensures.bytes));
+      readable = read_well c.args.name.now _ _ _ piece.ensures.reads ∙ known.readable;
     }

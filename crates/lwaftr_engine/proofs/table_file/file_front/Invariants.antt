@@ -2,10 +2,10 @@ use Rattle.lwaftr_engine.proofs.Words.{◌≡◌, ◌≤◌, ◌-◌, length, ta
 use Rattle.lwaftr_engine.proofs.table_file.file_front.Given as goal
 
 abbrev pub invariant-pieces : goal.invariant-pieces
-invariant-pieces g l = let f = g.F.Files in record {
+invariant-pieces g l = let f = g.I.Reading in record {
   within : length l.list.items ≤ l.most;
-  bytes : Told (f.outside l.initial.files).held (λ m. l.list.items ≡ take (length l.list.items) (content m l.name));
-  outside : f.outside l.files ≡ f.outside l.initial.files;
+  bytes : Told (f.readable l.initial.files).held (λ m. l.list.items ≡ take (length l.list.items) (content m l.name));
+  readable : f.readable l.files ≡ f.readable l.initial.files;
 }
 
 abbrev pub decreases-pieces : goal.decreases-pieces

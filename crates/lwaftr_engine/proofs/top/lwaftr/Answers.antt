@@ -6,12 +6,14 @@ use Rattle.lwaftr_engine.proofs.top.lwaftr.Given.{Over}
 use Rattle.lwaftr_engine.proofs.top.lwaftr.Goals as goal
 use Rattle.lwaftr_engine.specs.declared.at_once.AtOnce.TheVariants as at_once
 use Rattle.aftr_text.specs.declared.jobs.Job.TheVariants as asked
+use Rattle.aftr_io.specs.declared.outside.Outside.{Outside}
 
-abbrev there : (g : Over) → g.row.F.Denot → g.row.O.Denot → World
-there g files out = world (g.F.Files.outside files) (g.O.Sink.out out) (g.O.Sink.faults out)
+abbrev there : (g : Over) → Outside g.row.I.Denot g.row.O.Denot → g.row.S.Denot → World
+there g files out = world (g.I.Reading.readable files.reading) (g.O.Writing.written files.writing) (g.S.Sink.out out) (g.S.Sink.faults out)
 
 -- what was not touched is as it was
-same : (g : Over) {files old : g.row.F.Denot} {out was : g.row.O.Denot} → (files ≡ old) × (out ≡ was) → there g files out ≡ there g old was
+same : (g : Over) {files old : Outside g.row.I.Denot g.row.O.Denot} {out was : g.row.S.Denot} → (files ≡ old) × (out ≡ was) →
+    there g files out ≡ there g old was
 same g untouched = λ i. there g (untouched.0 i) (untouched.1 i)
 
 pub returns-in-Ended : goal.returns-in-Ended
@@ -88,7 +90,8 @@ returns-in-Demo g c =
     let asked_for = e.left_demo seed count workers is in
     let left = e.demo seed count workers asked_for in
     let files = c.do_at_once.new.files in
-    let outside = g.F.Files.outside files in
+    let reading = g.I.Reading.readable files.reading in
+    let writing = g.O.Writing.written files.writing in
     let s = c.show_demo.result in
     let is_same = same g left.1 in
     let shown = c.show_demo.ensures in
@@ -102,7 +105,7 @@ returns-in-Demo g c =
       demo = λ other_seed other_count other_workers asks.
           let alike = same_demo (rw is at (e.demo other_seed other_count other_workers asks).0) in
           rw (← alike.0) (rw (← alike.1)
-          (rw (← is_same) (record { kept = refl; line = shown.line; cause = shown.cause outside; due = shown.due; history_is = shown.history })));
+          (rw (← is_same) (record { read_kept = refl; kept = refl; line = shown.line; cause = shown.cause reading writing; due = shown.due; history_is = shown.history })));
       migrate = λ input output asks. absurd (rw is at (e.migrate input output asks));
-      cause = rw (← is_same) (one_cause s (there g files c.do_at_once.new.out) (there g files c.show_demo.new.out) (shown.cause outside));
+      cause = rw (← is_same) (one_cause s (there g files c.do_at_once.new.out) (there g files c.show_demo.new.out) (shown.cause reading writing));
     }

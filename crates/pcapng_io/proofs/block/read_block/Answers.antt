@@ -2,7 +2,7 @@
 use Rattle.std.proofs.Common.{Err, ◌≡◌, ◌^◌, ◌<◌, drop, length, refl, ◌∙◌, ap, subst, arith}
 use Rattle.std.proofs.lemmas.Result.{err_from_is_err_and}
 use Rattle.aftr_io.specs.Contents.{Told}
-use Rattle.aftr_io.specs.Outside.{Outside}
+use Rattle.aftr_io.specs.Outside.{Readable}
 use Rattle.pcapng_io.specs.declared.block.Block.{Block}
 use Rattle.pcapng_io.specs.declared.fronts.Sight.{Sight}
 use Rattle.pcapng_io.specs.declared.fronts.Sight.TheVariants as sight
@@ -27,10 +27,10 @@ said g c it is =
 
 -- and of the file
 told : (g : Over) (c : After-quick_sight_of g) → (it : Sight) → c.quick_sight_of.result ≡ it →
-    Told (g.F.Files.outside c.args.files.now).held
+    Told (g.I.Reading.readable c.args.files.now).held
     (λ m. Tells (front_seen it) (block_in (seen_by c.args.known c.args.interfaces.now) (left_at m c.args.name.now c.args.known.at) c.args.number))
 told g c it is =
-    told_at (g.F.Files.outside c.args.files.now).held c.args.name.now (seen_by c.args.known c.args.interfaces.now) c.reading.window c.args.number
+    told_at (g.I.Reading.readable c.args.files.now).held c.args.name.now (seen_by c.args.known c.args.interfaces.now) c.reading.window c.args.number
     (front_seen it) c.reading.invariant.stands
     (said g c it is)
 
@@ -39,7 +39,7 @@ returns-in-Packet-clause-told g c = told g (goal.at.returns-in-Packet-clause-tol
 
 pub returns-in-Packet-clause-stands : goal.returns-in-Packet-clause-stands
 returns-in-Packet-clause-stands g c =
-    packet_stands (g.F.Files.outside c.args.files.now).held c.args.name.now (seen_by c.args.known c.args.interfaces.now) c.reading.window c.args.number
+    packet_stands (g.I.Reading.readable c.args.files.now).held c.args.name.now (seen_by c.args.known c.args.interfaces.now) c.reading.window c.args.number
     c.in-Packet.packet c.in-Packet.ensures.sound
     (said g (goal.at.returns-in-Packet-clause-stands g c).After-quick_sight_of (sight.Packet c.in-Packet.packet) c.in-Packet.is) c.reading.invariant.stands
 
@@ -48,7 +48,7 @@ returns-in-Passed-clause-told g c = told g (goal.at.returns-in-Passed-clause-tol
 
 pub returns-in-Passed-clause-stands : goal.returns-in-Passed-clause-stands
 returns-in-Passed-clause-stands g c =
-    passed_stands (g.F.Files.outside c.args.files.now).held c.args.name.now (seen_by c.args.known c.args.interfaces.now) c.reading.window c.pass.new.self
+    passed_stands (g.I.Reading.readable c.args.files.now).held c.args.name.now (seen_by c.args.known c.args.interfaces.now) c.reading.window c.pass.new.self
     c.args.number c.in-Passed.passed
     (said g (goal.at.returns-in-Passed-clause-stands g c).After-quick_sight_of (sight.Passed c.in-Passed.passed) c.in-Passed.is)
     c.reading.invariant.stands (c.pass.ensures.bytes ∙ ap (λ n. drop n c.reading.window.bytes) c.len_of.ensures) c.pass.ensures.last
@@ -77,9 +77,9 @@ pub returns-in_err-read_more-in-More-clause-reads : goal.returns-in_err-read_mor
 returns-in_err-read_more-in-More-clause-reads g c =
     let e = err_from_is_err_and c.from_residual-in_err-read_more-in-More.result c.from_residual-in_err-read_more-in-More.ensures.1 in
     failed_inside (Unit {0}) Block c.from_residual-in_err-read_more-in-More.result c.in_err-read_more-in-More.field-0.0 c.args.name.now _ _
-    (g.F.Files.outside c.args.files.now) (g.F.Files.outside c.reading.files) (g.F.Files.outside c.read_more.new.files)
-    (e.1 ∙ ap Err e.2) c.reading.invariant.outside
-    (more_inside (seen_by c.args.known c.args.interfaces.now) c.reading.window c.args.number (g.F.Files.outside c.args.files.now).held c.args.name.now
+    (g.I.Reading.readable c.args.files.now) (g.I.Reading.readable c.reading.files) (g.I.Reading.readable c.read_more.new.files)
+    (e.1 ∙ ap Err e.2) c.reading.invariant.readable
+    (more_inside (seen_by c.args.known c.args.interfaces.now) c.reading.window c.args.number (g.I.Reading.readable c.args.files.now).held c.args.name.now
     c.reading.invariant.stands
     (said g (goal.at.returns-in_err-read_more-in-More-clause-reads g c).After-quick_sight_of (sight.More c.in-More.missing) c.in-More.is))
     c.in_err-read_more-in-More.ensures.reads
@@ -93,11 +93,11 @@ pass-requires g c =
 pub returns-in_err-block-in-More-clause-reads : goal.returns-in_err-block-in-More-clause-reads
 returns-in_err-block-in-More-clause-reads g c =
     let seen = seen_by c.args.known c.args.interfaces.now in
-    let before = g.F.Files.outside c.args.files.now in
-    let now = g.F.Files.outside c.reading.files in
+    let before = g.I.Reading.readable c.args.files.now in
+    let now = g.I.Reading.readable c.reading.files in
     let e = err_from_is_err_and c.from_residual.result c.from_residual.ensures.1 in
-    passed_inside Block Block c.from_residual.result c.in_err-block-in-More.field-0.0 c.args.name.now _ _ before now (g.F.Files.outside c.read_long.new.files)
-    (e.1 ∙ ap Err e.2) c.reading.invariant.outside
+    passed_inside Block Block c.from_residual.result c.in_err-block-in-More.field-0.0 c.args.name.now _ _ before now (g.I.Reading.readable c.read_long.new.files)
+    (e.1 ∙ ap Err e.2) c.reading.invariant.readable
     (λ place. long_inside now.held before.held c.args.name.now seen c.args.number place c.reading.window
-    (ap (λ (o : Outside). o.held) c.reading.invariant.outside) c.reading.invariant.stands)
+    (ap (λ (o : Readable). o.held) c.reading.invariant.readable) c.reading.invariant.stands)
     c.in_err-block-in-More.ensures.reads

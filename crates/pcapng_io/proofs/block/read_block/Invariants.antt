@@ -4,9 +4,9 @@ use Rattle.capture_io.specs.Windows.{IsAtFront}
 use Rattle.pcapng_io.proofs.block.read_block.Given as goal
 
 abbrev pub invariant-reading : goal.invariant-reading
-invariant-reading g l = let f = g.F.Files in record {
-  outside : f.outside l.files ≡ f.outside l.initial.files;
-  stands : IsAtFront (f.outside l.initial.files).held l.name l.known.at l.window;
+invariant-reading g l = let f = g.I.Reading in record {
+  readable : f.readable l.files ≡ f.readable l.initial.files;
+  stands : IsAtFront (f.readable l.initial.files).held l.name l.known.at l.window;
 }
 
 abbrev pub decreases-reading : goal.decreases-reading

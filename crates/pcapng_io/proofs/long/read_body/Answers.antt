@@ -14,17 +14,17 @@ returns-then-frame-eq-INTERFACE-clause-sound g c = c.in_ok-block.ensures.sound c
 
 pub returns-in_ok-read_options-in-Packet-clause-told : goal.returns-in_ok-read_options-in-Packet-clause-told
 returns-in_ok-read_options-in-Packet-clause-told g c =
-    with_fields (g.F.Files.outside c.args.files.now).held c.args.name.now (seen_by c.args.sought.known c.args.interfaces.now) c.args.window.now c.as_slice.result.now c.args.sought.number c.args.frame
+    with_fields (g.I.Reading.readable c.args.files.now).held c.args.name.now (seen_by c.args.sought.known c.args.interfaces.now) c.args.window.now c.as_slice.result.now c.args.sought.number c.args.frame
     c.in_ok-read_options-in-Packet.field-0 c.body_of_fields.result (Ok c.in-Ok.block) (λ k. grind (arith, nat_tests)) c.requires.kept c.as_slice.ensures c.body_of_fields.ensures.says c.in-Ok.is c.in_ok-read_options-in-Packet.ensures.told
 
 pub returns-in_ok-read_end-in-Passed-clause-told : goal.returns-in_ok-read_end-in-Passed-clause-told
 returns-in_ok-read_end-in-Passed-clause-told g c =
-    with_fields (g.F.Files.outside c.args.files.now).held c.args.name.now (seen_by c.args.sought.known c.args.interfaces.now) c.args.window.now c.as_slice.result.now c.args.sought.number c.args.frame
+    with_fields (g.I.Reading.readable c.args.files.now).held c.args.name.now (seen_by c.args.sought.known c.args.interfaces.now) c.args.window.now c.as_slice.result.now c.args.sought.number c.args.frame
     c.in_ok-read_end-in-Passed.field-0 c.body_of_fields.result (Ok c.in-Ok.block) (λ k. grind (arith, nat_tests)) c.requires.kept c.as_slice.ensures c.body_of_fields.ensures.says c.in-Ok.is c.in_ok-read_end-in-Passed.ensures.told
 
 pub returns-in_ok-read_end-in-Passed-clause-stands : goal.returns-in_ok-read_end-in-Passed-clause-stands
 returns-in_ok-read_end-in-Passed-clause-stands g c =
-    with_size (g.F.Files.outside c.args.files.now).held c.args.name.now c.args.sought.known.at c.args.frame.total c.args.window.now c.read_end-in-Passed.new.window c.in-Ok.block c.in-Passed.field-0 c.in-Passed.is
+    with_size (g.I.Reading.readable c.args.files.now).held c.args.name.now c.args.sought.known.at c.args.frame.total c.args.window.now c.read_end-in-Passed.new.window c.in-Ok.block c.in-Passed.field-0 c.in-Passed.is
     (passed_size (seen_by c.args.sought.known c.args.interfaces.now) c.as_slice.result.now c.args.sought.number c.args.frame c.body_of_fields.result c.in-Ok.block c.in-Passed.field-0 c.body_of_fields.ensures.says c.in-Ok.is c.in-Passed.is)
     c.in_ok-read_end-in-Passed.ensures.stands
 
@@ -34,7 +34,7 @@ returns-in-End-clause-told g c =
 
 pub returns-in-Err-clause-told : goal.returns-in-Err-clause-told
 returns-in-Err-clause-told g c =
-    with_fields (g.F.Files.outside c.args.files.now).held c.args.name.now (seen_by c.args.sought.known c.args.interfaces.now) c.args.window.now c.as_slice.result.now c.args.sought.number c.args.frame
+    with_fields (g.I.Reading.readable c.args.files.now).held c.args.name.now (seen_by c.args.sought.known c.args.interfaces.now) c.args.window.now c.as_slice.result.now c.args.sought.number c.args.frame
     c.in_ok-read_end-in-Err.field-0 c.body_of_fields.result (Err c.in-Err.refusal) (λ k. grind (arith, nat_tests)) c.requires.kept c.as_slice.ensures c.body_of_fields.ensures.says c.in-Err.is c.in_ok-read_end-in-Err.ensures.told
 
 pub returns-in_err-read_end-in-Err-clause-refused : goal.returns-in_err-read_end-in-Err-clause-refused

@@ -11,7 +11,7 @@ use Rattle.pcapng_io.proofs.long.read_interface.Goals as goal
 
 pub returns-in-Err-clause-told : goal.returns-in-Err-clause-told
 returns-in-Err-clause-told g c =
-    let held = (g.F.Files.outside c.args.files.now).held in
+    let held = (g.I.Reading.readable c.args.files.now).held in
     let at = c.args.known.at in
     let seen = seen_by c.args.known c.args.interfaces.now in
     let first = c.args.window.now in
@@ -22,7 +22,7 @@ returns-in-Err-clause-told g c =
 
 pub returns-in_err-found-clause-told : goal.returns-in_err-found-clause-told
 returns-in_err-found-clause-told g c =
-    let held = (g.F.Files.outside c.args.files.now).held in
+    let held = (g.I.Reading.readable c.args.files.now).held in
     let name = c.args.name.now in
     let at = c.args.known.at in
     let seen = seen_by c.args.known c.args.interfaces.now in
@@ -41,7 +41,7 @@ returns-in_err-found-clause-told g c =
 
 pub returns-in-Ok-block_of-clause-told : goal.returns-in-Ok-block_of-clause-told
 returns-in-Ok-block_of-clause-told g c =
-    let held = (g.F.Files.outside c.args.files.now).held in
+    let held = (g.I.Reading.readable c.args.files.now).held in
     let name = c.args.name.now in
     let at = c.args.known.at in
     let seen = seen_by c.args.known c.args.interfaces.now in
@@ -58,7 +58,7 @@ returns-in-Ok-block_of-clause-told g c =
 
 pub returns-in-Err-block_of-clause-told : goal.returns-in-Err-block_of-clause-told
 returns-in-Err-block_of-clause-told g c =
-    let held = (g.F.Files.outside c.args.files.now).held in
+    let held = (g.I.Reading.readable c.args.files.now).held in
     let name = c.args.name.now in
     let at = c.args.known.at in
     let seen = seen_by c.args.known c.args.interfaces.now in
@@ -75,7 +75,7 @@ returns-in-Err-block_of-clause-told g c =
 
 pub returns-in-Ok-block_of-clause-stands : goal.returns-in-Ok-block_of-clause-stands
 returns-in-Ok-block_of-clause-stands g c =
-    let held = (g.F.Files.outside c.args.files.now).held in
+    let held = (g.I.Reading.readable c.args.files.now).held in
     let name = c.args.name.now in
     let at = c.args.known.at in
     let first = c.args.window.now in

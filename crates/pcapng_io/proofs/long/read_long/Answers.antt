@@ -13,7 +13,7 @@ use Rattle.pcapng_io.proofs.long.read_long.Goals as goal
 pub returns-in-Err-clause-told : goal.returns-in-Err-clause-told
 returns-in-Err-clause-told g c =
     let seen = seen_by c.args.sought.known c.args.interfaces.now in
-    head_told (g.F.Files.outside c.args.files.now).held c.args.name.now seen c.args.window.now c.as_slice.result.now c.args.sought.number c.head_of.result c.in-Err.refusal
+    head_told (g.I.Reading.readable c.args.files.now).held c.args.name.now seen c.args.window.now c.as_slice.result.now c.args.sought.number c.head_of.result c.in-Err.refusal
     (is_near seen c.args.window.now c.args.sought.number c.requires.is_open) c.requires.kept c.as_slice.ensures c.head_of.ensures.says c.in-Err.is
 
 pub read_body-requires-clause-near : goal.read_body-requires-clause-near
@@ -25,7 +25,7 @@ read_body-requires-clause-less g c =
 
 pub returns-in_err-block-clause-told : goal.returns-in_err-block-clause-told
 returns-in_err-block-clause-told g c =
-    let held = (g.F.Files.outside c.args.files.now).held in
+    let held = (g.I.Reading.readable c.args.files.now).held in
     let seen = seen_by c.args.sought.known c.args.interfaces.now in
     let first = c.args.window.now in
     let long = is_long seen first c.args.sought.number c.as_slice.result.now c.head_of.result c.in-Ok.frame c.requires.is_open c.requires.kept c.as_slice.ensures c.head_of.ensures.says c.in-Ok.is in
@@ -35,17 +35,17 @@ returns-in_err-block-clause-told g c =
 
 pub returns-in_err-block-clause-reads : goal.returns-in_err-block-clause-reads
 returns-in_err-block-clause-reads g c =
-    let held = (g.F.Files.outside c.args.files.now).held in
+    let held = (g.I.Reading.readable c.args.files.now).held in
     let seen = seen_by c.args.sought.known c.args.interfaces.now in
     let first = c.args.window.now in
     let long = is_long seen first c.args.sought.number c.as_slice.result.now c.head_of.result c.in-Ok.frame c.requires.is_open c.requires.kept c.as_slice.ensures c.head_of.ensures.says c.in-Ok.is in
     let e = err_from_is_err_and c.from_residual.result c.from_residual.ensures.1 in
-    passed_inside Block Block c.from_residual.result c.in_err-block.field-0.0 c.args.name.now _ _ (g.F.Files.outside c.args.files.now) (g.F.Files.outside c.args.files.now) (g.F.Files.outside c.read_body.new.files)
+    passed_inside Block Block c.from_residual.result c.in_err-block.field-0.0 c.args.name.now _ _ (g.I.Reading.readable c.args.files.now) (g.I.Reading.readable c.args.files.now) (g.I.Reading.readable c.read_body.new.files)
     (e.1 ∙ ap Err e.2) refl (λ place within. in_long held c.args.name.now seen c.args.sought.number first c.in-Ok.frame place long within) c.in_err-block.ensures.reads
 
 pub returns-clause-told : goal.returns-clause-told
 returns-clause-told g c =
-    let held = (g.F.Files.outside c.args.files.now).held in
+    let held = (g.I.Reading.readable c.args.files.now).held in
     let seen = seen_by c.args.sought.known c.args.interfaces.now in
     let first = c.args.window.now in
     let long = is_long seen first c.args.sought.number c.as_slice.result.now c.head_of.result c.in-Ok.frame c.requires.is_open c.requires.kept c.as_slice.ensures c.head_of.ensures.says c.in-Ok.is in

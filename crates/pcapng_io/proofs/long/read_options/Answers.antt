@@ -14,7 +14,7 @@ begun bytes = record { bytes = bytes; last = false }
 
 pub returns-in_err-frame-clause-told : goal.returns-in_err-frame-clause-told
 returns-in_err-frame-clause-told g c =
-    let held = (g.F.Files.outside c.args.files.now).held in
+    let held = (g.I.Reading.readable c.args.files.now).held in
     let name = c.args.name.now in
     let at = c.args.at in
     let e = err_from_is_err_and c.from_residual.result c.from_residual.ensures.1 in
@@ -24,7 +24,7 @@ returns-in_err-frame-clause-told g c =
 
 pub returns-clause-told : goal.returns-clause-told
 returns-clause-told g c =
-    let held = (g.F.Files.outside c.args.files.now).held in
+    let held = (g.I.Reading.readable c.args.files.now).held in
     let name = c.args.name.now in
     let at = c.args.at in
     let stands = with_rest held name at 262172 c.args.window.now c.in-Ok.rest c.args.window.now.bytes refl (omega (arith, c.requires.kept)) (c.in-Ok.ensures ∙ ap begun (sym (take_rest c.args.window.now.bytes 262172))) in

@@ -4,9 +4,9 @@ use Rattle.pcapng_io.specs.Long.{StandsAt, WithFront}
 use Rattle.pcapng_io.proofs.long.read_over.Given as goal
 
 abbrev pub invariant-passing : goal.invariant-passing
-invariant-passing g l = let f = g.F.Files in record {
-  outside : f.outside l.files ≡ f.outside l.initial.files;
-  stands : WithFront (f.outside l.initial.files).held l.name l.from l.initial.window (StandsAt l.here l.window);
+invariant-passing g l = let f = g.I.Reading in record {
+  readable : f.readable l.files ≡ f.readable l.initial.files;
+  stands : WithFront (f.readable l.initial.files).held l.name l.from l.initial.window (StandsAt l.here l.window);
   behind : l.from ≤ l.here;
   before : l.here ≤ l.end;
 }

@@ -5,13 +5,13 @@ use Rattle.pcapng_io.proofs.LongLemmas.{GivesFrom}
 use Rattle.pcapng_io.proofs.long.read_resolution.Given as goal
 
 abbrev pub invariant-options : goal.invariant-options
-invariant-options g l = let f = g.F.Files in record {
-  outside : f.outside l.files ≡ f.outside l.initial.files;
+invariant-options g l = let f = g.I.Reading in record {
+  readable : f.readable l.files ≡ f.readable l.initial.files;
   ends : l.end ≡ l.at + l.frame.total - 4;
-  stands : WithFront (f.outside l.initial.files).held l.name (l.at + 16) l.initial.window (StandsAt l.here l.window);
+  stands : WithFront (f.readable l.initial.files).held l.name (l.at + 16) l.initial.window (StandsAt l.here l.window);
   behind : l.at + 16 ≤ l.here;
   inside : l.here + l.place ≤ l.end;
-  gives : WithFront (f.outside l.initial.files).held l.name (l.at + 16) l.initial.window (GivesFrom l.frame l.at l.here l.place l.found);
+  gives : WithFront (f.readable l.initial.files).held l.name (l.at + 16) l.initial.window (GivesFrom l.frame l.at l.here l.place l.found);
 }
 
 abbrev pub decreases-options : goal.decreases-options

@@ -26,37 +26,37 @@ use Rattle.pcapng_io.proofs.long_packets.take_long.Goals.{After-read_long, In-Ok
 -- where the packets end with the block
 ends : (g : Over) (c : After-read_long g) → (ending : Ending) (taken : Taken) →
     taken ≡ record { used = length c.read_long.new.window.bytes; known = c.args.search.from.known; number = c.args.search.from.number; ending = Some ending } →
-    WithFront (g.F.Files.outside c.args.files.now).held c.args.name.now c.args.search.from.known.at c.args.window.now
+    WithFront (g.I.Reading.readable c.args.files.now).held c.args.name.now c.args.search.from.known.at c.args.window.now
     (λ all. IsEnding (left_of (seen_by c.args.search.from.known c.args.interfaces.now.items)) all c.args.search.from.number (Some ending)) →
-    IsLongTaken (g.F.Files.outside c.args.files.now).held c.args.name.now (seen_by c.args.search.from.known c.args.interfaces.now.items)
+    IsLongTaken (g.I.Reading.readable c.args.files.now).held c.args.name.now (seen_by c.args.search.from.known c.args.interfaces.now.items)
     c.args.interfaces.now.items
     c.args.window.now.bytes c.read_long.new.window c.args.places.now.items c.args.search.from.number c.args.search.most_bytes (long.Taken taken)
 ends g c ending taken is told =
-    long_ended (g.F.Files.outside c.args.files.now).held c.args.name.now (seen_by c.args.search.from.known c.args.interfaces.now.items) c.args.window.now
+    long_ended (g.I.Reading.readable c.args.files.now).held c.args.name.now (seen_by c.args.search.from.known c.args.interfaces.now.items) c.args.window.now
     c.read_long.new.window c.args.search.from.number c.args.search.most_bytes c.requires.is_open c.requires.sound c.requires.number c.requires.some
     ending taken c.args.places.now.items c.requires.none is told
 
 -- what the file tells of the block, and where the window then stands
 told : (g : Over) (c : In-Ok g) → (b : Block) → c.in-Ok.block ≡ b →
-    WithFront (g.F.Files.outside c.args.files.now).held c.args.name.now c.args.search.from.known.at c.args.window.now
+    WithFront (g.I.Reading.readable c.args.files.now).held c.args.name.now c.args.search.from.known.at c.args.window.now
     (λ all. block_in (seen_by c.args.search.from.known c.args.interfaces.now.items) (drop c.args.search.from.known.at all) c.args.search.from.number ≡ Ok b)
 told g c b is =
-    let held = (g.F.Files.outside c.args.files.now).held in
+    let held = (g.I.Reading.readable c.args.files.now).held in
     let sought = c.args.search.from in
     block_is held c.args.name.now (seen_by sought.known c.args.interfaces.now.items) c.args.window.now sought.number c.in-Ok.block b is
     (told_by held c.args.name.now c.args.window.now sought.known c.deref.result.now c.args.interfaces.now.items sought.number (Ok c.in-Ok.block)
     c.deref.ensures.value c.in-Ok.ensures.told)
 
 stands : (g : Over) (c : In-Ok g) → (b : Block) → c.in-Ok.block ≡ b →
-    WithFront (g.F.Files.outside c.args.files.now).held c.args.name.now c.args.search.from.known.at c.args.window.now
+    WithFront (g.I.Reading.readable c.args.files.now).held c.args.name.now c.args.search.from.known.at c.args.window.now
     (λ all. StandsIn all c.args.search.from.known.at c.read_long.new.window b)
 stands g c b is =
-    stands_is (g.F.Files.outside c.args.files.now).held c.args.name.now c.args.search.from.known.at c.args.window.now c.read_long.new.window c.in-Ok.block b is
+    stands_is (g.I.Reading.readable c.args.files.now).held c.args.name.now c.args.search.from.known.at c.args.window.now c.read_long.new.window c.in-Ok.block b is
     c.in-Ok.ensures.stands
 
 pub returns-in-Err-Bad-clause-taken : goal.returns-in-Err-Bad-clause-taken
 returns-in-Err-Bad-clause-taken g c =
-    let held = (g.F.Files.outside c.args.files.now).held in
+    let held = (g.I.Reading.readable c.args.files.now).held in
     let sought = c.args.search.from in
     ends g (goal.at.returns-in-Err-Bad-clause-taken g c).After-read_long (end.Bad c.in-Err-Bad.refusal) c.ended.result c.ended.ensures
     (ending_refused held c.args.name.now (seen_by sought.known c.args.interfaces.now.items) c.args.window.now sought.number c.in-Err-Bad.field-0
@@ -68,12 +68,12 @@ returns-in-Err-Bad-clause-taken g c =
 pub returns-in-Err-ReadFault-clause-taken : goal.returns-in-Err-ReadFault-clause-taken
 returns-in-Err-ReadFault-clause-taken g c =
     ends g (goal.at.returns-in-Err-ReadFault-clause-taken g c).After-read_long end.ReadFault c.ended-in-Err-ReadFault.result c.ended-in-Err-ReadFault.ensures
-    (with_unit (g.F.Files.outside c.args.files.now).held c.args.name.now c.args.search.from.known.at c.args.window.now)
+    (with_unit (g.I.Reading.readable c.args.files.now).held c.args.name.now c.args.search.from.known.at c.args.window.now)
 
 pub returns-in-Err-ReadFault-clause-reads : goal.returns-in-Err-ReadFault-clause-reads
 returns-in-Err-ReadFault-clause-reads g c =
-    let before = g.F.Files.outside c.args.files.now in
-    let after = g.F.Files.outside c.read_long.new.files in
+    let before = g.I.Reading.readable c.args.files.now in
+    let after = g.I.Reading.readable c.read_long.new.files in
     let sought = c.args.search.from in
     long_reads before.held c.args.name.now (seen_by sought.known c.args.interfaces.now.items) c.args.window.now c.read_long.new.window sought.number
     c.args.search.most_bytes c.requires.is_open c.requires.sound c.requires.number c.requires.some
@@ -86,7 +86,7 @@ returns-in-End-clause-taken g c =
     let sought = c.args.search.from in
     let at = goal.at.returns-in-End-clause-taken g c in
     ends g at.After-read_long end.End c.ended-in-End.result c.ended-in-End.ensures
-    (ending_end (g.F.Files.outside c.args.files.now).held c.args.name.now (seen_by sought.known c.args.interfaces.now.items) c.args.window.now sought.number
+    (ending_end (g.I.Reading.readable c.args.files.now).held c.args.name.now (seen_by sought.known c.args.interfaces.now.items) c.args.window.now sought.number
     block.End refl (told g at.In-Ok block.End c.in-End.is))
 
 pub returns-in-Packet-clause-taken : goal.returns-in-Packet-clause-taken
@@ -97,7 +97,7 @@ returns-in-Packet-clause-taken g c =
     let at = (goal.at.returns-in-Packet-clause-taken g c).In-Ok in
     let sound : IsSoundPacket c.args.search.from.number p = subst (λ (b : Block). IsSound c.args.search.from.number b) c.in-Packet.is c.in-Ok.ensures.sound in
     let there : p.start + p.count ≤ length window.bytes = subst (λ (b : Block). HasBytes b window) c.in-Packet.is c.in-Ok.ensures.there in
-    long_packet (g.F.Files.outside c.args.files.now).held c.args.name.now old c.args.window.now window c.args.search.from.number c.args.search.most_bytes
+    long_packet (g.I.Reading.readable c.args.files.now).held c.args.name.now old c.args.window.now window c.args.search.from.number c.args.search.most_bytes
     c.requires.is_open c.requires.sound c.requires.number c.requires.some p sound there
     (length c.as_slice.result.now) c.behind_packet.result c.args.places.now.items c.push_reserved.new.self.items c.place_of.result
     (ap length c.as_slice.ensures) c.behind_packet.ensures c.requires.none c.push_reserved.ensures.items c.place_of.ensures
@@ -111,7 +111,7 @@ returns-in_ok-pass-in-Passed-clause-taken g c =
     subst (λ (b : Block). IsSound c.args.search.from.number b) c.in-Passed.is c.in-Ok.ensures.sound in
     let longer : length c.args.window.now.bytes < size_of p =
     subst (λ (b : Block). IsLonger (length c.args.window.now.bytes) b) c.in-Passed.is c.in-Ok.ensures.longer in (
-      long_passed (g.F.Files.outside c.args.files.now).held c.args.name.now (seen_by c.args.search.from.known c.args.interfaces.now.items) c.args.window.now
+      long_passed (g.I.Reading.readable c.args.files.now).held c.args.name.now (seen_by c.args.search.from.known c.args.interfaces.now.items) c.args.window.now
           c.read_long.new.window c.args.search.from.number c.args.search.most_bytes c.requires.is_open c.requires.sound c.requires.number c.requires.some
           p c.behind_passed.result c.pass.new.interfaces.items sound.2 c.behind_passed.ensures c.in_ok-pass-in-Passed.ensures.after
           (told g at (block.Passed p) c.in-Passed.is) (stands g at (block.Passed p) c.in-Passed.is),

@@ -13,17 +13,17 @@ use Rattle.pcapng_io.proofs.record.find_record.Goals as goal
 pub returns-in_err-sighted-clause-told : goal.returns-in_err-sighted-clause-told
 returns-in_err-sighted-clause-told g c =
     let e = err_from_is_err_and c.from_residual.result c.from_residual.ensures.1 in
-    sight_failed (g.F.Files.outside c.args.files.now).held c.args.name.now (seen_by c.args.known c.args.interfaces.now.items) c.args.number c.find_packet.new.interfaces.items c.from_residual.result c.in_err-sighted.field-0.0 (e.1 ∙ ap Err e.2) c.in_err-sighted.ensures.told
+    sight_failed (g.I.Reading.readable c.args.files.now).held c.args.name.now (seen_by c.args.known c.args.interfaces.now.items) c.args.number c.find_packet.new.interfaces.items c.from_residual.result c.in_err-sighted.field-0.0 (e.1 ∙ ap Err e.2) c.in_err-sighted.ensures.told
 
 pub returns-in_err-sighted-clause-reads : goal.returns-in_err-sighted-clause-reads
 returns-in_err-sighted-clause-reads g c =
     let e = err_from_is_err_and c.from_residual.result c.from_residual.ensures.1 in
-    passed_inside (Option Sighted) (Option Found) c.from_residual.result c.in_err-sighted.field-0.0 c.args.name.now _ _ (g.F.Files.outside c.args.files.now) (g.F.Files.outside c.args.files.now) (g.F.Files.outside c.find_packet.new.files)
+    passed_inside (Option Sighted) (Option Found) c.from_residual.result c.in_err-sighted.field-0.0 c.args.name.now _ _ (g.I.Reading.readable c.args.files.now) (g.I.Reading.readable c.args.files.now) (g.I.Reading.readable c.find_packet.new.files)
     (e.1 ∙ ap Err e.2) refl (λ place within. within) c.in_err-sighted.ensures.reads
 
 pub returns-in-Ok-clause-told : goal.returns-in-Ok-clause-told
 returns-in-Ok-clause-told g c =
-    let held = (g.F.Files.outside c.args.files.now).held in
+    let held = (g.I.Reading.readable c.args.files.now).held in
     let seen = seen_by c.args.known c.args.interfaces.now.items in
     let now = c.find_packet.new.interfaces.items in
     let s = c.in-Some.sighted in

@@ -1,7 +1,7 @@
 use Rattle.std.proofs.Common.{◌≡◌, ℕ, ◌+◌, ◌<◌, ◌≤◌, false, List, drop, length, All, Option, Ok, Err, refl, sym, ◌∙◌, ap, subst, arith}
 use Rattle.std.proofs.lemmas.Result.{err_from_is_err_and}
 use Rattle.aftr_io.specs.Contents.{Told}
-use Rattle.aftr_io.specs.Outside.{OnlyReads, Outside}
+use Rattle.aftr_io.specs.Outside.{OnlyReads, Readable}
 use Rattle.aftr_io.proofs.OutsideLemmas.{read_well}
 use Rattle.capture_io.specs.Windows.{IsAtFront}
 use Rattle.pcapng_io.specs.declared.block.Block.{Block}
@@ -19,41 +19,41 @@ use Rattle.pcapng_io.proofs.walk.find_packet.Goals as goal
 use Rattle.pcapng_io.proofs.walk.find_packet.Goals.{After-behind, In-Packet, In_ok-read_block}
 
 -- the files hold what they held
-same : (g : Over) (c : After-behind g) → (g.F.Files.outside c.passing.files).held ≡ (g.F.Files.outside c.args.files.now).held
-same g c = ap (λ (o : Outside). o.held) c.passing.invariant.0
+same : (g : Over) (c : After-behind g) → (g.I.Reading.readable c.passing.files).held ≡ (g.I.Reading.readable c.args.files.now).held
+same g c = ap (λ (o : Readable). o.held) c.passing.invariant.0
 
 -- the section's interfaces, as the code has them
 section : (g : Over) (c : After-behind g) → c.behind.result.now ≡ drop c.passing.first c.passing.interfaces.items
 section g c = c.behind.ensures ∙ ap (drop c.passing.first) c.deref.ensures.value
 
 -- which block stands there
-told : (g : Over) (c : In_ok-read_block g) → Told (g.F.Files.outside c.args.files.now).held
+told : (g : Over) (c : In_ok-read_block g) → Told (g.I.Reading.readable c.args.files.now).held
     (λ m. block_in (seen_by c.passing.here (drop c.passing.first c.passing.interfaces.items)) (left_at m c.args.name.now c.passing.here.at) c.args.number
     ≡ Ok c.in_ok-read_block.field-0)
 told g c =
-    block_moved (g.F.Files.outside c.passing.files).held (g.F.Files.outside c.args.files.now).held c.args.name.now c.passing.here c.args.number
+    block_moved (g.I.Reading.readable c.passing.files).held (g.I.Reading.readable c.args.files.now).held c.args.name.now c.passing.here c.args.number
     c.behind.result.now (drop c.passing.first c.passing.interfaces.items) (Ok c.in_ok-read_block.field-0)
-    (ap (λ (o : Outside). o.held) c.passing.invariant.0) (c.behind.ensures ∙ ap (drop c.passing.first) c.deref.ensures.value) c.in_ok-read_block.ensures.told
+    (ap (λ (o : Readable). o.held) c.passing.invariant.0) (c.behind.ensures ∙ ap (drop c.passing.first) c.deref.ensures.value) c.in_ok-read_block.ensures.told
 
 -- no read failed
-all_read : (g : Over) (c : In_ok-read_block g) → g.F.Files.outside c.read_block.new.files ≡ g.F.Files.outside c.args.files.now
+all_read : (g : Over) (c : In_ok-read_block g) → g.I.Reading.readable c.read_block.new.files ≡ g.I.Reading.readable c.args.files.now
 all_read g c = read_well c.args.name.now _ _ _ c.in_ok-read_block.ensures.reads ∙ c.passing.invariant.0
 
 quiet_read : (g : Over) (c : In_ok-read_block g) → (Q : ℕ → Type 0) →
-    OnlyReads false c.args.name.now Q (g.F.Files.outside c.args.files.now) (g.F.Files.outside c.read_block.new.files)
-quiet_read g c Q = quiet c.args.name.now Q (g.F.Files.outside c.args.files.now) (g.F.Files.outside c.read_block.new.files) (all_read g c)
+    OnlyReads false c.args.name.now Q (g.I.Reading.readable c.args.files.now) (g.I.Reading.readable c.read_block.new.files)
+quiet_read g c Q = quiet c.args.name.now Q (g.I.Reading.readable c.args.files.now) (g.I.Reading.readable c.read_block.new.files) (all_read g c)
 
 -- where the window stands behind a packet, which is there
-packet_behind : (g : Over) (c : In-Packet g) → IsAtFront (g.F.Files.outside c.args.files.now).held c.args.name.now c.passing.here.at c.read_block.new.window
+packet_behind : (g : Over) (c : In-Packet g) → IsAtFront (g.I.Reading.readable c.args.files.now).held c.args.name.now c.passing.here.at c.read_block.new.window
     × (c.in-Packet.packet.start + c.in-Packet.packet.count ≤ length c.read_block.new.window.bytes)
 packet_behind g c =
-    behind_packet (g.F.Files.outside c.passing.files).held (g.F.Files.outside c.args.files.now).held c.args.name.now c.passing.here.at c.read_block.new.window
-    c.in_ok-read_block.field-0 c.in-Packet.packet (ap (λ (o : Outside). o.held) c.passing.invariant.0) c.in-Packet.is c.in_ok-read_block.ensures.stands
+    behind_packet (g.I.Reading.readable c.passing.files).held (g.I.Reading.readable c.args.files.now).held c.args.name.now c.passing.here.at c.read_block.new.window
+    c.in_ok-read_block.field-0 c.in-Packet.packet (ap (λ (o : Readable). o.held) c.passing.invariant.0) c.in-Packet.is c.in_ok-read_block.ensures.stands
 
 pub passing-init : goal.passing-init
 passing-init g c = (
   refl,
-  walk_begins (g.F.Files.outside c.args.files.now).held c.args.name.now c.args.known c.args.interfaces.now.items c.args.number c.requires.sound,
+  walk_begins (g.I.Reading.readable c.args.files.now).held c.args.name.now c.args.known c.args.interfaces.now.items c.args.number c.requires.sound,
   c.requires.stands,
 )
 
@@ -70,7 +70,7 @@ read_block-requires-clause-counted g c =
 
 pub read_block-requires-clause-stands : goal.read_block-requires-clause-stands
 read_block-requires-clause-stands g c =
-    front_moved (g.F.Files.outside c.args.files.now).held (g.F.Files.outside c.passing.files).held c.args.name.now c.passing.here.at c.passing.window
+    front_moved (g.I.Reading.readable c.args.files.now).held (g.I.Reading.readable c.passing.files).held c.args.name.now c.passing.here.at c.passing.window
     (sym (same g (goal.at.read_block-requires-clause-stands g c).After-behind)) c.passing.invariant.2
 
 pub returns-in_err-read_block-clause-front : goal.returns-in_err-read_block-clause-front
@@ -80,9 +80,9 @@ pub returns-in_err-read_block-clause-told : goal.returns-in_err-read_block-claus
 returns-in_err-read_block-clause-told g c =
     let e = err_from_is_err_and c.from_residual.result c.from_residual.ensures.1 in
     let at = (goal.at.returns-in_err-read_block-clause-told g c).After-behind in
-    walk_failed (g.F.Files.outside c.args.files.now).held c.args.name.now c.args.known c.passing.here c.args.interfaces.now.items c.passing.interfaces.items
+    walk_failed (g.I.Reading.readable c.args.files.now).held c.args.name.now c.args.known c.passing.here c.args.interfaces.now.items c.passing.interfaces.items
     c.args.number c.passing.first c.from_residual.result c.in_err-read_block.field-0.0 (e.1 ∙ ap Err e.2) c.passing.invariant.1
-    (block_moved (g.F.Files.outside c.passing.files).held (g.F.Files.outside c.args.files.now).held c.args.name.now c.passing.here c.args.number
+    (block_moved (g.I.Reading.readable c.passing.files).held (g.I.Reading.readable c.args.files.now).held c.args.name.now c.passing.here c.args.number
     c.behind.result.now (drop c.passing.first c.passing.interfaces.items) (Err c.in_err-read_block.field-0.0) (same g at) (section g at)
     c.in_err-read_block.ensures.told)
 
@@ -91,11 +91,11 @@ returns-in_err-read_block-clause-reads g c =
     let e = err_from_is_err_and c.from_residual.result c.from_residual.ensures.1 in
     let at = (goal.at.returns-in_err-read_block-clause-reads g c).After-behind in
     passed_inside Block (Option Sighted) c.from_residual.result c.in_err-read_block.field-0.0 c.args.name.now _ _
-    (g.F.Files.outside c.args.files.now) (g.F.Files.outside c.passing.files) (g.F.Files.outside c.read_block.new.files)
+    (g.I.Reading.readable c.args.files.now) (g.I.Reading.readable c.passing.files) (g.I.Reading.readable c.read_block.new.files)
     (e.1 ∙ ap Err e.2) c.passing.invariant.0
-    (λ place within. walk_inside (g.F.Files.outside c.args.files.now).held c.args.name.now c.args.known c.passing.here c.args.interfaces.now.items
+    (λ place within. walk_inside (g.I.Reading.readable c.args.files.now).held c.args.name.now c.args.known c.passing.here c.args.interfaces.now.items
     c.passing.interfaces.items c.args.number c.passing.first place c.passing.invariant.1
-    (inside_moved (g.F.Files.outside c.passing.files).held (g.F.Files.outside c.args.files.now).held c.args.name.now c.passing.here c.args.number place
+    (inside_moved (g.I.Reading.readable c.passing.files).held (g.I.Reading.readable c.args.files.now).held c.args.name.now c.passing.here c.args.number place
     c.behind.result.now (drop c.passing.first c.passing.interfaces.items) (same g at) (section g at) within))
     c.in_err-read_block.ensures.reads
 
@@ -104,7 +104,7 @@ returns-in-End-clause-front g c = c.passing.invariant.1.front
 
 pub returns-in-End-clause-told : goal.returns-in-End-clause-told
 returns-in-End-clause-told g c =
-    walk_ends (g.F.Files.outside c.args.files.now).held c.args.name.now c.args.known c.passing.here c.args.interfaces.now.items c.passing.interfaces.items
+    walk_ends (g.I.Reading.readable c.args.files.now).held c.args.name.now c.args.known c.passing.here c.args.interfaces.now.items c.passing.interfaces.items
     c.args.number c.passing.first c.in_ok-read_block.field-0 c.in-End.is c.passing.invariant.1
     (told g (goal.at.returns-in-End-clause-told g c).In_ok-read_block)
 
@@ -116,7 +116,7 @@ returns-in-Packet-clause-front g c = c.passing.invariant.1.front
 
 pub returns-in-Packet-clause-told : goal.returns-in-Packet-clause-told
 returns-in-Packet-clause-told g c =
-    walk_found (g.F.Files.outside c.args.files.now).held c.args.name.now c.args.known c.passing.here c.args.interfaces.now.items c.passing.interfaces.items
+    walk_found (g.I.Reading.readable c.args.files.now).held c.args.name.now c.args.known c.passing.here c.args.interfaces.now.items c.passing.interfaces.items
     c.args.number c.passing.first c.in-Packet.packet c.in_ok-read_block.field-0 c.in-Packet.is c.passing.invariant.1
     (told g (goal.at.returns-in-Packet-clause-told g c).In_ok-read_block)
 
@@ -155,11 +155,11 @@ passing-preserved g c =
     let sound : IsSound c.args.number (block.Passed c.in-Passed.passed) =
     subst (λ (b : Block). IsSound c.args.number b) c.in-Passed.is c.in_ok-read_block.ensures.sound in (
       all_read g at.In_ok-read_block,
-      walk_passes (g.F.Files.outside c.args.files.now).held c.args.name.now c.args.known c.passing.here c.behind_passed-here.result c.args.interfaces.now.items
+      walk_passes (g.I.Reading.readable c.args.files.now).held c.args.name.now c.args.known c.passing.here c.behind_passed-here.result c.args.interfaces.now.items
           c.passing.interfaces.items c.keep.new.interfaces.items c.args.number c.passing.first c.in-Ok.first c.in-Passed.passed c.passing.invariant.1
           c.in_ok-read_block.field-0 c.in-Passed.is (told g at.In_ok-read_block) sound.2 c.behind_passed-here.ensures c.in-Ok.ensures.first c.keep.ensures.front
           c.in-Ok.ensures.section,
-      behind_passed (g.F.Files.outside c.passing.files).held (g.F.Files.outside c.args.files.now).held c.args.name.now c.passing.here
+      behind_passed (g.I.Reading.readable c.passing.files).held (g.I.Reading.readable c.args.files.now).held c.args.name.now c.passing.here
           c.behind_passed-here.result c.read_block.new.window c.in_ok-read_block.field-0 c.in-Passed.passed (same g at.After-behind) c.in-Passed.is c.behind_passed-here.ensures
           c.in_ok-read_block.ensures.stands,
     )

@@ -12,7 +12,7 @@ pub returns-clause-more : goal.returns-clause-more
 returns-clause-more c = λ entry there.
     let round = c.args.round.now in
     let number : ℕ = c.args.number.now in
-    let limited : Bool = slice_index_or round.limited.now c.args.index false in
+    let limited : Bool = c.args.limited in
     let o = c.args.outcome.now in
     let old = c.args.part.now in
     let text : ℕ → List ℕ = λ packets. record_text limited number o.version o.verdict packets in

@@ -34,7 +34,7 @@ returns-clause-told g c =
     let same : given.bytes ≡ c.args.self.now.window.bytes = ap (λ (a : Ahead). a.bytes) c.in_ok-begin_round.ensures in
     round_told c.args.self.now.form.big window c.in_ok-failed.failed c.args.self.now.at c.args.number c.args.most_bytes
     c.take-taken.new.places.items taken c.in_ok-records.records c.take-taken.ensures c.in_ok-records.ensures.records
-    (g.F.Files.outside c.args.files.now).held c.args.name.now c.args.self.now.window.bytes rest given same
+    (g.I.Reading.readable c.args.files.now).held c.args.name.now c.args.self.now.window.bytes rest given same
     (kept_start c.is_some-ended.result rest (drop taken.used window.bytes) c.in_ok-records.ensures.rest) c.in_ok-failed.ensures.told
 
 pub returns-clause-reads : goal.returns-clause-reads
@@ -42,13 +42,13 @@ returns-clause-reads g c =
     let given = c.begin_round.new.self in
     let window = c.fetch.new.window in
     let taken = c.take-taken.result in
-    let held = (g.F.Files.outside c.args.files.now).held in
+    let held = (g.I.Reading.readable c.args.files.now).held in
     let at = c.args.self.now.at in
     let big = c.args.self.now.form.big in
     let same : given.bytes ≡ c.args.self.now.window.bytes = ap (λ (a : Ahead). a.bytes) c.in_ok-begin_round.ensures in
     round_reads (is_cut taken.ending) c.in_ok-failed.failed c.args.name.now (λ place. place ≡ at + length window.bytes)
     (IsInNext c.args.name.now (λ bytes. IsStart c.args.self.now.window.bytes (drop at bytes)) (left_at big (at + taken.used)) (at + taken.used) held taken.number)
-    (g.F.Files.outside c.args.files.now) (g.F.Files.outside c.fetch.new.files) c.take-taken.ensures.cut
+    (g.I.Reading.readable c.args.files.now) (g.I.Reading.readable c.fetch.new.files) c.take-taken.ensures.cut
     (λ cut place is. cut_inside held c.args.name.now c.args.self.now.window.bytes given window big at c.args.number place taken
     (c.take-taken.ensures.stays cut).0 (c.take-taken.ensures.stays cut).1 is same (c.in_ok-failed.ensures.open ∙ cut) c.in_ok-failed.ensures.told)
     c.in_ok-failed.ensures.reads

@@ -7,7 +7,7 @@ use Rattle.capture_io.proofs.window.Window.read_more.Goals as goal
 
 pub returns-clause-told : goal.returns-clause-told
 returns-clause-told g c =
-    let held = (g.F.Files.outside c.args.files.now).held in
+    let held = (g.I.Reading.readable c.args.files.now).held in
     let name = c.args.name.now in
     let filled = c.self.inside.filled in
     let count = c.in_ok-count.count in

@@ -14,15 +14,15 @@ use Rattle.pcapng_io.proofs.reader.NgReader.next.Goals as goal
 
 pub find_record-requires-clause-stands : goal.find_record-requires-clause-stands
 find_record-requires-clause-stands g c =
-    let held = (g.F.Files.outside c.args.files.now).held in
+    let held = (g.I.Reading.readable c.args.files.now).held in
     subst (λ (w : Ahead). IsAtFront held c.args.name.now c.self.inside.known.at w) (sym c.clear.ensures) (none_read held c.args.name.now c.self.inside.known.at)
 
 pub returns-in-Ok-Some-clause-step : goal.returns-in-Ok-Some-clause-step
 returns-in-Ok-Some-clause-step g c =
     let seen = seen_by c.self.inside.known c.self.inside.interfaces.items in
-    let found : Told (g.F.Files.outside c.args.files.now).held (λ m. next_in seen (left_at m c.args.name.now seen.known.at) c.args.number ≡ Ok (Gives c.in-Ok-Some.found.record (seen_by c.in-Ok-Some.found.known (drop c.in-Ok-Some.found.first c.find_record.new.interfaces.items)))) =
+    let found : Told (g.I.Reading.readable c.args.files.now).held (λ m. next_in seen (left_at m c.args.name.now seen.known.at) c.args.number ≡ Ok (Gives c.in-Ok-Some.found.record (seen_by c.in-Ok-Some.found.known (drop c.in-Ok-Some.found.first c.find_record.new.interfaces.items)))) =
     rw c.in-Ok-Some.field-0-is at c.in-Ok-Some.ensures.told in
-    let told : Told (g.F.Files.outside c.args.files.now).held (λ m. next_in seen (left_at m c.args.name.now seen.known.at) c.args.number ≡ Ok (Gives c.in-Ok-Some.found.record (seen_by c.in-Ok-Some.found.known c.drop_front.new.interfaces.items))) =
-    subst (λ (l : List Interface). Told (g.F.Files.outside c.args.files.now).held (λ m. next_in seen (left_at m c.args.name.now seen.known.at) c.args.number ≡ Ok (Gives c.in-Ok-Some.found.record (seen_by c.in-Ok-Some.found.known l)))) (sym c.drop_front.ensures) found in
-    subst (λ (old : Seen). Told (g.F.Files.outside c.args.files.now).held (λ m. Continues (Ok (next.Rec c.in-Ok-Some.found.record)) old (seen_by c.in-Ok-Some.found.known c.drop_front.new.interfaces.items) (content m c.args.name.now) c.args.number)) (ap (λ (s : Standing). s.seen) c.self.view_is)
-    (continued_told (g.F.Files.outside c.args.files.now).held c.args.name.now (Ok (next.Rec c.in-Ok-Some.found.record)) seen (seen_by c.in-Ok-Some.found.known c.drop_front.new.interfaces.items) c.args.number told)
+    let told : Told (g.I.Reading.readable c.args.files.now).held (λ m. next_in seen (left_at m c.args.name.now seen.known.at) c.args.number ≡ Ok (Gives c.in-Ok-Some.found.record (seen_by c.in-Ok-Some.found.known c.drop_front.new.interfaces.items))) =
+    subst (λ (l : List Interface). Told (g.I.Reading.readable c.args.files.now).held (λ m. next_in seen (left_at m c.args.name.now seen.known.at) c.args.number ≡ Ok (Gives c.in-Ok-Some.found.record (seen_by c.in-Ok-Some.found.known l)))) (sym c.drop_front.ensures) found in
+    subst (λ (old : Seen). Told (g.I.Reading.readable c.args.files.now).held (λ m. Continues (Ok (next.Rec c.in-Ok-Some.found.record)) old (seen_by c.in-Ok-Some.found.known c.drop_front.new.interfaces.items) (content m c.args.name.now) c.args.number)) (ap (λ (s : Standing). s.seen) c.self.view_is)
+    (continued_told (g.I.Reading.readable c.args.files.now).held c.args.name.now (Ok (next.Rec c.in-Ok-Some.found.record)) seen (seen_by c.in-Ok-Some.found.known c.drop_front.new.interfaces.items) c.args.number told)

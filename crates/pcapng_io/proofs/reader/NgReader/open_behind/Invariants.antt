@@ -5,10 +5,10 @@ use Rattle.pcapng_io.proofs.reader.NgReader.open_behind.Given as goal
 
 abbrev pub invariant-opening : goal.invariant-opening
 invariant-opening g l =
-    (g.F.Files.outside l.files ≡ g.F.Files.outside l.initial.files)
-    × OpensFrom (g.F.Files.outside l.initial.files).held l.name l.known
+    (g.I.Reading.readable l.files ≡ g.I.Reading.readable l.initial.files)
+    × OpensFrom (g.I.Reading.readable l.initial.files).held l.name l.known
     × (l.known.nanos < 1000000000)
-    × IsAtFront (g.F.Files.outside l.initial.files).held l.name l.known.at l.window
+    × IsAtFront (g.I.Reading.readable l.initial.files).held l.name l.known.at l.window
     × (l.known.link ≡ None)
 
 abbrev pub decreases-opening : goal.decreases-opening

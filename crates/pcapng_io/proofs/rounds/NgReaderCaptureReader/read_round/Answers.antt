@@ -16,7 +16,7 @@ returns-clause-told g c =
     let rest = c.hand_out.new.self.bytes in
     let after : Standing = record { seen = seen_by taken.known c.find_packets.new.interfaces.items; ahead = rest } in
     let same : given ≡ c.self.inside.window.bytes = ap (λ (a : Ahead). a.bytes) c.in_ok-begin_round.ensures in
-    told_round (g.F.Files.outside c.args.files.now).held c.args.name.now c.args.self.now seen after given bytes c.args.number c.in_ok-records.records c.find_packets.new.places.items taken
+    told_round (g.I.Reading.readable c.args.files.now).held c.args.name.now c.args.self.now seen after given bytes c.args.number c.in_ok-records.records c.find_packets.new.places.items taken
     c.self.view_is same c.in_ok-records.ensures.records (kept_start c.is_some-ended.result rest (drop taken.used bytes) c.in_ok-records.ensures.rest) c.in_ok-taken.ensures.told
 
 pub returns-clause-reads : goal.returns-clause-reads
@@ -26,4 +26,4 @@ returns-clause-reads g c =
     let given = c.begin_round.new.self.bytes in
     let same : given ≡ c.self.inside.window.bytes = ap (λ (a : Ahead). a.bytes) c.in_ok-begin_round.ensures in
     reads_with c.args.name.now c.args.self.now seen given (seen_by taken.known c.find_packets.new.interfaces.items) taken
-    (g.F.Files.outside c.args.files.now) (g.F.Files.outside c.find_packets.new.files) c.self.view_is same c.in_ok-taken.ensures.reads
+    (g.I.Reading.readable c.args.files.now) (g.I.Reading.readable c.find_packets.new.files) c.self.view_is same c.in_ok-taken.ensures.reads

@@ -1,0 +1,4 @@
+mod EntryLemmas
+pub mod LogLemmas
+mod MoveLemmas
+mod PartLemmas
