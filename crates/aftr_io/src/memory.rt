@@ -89,6 +89,13 @@ impl MemReading {
     {
         Ok(self.failing.push(call)?)
     }
+
+    /// The bytes of a file, if it is there. It is no read, and never fails.
+    pub fn get(&self, name: &str) -> Option<&[u8]>
+        ensures { option_copied result ≡ map.get self.now.held name.now }
+    {
+        self.shelf.get(name)
+    }
 }
 
 impl Reading for MemReading {

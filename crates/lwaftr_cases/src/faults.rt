@@ -137,11 +137,10 @@ fn told(alloc: Global, ran: &Ran) -> Result<String, Fail> {
 fn left<R: Threads + Wait + Sync>(rt: &R, alloc: Global, failing: Failing) -> Result<String, Fail> {
     let capture = capture_of(alloc, Form::Micro, part(TWO, RECORDS))?;
     let table = table_text(alloc, part(TWO, TABLE))?;
-    let mut ran = run_failing(rt, alloc, TWO, &capture, failing)?;
+    let ran = run_failing(rt, alloc, TWO, &capture, failing)?;
     let text = told(alloc, &ran)?;
-    let there = ran.files.reading.bytes(alloc, "in.pcap")?;
-    let rules = ran.files.reading.bytes(alloc, "t0.toml")?;
-    if there.as_slice() != capture.as_slice() || rules.as_slice() != table.as_bytes() {
+    let reading = &ran.files.reading;
+    if reading.bytes("in.pcap") != capture.as_slice() || reading.text("t0.toml") != table.as_str() {
         return Err("the capture and the table".into());
     }
     Ok(text)

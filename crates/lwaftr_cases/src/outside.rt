@@ -1,10 +1,8 @@
 // Files and a sink that a test looks at.
 ghost use Rattle.std.specs.Prelude.{min, take, length};
 
-use aftr_base::Bytes;
-use aftr_io::{Fault, MemReading, MemSink, MemWriting, Outside, Reading, Sink, Writing, bytes_at};
+use aftr_io::{Fault, MemReading, MemSink, MemWriting, Outside, Reading, Sink, Writing};
 use std::alloc::Global;
-use std::test::Fail;
 
 /// Files in memory, each half of which notes its calls that fail.
 pub type Watched = Outside<WatchedReading, WatchedWriting>;
@@ -58,9 +56,14 @@ pub fn watched(alloc: Global, files: MemReading) -> Watched {
 }
 
 impl WatchedReading {
-    /// The first bytes of a file, up to 16 MiB of them.
-    pub fn bytes(&mut self, alloc: Global, name: &str) -> Result<Bytes, Fail> {
-        Ok(bytes_at(alloc, &mut self.files, name, 0, 16_777_216)?)
+    /// What the name holds; nothing if there is no file.
+    pub fn bytes(&self, name: &str) -> &[u8] {
+        self.files.get(name).unwrap_or(&[])
+    }
+
+    /// What the name holds, as text; nothing if there is no file or no text.
+    pub fn text(&self, name: &str) -> &str {
+        std::str::from_utf8(self.bytes(name)).unwrap_or("")
     }
 }
 
@@ -84,7 +87,7 @@ impl Reading for WatchedReading {
 }
 
 impl WatchedWriting {
-    /// What the name holds, as text; nothing where there is no file or no text.
+    /// What the name holds, as text; nothing if there is no file or no text.
     pub fn text(&self, name: &str) -> &str {
         match self.files.get(name) {
             Some(bytes) => std::str::from_utf8(bytes).unwrap_or(""),

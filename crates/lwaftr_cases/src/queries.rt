@@ -167,7 +167,7 @@ fn is_answer(alloc: Global, ran: &Ran, case: &str) -> Result<bool, Fail> {
             && code(&ran.status) == number.parse::<u8>()?
             && ran.said() == lines.as_str()
             && ended.as_str().trim_end_matches('\n') == status
-            && ran.files.writing.text("t") == table.as_str()
+            && ran.files.reading.text("t") == table.as_str()
             && ran.files.writing.text("versions.txt") == versions.as_str()
             && ran.has_outputs() == (versions.as_str() != "")
             && ran.history.is_some() == said.starts_with("records ")
@@ -281,7 +281,9 @@ fn a_table_is_moved_into_version_2(rt: HostRuntime) -> Result<(), Fail> {
         files.reading.files.set(alloc, "u", text.as_bytes())?;
     }
     assert!(rt; files.writing.text("u").contains("version = 2"));
-    let table = files.reading.bytes(alloc, "t")?;
-    assert!(rt; table.as_slice() == table_text(alloc, "shared")?.as_bytes());
+    assert_eq!(rt;
+        files.reading.text("t"),
+        table_text(alloc, "shared")?.as_str()
+    );
     Ok(())
 }
