@@ -1,9 +1,12 @@
-// The caller that the README of run_output shows, and what it answers.
+// The callers that the READMEs of run_output and output_journal show, and what the first answers.
 ghost use Rattle.std.specs.Prelude.{◌≡◌, length};
+ghost use Rattle.output_journal.specs.Log.{AreDistinct, output_names};
 
 use crate::versions::{SLOTS, loads};
 use aftr_base::OutOfMemory;
+use aftr_io::{Fault, Sink, Writing};
 use aftr_text::LoadWords;
+use output_journal::{Last, Names, RoundPart, open, write_last, write_round};
 use reload_plan::Slot;
 use run_output::{push_last_versions, push_new_versions};
 use std::alloc::Global;
@@ -22,6 +25,26 @@ fn load_lines(
     let next = push_new_versions(alloc, &mut lines, loads, slots, points, 0)?; // as often as there is a new point
     push_last_versions(alloc, &mut lines, loads, slots, points, next)?;
     Ok(lines)
+}
+
+/// Writes a run of one round: the outputs are opened, the round is written, and the summary ends it.
+pub fn write_run<O: Writing, S: Sink, P: RoundPart>(
+    alloc: Global,
+    files: &mut O,
+    sink: &mut S,
+    names: Names<'_>,
+    parts: &[P],
+) -> Result<(), Fault>
+    requires { AreDistinct (output_names names) }
+{
+    open(alloc, files, names, b"HEAD", b"first;")?;
+    write_round(alloc, files, names, b"second;", parts)?;
+    let last = Last {
+        versions: b"third;",
+        verdicts: b"unfinished;",
+        summary: b"2 records;",
+    };
+    write_last(alloc, files, sink, names, last) // the sink gets nothing unless all of this is written
 }
 
 #[test]

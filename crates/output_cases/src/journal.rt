@@ -1,8 +1,7 @@
 // A run of one round, and what its outputs and its sink hold if a call fails.
-ghost use Rattle.output_journal.specs.Log.{AreDistinct, output_names};
-
-use aftr_io::{Fault, MemSink, MemWriting, Sink, Writing};
-use output_journal::{Last, Names, RoundPart, open, write_last, write_round};
+use crate::callers::write_run;
+use aftr_io::{Fault, MemSink, MemWriting};
+use output_journal::{Names, RoundPart, open, write_round};
 use std::alloc::Global;
 use std::test::Fail;
 
@@ -25,26 +24,6 @@ impl RoundPart for Record {
     fn lines(&self) -> &[u8] {
         self.line.as_bytes()
     }
-}
-
-/// Writes a run of one round: the outputs are opened, the round is written, and the summary ends it.
-fn write_run<O: Writing, S: Sink, P: RoundPart>(
-    alloc: Global,
-    files: &mut O,
-    sink: &mut S,
-    names: Names<'_>,
-    parts: &[P],
-) -> Result<(), Fault>
-    requires { AreDistinct (output_names names) }
-{
-    open(alloc, files, names, b"HEAD", b"first;")?;
-    write_round(alloc, files, names, b"second;", parts)?;
-    let last = Last {
-        versions: b"third;",
-        verdicts: b"unfinished;",
-        summary: b"2 records;",
-    };
-    write_last(alloc, files, sink, names, last) // the sink gets nothing unless all of this is written
 }
 
 const RECORDS: [Record; 2] = [
