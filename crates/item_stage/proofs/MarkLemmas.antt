@@ -19,6 +19,9 @@ pub entries_none : (form : Form) (records : List Rec) → entries_by form record
 entries_none form [] = refl
 entries_none form (r ∷ records) = refl
 
+pub entries_bare : (form : Form) (records : List Rec) (marks : List (Option Mark)) → marks ≡ [] → entries_by form records marks ≡ []
+entries_bare form records marks none = ap (λ (m : List (Option Mark)). entries_by form records m) none ∙ entries_none form records
+
 -- one mark more
 pub entries_more : (form : Form) (records : List Rec) (marks : List (Option Mark)) (mark : Option Mark) (r : Rec) → slice_get records (length marks) ≡ Some r →
     entries_by form records (marks ++ mark ∷ []) ≡ entries_by form records marks ++ entry_by (item_of form r.bytes) mark ∷ []

@@ -62,8 +62,7 @@ impl StagedRound {
         ensures records { self.new.records ≡ [] }
         ensures entries { self.new.entries ≡ [] }
     {
-        self.marks.clear();
-        replace(&mut self.records, Records::new(alloc))
+        self.change_records(Records::new(alloc))
     }
 
     /// Puts records in, which no stage has taken yet.
@@ -71,8 +70,18 @@ impl StagedRound {
         ensures records { self.new.records ≡ records }
         ensures entries { self.new.entries ≡ [] }
     {
+        self.change_records(records);
+    }
+
+    // Puts records in, answers those that were there, and lets their marks go.
+    #[tactic(auto, using(crate::proofs::MarkLemmas::entries_bare))]
+    fn change_records(&mut self, records: Records) -> Records
+        ensures before { result ≡ self.old.records }
+        ensures records { self.new.records ≡ records }
+        ensures entries { self.new.entries ≡ [] }
+    {
         self.marks.clear();
-        self.records = records;
+        replace(&mut self.records, records)
     }
 
     /// The entries.

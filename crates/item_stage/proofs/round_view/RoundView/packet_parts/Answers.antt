@@ -1,4 +1,4 @@
-use Rattle.std.proofs.Common.{◌≡◌, ◌∙◌, Some, ap, is_some, refl, slice_get, sym}
+use Rattle.std.proofs.Common.{◌≡◌, ◌∙◌, Some, ap, false, is_some, refl, slice_get, sym, true}
 use Rattle.capture_io.specs.Records as records
 use Rattle.ip_codec.specs.declared.items.Item.TheVariants as item
 use Rattle.item_stage.specs.Alone.{item_of}
@@ -42,6 +42,16 @@ parts_marked-requires c =
 pub returns-in-Marked : goal.returns-in-Marked
 returns-in-Marked c =
     packet_by c.args.self.now c.args.index (outcome_item c.in-Marked.mark.now.outcome) (by_mark (goal.at.returns-in-Marked c).In-Marked) ∙ c.parts_marked.ensures
+
+-- a fragment that waits has no packet
+pub unreachable-requires : goal.unreachable-requires
+unreachable-requires c =
+    let inside = c.self.inside in
+    let held : slice_get (items_in c.args.self.now) c.args.index ≡ Some item.Held =
+    item_by_mark inside.form inside.records.now inside.marks.now.slots c.args.self.now c.self.view_is c.self.invariant c.args.index (found_mark c.get.result)
+    waiting item.Held c.requires.inside c.get.ensures (ap found_mark c.in-Waits.is) refl in
+    let known : false ≡ true = known_by c.args.self.now c.args.index item.Held held c.requires.known in
+    cc known
 
 pub bytes_known-requires : goal.bytes_known-requires
 bytes_known-requires c =
