@@ -16,7 +16,7 @@ use std::test::Fail;
 const MOST: u32 = 1_000_000;
 
 /// A form of captures with times in microseconds, of this link type.
-fn form(link: u32) -> Form {
+pub fn form(link: u32) -> Form {
     Form {
         big: false,
         nano: false,
@@ -28,15 +28,15 @@ fn form(link: u32) -> Form {
 fn may_be_shared<T: Send + Sync>(_value: &T) {}
 
 /// The records of a round's lines.
-fn records_in(alloc: Global, round: &str) -> Result<Records, Fail> {
+pub fn records_in(alloc: Global, round: &str) -> Result<Records, Fail> {
     let packets = packets_of(alloc, round)?;
     Ok(records_of(alloc, &packets)?)
 }
 
 /// How many records were taken behind `start` and so many more.
 fn number_behind(start: u32, count: usize) -> Result<u32, Fail>
-    ensures { IfOk result (λ number. number ≡ start + count) }
-    ensures { IfOk result (λ number. number ≤ 2 ^ 31) }
+    ensures number { IfOk result (λ number. number ≡ start + count) }
+    ensures few { IfOk result (λ number. number ≤ 2 ^ 31) }
 {
     if start > MOST || count > MOST as usize {
         return Err(Fail::from("too many records"));

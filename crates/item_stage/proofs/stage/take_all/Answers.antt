@@ -1,4 +1,4 @@
-use Rattle.std.proofs.Common.{◌≡◌, ◌∙◌, ◌∷◌, ◌++◌, [], ap, arith, length, length-append}
+use Rattle.std.proofs.Common.{◌≡◌, ◌∷◌, ◌++◌, [], ap, arith, length, length-append}
 use Rattle.capture_io.specs.Records as records
 use Rattle.item_stage.proofs.StepLemmas.{entries_start, next_entries, next_rows, rows_start}
 use Rattle.item_stage.proofs.stage.take_all.Goals as goal

@@ -1,4 +1,4 @@
-use Rattle.std.proofs.Common.{◌≡◌, ◌∙◌, ◌∷◌, ◌++◌, [], Some, ap, arith, length, map, ℕ}
+use Rattle.std.proofs.Common.{◌≡◌, ◌∙◌, ◌∷◌, ◌++◌, [], Some, ap, arith, length, map}
 use Rattle.item_stage.specs.Marks.{Kept, slot_mark}
 use Rattle.item_stage.proofs.SlotLemmas.{marked_last}
 use Rattle.item_stage.proofs.marks.Marks.push.Goals as goal
