@@ -17,7 +17,7 @@ pub record Staged : Type 0 where
   pub rows : Rows
 
 -- what a staged round is seen as: its records, and an entry for each that a stage has taken
-pub record Round : Type 0 where
+pub record StagedRecords : Type 0 where
   pub records : List Rec
   pub entries : List Entry
 

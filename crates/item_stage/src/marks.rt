@@ -118,7 +118,7 @@ impl Marks {
         self.list.clear();
     }
 
-    /// Lets the marks go, and takes room for so many records.
+    /// Lets the marks go, and takes room for those of `count` records.
     pub(crate) fn restart(&mut self, count: usize) -> Result<(), OutOfMemory>
         ensures none { IfOk result (λ _. self.new.slots ≡ []) }
         ensures room { IfOk result (λ _. count ≤ self.new.room) }

@@ -194,7 +194,7 @@ impl Stage {
     }
 }
 
-// The number of the record behind so many that begin with this one.
+// The number of the record behind `count` records, the first of which has the number `start`.
 fn number_behind(start: u32, count: usize) -> u32
     requires { start + count ≤ 2 ^ 31 }
     ensures { result ≡ start + count }

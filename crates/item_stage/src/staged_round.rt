@@ -27,9 +27,9 @@ pub struct StagedRound {
 impl Model for StagedRound {
     ghost use Rattle.std.specs.Prelude.{◌≤◌, length};
     ghost use Rattle.item_stage.specs.Marks.{entries_by};
-    ghost use Rattle.item_stage.specs.Stages.{Round};
+    ghost use Rattle.item_stage.specs.Stages.{StagedRecords};
 
-    ghost Value = { Round };
+    ghost Value = { StagedRecords };
 
     ghost view = { λ s. record { records = s.records; entries = entries_by s.form s.records s.marks.slots } };
 

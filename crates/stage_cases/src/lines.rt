@@ -33,7 +33,7 @@ pub fn records_in(alloc: Global, round: &str) -> Result<Records, Fail> {
     Ok(records_of(alloc, &packets)?)
 }
 
-/// How many records were taken behind `start` and so many more.
+/// How many records were taken after `count` more.
 fn number_behind(start: u32, count: usize) -> Result<u32, Fail>
     ensures number { IfOk result (λ number. number ≡ start + count) }
     ensures few { IfOk result (λ number. number ≤ 2 ^ 31) }
@@ -61,7 +61,7 @@ fn taken(alloc: Global, stage: &mut Stage, start: u32, round: &str) -> Result<u3
     Ok(number)
 }
 
-/// Gives them in a round that owns its records, which were put into it for those of the round before.
+/// Gives them to a stage in a round that owns its records, in place of those of the round before.
 fn staged(
     alloc: Global,
     stage: &mut Stage,
