@@ -11,7 +11,7 @@ use Rattle.ip_codec.specs.declared.items.Item.TheVariants as item
 use Rattle.ip_codec.specs.declared.items.Outer.{Outer}
 use Rattle.ip_codec.specs.declared.packet4.Ip4Bad.{Ip4Bad}
 use Rattle.ipv6_chain.specs.declared.headers.Frag.{Frag}
-use Rattle.item_stage.specs.Alone.{Alone, Inside, Settled, Fragment, Ready, Downstream, CutPart, Carries, at_end, behind_fragment, from_network, in_tunnel, is_cut}
+use Rattle.item_stage.specs.Alone.{Settled, Fragment, Ready, Downstream, CutPart, Carries, at_end, behind_fragment, from_network, in_tunnel, is_cut}
 use Rattle.item_stage.specs.Fragments.{by_down_key, by_inner_key, by_outer_key, down_key, inner_key, outer_key, part_of4, part_of6}
 use Rattle.item_stage.specs.Sources.{IsDownKey, IsInnerKey, IsOuterKey}
 use Rattle.item_stage.specs.declared.keys.DownKey.{DownKey}

@@ -1,6 +1,6 @@
 -- What is true of each piece by the key that it waits under, through one piece more.
-use Rattle.std.proofs.Common.{◌≡◌, ℕ, zero, suc, Bool, true, false, cond, List, [], ◌∷◌, ◌++◌, length, refl, subst, sym, take, drop, inl, inr, Option, Some, None}
-use Rattle.std.specs.Prelude.{nat_le, nat_lt, if◌then◌else◌, insert, slice_set, slice_index_or}
+use Rattle.std.proofs.Common.{◌≡◌, ℕ, zero, suc, Bool, true, false, cond, List, [], ◌∷◌, ◌++◌, length, refl, subst, take, drop, inl, inr, Option, Some, None}
+use Rattle.std.specs.Prelude.{nat_le, nat_lt, if◌then◌else◌}
 use Rattle.std.specs.List.{list_any, prefix_len}
 use Rattle.std.specs.declared.cmp.Ordering.{Ordering}
 use Rattle.std.specs.declared.cmp.Ordering.TheVariants as order
@@ -9,7 +9,7 @@ use Rattle.std.specs.Map.{lookup, remove_entry, set_value}
 use Rattle.std.specs.BTreeMap.{insert_entry, is_at}
 use Rattle.reassembly_lane.specs.Contexts.{Outcome, Partial, staying, refusing, finished, unless_refused, with_part, placed, most_parts}
 use Rattle.reassembly_lane.specs.Lanes.{Arrival, LaneOutcome, waits, answering, open_at, most_contexts, is_odd, is_long, fresh, put_back, put_new, beginning, found, among, fed}
-use Rattle.reassembly_lane.specs.Parts.{clash, datagram, first_of, is_same, longest, whole_answer, whole_end}
+use Rattle.reassembly_lane.specs.Parts.{clash, datagram, first_of, is_same, whole_end}
 use Rattle.reassembly_lane.specs.declared.answer.Answer.{Answer}
 use Rattle.reassembly_lane.specs.declared.answer.Answer.TheVariants as answer
 use Rattle.reassembly_lane.specs.declared.answer.FragBad.{FragBad}

@@ -6,6 +6,7 @@ mod MarkLemmas
 mod OrderLemmas
 mod RowLemmas
 mod RunLemmas
+mod SlotLemmas
 mod SourceLemmas
 mod StepLemmas
 mod WholeLemmas

@@ -1,11 +1,7 @@
 -- Which way each piece came that waits, and each packet.
-use Rattle.std.proofs.Common.{◌≡◌, ℕ, zero, suc, ◌+◌, ◌⊎◌, inl, inr, Bool, true, false, List, [], ◌∷◌, ◌++◌, length, refl, subst, sym, ap, ◌∙◌, arith, append_assoc, append-nil}
-use Rattle.std.specs.Prelude.{◌==◌, if◌then◌else◌, slice_set, slice_get, slice_index_or, replicate, drop, take, not, ◌||◌, Result, Ok, Err, Option, Some, None}
-use Rattle.std.specs.FinMap.{nat_cmp-IsAntisymmetric}
-use Rattle.std.specs.Ordering.{nat_cmp, ordering_then}
+use Rattle.std.proofs.Common.{◌≡◌, ℕ, zero, suc, inl, inr, Bool, true, false, List, [], ◌∷◌, ◌++◌, refl, subst, sym, append_assoc}
+use Rattle.std.specs.Prelude.{◌==◌, if◌then◌else◌, slice_set, slice_get, slice_index_or, replicate, drop, take, Result, Ok, Err, Option, Some, None}
 use Rattle.std.specs.declared.cmp.Ordering.{Ordering}
-use Rattle.std.specs.declared.cmp.Ordering.TheVariants as order
-use Rattle.aftr_base.specs.declared.numbers.V6.{V6}
 use Rattle.capture_io.specs.Record.{nanoseconds}
 use Rattle.capture_io.specs.Frames.{Carried, carried}
 use Rattle.capture_io.specs.Frames.Carried.{Packet4, Packet6, TooFew, Other}
@@ -25,23 +21,22 @@ use Rattle.ipv6_chain.specs.declared.headers.Frag.{Frag}
 use Rattle.ipv6_chain.specs.declared.headers.Start.TheVariants as start
 use Rattle.reassembly_lane.specs.Contexts.{Partial}
 use Rattle.reassembly_lane.specs.Lanes.{Arrival, fed}
-use Rattle.reassembly_lane.specs.Parts.{datagram, first_of}
 use Rattle.reassembly_lane.specs.declared.answer.Answer.{Answer}
 use Rattle.reassembly_lane.specs.declared.answer.Answer.TheVariants as answer
 use Rattle.reassembly_lane.specs.declared.parts.Part.{Part}
-use Rattle.item_stage.specs.Alone.{Alone, Inside, Settled, Fragment, Ready, Downstream, CutPart, Carries, alone_of, at_end, behind_fragment, behind_headers, by_chain, by_inner_chain, from_network, from_tunnel, in_frame, in_tunnel, is_cut, outer_of, refused_from_network}
+use Rattle.item_stage.specs.Alone.{Alone, Inside, Settled, Fragment, Ready, Downstream, CutPart, Carries, alone_of, at_end, behind_fragment, behind_headers, by_chain, by_inner_chain, from_network, from_tunnel, in_frame, in_tunnel, is_cut, outer_of}
 use Rattle.item_stage.specs.Fragments.{by_down_key, by_inner_key, by_outer_key, down_key, inner_key, lane_of, outer_key, part_of4, part_of6}
 use Rattle.item_stage.specs.Items.{entries_of, items_in}
 use Rattle.item_stage.specs.Rejoined.{rejoined}
-use Rattle.item_stage.specs.Sources.{Among, CameFrom, CameInside, CameOutside, Each, IsCutOf, IsJoinedFrom, IsOfOneWay, IsOfPieces}
-use Rattle.item_stage.specs.Turns.{Turn, arriving, cut_turn, down_fed, down_item, down_turn, first_next, inner_fed, inner_turn, inside_turn, entries_from, no_rows, outer_fed, outer_turn, turn, turn_of, up_item}
-use Rattle.item_stage.specs.Waiting.{RowTurn, Waiting, lane_at, no_row, row_fed}
+use Rattle.item_stage.specs.Sources.{Among, CameFrom, CameInside, CameOutside, Each, IsCutOf, IsOfOneWay}
+use Rattle.item_stage.specs.Turns.{Turn, arriving, down_fed, down_item, first_next, inner_fed, inside_turn, entries_from, no_rows, outer_fed, outer_turn, turn, turn_of, up_item}
+use Rattle.item_stage.specs.Waiting.{RowTurn, Waiting, lane_at, row_fed}
 use Rattle.item_stage.specs.declared.keys.DownKey.{DownKey}
 use Rattle.item_stage.specs.declared.keys.InnerKey.{InnerKey}
 use Rattle.item_stage.specs.declared.keys.OuterKey.{OuterKey}
 use Rattle.item_stage.specs.declared.rows.Rows.{Rows}
 use Rattle.item_stage.proofs.KeyLemmas.{down_same, inner_same, outer_same}
-use Rattle.item_stage.proofs.LaneLemmas.{IsOfKeys, Keeps, MadeOf, Waits, among_last, among_more, each_weaker, keeps_fed}
+use Rattle.item_stage.proofs.LaneLemmas.{IsOfKeys, MadeOf, Waits, among_last, among_more, each_weaker, keeps_fed}
 
 -- ---- keys
 module _ (form : Form) (rs : List Rec) where

@@ -2,6 +2,7 @@ pub mod Alone
 pub mod Fragments
 pub mod Heads
 pub mod Items
+pub mod Lent
 pub mod Looks
 pub mod Marks
 pub mod Ordered

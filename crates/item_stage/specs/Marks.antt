@@ -1,5 +1,5 @@
 -- What is kept of a record of which a lane took a fragment, as its entry.
-use Rattle.std.specs.Prelude.{◌≡◌, ℕ, List, [], ◌∷◌, ◌++◌, Option, Some, None}
+use Rattle.std.specs.Prelude.{◌≡◌, ℕ, ◌<◌, List, [], ◌∷◌, ◌++◌, length, slice_get, Option, Some, None}
 use Rattle.capture_io.specs.declared.forms.Form.{Form}
 use Rattle.capture_io.specs.declared.forms.Rec.{Rec}
 use Rattle.ip_codec.specs.declared.items.Item.{Item}
@@ -7,9 +7,13 @@ use Rattle.ip_codec.specs.declared.items.Item.TheVariants as item
 use Rattle.item_stage.specs.Alone.{behind_fragment, item_of, item_inside}
 use Rattle.item_stage.specs.Turns.{Turn, turn}
 use Rattle.item_stage.specs.declared.entries.Entry.{Entry}
+use Rattle.item_stage.specs.declared.marks.Found.{Found}
+use Rattle.item_stage.specs.declared.marks.Found.TheVariants as found
 use Rattle.item_stage.specs.declared.marks.Outcome.{Outcome}
 use Rattle.item_stage.specs.declared.marks.Outcome.TheVariants as outcome
 use Rattle.item_stage.specs.declared.marks.Mark.{Mark}
+use Rattle.item_stage.specs.declared.marks.Slot.{Slot}
+use Rattle.item_stage.specs.declared.marks.Slot.TheVariants as slot
 use Rattle.item_stage.specs.declared.rows.Rows.{Rows}
 
 abbrev pub outcome_item : Outcome → Item
@@ -21,6 +25,31 @@ outcome_item (outcome.Carries outer next body) = item_inside (behind_fragment ou
 
 abbrev pub marked : Mark → Entry
 marked mark = record { ended = mark.ended; item = outcome_item mark.outcome }
+
+-- the mark of a fragment that waits, where nothing ended with its record
+abbrev pub waiting : Mark
+waiting = record { ended = []; outcome = outcome.Held }
+
+-- the mark that a record's slot says, of those of its round
+abbrev pub slot_mark : List Mark → Slot → Option Mark
+slot_mark marks slot.Alone = None
+slot_mark marks slot.Waits = Some waiting
+slot_mark marks (slot.At place) = slice_get marks place
+
+abbrev pub IsPlaced : List Mark → Slot → Type 0
+IsPlaced marks slot.Alone = Unit {0}
+IsPlaced marks slot.Waits = Unit {0}
+IsPlaced marks (slot.At place) = place < length marks
+
+abbrev pub found_mark : Found → Option Mark
+found_mark found.Alone = None
+found_mark found.Waits = Some waiting
+found_mark (found.Marked mark) = Some mark.now
+
+-- the marks of a round: that of each record, and for how many records there is room
+pub record Kept : Type 0 where
+  pub slots : List (Option Mark)
+  pub room : ℕ
 
 -- a record with no mark is what it is by itself
 abbrev pub entry_by : Item → Option Mark → Entry
@@ -39,5 +68,5 @@ entries_by form (r ∷ rs) (mark ∷ marks) = entry_by (item_of form r.bytes) ma
 -- a record went to the lanes, and its mark was put behind those before
 pub record HasMarked (form : Form) (number : ℕ) (r : Rec) (rows next : Rows) (before after : List (Option Mark)) : Type 0 where
   pub slot : Option Mark
-  pub items : after ≡ before ++ slot ∷ []
+  pub slots : after ≡ before ++ slot ∷ []
   pub turn : turning next (entry_by (item_of form r.bytes) slot) ≡ turn form rows number r

@@ -3,6 +3,7 @@ use Rattle.std.specs.Prelude.{◌≡◌, ℕ, Bool, true, false, List, length}
 use Rattle.capture_io.specs.declared.forms.Form.{Form}
 use Rattle.capture_io.specs.declared.forms.Rec.{Rec}
 use Rattle.item_stage.specs.Items.{rows_of}
+use Rattle.item_stage.specs.declared.entries.Entry.{Entry}
 use Rattle.item_stage.specs.declared.rows.Rows.{Rows}
 
 pub record Staged : Type 0 where
@@ -14,6 +15,11 @@ pub record Staged : Type 0 where
   pub failed : Bool
   -- the fragments that wait
   pub rows : Rows
+
+-- what a staged round is seen as: its records, and an entry for each that a stage has taken
+pub record StagedRecords : Type 0 where
+  pub records : List Rec
+  pub entries : List Entry
 
 -- the stage has taken these records, all of them, and what it keeps is what they leave
 pub record Stands (stage : Staged) (taken : List Rec) : Type 0 where

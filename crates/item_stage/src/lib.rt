@@ -12,13 +12,16 @@ mod looking;
 mod marks;
 mod packets;
 mod reading;
+mod round_view;
 mod rounds;
 mod row;
 mod rows;
 mod stage;
+mod staged_round;
 mod turns;
 
 pub use entries::Entry;
 pub use laws::one_way;
 pub use rounds::{Items, RoundItems};
 pub use stage::Stage;
+pub use staged_round::StagedRound;

@@ -1,9 +1,8 @@
 // What is kept of the records of which a lane took a fragment.
-ghost use Rattle.std.specs.Prelude.{◌≡◌, None, true};
+ghost use Rattle.std.specs.Prelude.{◌≡◌, ◌<◌, ◌≤◌, ◌^◌, [], ◌∷◌, ◌++◌, IfOk, None, Some, length, slice_get, true};
 ghost use Rattle.ip_codec.specs.Seen.{seen};
-ghost use Rattle.ip_codec.specs.declared.items.Item.TheVariants as item;
 ghost use Rattle.item_stage.specs.Alone.{item_inside};
-ghost use Rattle.item_stage.specs.Marks.{entry_by, outcome_item, marked};
+ghost use Rattle.item_stage.specs.Marks.{found_mark, outcome_item, waiting};
 ghost use Rattle.item_stage.specs.Shown.{shown_inside};
 
 use crate::alone::{Inside, behind_fragment};
@@ -49,7 +48,7 @@ impl Mark {
 
     /// Whether its fragment waits, and nothing ended with it.
     pub(crate) fn only_waits(&self) -> bool
-        ensures { result ≡ true → marked self.now ≡ entry_by item.Held None }
+        ensures { result ≡ true → self.now ≡ waiting }
     {
         match &self.outcome {
             Outcome::Held => self.ended.as_slice().is_empty(),
@@ -61,47 +60,118 @@ impl Mark {
     }
 }
 
-/// The place of a record's mark, in one word: seen as the mark, if there is one.
+/// What is known of a record at once.
+#[derive(Clone, Copy, Debug)]
+pub(crate) enum Slot {
+    /// It is what it is by itself.
+    Alone,
+    /// Its fragment waits, and nothing ended with it.
+    Waits,
+    /// Its mark stands at this place of the list.
+    At(u32),
+}
+
+/// What is kept of a record, where it stands.
+#[derive(Clone, Copy)]
+pub(crate) enum Found<'a> {
+    Alone,
+    Waits,
+    Marked(&'a Mark),
+}
+
+/// The marks of a round's records, in their order: seen as a mark for each record that has one, and for how many records there is
+/// room. A fragment that waits has a slot, and takes no memory beside it.
 #[derive(Debug, Drop)]
-pub(crate) struct Slot {
-    mark: Option<Box<Mark>>,
+pub(crate) struct Marks {
+    slots: Vec<Slot>,
+    list: Vec<Mark>,
 }
 
-impl Model for Slot {
-    ghost use Rattle.std.specs.Prelude.{Option};
-    ghost use Rattle.std.specs.Option.{option_map};
-    ghost use Rattle.item_stage.specs.declared.marks.Mark.{Mark as Marked};
+impl Model for Marks {
+    ghost use Rattle.std.specs.Prelude.{◌≤◌, length, map, vec_capacity};
+    ghost use Rattle.std.specs.List.{All};
+    ghost use Rattle.item_stage.specs.Marks.{IsPlaced, Kept, slot_mark};
 
-    ghost Value = { Option Marked };
+    ghost Value = { Kept };
 
-    ghost view = { λ s. option_map (λ mark. mark.value) s.mark };
+    ghost view = { λ m. record { slots = map (slot_mark m.list.items) m.slots.items; room = vec_capacity m.slots } };
+
+    ghost invariant = { λ m. All (IsPlaced m.list.items) m.slots.items × (length m.list.items ≤ length m.slots.items) };
 }
 
-impl Slot {
-    ghost use Rattle.std.specs.Prelude.{IfOk, None, Some};
-    ghost use Rattle.std.specs.Option.{option_map};
-
-    /// No mark.
-    pub(crate) fn empty() -> Self
-        ensures { result ≡ None }
+impl Marks {
+    /// No marks, and no room yet.
+    pub(crate) fn new(alloc: Global) -> Self
+        ensures { result.slots ≡ [] }
     {
-        Slot { mark: None }
+        Marks {
+            slots: Vec::new(alloc),
+            list: Vec::new(alloc),
+        }
     }
 
-    pub(crate) fn of(alloc: Global, mark: Mark) -> Result<Self, OutOfMemory>
-        ensures { IfOk result (λ slot. slot ≡ Some mark) }
+    /// Lets the marks go, and keeps their room.
+    pub(crate) fn clear(&mut self)
+        ensures { self.new.slots ≡ [] }
     {
-        Ok(Slot {
-            mark: Some(Box::new(alloc, mark)?),
-        })
+        self.slots.clear();
+        self.list.clear();
     }
 
-    pub(crate) fn get(&self) -> Option<&Mark>
-        ensures { option_map (λ mark. mark.now) result ≡ self.now }
+    /// Lets the marks go, and takes room for those of `count` records.
+    pub(crate) fn restart(&mut self, count: usize) -> Result<(), OutOfMemory>
+        ensures none { IfOk result (λ _. self.new.slots ≡ []) }
+        ensures room { IfOk result (λ _. count ≤ self.new.room) }
     {
-        match &self.mark {
-            Some(mark) => Some(mark),
-            None => None,
+        self.slots.clear();
+        self.list.clear();
+        self.slots.reserve(count)?;
+        Ok(())
+    }
+
+    /// The next record has none.
+    pub(crate) fn push_alone(&mut self)
+        requires { length self.old.slots < self.old.room }
+        ensures slots { self.new.slots ≡ self.old.slots ++ None ∷ [] }
+        ensures room { self.new.room ≡ self.old.room }
+    {
+        self.slots.push_reserved(Slot::Alone);
+    }
+
+    /// The next record has this one.
+    pub(crate) fn push(&mut self, mark: Mark) -> Result<(), OutOfMemory>
+        requires room { length self.old.slots < self.old.room }
+        requires few { length self.old.slots < 2 ^ 31 }
+        ensures slots { IfOk result (λ _. self.new.slots ≡ self.old.slots ++ Some mark ∷ []) }
+        ensures room { IfOk result (λ _. self.new.room ≡ self.old.room) }
+    {
+        if mark.only_waits() {
+            self.slots.push_reserved(Slot::Waits);
+            return Ok(());
+        }
+        let place = self.list.len() as u32;
+        self.list.push(mark)?;
+        self.slots.push_reserved(Slot::At(place));
+        Ok(())
+    }
+
+    /// How many records they are of.
+    pub(crate) fn len(&self) -> usize
+        ensures { result ≡ length self.now.slots }
+    {
+        self.slots.len()
+    }
+
+    /// What is kept of the record at this index.
+    #[inline(always)]
+    pub(crate) fn get(&self, index: usize) -> Found<'_>
+        requires { index < length self.now.slots }
+        ensures { slice_get self.now.slots index ≡ Some (found_mark result) }
+    {
+        match self.slots[index] {
+            Slot::Alone => Found::Alone,
+            Slot::Waits => Found::Waits,
+            Slot::At(place) => Found::Marked(&self.list[place as usize]),
         }
     }
 }

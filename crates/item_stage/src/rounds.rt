@@ -1,12 +1,15 @@
 // The items of a round.
-ghost use Rattle.std.specs.Prelude.{◌≡◌, ◌<◌, ℕ, List, Some, length, slice_get};
+ghost use Rattle.std.specs.Prelude.{◌≡◌, ◌<◌, ◌≤◌, ℕ, List, Some, is_some, length, slice_get, true};
+ghost use Rattle.std.specs.Option.{option_map};
+ghost use Rattle.ip_codec.specs.Packet4.{packet4};
 ghost use Rattle.ip_codec.specs.Seen.{seen};
 ghost use Rattle.ip_codec.specs.declared.items.Item.{Item as Whole};
+ghost use Rattle.item_stage.specs.Lent.{marks_in};
+ghost use Rattle.item_stage.specs.Marks.{entries_by};
+ghost use Rattle.item_stage.specs.Packets.{packet_at};
 
-use crate::joining::Parts;
-use crate::marks::Slot;
-use crate::packets::{bytes_known, parts_marked, parts_of};
-use crate::reading::read_item_into;
+use crate::marks::Marks;
+use crate::round_view::RoundView;
 use capture_io::{Form, Records};
 use ip_codec::{ItemView, ReadPacket};
 use std::marker::Model;
@@ -26,7 +29,7 @@ pub trait RoundItems {
         requires { index < length (items self.now) }
         ensures { slice_get (items self.now) index ≡ Some (seen item.new) };
 
-    /// The same as a value.
+    /// One of them as a value.
     fn item(&self, index: usize) -> ItemView<'_>
         requires { index < length (items self.now) }
         ensures { slice_get (items self.now) index ≡ Some (seen result) }
@@ -37,39 +40,53 @@ pub trait RoundItems {
     }
 }
 
-/// The entries of the records that a stage was given, seen as their list. Items are views of the records' bytes; the
-/// datagrams that were put together own theirs here.
+/// The marks of a round's records: those that a stage answered, or those of a staged round.
+#[derive(Drop)]
+pub(crate) enum RoundMarks<'a> {
+    Own(Marks),
+    Lent(&'a Marks),
+}
+
+impl<'a> RoundMarks<'a> {
+    #[inline(always)]
+    fn marks(&self) -> &Marks
+        ensures { result.now ≡ marks_in self.now }
+    {
+        match self {
+            RoundMarks::Own(marks) => marks,
+            RoundMarks::Lent(marks) => marks,
+        }
+    }
+}
+
+/// The entries of the records that a stage was given, seen as their list. Items are views of the records' bytes, and of datagrams that
+/// were put together.
 #[derive(Drop)]
 pub struct Items<'a> {
     form: Form,
     records: &'a Records,
     // What came of the records of which a lane took a fragment, one for each record.
-    marks: Vec<Slot>,
+    marks: RoundMarks<'a>,
 }
 
 impl<'a> Model for Items<'a> {
-    ghost use Rattle.std.specs.Prelude.{◌≡◌, List, length};
+    ghost use Rattle.std.specs.Prelude.{◌≤◌, List, length};
+    ghost use Rattle.item_stage.specs.Lent.{marks_in};
     ghost use Rattle.item_stage.specs.Marks.{entries_by};
     ghost use Rattle.item_stage.specs.declared.entries.Entry.{Entry};
 
     ghost Value = { List Entry };
 
-    ghost view = { λ s. entries_by s.form s.records.now s.marks.items };
+    ghost view = { λ s. entries_by s.form s.records.now (marks_in s.marks).slots };
 
-    ghost invariant = { λ s. length s.marks.items ≡ length s.records.now };
+    ghost invariant = { λ s. length (marks_in s.marks).slots ≤ length s.records.now };
 }
 
 impl<'a> Items<'a> {
-    ghost use Rattle.std.specs.Option.{option_map};
-    ghost use Rattle.std.specs.Prelude.{is_some, true};
-    ghost use Rattle.ip_codec.specs.Packet4.{fields4, packet4};
-    ghost use Rattle.item_stage.specs.Marks.{entries_by};
-    ghost use Rattle.item_stage.specs.Packets.{packet_at};
-
     /// The entries of these records, in a capture of this form, by their marks.
-    pub(crate) fn of(form: Form, records: &'a Records, marks: Vec<Slot>) -> Self
-        requires { length marks.items ≡ length records.now }
-        ensures { result ≡ entries_by form records.now marks.items }
+    pub(crate) fn of(form: Form, records: &'a Records, marks: RoundMarks<'a>) -> Self
+        requires { length (marks_in marks).slots ≤ length records.now }
+        ensures { result ≡ entries_by form records.now (marks_in marks.entry).slots }
     {
         Items {
             form,
@@ -78,9 +95,20 @@ impl<'a> Items<'a> {
         }
     }
 
-    /// The memory of the marks.
-    pub(crate) fn into_room(self) -> Vec<Slot> {
-        self.marks
+    /// The memory of the marks. That of a staged round stays there.
+    pub(crate) fn into_room(self) -> Option<Marks> {
+        match self.marks {
+            RoundMarks::Own(marks) => Some(marks),
+            RoundMarks::Lent(_) => None,
+        }
+    }
+
+    // The records and their marks.
+    #[inline(always)]
+    fn view(&self) -> RoundView<'_>
+        ensures { result ≡ self.now }
+    {
+        RoundView::of(self.form, self.records, self.marks.marks())
     }
 
     /// The first record's number of each datagram whose time is up with the record at this index, ascending.
@@ -88,10 +116,7 @@ impl<'a> Items<'a> {
         requires { index < length self.now }
         ensures { option_map (λ entry. entry.ended) (slice_get self.now index) ≡ Some result.now }
     {
-        match self.marks[index].get() {
-            Some(mark) => mark.ended.as_slice(),
-            None => &[],
-        }
+        self.view().ended(index)
     }
 
     /// The IPv4 packet of the item at this index, which is known to have one. It is found without reading the item anew, and
@@ -102,20 +127,7 @@ impl<'a> Items<'a> {
         requires known { is_some (packet_at self.now index) ≡ true }
         ensures { packet_at self.now index ≡ Some (packet4 result.view) }
     {
-        self.packet_parts(index).packet()
-    }
-
-    // Where it stands.
-    #[inline(always)]
-    fn packet_parts(&self, index: usize) -> Parts<'_>
-        requires inside { index < length self.now }
-        requires known { is_some (packet_at self.now index) ≡ true }
-        ensures { packet_at self.now index ≡ Some (fields4 result.header.now result.payload.now) }
-    {
-        match self.marks[index].get() {
-            Some(mark) => parts_marked(mark),
-            None => parts_of(bytes_known(self.form, self.records.get(index).bytes)),
-        }
+        self.view().packet(index)
     }
 }
 
@@ -125,13 +137,10 @@ impl<'a> RoundItems for Items<'a> {
     ghost items = { items_in };
 
     fn len(&self) -> usize {
-        self.records.len()
+        self.view().len()
     }
 
     fn item_into<'b>(&'b self, index: usize, item: &mut ItemView<'b>) {
-        match self.marks[index].get() {
-            Some(mark) => mark.item_into(item),
-            None => read_item_into(self.form, self.records.get(index).bytes, item),
-        }
+        self.view().item_into(index, item)
     }
 }

@@ -1,7 +1,6 @@
 // What a record does to the rows of lanes.
 ghost use Rattle.std.specs.Prelude.{◌≡◌, ◌<◌, [], ◌++◌, IfOk};
 ghost use Rattle.ip_codec.specs.Packet4.{packet4};
-ghost use Rattle.ip_codec.specs.declared.items.Item.TheVariants as item;
 ghost use Rattle.item_stage.specs.Alone.{behind_fragment, item_alone, item_inside};
 ghost use Rattle.item_stage.specs.Fragments.{down_key, inner_key, lane_count, outer_key, part_of4, part_of6};
 ghost use Rattle.item_stage.specs.Heads.{CanBeJoined, EachLane, HaveHeaders};
@@ -48,20 +47,10 @@ pub(crate) fn take(
 {
     match alone {
         Alone::Ready(_) => Ok(None),
-        Alone::Downstream(packet) => Ok(noted(take_down(alloc, &mut rows.down, at, packet)?)),
-        Alone::Cut(cut) => Ok(noted(take_cut(alloc, rows, at, cut)?)),
+        Alone::Downstream(packet) => Ok(Some(take_down(alloc, &mut rows.down, at, packet)?)),
+        Alone::Cut(cut) => Ok(Some(take_cut(alloc, rows, at, cut)?)),
         Alone::Carries(inside) => take_carried(alloc, &mut rows.inner, at, inside),
     }
-}
-
-// A mark, unless its fragment waits and nothing ended with it: a fragment alone says so without one.
-fn noted(mark: Mark) -> Option<Mark>
-    ensures { entry_by item.Held result ≡ marked mark }
-{
-    if mark.only_waits() {
-        return None;
-    }
-    Some(mark)
 }
 
 // A fragment from the IPv4 network.
@@ -116,7 +105,7 @@ fn take_carried(
         Inside::Settled(_) => Ok(None),
         Inside::Fragment { outer, packet } => {
             let none = Numbers::of(Vec::new(alloc));
-            Ok(noted(take_inside(alloc, row, at, none, *outer, packet)?))
+            Ok(Some(take_inside(alloc, row, at, none, *outer, packet)?))
         }
     }
 }

@@ -16,4 +16,6 @@ mod lines;
 #[cfg(test)]
 mod records;
 #[cfg(test)]
+mod rounds;
+#[cfg(test)]
 mod words;

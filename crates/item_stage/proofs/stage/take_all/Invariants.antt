@@ -1,5 +1,4 @@
 use Rattle.std.proofs.Common.{◌≡◌, ◌+◌, ◌-◌, ◌≤◌, ◌++◌, drop, length}
-use Rattle.std.specs.Prelude.{vec_capacity}
 use Rattle.item_stage.specs.Heads.{HaveHeaders}
 use Rattle.item_stage.specs.Marks.{entries_by}
 use Rattle.item_stage.specs.Turns.{entries_from, rows_after}
@@ -12,8 +11,8 @@ abbrev pub invariant-records : goal.invariant-records
 invariant-records l =
     (l.index ≤ length l.records)
     × HaveHeaders l.rows
-    × (length l.marks.items ≡ l.index)
-    × (length l.records ≤ vec_capacity l.marks)
-    × (entries_by l.form l.records l.marks.items ++ entries_from l.form l.rows (l.start + l.index) (drop l.index l.records)
+    × (length l.marks.slots ≡ l.index)
+    × (length l.records ≤ l.marks.room)
+    × (entries_by l.form l.records l.marks.slots ++ entries_from l.form l.rows (l.start + l.index) (drop l.index l.records)
     ≡ entries_from l.form l.initial.rows l.start l.records)
     × (rows_after l.form l.rows (l.start + l.index) (drop l.index l.records) ≡ rows_after l.form l.initial.rows l.start l.records)
