@@ -3,6 +3,7 @@ pub mod FetchLemmas
 pub mod FrontLemmas
 pub mod GrammarLemmas
 pub mod LawLemmas
+pub mod PlaceLemmas
 pub mod RecordLemmas
 pub mod RefusalLemmas
 pub mod RoundLemmas

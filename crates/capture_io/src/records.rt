@@ -1,5 +1,5 @@
 // The records of a round, in one buffer.
-ghost use Rattle.std.specs.Prelude.{◌≡◌, ◌<◌, ◌≤◌, ◌↔◌, [], IfOk, IsTrue, Some, All, length, map, slice_get, vec_capacity};
+ghost use Rattle.std.specs.Prelude.{◌≡◌, ◌<◌, ◌≤◌, ◌↔◌, [], IfOk, IsTrue, Some, All, drop, length, map, slice_get, take, vec_capacity};
 ghost use Rattle.capture_io.specs.Records.{IsWithin, placed, seen};
 
 use aftr_base::OutOfMemory;
@@ -99,6 +99,23 @@ impl Records {
         ensures { self.new ≡ [] }
     {
         self.places.clear();
+    }
+
+    /// Takes the records from the index `count` on out, into the room of `room`, and leaves those before it. The bytes are copied.
+    pub fn split_off(&mut self, count: usize, room: Records) -> Result<Records, OutOfMemory>
+        requires inside { count ≤ length self.old }
+        ensures front { IfOk result (λ _. self.new ≡ take count self.old) }
+        ensures rest { IfOk result (λ rest. rest ≡ drop count self.old) }
+    {
+        let Records { buffer, places } = room;
+        let mut buffer = buffer;
+        let mut places = places;
+        buffer.clear();
+        buffer.extend_from_slice(&self.buffer)?;
+        places.clear();
+        places.extend_from_slice(&self.places[count..])?;
+        self.places.truncate(count);
+        Ok(Records { buffer, places })
     }
 
     /// One record.

@@ -5,11 +5,11 @@ use Rattle.round_pipeline.specs.declared.rings.Returned.{Returned}
 use Rattle.round_pipeline.specs.Lists.{AreBelow, fresh, in_order, put_well, share, total}
 use Rattle.round_pipeline.proofs.Shares.{share_here, share_there}
 
-total_zero : (n : ℕ) (f : ℕ → ℕ) → ((i : ℕ) → f i ≡ 0) → total f n ≡ 0
+pub total_zero : (n : ℕ) (f : ℕ → ℕ) → ((i : ℕ) → f i ≡ 0) → total f n ≡ 0
 total_zero zero f all = refl
 total_zero (suc n) f all = omega (arith, total_zero n f all, all n)
 
-total_same : (n : ℕ) (f g : ℕ → ℕ) → ((i : ℕ) → i < n → f i ≡ g i) → total f n ≡ total g n
+pub total_same : (n : ℕ) (f g : ℕ → ℕ) → ((i : ℕ) → i < n → f i ≡ g i) → total f n ≡ total g n
 total_same zero f g all = refl
 total_same (suc n) f g all = omega (arith, total_same n f g (λ i l. all i (omega (arith, l))), all n (omega arith))
 
@@ -18,7 +18,7 @@ total_le zero f g h all = omega arith
 total_le (suc n) f g h all = omega (arith, total_le n f g h (λ i l. all i (omega (arith, l))), all n (omega arith))
 
 -- one summand is larger by k
-total_more : (n w k : ℕ) (f g : ℕ → ℕ) → w < n → g w ≡ k + f w → ((i : ℕ) → i ≢ w → g i ≡ f i) → total g n ≡ k + total f n
+pub total_more : (n w k : ℕ) (f g : ℕ → ℕ) → w < n → g w ≡ k + f w → ((i : ℕ) → i ≢ w → g i ≡ f i) → total g n ≡ k + total f n
 total_more zero w k f g inside here there = absurd (omega (arith, inside))
 total_more (suc n) w k f g inside here there =
     elim (cases_eq w n) [

@@ -49,6 +49,25 @@ impl<'a> Model for HeldSeat<'a> {
     ghost invariant = { λ h. IsHeldSeat h.areas.now h.version h.seat × All AreCompiled h.areas.now.plan.tables };
 }
 
+impl<'a> FreeSeat<'a> {
+    ghost use Rattle.std.specs.Prelude.{◌≡◌, ◌%◌};
+    ghost use Rattle.area_swap.specs.Views.{kept_lending, lent_half};
+
+    /// Splits off a seat for another worker, with half of this seat's share.
+    pub fn lend(&mut self) -> FreeSeat<'a>
+        requires even { self.old.known.share % 2 ≡ 0 }
+        ensures same_areas { (self.new.areas ≡ self.old.areas) × (result.areas ≡ self.old.areas) }
+        ensures kept { self.new.known ≡ kept_lending self.old.known }
+        ensures lent { result.known ≡ lent_half self.old.known }
+    {
+        let part = self.areas.lend(&mut self.seat);
+        FreeSeat {
+            areas: self.areas,
+            seat: part,
+        }
+    }
+}
+
 impl<'a> HeldSeat<'a> {
     ghost use Rattle.std.specs.Prelude.{◌≡◌};
 
