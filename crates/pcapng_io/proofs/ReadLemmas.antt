@@ -19,8 +19,7 @@ use Rattle.pcapng_io.specs.Seen.{Seen}
 use Rattle.pcapng_io.specs.Blocks.{block_in, known_after, record_of, size_of}
 use Rattle.pcapng_io.specs.Files.{IsBefore, IsInBlock, IsSoundPacket, left_at}
 use Rattle.pcapng_io.specs.Long.{IsInLong, StandsBy, WithFront}
-use Rattle.pcapng_io.specs.declared.fronts.Sight.{Sight}
-use Rattle.pcapng_io.specs.Fronts.{front_in, front_seen}
+use Rattle.pcapng_io.specs.Fronts.{front_in}
 use Rattle.capture_io.specs.Windows.{Ahead, IsAtFront, IsMore}
 use Rattle.pcapng_io.proofs.StartLemmas.{IsShort, Tells, at_start, front_said, front_told, open_block, open_short}
 use Rattle.pcapng_io.proofs.WalkLemmas.{after_at, sized}
@@ -31,10 +30,10 @@ none_read None name at = tt
 none_read (Some m) name at = record { start = refl; whole = λ h. absurd (true≢false (sym h)) }
 
 -- what the front says, as the code has the bytes
-pub said_of : (seen : Seen) (window : Ahead) (number : ℕ) (slice : List ℕ) (last : Bool) (result it : Sight) → slice ≡ window.bytes → last ≡ window.last →
-    front_seen result ≡ front_in seen slice last number → result ≡ it → front_in seen window.bytes window.last number ≡ front_seen it
+pub said_of : (seen : Seen) (window : Ahead) (number : ℕ) (slice : List ℕ) (last : Bool) (result it : Front) → slice ≡ window.bytes → last ≡ window.last →
+    result ≡ front_in seen slice last number → result ≡ it → front_in seen window.bytes window.last number ≡ it
 said_of seen window number slice last result it bytes end says is =
-    (λ i. front_in seen (sym bytes i) (sym end i) number) ∙ (sym says ∙ ap front_seen is)
+    (λ i. front_in seen (sym bytes i) (sym end i) number) ∙ (sym says ∙ is)
 
 -- the front says it of the file
 pub told_at : (held : Option Contents) (name : List ℕ) (seen : Seen) (window : Ahead) (number : ℕ) (f : Front) → IsAtFront held name seen.known.at window →

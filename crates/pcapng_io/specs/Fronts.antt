@@ -9,8 +9,6 @@ use Rattle.pcapng_io.specs.declared.block.Packet.{Packet}
 use Rattle.pcapng_io.specs.declared.interface.Interface.{Interface}
 use Rattle.pcapng_io.specs.declared.fronts.Front.{Front}
 use Rattle.pcapng_io.specs.declared.fronts.Front.TheVariants as front
-use Rattle.pcapng_io.specs.declared.fronts.Sight.{Sight}
-use Rattle.pcapng_io.specs.declared.fronts.Sight.TheVariants as sight
 use Rattle.pcapng_io.specs.Seen.{Seen, seen_by}
 use Rattle.pcapng_io.specs.Frames.{head_in}
 use Rattle.pcapng_io.specs.Blocks.{block_in}
@@ -62,18 +60,3 @@ is_more (front.Passed p) = false
 is_more front.End = false
 is_more (front.Bad refusal) = false
 is_more front.More = true
-
--- a sight without the number of bytes to ask for, and that there are some
-abbrev pub front_seen : Sight → Front
-front_seen (sight.Packet p) = front.Packet p
-front_seen (sight.Passed p) = front.Passed p
-front_seen sight.End = front.End
-front_seen (sight.Bad refusal) = front.Bad refusal
-front_seen (sight.More missing) = front.More
-
-abbrev pub IsSomeMissing : Sight → Type 0
-IsSomeMissing (sight.Packet p) = Unit {0}
-IsSomeMissing (sight.Passed p) = Unit {0}
-IsSomeMissing sight.End = Unit {0}
-IsSomeMissing (sight.Bad refusal) = Unit {0}
-IsSomeMissing (sight.More missing) = 1 ≤ missing

@@ -10,7 +10,7 @@ ghost use Rattle.pcapng_io.specs.Long.{StandsBy};
 ghost use Rattle.pcapng_io.specs.Seen.{seen_by};
 ghost use Rattle.capture_io.specs.Windows.{IsAtFront};
 
-use crate::fronts::{Sight, quick_sight_of};
+use crate::fronts::{Front, front_of, lacking};
 use crate::interface::Interface;
 use crate::long::{MOST_KEPT, read_long};
 use crate::walk::len_of;
@@ -106,27 +106,28 @@ pub fn read_block<I: Reading>(
         (I.readable files.old) (I.readable files.new) }
 {
     'reading: loop {
-        match quick_sight_of(
+        match front_of(
             known,
             interfaces,
             window.as_slice(),
             window.is_last(),
             number,
         ) {
-            Sight::Packet(packet) => return Ok(Block::Packet(packet)),
-            Sight::Passed(passed) => {
+            Front::Packet(packet) => return Ok(Block::Packet(packet)),
+            Front::Passed(passed) => {
                 window.pass(len_of(passed));
                 return Ok(Block::Passed(passed));
             }
-            Sight::End => return Ok(Block::End),
-            Sight::Bad(refusal) => return Err(CaptureError::Bad(refusal)),
-            Sight::More(missing) => {
+            Front::End => return Ok(Block::End),
+            Front::Bad(refusal) => return Err(CaptureError::Bad(refusal)),
+            Front::More => {
                 if window.as_slice().len() >= MOST_KEPT {
                     let sought = Sought { known, number };
                     let block = read_long(alloc, files, name, sought, interfaces, window)?;
                     return Ok(block);
                 }
-                window.read_more(alloc, files, name, known.at, missing)?;
+                let count = lacking(known, window.as_slice());
+                window.read_more(alloc, files, name, known.at, count)?;
             }
         }
     }

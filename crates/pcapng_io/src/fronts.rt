@@ -1,10 +1,9 @@
 // The block that stands at the front of bytes that were read.
-ghost use Rattle.std.specs.Prelude.{◌≡◌, ℕ, ◌+◌, ◌-◌, ◌^◌, ◌<◌, ◌≤◌, nat_lt, All, Bool, IfOk, IfSome, IsTrue, Ok, length};
-ghost use Rattle.pcapng_io.specs.declared.fronts.Front.TheVariants as front;
+ghost use Rattle.std.specs.Prelude.{◌≡◌, ℕ, ◌+◌, ◌-◌, ◌^◌, ◌<◌, ◌≤◌, nat_lt, All, IfOk, IfSome, IsTrue, Ok, length};
 ghost use Rattle.pcapng_io.specs.Blocks.{block_in, body_in};
-ghost use Rattle.pcapng_io.specs.Files.{IsSound, IsSoundPacket};
+ghost use Rattle.pcapng_io.specs.Files.{IsSound};
 ghost use Rattle.pcapng_io.specs.Frames.{enhanced_packet_type, frame_in, least_total};
-ghost use Rattle.pcapng_io.specs.Fronts.{front_in, front_seen, is_more, is_short, needed, IsSaidAnywhere, IsSomeMissing, IsSoundAnywhere, IsSoundFront};
+ghost use Rattle.pcapng_io.specs.Fronts.{front_in, is_more, is_short, needed, IsSaidAnywhere, IsSoundAnywhere, IsSoundFront};
 ghost use Rattle.pcapng_io.specs.Seen.{seen_by};
 
 use crate::block::{Block, FARTHEST, Known, Packet, Passed};
@@ -14,7 +13,7 @@ use crate::frame::{
 use crate::interface::{Interface, interface_of_front};
 use crate::long::MOST_KEPT;
 use crate::packets::{enhanced_of, section_of, simple_of};
-use capture_io::{CaptureBad, MOST_RECORDS, NgBad, word};
+use capture_io::{CaptureBad, NgBad, word};
 
 const LEAST_ENHANCED: u32 = 32;
 
@@ -30,20 +29,6 @@ pub enum Front {
     Bad(CaptureBad),
     /// The bytes that follow will say it.
     More,
-}
-
-/// What the front says, or how many bytes to ask for.
-#[derive(Clone, Copy)]
-pub enum Sight {
-    Packet(Packet),
-    /// A block that is no packet.
-    Passed(Passed),
-    /// No byte is left.
-    End,
-    /// What is left is no block.
-    Bad(CaptureBad),
-    /// So many bytes are missing of those that will say it, or that are kept of them; at least one.
-    More(usize),
 }
 
 /// What the front says of the block that stands at the place that is known, for a packet of this number. `last` says that
@@ -62,77 +47,15 @@ pub fn front_of(
     ensures sound { IsSoundFront number result }
     ensures short { IsTrue (is_more result) → length first.now < 2 ^ 32 }
 {
-    match sight_of(known, interfaces, first, last, number) {
-        Sight::Packet(packet) => Front::Packet(packet),
-        Sight::Passed(passed) => Front::Passed(passed),
-        Sight::End => Front::End,
-        Sight::Bad(refusal) => Front::Bad(refusal),
-        Sight::More(_) => Front::More,
-    }
-}
-
-/// The same, with how many bytes are missing. A plain packet is looked for first, since less has to be asked for it.
-#[inline(always)]
-pub fn quick_sight_of(
-    known: Known,
-    interfaces: &[Interface],
-    first: &[u8],
-    last: bool,
-    number: u32,
-) -> Sight
-    requires number { number ≤ 2 ^ 31 }
-    requires time { known.nanos < 1000000000 }
-    requires counted { All (λ interface. 0 < interface.ticks) interfaces.now }
-    ensures says { front_seen result ≡ front_in (seen_by known interfaces.now) first.now last number }
-    ensures sound { IsSoundFront number (front_seen result) }
-    ensures short { IsTrue (is_more (front_seen result)) → length first.now < 2 ^ 32 }
-    ensures some { IsSomeMissing result }
-{
-    match plain_packet_at(known, interfaces, first, number) {
-        Some(packet) => Sight::Packet(packet),
-        None => sight_of(known, interfaces, first, last, number),
-    }
-}
-
-// The plain packet at a place, under a number.
-#[inline(always)]
-fn plain_packet_at(
-    known: Known,
-    interfaces: &[Interface],
-    first: &[u8],
-    number: u32,
-) -> Option<Packet>
-    requires number { number ≤ 2 ^ 31 }
-    requires counted { All (λ interface. 0 < interface.ticks) interfaces.now }
-    ensures says { IfSome result (λ packet. (last : Bool) →
-        front_in (seen_by known interfaces.now) first.now last number ≡ front.Packet packet) }
-    ensures sound { IfSome result (λ packet. IsSoundPacket number packet) }
-{
-    if known.at > FARTHEST || number == MOST_RECORDS {
-        return None;
-    }
-    plain_packet(known.big, interfaces, first)
-}
-
-// The same of a block of any kind.
-fn sight_of(known: Known, interfaces: &[Interface], first: &[u8], last: bool, number: u32) -> Sight
-    requires number { number ≤ 2 ^ 31 }
-    requires time { known.nanos < 1000000000 }
-    requires counted { All (λ interface. 0 < interface.ticks) interfaces.now }
-    ensures says { front_seen result ≡ front_in (seen_by known interfaces.now) first.now last number }
-    ensures sound { IsSoundFront number (front_seen result) }
-    ensures short { IsTrue (is_more (front_seen result)) → length first.now < 2 ^ 32 }
-    ensures some { IsSomeMissing result }
-{
     let wanted = bytes_wanted(known, interfaces, first);
     if !last && first.len() < wanted {
-        return Sight::More(missing_of(wanted, first.len()));
+        return Front::More;
     }
     match block_of_front(known, interfaces, first, number) {
-        Ok(Block::End) => Sight::End,
-        Ok(Block::Packet(packet)) => Sight::Packet(packet),
-        Ok(Block::Passed(passed)) => Sight::Passed(passed),
-        Err(refusal) => Sight::Bad(refusal),
+        Ok(Block::End) => Front::End,
+        Ok(Block::Packet(packet)) => Front::Packet(packet),
+        Ok(Block::Passed(passed)) => Front::Passed(passed),
+        Err(refusal) => Front::Bad(refusal),
     }
 }
 
@@ -147,10 +70,13 @@ fn bytes_wanted(known: Known, interfaces: &[Interface], first: &[u8]) -> usize
     bytes_needed(known.big, first, known.at)
 }
 
-fn missing_of(wanted: usize, there: usize) -> usize
+/// How many bytes to ask for, if the front says nothing yet: those that the block lacks, or that are missing of as much as is kept of it.
+/// It is at least one.
+pub fn lacking(known: Known, first: &[u8]) -> usize
     ensures { 1 ≤ result }
 {
-    wanted.min(MOST_KEPT).saturating_sub(there).max(1)
+    let wanted = bytes_needed(known.big, first, known.at);
+    wanted.min(MOST_KEPT).saturating_sub(first.len()).max(1)
 }
 
 // How many bytes say what stands at the front.
@@ -251,7 +177,7 @@ pub fn plain_packet(big: bool, interfaces: &[Interface], first: &[u8]) -> Option
     }
 }
 
-// The same, where the order is a constant, so that it is not asked for each number.
+// As `plain_packet`, with the order as a constant, so that it is not asked for each number.
 #[inline(always)]
 fn plain_by_order(big: bool, interfaces: &[Interface], first: &[u8]) -> Option<Packet>
     requires counted { All (λ interface. 0 < interface.ticks) interfaces.now }

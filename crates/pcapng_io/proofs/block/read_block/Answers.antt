@@ -4,11 +4,11 @@ use Rattle.std.proofs.lemmas.Result.{err_from_is_err_and}
 use Rattle.aftr_io.specs.Contents.{Told}
 use Rattle.aftr_io.specs.Outside.{Readable}
 use Rattle.pcapng_io.specs.declared.block.Block.{Block}
-use Rattle.pcapng_io.specs.declared.fronts.Sight.{Sight}
-use Rattle.pcapng_io.specs.declared.fronts.Sight.TheVariants as sight
+use Rattle.pcapng_io.specs.declared.fronts.Front.{Front}
+use Rattle.pcapng_io.specs.declared.fronts.Front.TheVariants as front
 use Rattle.pcapng_io.specs.Blocks.{block_in}
 use Rattle.pcapng_io.specs.Files.{left_at}
-use Rattle.pcapng_io.specs.Fronts.{front_in, front_seen}
+use Rattle.pcapng_io.specs.Fronts.{front_in}
 use Rattle.pcapng_io.specs.Seen.{seen_by}
 use Rattle.pcapng_io.proofs.FileLemmas.{failed_inside, passed_inside}
 use Rattle.pcapng_io.proofs.ReadLemmas.{long_inside, more_inside, packet_stands, passed_near, passed_stands, read_smaller, said_of, told_at}
@@ -16,60 +16,60 @@ use Rattle.pcapng_io.proofs.RefusalLemmas.{block_kind, front_refused}
 use Rattle.pcapng_io.proofs.StartLemmas.{Tells}
 use Rattle.pcapng_io.proofs.block.read_block.Given.{Over}
 use Rattle.pcapng_io.proofs.block.read_block.Goals as goal
-use Rattle.pcapng_io.proofs.block.read_block.Goals.{After-quick_sight_of}
+use Rattle.pcapng_io.proofs.block.read_block.Goals.{After-front_of}
 
 -- what the front of the window says
-said : (g : Over) (c : After-quick_sight_of g) → (it : Sight) → c.quick_sight_of.result ≡ it →
-    front_in (seen_by c.args.known c.args.interfaces.now) c.reading.window.bytes c.reading.window.last c.args.number ≡ front_seen it
+said : (g : Over) (c : After-front_of g) → (it : Front) → c.front_of.result ≡ it →
+    front_in (seen_by c.args.known c.args.interfaces.now) c.reading.window.bytes c.reading.window.last c.args.number ≡ it
 said g c it is =
-    said_of (seen_by c.args.known c.args.interfaces.now) c.reading.window c.args.number c.as_slice.result.now c.is_last.result c.quick_sight_of.result it
-    c.as_slice.ensures c.is_last.ensures c.quick_sight_of.ensures.says is
+    said_of (seen_by c.args.known c.args.interfaces.now) c.reading.window c.args.number c.as_slice.result.now c.is_last.result c.front_of.result it
+    c.as_slice.ensures c.is_last.ensures c.front_of.ensures.says is
 
 -- and of the file
-told : (g : Over) (c : After-quick_sight_of g) → (it : Sight) → c.quick_sight_of.result ≡ it →
+told : (g : Over) (c : After-front_of g) → (it : Front) → c.front_of.result ≡ it →
     Told (g.I.Reading.readable c.args.files.now).held
-    (λ m. Tells (front_seen it) (block_in (seen_by c.args.known c.args.interfaces.now) (left_at m c.args.name.now c.args.known.at) c.args.number))
+    (λ m. Tells it (block_in (seen_by c.args.known c.args.interfaces.now) (left_at m c.args.name.now c.args.known.at) c.args.number))
 told g c it is =
     told_at (g.I.Reading.readable c.args.files.now).held c.args.name.now (seen_by c.args.known c.args.interfaces.now) c.reading.window c.args.number
-    (front_seen it) c.reading.invariant.stands
+    it c.reading.invariant.stands
     (said g c it is)
 
 pub returns-in-Packet-clause-told : goal.returns-in-Packet-clause-told
-returns-in-Packet-clause-told g c = told g (goal.at.returns-in-Packet-clause-told g c).After-quick_sight_of (sight.Packet c.in-Packet.packet) c.in-Packet.is
+returns-in-Packet-clause-told g c = told g (goal.at.returns-in-Packet-clause-told g c).After-front_of (front.Packet c.in-Packet.packet) c.in-Packet.is
 
 pub returns-in-Packet-clause-stands : goal.returns-in-Packet-clause-stands
 returns-in-Packet-clause-stands g c =
     packet_stands (g.I.Reading.readable c.args.files.now).held c.args.name.now (seen_by c.args.known c.args.interfaces.now) c.reading.window c.args.number
     c.in-Packet.packet c.in-Packet.ensures.sound
-    (said g (goal.at.returns-in-Packet-clause-stands g c).After-quick_sight_of (sight.Packet c.in-Packet.packet) c.in-Packet.is) c.reading.invariant.stands
+    (said g (goal.at.returns-in-Packet-clause-stands g c).After-front_of (front.Packet c.in-Packet.packet) c.in-Packet.is) c.reading.invariant.stands
 
 pub returns-in-Passed-clause-told : goal.returns-in-Passed-clause-told
-returns-in-Passed-clause-told g c = told g (goal.at.returns-in-Passed-clause-told g c).After-quick_sight_of (sight.Passed c.in-Passed.passed) c.in-Passed.is
+returns-in-Passed-clause-told g c = told g (goal.at.returns-in-Passed-clause-told g c).After-front_of (front.Passed c.in-Passed.passed) c.in-Passed.is
 
 pub returns-in-Passed-clause-stands : goal.returns-in-Passed-clause-stands
 returns-in-Passed-clause-stands g c =
     passed_stands (g.I.Reading.readable c.args.files.now).held c.args.name.now (seen_by c.args.known c.args.interfaces.now) c.reading.window c.pass.new.self
     c.args.number c.in-Passed.passed
-    (said g (goal.at.returns-in-Passed-clause-stands g c).After-quick_sight_of (sight.Passed c.in-Passed.passed) c.in-Passed.is)
+    (said g (goal.at.returns-in-Passed-clause-stands g c).After-front_of (front.Passed c.in-Passed.passed) c.in-Passed.is)
     c.reading.invariant.stands (c.pass.ensures.bytes ∙ ap (λ n. drop n c.reading.window.bytes) c.len_of.ensures) c.pass.ensures.last
 
 pub returns-in-End-clause-told : goal.returns-in-End-clause-told
-returns-in-End-clause-told g c = told g (goal.at.returns-in-End-clause-told g c).After-quick_sight_of sight.End c.in-End.is
+returns-in-End-clause-told g c = told g (goal.at.returns-in-End-clause-told g c).After-front_of front.End c.in-End.is
 
 pub returns-in-Bad-clause-told : goal.returns-in-Bad-clause-told
-returns-in-Bad-clause-told g c = told g (goal.at.returns-in-Bad-clause-told g c).After-quick_sight_of (sight.Bad c.in-Bad.refusal) c.in-Bad.is
+returns-in-Bad-clause-told g c = told g (goal.at.returns-in-Bad-clause-told g c).After-front_of (front.Bad c.in-Bad.refusal) c.in-Bad.is
 
 pub returns-in-Bad-clause-refused : goal.returns-in-Bad-clause-refused
 returns-in-Bad-clause-refused g c =
     let seen = seen_by c.args.known c.args.interfaces.now in
     block_kind seen c.reading.window.bytes c.args.number c.in-Bad.refusal
     (front_refused seen c.reading.window.bytes c.reading.window.last c.args.number c.in-Bad.refusal
-    (said g (goal.at.returns-in-Bad-clause-refused g c).After-quick_sight_of (sight.Bad c.in-Bad.refusal) c.in-Bad.is))
+    (said g (goal.at.returns-in-Bad-clause-refused g c).After-front_of (front.Bad c.in-Bad.refusal) c.in-Bad.is))
 
 pub reading-smaller : goal.reading-smaller
 reading-smaller g c =
     read_smaller (seen_by c.args.known c.args.interfaces.now) c.reading.window c.args.number c.read_more.new.self
-    (said g (goal.at.reading-smaller g c).After-quick_sight_of (sight.More c.in-More.missing) c.in-More.is)
+    (said g (goal.at.reading-smaller g c).After-front_of front.More c.in-More.is)
     (subst (λ n. n < 2 ^ 32) (ap length c.as_slice.ensures) (c.in-More.ensures.short refl)) c.in_ok-read_more-in-More.ensures.longer
     c.in_ok-read_more-in-More.ensures.least
 
@@ -81,13 +81,13 @@ returns-in_err-read_more-in-More-clause-reads g c =
     (e.1 ∙ ap Err e.2) c.reading.invariant.readable
     (more_inside (seen_by c.args.known c.args.interfaces.now) c.reading.window c.args.number (g.I.Reading.readable c.args.files.now).held c.args.name.now
     c.reading.invariant.stands
-    (said g (goal.at.returns-in_err-read_more-in-More-clause-reads g c).After-quick_sight_of (sight.More c.in-More.missing) c.in-More.is))
+    (said g (goal.at.returns-in_err-read_more-in-More-clause-reads g c).After-front_of front.More c.in-More.is))
     c.in_err-read_more-in-More.ensures.reads
 
 pub pass-requires : goal.pass-requires
 pass-requires g c =
     let there = (passed_near (seen_by c.args.known c.args.interfaces.now) c.reading.window c.args.number c.in-Passed.passed
-    (said g (goal.at.pass-requires g c).After-quick_sight_of (sight.Passed c.in-Passed.passed) c.in-Passed.is)).1 in
+    (said g (goal.at.pass-requires g c).After-front_of (front.Passed c.in-Passed.passed) c.in-Passed.is)).1 in
     omega (arith, there, c.len_of.ensures)
 
 pub returns-in_err-block-in-More-clause-reads : goal.returns-in_err-block-in-More-clause-reads
