@@ -112,6 +112,12 @@ pub one_rises : (why : Fault) (spoiled now puts : ℕ) → Rises (has_failed {T 
 one_rises fault.Failed spoiled now puts rises = inl rises
 one_rises fault.OutOfMemory spoiled now puts same = (same, refl)
 
+-- whether one of the two counts rises does not hang on what the call would have answered
+pub one_fails_as : (T U : Type 0) (why : Fault) (spoiled now puts puts_now : ℕ) → OneRises (has_failed {T = T} (Err why)) spoiled now puts puts_now →
+    OneRises (has_failed {T = U} (Err why)) spoiled now puts puts_now
+one_fails_as T U fault.Failed spoiled now puts puts_now rises = rises
+one_fails_as T U fault.OutOfMemory spoiled now puts puts_now same = same
+
 -- what a log says of the call that failed
 pub is_failed : (before now : ℕ) (why : Fault) → Rises (has_failed {T = Unit} (Err why)) before now → Rises (is_failure why) before now
 is_failed before now fault.Failed rises = rises

@@ -1,6 +1,6 @@
 use Rattle.lwaftr_engine.proofs.Words.{Areas, Ending, KeepsRest, Readable, Spot, World, WrittenFiles, ap, halves, logs_front, logs_others, outputs_of, opening_steps}
 use Rattle.lwaftr_engine.proofs.Words.{refl, setup_of, spot, state_of, stop_by, world, ◌∙◌}
-use Rattle.lwaftr_engine.proofs.Capturing.{AtEnd, at_end, captured, ended_err, ends, finish_broken, is_failed, none_done, one_rises, opened_run, opening_broken}
+use Rattle.lwaftr_engine.proofs.Capturing.{AtEnd, at_end, captured, ended_err, ends, finish_broken, is_failed, none_done, one_fails_as, one_rises, opened_run, opening_broken}
 use Rattle.lwaftr_engine.proofs.Capturing.{rounds_broken}
 use Rattle.lwaftr_engine.proofs.Exits.{fails_as, handed}
 use Rattle.lwaftr_engine.proofs.ReadLemmas.{rest_after, rest_before, rest_written}
@@ -106,6 +106,12 @@ returns-in_err-ending-clause-writing g c =
     let r = c.from_residual-in_err-ending in
     rw (handed r.result r.ensures.1) (one_rises c.in_err-ending.field-0.0 _ _ _
     (rw c.in_ok-open_outputs.ensures.log.spoiled at c.in_err-ending.ensures.spoiled))
+
+pub returns-in_err-finish-clause-writing : goal.returns-in_err-finish-clause-writing
+returns-in_err-finish-clause-writing g c =
+    let r = c.from_residual-in_err-finish in
+    rw (handed r.result r.ensures.1) (one_fails_as Unit Ending c.in_err-finish.field-0.0 _ _ _ _
+    (rw (c.in_ok-ending.ensures.spoiled ∙ c.in_ok-open_outputs.ensures.log.spoiled) at c.in_err-finish.ensures.writing))
 
 pub returns-in_err-open_outputs-clause-left : goal.returns-in_err-open_outputs-clause-left
 returns-in_err-open_outputs-clause-left g c =
