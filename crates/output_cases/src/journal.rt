@@ -1,4 +1,6 @@
 // A run of one round, and what its outputs and its sink hold if a call fails.
+ghost use Rattle.output_journal.specs.Log.{AreDistinct, output_names};
+
 use crate::callers::write_run;
 use aftr_io::{Fault, MemSink, MemWriting};
 use output_journal::{Names, RoundPart, open, write_round};
