@@ -10,8 +10,9 @@ MOST_LENGTH = 15
 
 
 def entry(it, aftr):
-    """The texts of an entry: the subscriber's end, its address, its port set (None if the address is whole), and the router's end."""
-    return addresses.shown(it.b4), it.ipv4, None if it.is_whole() else (it.offset, it.length, it.psid), aftr
+    """The texts of an entry: the subscriber's end, its address, its port set, and the router's end. The module wants the port set of a whole
+    address too."""
+    return addresses.shown(it.b4), it.ipv4, it.offset, it.length, it.psid, aftr
 
 
 def kept(table, file):

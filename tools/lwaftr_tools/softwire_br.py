@@ -1,4 +1,4 @@
-"""Instance data of the YANG module ietf-softwire-br (RFC 8676, section 5), as JSON (RFC 7951) and as XML (RFC 7950): the binding tables of
+"""Instance data of the YANG module ietf-softwire-br (RFC 8676, section 7), as JSON (RFC 7951) and as XML (RFC 7950): the binding tables of
 `br-instances/binding/bind-instance`. What is read becomes one tree of dictionaries and lists, whatever the form."""
 from __future__ import annotations
 
@@ -129,9 +129,8 @@ def as_json(tree, entries):
     """A document of JSON: a tree whose list of entries is empty, and the entries, each a line."""
     lines = (
         f'{{"binding-ipv6info": "{b4}/128", "binding-ipv4-addr": "{ipv4}", '
-        + (f'"port-set": {{"psid-offset": {ports[0]}, "psid-len": {ports[1]}, "psid": {ports[2]}}}, ' if ports else "")
-        + f'"br-ipv6-addr": "{aftr}"}}'
-        for b4, ipv4, ports, aftr in entries
+        f'"port-set": {{"psid-offset": {offset}, "psid-len": {length}, "psid": {psid}}}, "br-ipv6-addr": "{aftr}"}}'
+        for b4, ipv4, offset, length, psid, aftr in entries
     )
     # no text of JSON holds a quotation mark that is not escaped, so this is the list
     before, mark, behind = json.dumps({f"{MODULE}:br-instances": tree["br-instances"]}, indent=1).partition('"binding-entry": []')
@@ -142,9 +141,9 @@ def as_xml(tree, entries):
     """A document of XML, as `as_json`."""
     lines = (
         f"<binding-entry><binding-ipv6info>{b4}/128</binding-ipv6info><binding-ipv4-addr>{ipv4}</binding-ipv4-addr>"
-        + (f"<port-set><psid-offset>{ports[0]}</psid-offset><psid-len>{ports[1]}</psid-len><psid>{ports[2]}</psid></port-set>" if ports else "")
-        + f"<br-ipv6-addr>{aftr}</br-ipv6-addr></binding-entry>\n"
-        for b4, ipv4, ports, aftr in entries
+        f"<port-set><psid-offset>{offset}</psid-offset><psid-len>{length}</psid-len><psid>{psid}</psid></port-set>"
+        f"<br-ipv6-addr>{aftr}</br-ipv6-addr></binding-entry>\n"
+        for b4, ipv4, offset, length, psid, aftr in entries
     )
     top = ElementTree.Element("br-instances", {"xmlns": NAMESPACE})
     _add(top, tree["br-instances"])

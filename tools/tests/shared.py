@@ -9,7 +9,7 @@ import unittest
 
 HERE = os.path.dirname(os.path.dirname(os.path.abspath(__file__)))
 sys.path.insert(0, HERE)
-from lwaftr_tools import captures, packets, tables  # noqa: E402, F401
+from lwaftr_tools import captures, command, packets, tables  # noqa: E402, F401
 
 TOP = os.path.dirname(HERE)
 PROGRAM = os.environ.get("LWAFTR", os.path.join(TOP, "lwaftr"))

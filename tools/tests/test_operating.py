@@ -15,7 +15,7 @@ from shared import AFTR, B4, FAR, HERE, OTHER, PROGRAM, SHARED, TOP, Folder, a_t
 NOT_RUN = {
     "tcpdump": "a live capture", "parallel": "other machines", "lwaftr": "the line before goes on here", "LWAFTR_VERDICTS=verdicts.txt": "a window",
 }
-COMMANDS = ("tools/", "./lwaftr", "tshark", "mergecap", "zcat", "zstdcat", "bash", "editcap", "tcprewrite", "pv", "grep", "python3", "echo", *NOT_RUN)
+COMMANDS = ("tools/", "./lwaftr", "tshark", "mergecap", "zcat", "zstdcat", "bash", "editcap", "tcprewrite", "pv", "grep", "python3", "echo", "yanglint", *NOT_RUN)
 
 
 def commands():
@@ -47,6 +47,8 @@ class Operating(Folder):
             with open(self.file(f"{name}.pcap"), "wb") as file:
                 frame = front + records[0]
                 file.write(struct.pack("<IHHiIII", 0xA1B2C3D4, 2, 4, 0, 0, 262144, link) + struct.pack("<IIII", 0, 0, len(frame), len(frame)) + frame)
+        for name in ("ietf-softwire-br", "ietf-softwire-common"):
+            shutil.copy(os.path.join(HERE, "tests", "modules", f"{name}@2019-11-16.yang"), self.file(f"{name}.yang"))
         os.mkdir(self.file("tables"))
         shutil.copy(self.file("table.toml"), self.file("tables/table.toml"))
         git = ["git", "-C", self.file("tables"), "-c", "user.name=n", "-c", "user.email=e@example.com"]

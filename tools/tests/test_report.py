@@ -7,7 +7,7 @@ import sys
 import unittest
 
 import browser
-from shared import a_table, captures, FAR, Folder, HERE, ip4, one_of_each_rule, ran, SHARED, udp
+from shared import a_table, captures, command, FAR, Folder, HERE, ip4, one_of_each_rule, ran, SHARED, udp
 
 
 class Reporting(Folder):
@@ -73,6 +73,10 @@ class Reporting(Folder):
         self.assertEqual(found["records"], len(one_of_each_rule()))
         self.assertEqual(found["rules"]["no-binding"]["packets"], 3)
         self.assertEqual(found["subscribers"]["tunnel from 2001:db8:1::2"], {"no-binding": 1})
+        modules = os.path.join(HERE, "tests", "modules")
+        leaves = "".join(command.text_of(os.path.join(modules, it)) for it in os.listdir(modules))
+        for name in found["traffic-stat"]:
+            self.assertIn(f"leaf {name} {{", leaves)
         # counted by hand from the list of packets: those whose first four bits are 4 or 6
         records = [it.bytes for it in captures.records(names[0])]
         for family, first in (("ipv4", 4), ("ipv6", 6)):

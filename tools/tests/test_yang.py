@@ -8,6 +8,8 @@ import unittest
 from shared import B4, HERE, OWN, SHARED, Folder, a_table, ran, same, tables
 
 SAMPLE = os.path.join(HERE, "samples", "softwire_br.json")
+# the modules of RFC 8676, sections 7 and 8, as they stand there
+MODULES = os.path.join(HERE, "tests", "modules")
 
 
 class Yang(Folder):
@@ -118,13 +120,27 @@ class Yang(Folder):
         code, error = self.read('{"br-instances": {"binding": {}, "binding": {}}}')
         self.assertEqual((code, "binding is given twice" in error), (1, True))
 
-    @unittest.skipUnless(os.environ.get("YANG_MODULES") and shutil.which("yanglint"), "no yanglint, or no folder YANG_MODULES with ietf-softwire-br.yang")
-    def test_yanglint(self):
-        for form, kind in (((), "json"), (("--xml",), "xml")):
-            ran("to_yang.py", self.file("t.toml", tables.text(a_table())), *form, "-o", self.file(f"data.{kind}"))
-            modules = os.environ["YANG_MODULES"]
-            it = subprocess.run(
-                ["yanglint", "-p", modules, "-F", "ietf-softwire-br:binding-mode", "-t", "config", f"{modules}/ietf-softwire-br.yang", self.file(f"data.{kind}")],
-                capture_output=True, text=True, check=False,
-            )
-            self.assertEqual((it.returncode, it.stderr), (0, ""))
+    def test_an_entry_without_a_port_set_has_the_whole_address(self):
+        tree = self.sample()
+        del self.instance(tree)["binding-table"]["binding-entry"][2]["port-set"]
+        self.assertEqual(self.read(tree)[0], 0)
+        self.assertTrue(same(tables.read(self.file("made.toml")), a_table()))
+
+    @unittest.skipUnless(shutil.which("yanglint"), "no yanglint")
+    def test_data_is_valid_by_the_module(self):
+        table = self.file("t.toml", tables.text(a_table()))
+        ran("to_yang.py", table, "-o", self.file("made.json"))
+        ran("to_yang.py", table, "--xml", "-o", self.file("made.xml"))
+        samples = [os.path.join(HERE, "samples", f"softwire_br.{form}") for form in ("json", "xml")]
+        for path in (self.file("made.json"), self.file("made.xml"), *samples):
+            it = self.judged(path)
+            self.assertEqual((it.returncode, it.stderr), (0, ""), path)
+        # the judge sees what is wrong
+        tree = self.sample()
+        del self.instance(tree)["binding-table"]["binding-entry"][2]["port-set"]
+        self.assertIn("psid-len", self.judged(self.file("wrong.json", json.dumps(tree))).stderr)
+
+    def judged(self, path):
+        """A run of yanglint over instance data."""
+        words = ["-p", MODULES, "-F", "ietf-softwire-br:binding-mode", "-t", "config", f"{MODULES}/ietf-softwire-br@2019-11-16.yang", path]
+        return subprocess.run(["yanglint", *words], capture_output=True, text=True, check=False)
