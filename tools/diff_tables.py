@@ -7,9 +7,9 @@ compared one by one, so two spellings of one set are equal, and a set of another
 `--most` limits how many subscribers are printed of each kind; all are counted."""
 from __future__ import annotations
 
-import collections
 import dataclasses
 import functools
+import heapq
 import json
 import socket
 
@@ -40,6 +40,11 @@ def size_of(shape):
     return set_of(*shape, "0").port_count()
 
 
+@functools.lru_cache(maxsize=None)
+def ranges_of_set(row_set):
+    return set_of(*row_set).ranges()
+
+
 # Python 3.10 has a method for it
 ones_of = getattr(int, "bit_count", lambda mask: bin(mask).count("1"))
 
@@ -65,7 +70,15 @@ class Ports:
 
     def ranges(self):
         """The ports as pairs of a first and a last one."""
-        return set_of(*self.rows[0][SET]).ranges() if self.is_apart and len(self.rows) == 1 else ranges_of(self.mask())
+        return ranges_of_set(self.rows[0][SET]) if self.is_apart and len(self.rows) == 1 else ranges_of(self.mask())
+
+    def ranges_as_json(self):
+        return json_of_set(self.rows[0][SET]) if self.is_apart and len(self.rows) == 1 else json.dumps(self.ranges())
+
+
+@functools.lru_cache(maxsize=None)
+def json_of_set(row_set):
+    return json.dumps(ranges_of_set(row_set))
 
 
 def ranges_of(mask):
@@ -81,24 +94,8 @@ def ranges_of(mask):
     return found
 
 
-class Change:
-    """What changes for one subscriber: for each address the ports that it loses and gains."""
-
-    __slots__ = ("b4", "kind", "lost", "gained", "ports_lost", "ports_gained")
-
-    def __init__(self, b4, kind, lost, gained):
-        self.b4, self.kind, self.lost, self.gained = b4, kind, lost, gained
-        self.ports_lost, self.ports_gained = sum([it.count for it in lost.values()]), sum([it.count for it in gained.values()])
-
-    def order(self):
-        """Where it stands among the changes."""
-        return KINDS.index(self.kind), -self.ports_lost, socket.inet_pton(socket.AF_INET6, self.b4)
-
-
 def grouped(rows, place):
     """Rows by one of their texts."""
-    if len(rows) < 2:
-        return {it[place]: rows for it in rows}
     found = {}
     for it in rows:
         found.setdefault(it[place], []).append(it)
@@ -115,28 +112,69 @@ def without(rows, others):
     return found
 
 
+def count_without(rows, others):
+    """How many ports of some rows others lack."""
+    if rows and others:
+        return sum([it.count for it in without(rows, others).values()])
+    return size_of(rows[0][SHAPE]) if len(rows) == 1 else sum([size_of(it[SHAPE]) for it in rows])
+
+
+class Change:
+    """What changes for one subscriber: its rows that are gone, those that come, and how many ports it loses and gains by them."""
+
+    __slots__ = ("b4", "gone", "come", "ports_lost", "ports_gained")
+
+    def __init__(self, b4, gone, come):
+        self.b4, self.gone, self.come = b4, gone, come
+        self.ports_lost, self.ports_gained = count_without(gone, come), count_without(come, gone)
+
+    def lost(self):
+        """For each address the ports that are lost."""
+        return without(self.gone, self.come)
+
+    def gained(self):
+        return without(self.come, self.gone)
+
+    def order(self):
+        """Where it stands among the changes of its kind."""
+        return -self.ports_lost, socket.inet_pton(socket.AF_INET6, self.b4)
+
+
+def rows_of(blocks):
+    """The rows of some bindings."""
+    return tables.rows_of("".join([tables.HEAD + it for it in blocks]))
+
+
+def b4_of(block):
+    """The subscriber of a binding, which is told first."""
+    return block.split('"', 2)[1]
+
+
 def changes(old, new):
-    """The changes of all subscribers, what breaks one first."""
-    kept = set(old) & set(new)
-    gone, come = (grouped([it for it in rows if it not in kept], B4) for rows in (old, new))
+    """The changes of all subscribers, by kind. What both tables have is passed over as text."""
+    kept = set(old.blocks).intersection(new.blocks)
+    gone, come = (grouped(rows_of([it for it in its.blocks if it not in kept]), B4) for its in (old, new))
     touched = gone.keys() | come.keys()
-    before, after = (grouped([it for it in rows if it[B4] in touched], B4) for rows in (old, new))
-    found = []
+    # where a subscriber has an address in a binding that stays
+    stays = grouped(rows_of([it for it in kept if b4_of(it) in touched]), B4)
+    found = {kind: [] for kind in KINDS}
     for b4 in touched:
-        mine, its = gone.get(b4, ()), come.get(b4, ())
-        lost, gained = without(mine, its), without(its, mine)
-        if lost or gained:
-            found.append(Change(b4, kind_of(before.get(b4, ()), after.get(b4, ()), lost), lost, gained))
-    return sorted(found, key=Change.order)
+        it = Change(b4, gone.get(b4, ()), come.get(b4, ()))
+        if it.ports_lost or it.ports_gained:
+            found[kind_of(it, stays.get(b4, ()))].append(it)
+    return found
 
 
-def kind_of(old, new, lost):
-    """What happens to a subscriber with old and new rows, who loses some ports."""
-    if not old or not new:
-        return NEW if not old else GONE
-    if not lost:
+def kind_of(change, stays):
+    """What happens to a subscriber, some of whose rows stay."""
+    if not stays and not change.gone:
+        return NEW
+    if not stays and not change.come:
+        return GONE
+    if not change.ports_lost:
         return GAINS
-    return MOVED if {it[IPV4] for it in old}.isdisjoint(it[IPV4] for it in new) else LOSES
+    before, after = ({it[IPV4] for it in (*its, *stays)} for its in (change.gone, change.come))
+    return MOVED if before.isdisjoint(after) else LOSES
 
 
 def settings(old, new):
@@ -170,49 +208,61 @@ def shown(ports_of):
 
 
 def line(it, new_rows):
-    parts = [f"  {it.b4}:"]
-    if it.lost:
-        parts.append(f"loses {it.ports_lost:,} ports ({shown(it.lost)})")
-        if now := owner(new_rows, it.lost):
+    parts, lost, gained = [f"  {it.b4}:"], it.lost(), it.gained()
+    if lost:
+        parts.append(f"loses {it.ports_lost:,} ports ({shown(lost)})")
+        if now := owner(new_rows, lost):
             parts.append(f"which {now[0]} has now ({now[1]})")
-    if it.gained:
-        parts.append(f"{'and ' if it.lost else ''}gains {it.ports_gained:,} ports ({shown(it.gained)})")
+    if gained:
+        parts.append(f"{'and ' if lost else ''}gains {it.ports_gained:,} ports ({shown(gained)})")
     return " ".join(parts)
 
 
 def totals(old, new, found):
-    counts = collections.Counter(it.kind for it in found)
-    kinds = ", ".join(f"{counts[it]:,} {it}" for it in KINDS)
-    lost, gained = sum(it.ports_lost for it in found), sum(it.ports_gained for it in found)
-    return f"{len(old.rows):,} bindings before, {len(new.rows):,} now. Subscribers: {kinds}. Ports: {lost:,} lost, {gained:,} gained."
+    kinds = ", ".join(f"{len(found[it]):,} {it}" for it in KINDS)
+    lost, gained = (sum(getattr(it, name) for its in found.values() for it in its) for name in ("ports_lost", "ports_gained"))
+    return f"{len(old.blocks):,} bindings before, {len(new.blocks):,} now. Subscribers: {kinds}. Ports: {lost:,} lost, {gained:,} gained.\n"
 
 
 def as_text(old, new, found, keys, most):
-    lines = [totals(old, new, found)]
-    by_kind = {kind: [it for it in found if it.kind == kind] for kind in KINDS}
-    lost = {ipv4 for its in by_kind.values() for it in its[:most] for ipv4 in it.lost}
-    new_rows = grouped([it for it in new.rows if it[IPV4] in lost], IPV4)
-    for kind, its in by_kind.items():
-        if its:
-            lines += ["", f"{kind}: {MEANING[kind]}", *(line(it, new_rows) for it in its[:most])]
-            lines += [f"  and {len(its) - most:,} more"] if len(its) > most else []
+    """The lines of the text."""
+    yield totals(old, new, found)
+    first = {kind: heapq.nsmallest(most, its, key=Change.order) for kind, its in found.items()}
+    lost = {it[IPV4] for its in first.values() for change in its for it in change.gone}
+    new_rows = grouped(rows_of([it for it in new.blocks if ipv4_of(it) in lost]), IPV4)
+    for kind, its in first.items():
+        if found[kind]:
+            yield f"\n{kind}: {MEANING[kind]}\n"
+            yield from (f"{line(it, new_rows)}\n" for it in its)
+        if len(found[kind]) > len(its):
+            yield f"  and {len(found[kind]) - len(its):,} more\n"
     if keys:
-        lines += ["", "settings", *(f"  {name}: {str(before).lower()} before, {str(now).lower()} now" for name, before, now in keys)]
-    return "\n".join(lines) + "\n"
+        yield "\nsettings\n"
+        yield from (f"  {name}: {str(before).lower()} before, {str(now).lower()} now\n" for name, before, now in keys)
+
+
+def ipv4_of(block):
+    """The address of a binding, which is told behind the subscriber."""
+    return block.split('"', 4)[3]
 
 
 def as_json(old, new, found, keys):
-    return json.dumps({
-        "bindings": {"old": len(old.rows), "new": len(new.rows)},
+    """The lines of the JSON; a subscriber's is put together of texts, since most sets of ports come often."""
+    head = {
+        "bindings": {"old": len(old.blocks), "new": len(new.blocks)},
         "settings": [{"name": name, "old": before, "new": now} for name, before, now in keys],
-        "subscribers": [
-            {
-                "b4": it.b4, "change": it.kind,
-                **{name: {ipv4: ports.ranges() for ipv4, ports in its.items()} for name, its in (("lost", it.lost), ("gained", it.gained))},
-            }
-            for it in found
-        ],
-    }, indent=1) + "\n"
+    }
+    yield f'{json.dumps(head)[:-1]}, "subscribers": ['
+    mark = "\n"
+    for kind, its in found.items():
+        for it in sorted(its, key=Change.order):
+            yield f'{mark}{{"b4": "{it.b4}", "change": "{kind}", "lost": {ports_as_json(it.lost())}, "gained": {ports_as_json(it.gained())}}}'
+            mark = ",\n"
+    yield "\n]}\n"
+
+
+def ports_as_json(ports_of):
+    return f"{{{', '.join([f'{chr(34)}{ipv4}{chr(34)}: {ports.ranges_as_json()}' for ipv4, ports in ports_of.items()])}}}"
 
 
 def main():
@@ -223,9 +273,10 @@ def main():
     it.add_argument("--most", type=command.from_zero, default=20, metavar="N", help="how many subscribers of a kind are printed (20)")
     words = it.parse_args()
     old, new = tables.document(words.old), tables.document(words.new)
-    found, keys = changes(old.rows, new.rows), list(settings(old, new))
-    command.say(as_json(old, new, found, keys) if words.json else as_text(old, new, found, keys, words.most))
-    return command.REFUSED if found or keys else command.DONE
+    found, keys = changes(old, new), list(settings(old, new))
+    for text in as_json(old, new, found, keys) if words.json else as_text(old, new, found, keys, words.most):
+        command.say(text)
+    return command.REFUSED if any(found.values()) or keys else command.DONE
 
 
 if __name__ == "__main__":

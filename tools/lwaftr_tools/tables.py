@@ -131,12 +131,20 @@ class Table:
         return None
 
 
-class Document(typing.NamedTuple):
-    """A table as the program writes it: its bindings as texts, in which two bindings are equal if the texts are."""
+class Document:
+    """A table as the program writes it. Its bindings are texts, in which two bindings are equal if the texts are."""
 
-    softwire: Softwire
-    rows: list
-    edition: int
+    def __init__(self, softwire, bindings, edition):
+        self.softwire, self.bindings, self.edition = softwire, bindings, edition
+
+    @functools.cached_property
+    def blocks(self):
+        """The text of each binding."""
+        return self.bindings.split(HEAD)[1:]
+
+    @functools.cached_property
+    def rows(self):
+        return rows_of(self.bindings)
 
 
 class Row(typing.NamedTuple):
@@ -154,10 +162,9 @@ class Row(typing.NamedTuple):
 
 def read(path):
     """The table of a file; the program judges it, and of one that it refuses the error has what it says."""
-    softwire, rows, edition = document(path)
-    ipv6, ipv4 = addresses.ipv6, addresses.ipv4
-    bindings = [Binding(ipv6(b4), ipv4(address), int(offset), int(length), int(psid)) for b4, address, length, offset, psid in rows]
-    return Table(softwire, bindings, edition)
+    it, ipv6, ipv4 = document(path), addresses.ipv6, addresses.ipv4
+    bindings = [Binding(ipv6(b4), ipv4(address), int(offset), int(length), int(psid)) for b4, address, length, offset, psid in it.rows]
+    return Table(it.softwire, bindings, it.edition)
 
 
 def document(path):
@@ -185,8 +192,13 @@ def ran(*words):
 
 
 # a binding as `lwaftr migrate` writes it
+HEAD = "[[binding]]\n"
 BINDING = re.compile(r'\[\[binding\]\]\nb4 = "([^"\n]+)"\nipv4 = "([^"\n]+)"\nlength = (\d+)\noffset = (\d+)\npsid = (\d+)\n\n')
 SETTING = re.compile(r'(\w+) = (?:"([^"\n]+)"|(\w+))\n')
+
+
+def unknown_form():
+    return TableError(f"{PROGRAM} migrate wrote a form that this tool does not know: are both of one release?")
 
 
 def parsed(text):
@@ -195,17 +207,24 @@ def parsed(text):
         text = text.partition("\n")[2]
     front, mark, tail = text.rpartition("[softwire]\n")
     version = SETTING.match(front)
-    at, rows, row = (version.end() + 1 if version else 0), [], Row._make
-    for found in BINDING.finditer(front, at):
+    if not mark or not version:
+        raise unknown_form()
+    keys = {it[1]: it[2] or it[3] for it in SETTING.finditer(tail)}
+    settings = {it.name: _setting(keys[it.name]) for it in dataclasses.fields(Softwire)[2:]}
+    return Document(Softwire(addresses.ipv6(keys["aftr"]), addresses.ipv4(keys["own"]), **settings), front[version.end() + 1 :], int(version[3]))
+
+
+def rows_of(text):
+    """The bindings of a text that is nothing but bindings."""
+    at, rows, row = 0, [], Row._make
+    for found in BINDING.finditer(text):
         if found.start() != at:
             break
         at = found.end()
         rows.append(row(found.groups()))
-    if not mark or not version or at != len(front):
-        raise TableError(f"{PROGRAM} migrate wrote a form that this tool does not know: are both of one release?")
-    keys = {it[1]: it[2] or it[3] for it in SETTING.finditer(tail)}
-    settings = {it.name: _setting(keys[it.name]) for it in dataclasses.fields(Softwire)[2:]}
-    return Document(Softwire(addresses.ipv6(keys["aftr"]), addresses.ipv4(keys["own"]), **settings), rows, int(version[3]))
+    if at != len(text):
+        raise unknown_form()
+    return rows
 
 
 def _setting(word):
