@@ -11,9 +11,8 @@ import dataclasses
 import functools
 import heapq
 import json
-import socket
 
-from lwaftr_tools import command, tables
+from lwaftr_tools import addresses, command, tables
 
 GONE, LOSES, MOVED, GAINS, NEW = "gone", "loses ports", "moved", "gains ports", "new"
 KINDS = (GONE, LOSES, MOVED, GAINS, NEW)
@@ -137,7 +136,7 @@ class Change:
 
     def order(self):
         """Where it stands among the changes of its kind."""
-        return -self.ports_lost, socket.inet_pton(socket.AF_INET6, self.b4)
+        return -self.ports_lost, addresses.packed6(self.b4)
 
 
 def rows_of(blocks):

@@ -12,8 +12,13 @@ def tunnel(text):
 
 def ipv6(text):
     """The address of a text of RFC 4291, section 2.2, without a zone or a prefix length."""
+    return ipaddress.IPv6Address(packed6(text))
+
+
+def packed6(text):
+    """The bytes of an address, by its text as `ipv6` reads it."""
     try:
-        return ipaddress.IPv6Address(socket.inet_pton(socket.AF_INET6, text))
+        return socket.inet_pton(socket.AF_INET6, text)
     except (OSError, ValueError):
         raise ValueError(f"{text!r} is not an IPv6 address") from None
 

@@ -71,13 +71,14 @@ class Provisioning(Folder):
             self.assertIn(line, out)
 
     def test_rules_of_nftables(self):
-        out = self.made("nft", "--lan", "10.9.0.0/16")
-        self.assertIn(f"numgen inc mod 63 map {{ 0 : {SHARED} . 1232-1235, 1 : {SHARED} . 2256-2259, ", out)
-        self.assertIn('oifname "softwire0" ip saddr 10.9.0.0/16 snat to 203.0.113.2', out)
-        if shutil.which("nft") and os.geteuid() == 0:
-            with open(self.file("rules"), "w", encoding="utf-8") as file:
-                file.write(out)
-            it = subprocess.run(["nft", "-c", "-f", self.file("rules")], capture_output=True, text=True, check=False)
+        shared, whole = (self.made("nft", "--lan", "10.9.0.0/16", "--b4", it) for it in (B4, ALONE))
+        self.assertEqual(shared.count(f"numgen inc mod 63 map {{ 0 : {SHARED} . 1232-1235, 1 : {SHARED} . 2256-2259, "), 3)
+        self.assertIn('oifname "softwire0" ip saddr 10.9.0.0/16 snat to 203.0.113.2', whole)
+        self.assertEqual(ran("to_b4.py", self.file("t.toml"), "nft")[0], 2)
+        if not shutil.which("nft") or os.geteuid() != 0:
+            return
+        for rules in (shared, whole):
+            it = subprocess.run(["nft", "-c", "-f", self.file("rules", rules)], capture_output=True, text=True, check=False)
             if "Operation not permitted" not in it.stderr:
                 self.assertEqual((it.returncode, it.stderr), (0, ""))
 
