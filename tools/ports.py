@@ -6,6 +6,7 @@ from __future__ import annotations
 
 import collections
 import json
+import re
 
 from lwaftr_tools import addresses, command, converting, tables
 
@@ -30,9 +31,10 @@ def one(it):
     }
 
 
-def of_subscriber(table, b4):
-    found = [one(it) for it in table.bindings if it.b4 == b4]
-    lines = [f"{addresses.shown(b4)}: {in_words(len(found))}, {sum(it['ports'] for it in found):,} ports"]
+def of_subscriber(rows, b4):
+    subscriber = addresses.shown(b4)
+    found = [one(it.binding()) for it in rows if it.b4 == subscriber]
+    lines = [f"{subscriber}: {in_words(len(found))}, {sum(it['ports'] for it in found):,} ports"]
     for it in found:
         lines.append(f"  {it['ipv4']}, {shape(it['offset'], it['length'])}, psid {it['psid']}: {it['ports']:,} ports: {shown(it['ranges'])}")
     return found, lines
@@ -51,8 +53,8 @@ def free_of(bindings):
     return free
 
 
-def of_address(table, ipv4):
-    bindings = sorted(table.of.get(ipv4, []), key=lambda it: (it.offset, it.length, it.psid))
+def of_address(rows, ipv4):
+    bindings = sorted((it.binding() for it in rows if it.ipv4 == str(ipv4)), key=lambda it: (it.offset, it.length, it.psid))
     found = {"ipv4": str(ipv4), "sets": [one(it) for it in bindings], "free": []}
     lines = [f"{ipv4}: {in_words(len(bindings))}, {sum(it.port_count() for it in bindings):,} ports in use"]
     for it in bindings:
@@ -74,64 +76,116 @@ def spans_of(numbers):
     return found
 
 
-def of_all(table):
-    sizes = collections.Counter(it.port_count() for it in table.bindings)
+def of_all(rows):
+    by_address = shapes_by_address(rows)
+    sizes = collections.Counter()
+    for shapes in by_address.values():
+        for (length, offset), count in shapes.items():
+            sizes[tables.Binding(None, None, int(offset), int(length)).port_count()] += count
     used = sum(count * size for size, count in sizes.items())
-    free = free_in_all(table)
-    subscribers = len({it.b4 for it in table.bindings})
+    free = free_in_all(by_address)
+    subscribers = len({it.b4 for it in rows})
     found = {
-        "addresses": len(table.of), "bindings": len(table.bindings), "subscribers": subscribers, "ports": used,
+        "addresses": len(by_address), "bindings": len(rows), "subscribers": subscribers, "ports": used,
         "free-sets": free, "ports-of-a-set": {str(size): count for size, count in sizes.items()},
     }
     lines = [
-        f"{len(table.of):,} addresses, {len(table.bindings):,} bindings of {subscribers:,} subscribers, {used:,} ports in use",
+        f"{len(by_address):,} addresses, {len(rows):,} bindings of {subscribers:,} subscribers, {used:,} ports in use",
         f"{free:,} sets are free on these addresses, counted where all sets of an address have one shape",
     ]
     lines += [f"  {count:,} sets of {size:,} ports" for size, count in sizes.most_common()]
     return found, lines
 
 
-def free_in_all(table):
+def shapes_by_address(rows):
+    """For each address how many sets it has of each shape, which is a length and an offset."""
+    found = {}
+    for _, ipv4, length, offset, _ in rows:
+        shapes = found.setdefault(ipv4, {})
+        shapes[length, offset] = shapes.get((length, offset), 0) + 1
+    return found
+
+
+def free_in_all(by_address):
     """How many sets are free on the addresses whose sets have one shape."""
     free = 0
-    for bindings in table.of.values():
-        if len({(it.offset, it.length) for it in bindings}) == 1:
-            free += (1 << bindings[0].length) - len(bindings)
+    for shapes in by_address.values():
+        if len(shapes) == 1:
+            (length, _), count = next(iter(shapes.items()))
+            free += (1 << int(length)) - count
     return free
 
 
 def conflicts(bindings):
-    """Each pair of bindings that share a port: their places, and the first port that they share."""
-    by_address = collections.defaultdict(list)
+    """Each pair of bindings that share a port: their places, and the first port that they share. Of a port that many share the first one of
+    them is paired with each other one."""
+    by_address = {}
     for at, it in enumerate(bindings):
-        by_address[it.ipv4].append((at, it))
+        by_address.setdefault(it.ipv4, []).append((at, it))
     for its in by_address.values():
-        owners = collections.defaultdict(list)
-        for at, it in its:
+        is_one_shape = len({it[2:4] for _, it in its}) == 1
+        yield from conflicts_of_one_shape(its) if is_one_shape else conflicts_of_shapes(its)
+
+
+def conflicts_of_one_shape(its):
+    """Two sets of one shape share all ports or none."""
+    first_of = {}
+    for late, it in its:
+        first = first_of.setdefault(it.psid, late)
+        if first != late:
+            yield first, late, it.ranges()[0][0]
+
+
+def conflicts_of_shapes(its):
+    """Conflicts on an address whose sets have several shapes: each port is given to the first binding that has it."""
+    owners = [None] * 65536
+    for late, it in its:
+        spans = it.spans()
+        if any(owners[span].count(None) < len(owners[span]) for span in spans):
+            first_port = {}
             for first, last in it.ranges():
                 for port in range(first, last + 1):
-                    owners[port].append(at)
-        seen = set()
-        for port in sorted(owners):
-            for late in owners[port][1:]:
-                pair = owners[port][0], late
-                if pair not in seen:
-                    seen.add(pair)
-                    yield (*pair, port)
+                    if owners[port] is None:
+                        owners[port] = late
+                    else:
+                        first_port.setdefault(owners[port], port)
+            yield from ((first, late, port) for first, port in first_port.items())
+        else:
+            for span in spans:
+                owners[span] = [late] * len(owners[span])
+
+
+# a binding each of whose keys stands on a line of its own
+PLAIN = re.compile(r'(?:(?:(?:b4|ipv4) = "[^"\\\n]*"|(?:offset|length|psid) = \d+)?\n)*')
+VALUE = re.compile(r'(\w+) = "?([^"\n]+)')
+
+
+def plain_bindings(text):
+    """The bindings of a table in which each key stands on a line of its own; None of any other table."""
+    front, *blocks = f"{text}\n".split("\n[[binding]]\n")
+    if not blocks or '"""' in text or "'''" in text:
+        return None
+    blocks[-1] = blocks[-1].partition("\n[softwire]\n")[0] + "\n"
+    blocks = [f"{it}\n" for it in blocks]
+    return [binding(dict(VALUE.findall(it))) for it in blocks] if all(map(PLAIN.fullmatch, blocks)) else None
+
+
+def binding(keys):
+    shape_and_psid = (int(keys.get(name, 0)) for name in ("offset", "length", "psid"))
+    return tables.Binding(addresses.ipv6(keys["b4"]), addresses.ipv4(keys["ipv4"]), *shape_and_psid)
 
 
 def without_the_judge(path):
     """The bindings of a table that the program refuses for a conflict alone: all else of it is judged before."""
+    text = command.text_of(path)
+    found = plain_bindings(text)
+    if found is not None:
+        return found
     try:
         import tomllib
     except ImportError:
-        raise command.Unusable("the table is refused, and to name each conflict this tool needs Python 3.11 or later") from None
-    with open(path, "rb") as file:
-        tree = tomllib.load(file)
-    return [
-        tables.Binding(addresses.ipv6(it["b4"]), addresses.ipv4(it["ipv4"]), it.get("offset", 0), it.get("length", 0), it.get("psid", 0))
-        for it in tree["binding"]
-    ]
+        raise command.Unusable("the table is refused, and to name each conflict of one in this form this tool needs Python 3.11 or later") from None
+    return [binding(it) for it in tomllib.loads(text)["binding"]]
 
 
 def main():
@@ -143,17 +197,17 @@ def main():
     it.add_argument("--json", action="store_true", help="print JSON")
     words = it.parse_args()
     try:
-        table = tables.read(words.table)
+        rows = tables.document(words.table).rows
     except tables.TableError as error:
         if " twice " not in str(error).splitlines()[0]:
             raise
         return tell_conflicts(words)
     if words.b4:
-        found, lines = of_subscriber(table, words.b4)
+        found, lines = of_subscriber(rows, words.b4)
     elif words.ipv4:
-        found, lines = of_address(table, words.ipv4)
+        found, lines = of_address(rows, words.ipv4)
     else:
-        found, lines = of_all(table)
+        found, lines = of_all(rows)
     command.say(json.dumps(found) + "\n" if words.json else "\n".join(lines) + "\n")
     return command.DONE
 
@@ -164,13 +218,14 @@ def tell_conflicts(words):
     if words.json:
         command.say(json.dumps({"conflicts": [{"bindings": [a, b], "ipv4": str(bindings[a].ipv4), "port": port} for a, b, port in found]}) + "\n")
         return command.REFUSED
+    lines = []
     for a, b, port in found:
-        one, other = bindings[a], bindings[b]
-        command.say(
-            f"port {port} of {one.ipv4} is in binding {a} (psid {one.psid}, {addresses.shown(one.b4)}) "
-            f"and in binding {b} (psid {other.psid}, {addresses.shown(other.b4)})\n"
+        first, late = bindings[a], bindings[b]
+        lines.append(
+            f"port {port} of {first.ipv4} is in binding {a} (psid {first.psid}, {addresses.shown(first.b4)}) "
+            f"and in binding {b} (psid {late.psid}, {addresses.shown(late.b4)})\n"
         )
-    command.say(f"{len(found):,} conflicts; the program refuses the table\n")
+    command.say("".join(lines) + f"{len(found):,} conflicts; the program refuses the table\n")
     return command.REFUSED
 
 

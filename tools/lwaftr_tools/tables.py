@@ -53,6 +53,13 @@ class Binding(typing.NamedTuple):
         first = self.psid << self.low_bits()
         return [(first + start, first + last) for start, last in _ranges_of_zero(self.offset, self.length)]
 
+    def spans(self):
+        """The ports as slices of a list that has an entry for each port: as few as there are ranges, or ports of a range."""
+        ranges, step = self.ranges(), 1 << (16 - self.offset)
+        if len(ranges) <= 1 << self.low_bits():
+            return [slice(first, last + 1) for first, last in ranges]
+        return [slice(port, 65536, step) for port in range(ranges[0][0], ranges[0][1] + 1)]
+
     def mask(self):
         """The ports as the bits of a number: bit P is set if port P is of the set."""
         return _mask_of_zero(self.offset, self.length) << (self.psid << self.low_bits())

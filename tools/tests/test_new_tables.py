@@ -1,6 +1,7 @@
 """`diff_tables.py` and `ports.py`."""
 import ipaddress
 import json
+import random
 
 from shared import ALONE, B4, OTHER, SHARED, WHOLE, Folder, a_table, ran, tables
 
@@ -104,3 +105,34 @@ class Ports(Folder):
         self.assertIn(f"port 1232 of {SHARED} is in binding 0 (psid 52, {B4}) and in binding 3 (psid 52, {NEXT})", out)
         self.assertIn(f"port 1236 of {SHARED} is in binding 1 (psid 53, {OTHER}) and in binding 5", out)
         self.assertIn("4 conflicts; the program refuses the table", out)
+
+    def test_conflicts_are_those_of_the_ports(self):
+        """Against owners that are found port by port, over tables of one shape and of several."""
+        shapes = ((6, 8), (6, 7), (0, 8), (4, 2), (6, 0), (0, 0), (0, 16))
+        for seed in range(14):
+            chosen, table = random.Random(seed), a_table()
+            its = [chosen.choice(shapes[: seed // 2 + 1]) for _ in range(20)]
+            table.bindings = [binding(B4, chosen.choice((SHARED, WHOLE)), *shape, chosen.randrange(1 << shape[1]) % 8) for shape in its]
+            owners, lowest = {}, {}
+            for late, it in enumerate(table.bindings):
+                for port in filter(it.owns, range(65536)):
+                    first = owners.setdefault((it.ipv4, port), late)
+                    if first != late:
+                        lowest.setdefault((first, late), port)
+            wanted = [[list(pair), port] for pair, port in lowest.items()]
+            code, out, error = ran("ports.py", self.file("t.toml", tables.text(table)), "--json")
+            self.assertEqual((code, error), (1 if wanted else 0, ""))
+            if wanted:
+                self.assertEqual(sorted([it["bindings"], it["port"]] for it in json.loads(out)["conflicts"]), sorted(wanted), seed)
+
+    def test_conflicts_of_a_table_in_any_form(self):
+        lines = [f'b4 = "{B4}"', f'ipv4 = "{SHARED}"', "offset = 6", "length = 8", "psid = 52"]
+        settings = '[softwire]\naftr = "2001:db8::1"\nown = "192.0.2.1"\n'
+        other = "\n".join(["[[binding]]", *lines, ""])
+        for same in (
+            other, "\n".join(["[[binding]] # a comment", *lines[::-1], ""]), "[[binding]]\n" + "\n".join(lines[::-1]) + "\n",
+            "[[binding]]\n" + "\n".join([*lines[:4], "psid = 0x34", ""]), "[[binding]]\r\n" + "\r\n".join(lines) + "\r\n",
+        ):
+            for text in (f"version = 2\n{settings}{other}{same}", f"version = 2\n\n{other}\n{same}\n{settings}"):
+                code, out, error = ran("ports.py", self.file("t.toml", text))
+                self.assertEqual((code, out.count(f"port 1232 of {SHARED} is in binding 0"), error), (1, 1, ""), text)

@@ -66,3 +66,5 @@ class Owning(unittest.TestCase):
             owned = {i << (16 - offset) | psid << low | j for i in (range(1, 1 << offset) if offset else [0]) for j in range(1 << low)}
             it = tables.Binding(ipaddress.IPv6Address(B4), ipaddress.IPv4Address(SHARED), offset, length, psid)
             self.assertEqual({port for port in range(65536) if it.owns(port)}, owned)
+            self.assertEqual({port for first, last in it.ranges() for port in range(first, last + 1)}, owned)
+            self.assertEqual(sorted(port for span in it.spans() for port in range(65536)[span]), sorted(owned))
