@@ -27,8 +27,8 @@ def packed6(text):
 def ipv4(text):
     """The address of four decimal numbers without leading zeros."""
     try:
-        return ipaddress.IPv4Address(text)
-    except ValueError:
+        return ipaddress.IPv4Address(socket.inet_pton(socket.AF_INET, text))
+    except (OSError, ValueError):
         raise ValueError(f"{text!r} is not an IPv4 address") from None
 
 
