@@ -81,10 +81,8 @@ put 644 packaging/lwaftr.1 usr/share/man/man1/lwaftr.1
 page FORMATS.md
 page OPERATING.md
 put 644 release/NOTICES usr/share/doc/lwaftr/NOTICES
-for sample in "$top"/tools/samples/*; do
-    put 644 "tools/samples/$(basename "$sample")" "usr/share/doc/lwaftr/examples/$(basename "$sample")"
-done
 mkdir -p "$tree/usr/share/doc/lwaftr/examples/first"
+install -m 644 "$top"/tools/samples/* "$tree/usr/share/doc/lwaftr/examples"
 install -m 644 "$top/examples/first/in.pcap" "$top/examples/first/t0.toml" "$tree/usr/share/doc/lwaftr/examples/first"
 {
     printf 'Format: https://www.debian.org/doc/packaging-manuals/copyright-format/1.0/\nUpstream-Name: lwaftr\n\n'
