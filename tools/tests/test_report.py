@@ -7,7 +7,7 @@ import sys
 import unittest
 
 import browser
-from shared import a_table, captures, command, FAR, Folder, HERE, ip4, one_of_each_rule, ran, SHARED, udp
+from shared import a_table, AFTR, captures, command, FAR, Folder, HERE, ip4, ip6, one_of_each_rule, PROGRAM, ran, SHARED, udp
 
 
 class Reporting(Folder):
@@ -153,13 +153,54 @@ class Reporting(Folder):
         for width in (1280, 390):
             with self.subTest(width=width):
                 shown.open(self.file("page.html"), width)
-                self.assertLessEqual(shown.value("document.documentElement.scrollWidth"), width)
+                self.fits(shown, width)
                 self.numbers(shown, out)
-                self.filters(shown)
+                self.filters(shown, "ttl", "tunnel from 2001:db8:1::1")
         self.told_to_a_reader(shown)
+        self.needs_nothing(shown)
+
+    @unittest.skipUnless(browser.PROGRAM, "no chromium")
+    def test_the_page_of_a_million_records(self):
+        names = self.a_million_records()
+        words = names[2], names[3], "--in", names[0], "--table", names[4], "--html", self.file("page.html"), "--most", "1000"
+        code, out, error = ran("report.py", *words)
+        self.assertEqual((code, error, out.partition(", ")[0]), (0, "", "1,000,000 records"))
+        self.assertLess(os.path.getsize(self.file("page.html")), 1_000_000)
+        shown = browser.Browser(self.file("chromium"))
+        self.addCleanup(shown.close)
+        for width in (1280, 390):
+            with self.subTest(width=width):
+                shown.open(self.file("page.html"), width)
+                self.fits(shown, width)
+                self.numbers(shown, out)
+                self.filters(shown, "no-binding", "tunnel from 2001:db8:9::7")
+        self.needs_nothing(shown)
+
+    def a_million_records(self):
+        """The files of a run: a capture of 1,000 parts that are alike but for their times, in which a tenth of the records is dropped."""
+        first = 1_796_117_400_000_000_000
+        part = [ip4(FAR, SHARED, 17, udp(53, 1232, bytes(40)), number=at) for at in range(900)]
+        part += [ip6(f"2001:db8:9::{at % 400:x}", AFTR, 4, ip4(SHARED, FAR, 17, udp(1232, 53, bytes(40)))) for at in range(100)]
+        part[100:128] = [data for data, _, _ in one_of_each_rule()][:28]
+        names = self.run_program([], a_table())
+        captures.write(names[0], ((first + 1_000_000 * (1000 * turn + at), data) for turn in range(1000) for at, data in enumerate(part)))
+        subprocess.run([PROGRAM, "run", *names], check=True, capture_output=True)
+        return names
+
+    def fits(self, shown, width):
+        """Nothing is cut off, and each chart has a place of its own."""
+        self.assertLessEqual(shown.value("document.documentElement.scrollWidth"), width)
+        cut = "[...document.querySelectorAll('.scroll')].filter((it) => it.scrollWidth > it.clientWidth).map((it) => it.firstElementChild.id)"
+        self.assertEqual(shown.value(cut), [])
+        for chart in ("c-outcomes", "c-drops", "c-rules"):
+            area = shown.value(f"(({{ width, height }}) => [width, height])(Chart.getChart('{chart}').chartArea)")
+            self.assertGreater(area[0], width / 2, chart)
+            self.assertGreater(area[1], 100 if chart != "c-rules" else 40, chart)
+
+    def needs_nothing(self, shown):
+        """Nothing came on the console, and nothing but the page was fetched."""
         self.assertEqual(shown.errors, [])
-        self.assertEqual({it.partition(":")[0] for it in shown.fetched}, {"file"})
-        self.assertEqual(len(set(shown.fetched)), 1)
+        self.assertEqual([it.partition(":")[0] for it in set(shown.fetched)], ["file"])
 
     def numbers(self, shown, out):
         """The numbers of the page are those of the text."""
@@ -174,19 +215,24 @@ class Reporting(Folder):
             label = shown.value(f"document.getElementById('{chart}').getAttribute('aria-label')")
             self.assertTrue(label.endswith(": " + ", ".join(f"{name} {count}" for name, count, _ in kinds)), label)
 
-    def filters(self, shown):
+    def filters(self, shown, rule, subscriber):
         """A click on a rule filters the subscribers, and one on a subscriber the rules; the focus stays."""
-        self.click(shown, "t-rules", "ttl")
-        self.assertEqual([it[0] for it in self.rows(shown, "t-rules")], ["ttl"])
-        self.assertEqual(self.rows(shown, "t-subscribers")[0][:2], ("tunnel from 2001:db8:1::1", "1"))
-        self.assertEqual(shown.value("document.activeElement.textContent + document.activeElement.getAttribute('aria-pressed')"), "ttltrue")
-        self.click(shown, "t-subscribers", "tunnel from 2001:db8:1::1")
-        self.assertIn("ttl", [it[0] for it in self.rows(shown, "t-rules")])
-        self.assertIn("Only tunnel from 2001:db8:1::1", shown.value("document.getElementById('filter').textContent"))
+        all_names = self.rows(shown, "t-subscribers")
+        self.click(shown, "t-rules", rule)
+        self.assertEqual([it[0] for it in self.rows(shown, "t-rules")], [rule])
+        of_names = {name: dict(re.findall(r"([a-z0-9-]+) (\d{1,3}(?:,\d{3})*)", kinds)) for name, _, kinds in all_names}
+        found = {name: kinds[rule] for name, kinds in of_names.items() if rule in kinds}
+        self.assertEqual({name: count for name, count, _ in self.rows(shown, "t-subscribers")}, found)
+        self.assertIn(subscriber, found)
+        self.assertEqual(shown.value("document.activeElement.textContent + document.activeElement.getAttribute('aria-pressed')"), f"{rule}true")
+        self.click(shown, "t-subscribers", subscriber)
+        self.assertIn(rule, [it[0] for it in self.rows(shown, "t-rules")])
+        self.assertIn(f"Only {subscriber}", shown.value("document.getElementById('filter').textContent"))
         shown.value("document.getElementById('all').click()")
-        self.assertGreater(len(self.rows(shown, "t-rules")), 20)
-        shown.value("document.querySelector('#t-rules th:nth-child(5) button').click()")
+        self.assertEqual(self.rows(shown, "t-subscribers"), all_names)
+        shown.value("document.querySelector('#t-rules th:last-child button').click()")
         places = [int(it.replace(",", "")) for it in self.column(shown, "t-rules", 4)]
+        self.assertGreater(len(places), 10)
         self.assertEqual(places, sorted(places, reverse=True))
         for scale in ("shares", "log", "counts"):
             shown.value(f"document.querySelector('[data-scale={scale}]').click()")

@@ -9,6 +9,7 @@
   const kinds = [...Object.keys(data.outcomes).filter((it) => it !== "drop"), "drop", ...Object.keys(data.rules)];
   const dropped = data.outcomes.drop || 0;
 
+  const narrow = matchMedia("(max-width: 600px)");
   const style = (name) => getComputedStyle(document.documentElement).getPropertyValue(name).trim();
   // one colour for a kind everywhere: hues that are far apart in the order of the kinds
   const colour = (kind) => `hsl(${Math.round(kinds.indexOf(kind) * 137.508 + 210) % 360} 62% ${style("--light")})`;
@@ -183,7 +184,7 @@
           borderColor: colour(name), backgroundColor: colour(name), fill: !isLog, borderWidth: isLog ? 2 : 1, pointRadius: isLog ? 1 : 0, stepped: true,
         })),
       },
-      options: options(axis, isShare ? "share of records, %" : data.course.unit, isLog, !isLog, { type: "linear", min: 0, max: data.course.end }),
+      options: options(names, axis, isShare ? "share of records, %" : data.course.unit, isLog, !isLog, { type: "linear", min: 0, max: data.course.end }),
       plugins: [marks],
     }, `${label} over the run: ${names.map((it) => `${it} ${number(it in data.rules ? data.rules[it].packets : data.outcomes[it])}`).join(", ")}`);
   }
@@ -196,7 +197,7 @@
     // a rule with few drops would not be seen next to one with many
     const isLog = state.scale === "log" || (!isShare && its.length > 1 && its[0][1] > 50 * its[its.length - 1][1]);
     const title = isShare ? "share of the drops, %" : isLog ? "drops, on a logarithmic scale" : "drops";
-    const made = options("", "", isLog, false, {});
+    const made = options([], "", "", isLog, false, {});
     made.indexAxis = "y";
     made.scales = { x: { ...made.scales.y, type: isLog ? "logarithmic" : "linear", min: isLog ? 0.5 : 0, title: { display: true, text: title, color: style("--soft") } }, y: { grid: { display: false }, ticks: { color: style("--ink"), autoSkip: false } } };
     made.plugins.legend.display = false;
@@ -208,17 +209,18 @@
     }, `Drops by rule: ${its.map((it) => `${it[0]} ${number(it[1])}`).join(", ")}`);
   }
 
-  function options(x, y, isLog, isStacked, axis) {
+  function options(names, x, y, isLog, isStacked, axis) {
     const ticks = { color: style("--soft"), maxRotation: 0 };
-    const tens = { ...ticks, callback: (value) => (Number.isInteger(Math.log10(value)) ? number(value) : "") };
+    const tens = (axis) => { if (isLog) axis.ticks = axis.ticks.filter((it) => Number.isInteger(Math.log10(it.value))); };
     const grid = { color: style("--line") };
-    const legend = { position: "bottom", labels: { color: style("--ink"), boxWidth: 12 }, onClick: (_, it) => it.text in data.rules && choose("rule", it.text) };
+    // on a narrow screen a long legend would take the place of the chart; the bars below name the rules with their colours too
+    const legend = { display: !narrow.matches || names.length <= 6, position: "bottom", labels: { color: style("--ink"), boxWidth: 12 }, onClick: (_, it) => it.text in data.rules && choose("rule", it.text) };
     return {
       responsive: true, maintainAspectRatio: false, animation: false, interaction: { mode: "index", intersect: false },
       plugins: { legend },
       scales: {
         x: { ...axis, title: { display: Boolean(x), text: x, color: style("--soft") }, ticks, grid },
-        y: { type: isLog ? "logarithmic" : "linear", stacked: isStacked, beginAtZero: true, title: { display: true, text: y, color: style("--soft") }, ticks: isLog ? tens : ticks, grid },
+        y: { type: isLog ? "logarithmic" : "linear", stacked: isStacked, beginAtZero: true, title: { display: true, text: y, color: style("--soft") }, ticks: isLog ? { ...ticks, callback: number } : ticks, afterBuildTicks: tens, grid },
       },
     };
   }
@@ -245,6 +247,7 @@
   for (const it of document.querySelectorAll("[data-scale]")) it.addEventListener("click", () => { state.scale = it.dataset.scale; show(); });
   by("all").addEventListener("click", () => { state.rule = state.subscriber = null; show(); });
   matchMedia("(prefers-color-scheme: dark)").addEventListener("change", show);
+  narrow.addEventListener("change", show);
   addEventListener("beforeprint", show);
   addEventListener("afterprint", show);
   show();
