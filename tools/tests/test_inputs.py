@@ -116,6 +116,20 @@ class Inputs(Folder):
         self.assertEqual((code, made), (1, False))
         self.assertRegex(error, r"source:2: refused: ")
 
+    def test_an_address_with_a_zone_is_named_by_its_line(self):
+        for zoned in ("fe80::1%eth0", "fe80::1%"):
+            for tool, text in (
+                ("from_csv.py", f"\n203.0.113.1,6,8,52,{zoned}\n"),
+                ("from_vpp.py", f"map add domain ip4-pfx 203.0.113.1/32 ip6-pfx ::/0 ip6-src {AFTR} psid-offset 6 psid-len 8\nmap add rule index 0 psid 52 ip6-dst {zoned}\n"),
+                ("from_vpp.py", f"\nmap add domain ip4-pfx 203.0.113.1/32 ip6-pfx ::/0 ip6-src {zoned} psid-offset 6 psid-len 8\n"),
+                ("from_snabb.py", f"softwire-config {{ binding-table {{\nsoftwire {{ ipv4 203.0.113.1; b4-ipv6 {zoned}; }} }} }}"),
+                ("from_snabb.py", f"softwire-config {{ binding-table {{\nsoftwire {{ ipv4 203.0.113.1; b4-ipv6 {B4}; br-address {zoned}; }} }} }}"),
+            ):
+                with self.subTest(tool=tool, text=text):
+                    code, error, made = self.converted(tool, text, "--own", OWN, *(WORDS[:2] if tool == "from_csv.py" else ()))
+                    self.assertEqual((code, made), (1, False))
+                    self.assertRegex(error, f"source:2: .*'{zoned}' is not an IPv6 address")
+
     def test_settings_that_the_program_refuses(self):
         code, error, made = self.converted("from_csv.py", f"203.0.113.1,6,8,52,{B4}\n", *WORDS, "--mtu6", "70000")
         self.assertEqual((code, made), (1, False))
@@ -151,7 +165,7 @@ class Inputs(Folder):
         code, error, made = self.converted("from_snabb.py", "softwire-config { " + "instance { " * 3000, *WORDS)
         self.assertEqual((code, made, error.count("\n")), (1, False, 1))
         self.assertIn("nested more than 64 deep", error)
-        self.assertLess(seconds_of_children() - start, 10)
+        self.assertLess(seconds_of_children() - start, 3)
 
     def test_commands_of_vpp_that_delete_are_rejected(self):
         domain = f"map add domain ip4-pfx 203.0.113.1/32 ip6-pfx ::/0 ip6-src {AFTR} psid-offset 6 psid-len 8\n"
@@ -216,6 +230,12 @@ class Inputs(Folder):
         shell = f'"{sys.executable}" "{HERE}/from_csv.py" "{rows}" {" ".join(WORDS)} -o "{self.file("made.toml")}" 2>&-'
         self.assertEqual(subprocess.run(["sh", "-c", shell], check=False).returncode, 0)
         self.assertEqual(len(tables.read(self.file("made.toml")).bindings), 1)
+        # a reader of standard error that is gone
+        reading, writing = os.pipe()
+        os.close(reading)
+        it = subprocess.run([sys.executable, f"{HERE}/from_vpp.py", self.file("v.cli", "set x\n"), *WORDS, "-o", self.file("made.toml")], stderr=writing, check=False)
+        os.close(writing)
+        self.assertEqual((it.returncode, len(tables.read(self.file("made.toml")).bindings)), (0, 0))
         shell = f'"{sys.executable}" "{HERE}/to_vpp.py" "{names[4]}" | true; "{sys.executable}" "{HERE}/report.py" "{names[2]}" | head -n 1'
         it = subprocess.run(["sh", "-c", shell], capture_output=True, check=False)
         self.assertEqual((it.stdout, it.stderr), (b"40 records, 0 packets sent\n", b""))
@@ -224,8 +244,10 @@ class Inputs(Folder):
         names = self.a_run()
         odd = os.fsencode(self.folder.name) + b"/v\xff\x1b]0;x.txt"
         os.link(names[2], odd)
-        code = subprocess.run([sys.executable, os.path.join(HERE, "report.py"), odd], capture_output=True, check=False).returncode
-        self.assertEqual(code, 0)
+        it = run_with("report.py", odd.decode(errors="surrogateescape"), "--html", self.file("page.html"))
+        self.assertEqual((it.returncode, it.stderr), (0, b""))
+        with open(self.file("page.html"), encoding="utf-8") as file:
+            self.assertIn("<title>lwaftr: v??]0;x.txt</title>", file.read())
         for tool, *words in (("report.py", names[0].encode() + b"\x1b\xff", b"x\xe2\x80\xae"), ("from_csv.py", odd + b"none", *WORDS), ("why.py", odd, b"\x1b[2J", "0")):
             it = subprocess.run([sys.executable, os.path.join(HERE, tool), *words], capture_output=True, check=False)
             self.assertEqual((it.returncode, it.stderr.count(b"Traceback"), b"\x1b" in it.stderr, b"\xe2\x80\xae" in it.stderr), (2, 0, False, False), it.stderr)
@@ -234,6 +256,10 @@ class Inputs(Folder):
         code, _, error = ran("from_vpp.py", self.file("v.cli", "set \x1b]0;x\x07 \u202e\n"), *WORDS)
         self.assertEqual(code, 0)
         self.assertIn(":1: left out: set ?]0;x? ?\n", error)
+        text = "softwire-config { \x1b[2J 1; binding-table { } }"
+        code, _, error = ran("from_snabb.py", self.file("s.conf", text), *WORDS)
+        self.assertEqual(code, 0)
+        self.assertIn(":1: left out: ?[2J\n", error)
 
     def test_an_environment_of_ascii_alone(self):
         names = self.a_run()
@@ -272,6 +298,20 @@ class Inputs(Folder):
             for line in out.split("options:")[-1].split("exit codes:")[0].splitlines():
                 self.assertRegex(line, r"^$|^  -.*  \S|^  -|^ {10,}\S", tool)
             self.assertEqual(ran(tool, "--no-such-word")[0], 2, tool)
+
+    def test_files_that_are_not_there(self):
+        """Every tool ends with 2, and says in one line which file it is."""
+        names, none = self.a_run(1), self.file("none")
+        words = {
+            "compare.py": [none, none], "diff_tables.py": [none, names[4]], "from_csv.py": [none, *WORDS], "ports.py": [none], "report.py": [none],
+            "to_b4.py": [none, "uci"], "who_at.py": [none, f"0={names[4]}"], "why.py": [none, names[4], "0"],
+        }
+        for tool in sorted(it for it in os.listdir(HERE) if it.endswith(".py")):
+            with self.subTest(tool=tool):
+                code, out, error = ran(tool, *words.get(tool, [none]))
+                self.assertEqual((code, out), (2, ""))
+                self.assertRegex(error, rf"\A{tool}: (read fault\n  )?{none}\b.*\n(  .*\n)*\Z")
+                self.assertNotIn("[Errno", error)
 
     def test_an_older_python(self):
         older = os.environ.get("OLDER_PYTHON", os.path.expanduser("~/.pyenv/versions/3.9.18/bin/python"))
