@@ -9,25 +9,19 @@ from lwaftr_tools import addresses, command, converting, softwire_br, tables
 MOST_LENGTH = 15
 
 
-def entry(it, aftr):
-    """The texts of an entry: the subscriber's end, its address, its port set, and the router's end. The module wants the port set of a whole
-    address too."""
-    return addresses.shown(it.b4), it.ipv4, it.offset, it.length, it.psid, aftr
-
-
 def kept(table, file):
-    """The bindings that the module can express."""
+    """The rows that the module can express."""
     seen = {}
-    for at, it in enumerate(table.bindings):
+    for at, it in enumerate(table.rows):
         if it.b4 in seen:
             why = f"the module has one entry for each b4, and binding {seen[it.b4]} is it"
-        elif it.length > MOST_LENGTH:
+        elif int(it.length) > MOST_LENGTH:
             why = f"its length is {it.length}, and the module's psid-len is at most {MOST_LENGTH}"
         else:
             seen[it.b4] = at
             yield it
             continue
-        command.warn(f"{file}: left out: binding {at} ({addresses.shown(it.b4)}, {it.ipv4}): {why}")
+        command.warn(f"{file}: left out: binding {at} ({it.b4}, {it.ipv4}): {why}")
 
 
 def instance(table, count, name):
@@ -52,15 +46,14 @@ def main():
     it.add_argument("--xml", action="store_true", help="write XML in place of JSON")
     it.add_argument("--name", default="lwaftr", help="the name of the instance (lwaftr)")
     words = converting.parsed(it)
-    table = tables.read(words.file)
+    table = tables.document(words.file)
     for name in ("own", "mtu4", "hop_limit"):
         command.warn(f"{words.file}: left out: {name} = {getattr(table.softwire, name)}: the module has no leaf for it")
-    bindings = list(kept(table, words.file))
-    tree = {"br-instances": {"binding": {"bind-instance": [instance(table, len(bindings), words.name)]}}}
+    rows = list(kept(table, words.file))
+    tree = {"br-instances": {"binding": {"bind-instance": [instance(table, len(rows), words.name)]}}}
     aftr = addresses.shown(table.softwire.aftr)
-    entries = (entry(it, aftr) for it in bindings)
-    command.put(words.output, softwire_br.as_xml(tree, entries) if words.xml else softwire_br.as_json(tree, entries))
-    return command.REFUSED if len(bindings) < len(table.bindings) else command.DONE
+    command.put(words.output, softwire_br.as_xml(tree, rows, aftr) if words.xml else softwire_br.as_json(tree, rows, aftr))
+    return command.REFUSED if len(rows) < len(table.rows) else command.DONE
 
 
 if __name__ == "__main__":

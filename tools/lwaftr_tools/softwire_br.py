@@ -125,25 +125,26 @@ def _put(parent, name, inside, file):
         children[name] = inside
 
 
-def as_json(tree, entries):
-    """A document of JSON: a tree whose list of entries is empty, and the entries, each a line."""
+def as_json(tree, rows, aftr):
+    """A document of JSON: a tree whose list of entries is empty, and the entries, each a line. The module wants the port set of a whole
+    address too."""
     lines = (
         f'{{"binding-ipv6info": "{b4}/128", "binding-ipv4-addr": "{ipv4}", '
         f'"port-set": {{"psid-offset": {offset}, "psid-len": {length}, "psid": {psid}}}, "br-ipv6-addr": "{aftr}"}}'
-        for b4, ipv4, offset, length, psid, aftr in entries
+        for b4, ipv4, length, offset, psid in rows
     )
     # no text of JSON holds a quotation mark that is not escaped, so this is the list
     before, mark, behind = json.dumps({f"{MODULE}:br-instances": tree["br-instances"]}, indent=1).partition('"binding-entry": []')
     return f"{before}{mark[:-1]}\n" + ",\n".join(lines) + f"\n]{behind}\n"
 
 
-def as_xml(tree, entries):
+def as_xml(tree, rows, aftr):
     """A document of XML, as `as_json`."""
     lines = (
         f"<binding-entry><binding-ipv6info>{b4}/128</binding-ipv6info><binding-ipv4-addr>{ipv4}</binding-ipv4-addr>"
         f"<port-set><psid-offset>{offset}</psid-offset><psid-len>{length}</psid-len><psid>{psid}</psid></port-set>"
         f"<br-ipv6-addr>{aftr}</br-ipv6-addr></binding-entry>\n"
-        for b4, ipv4, offset, length, psid, aftr in entries
+        for b4, ipv4, length, offset, psid in rows
     )
     top = ElementTree.Element("br-instances", {"xmlns": NAMESPACE})
     _add(top, tree["br-instances"])
