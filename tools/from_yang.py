@@ -25,20 +25,25 @@ ENTRY = ("binding-ipv6info", "binding-ipv4-addr", "port-set", "br-ipv6-addr")
 PORT_SET = ("psid-offset", "psid-len", "psid")
 
 
-def plain_entry(tree):
-    """The tunnel address and the binding of an entry that has the usual leaves, each well written; None of any other one."""
-    try:
-        ports = tree["port-set"]
-        if len(tree) != len(ENTRY) or len(ports) != len(PORT_SET):
-            return None
-        prefix = tree["binding-ipv6info"]
-        shape_and_psid = [it if type(it) is int else converting.number("", it) for it in (ports[name] for name in PORT_SET)]
-        if min(shape_and_psid) < 0 or not prefix.endswith("/128"):
-            return None
-        binding = tables.Binding(addresses.ipv6(prefix[:-4]), addresses.ipv4(tree["binding-ipv4-addr"]), *shape_and_psid)
-        return addresses.tunnel(tree["br-ipv6-addr"]), binding
-    except (AttributeError, KeyError, TypeError, ValueError):
+def plain_entry(it):
+    """The tunnel address and the binding of a plain entry that is well written; None of any other one."""
+    if not it.b4.endswith("/128"):
         return None
+    number = converting.number
+    try:
+        binding = tables.Binding(addresses.ipv6(it.b4[:-4]), addresses.ipv4(it.ipv4), number("", it.offset), number("", it.length), number("", it.psid))
+        return addresses.tunnel(it.aftr), binding
+    except ValueError:
+        return None
+
+
+def all_of(entries):
+    """The entries of a list in which runs of plain ones stand."""
+    for it in entries:
+        if isinstance(it, softwire_br.Run):
+            yield from it
+        else:
+            yield it
 
 
 class Reader:
@@ -127,8 +132,10 @@ class Reader:
 
     def entry(self, tree, place):
         """The tunnel address of an entry, and its binding."""
-        if plain := plain_entry(tree):
-            return plain
+        if isinstance(tree, softwire_br.Plain):
+            if plain := plain_entry(tree):
+                return plain
+            tree = tree.tree()
         if not isinstance(tree, dict):
             self.fail(place, "an entry of a binding table belongs here")
         self.unread(tree, ENTRY, place)
@@ -155,7 +162,7 @@ def main():
     found = reader.settings(tree, place)
     entries = reader.part(reader.part(tree, "binding-table", place), "binding-entry", f"{place}/binding-table", list)
     front = f"{place}/binding-table/binding-entry"
-    read = [(f"{front}[{at}]", *reader.entry(it, f"{front}[{at}]")) for at, it in enumerate(entries)]
+    read = [(f"{front}[{at}]", *reader.entry(it, f"{front}[{at}]")) for at, it in enumerate(all_of(entries))]
     aftr = converting.one_tunnel(words, collections.Counter(it for _, it, _ in read if it))
     if aftr:
         found["aftr"] = aftr

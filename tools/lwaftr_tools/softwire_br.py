@@ -4,6 +4,7 @@ from __future__ import annotations
 
 import json
 import re
+import typing
 import xml.etree.ElementTree as ElementTree
 
 from . import command
@@ -21,78 +22,112 @@ class InstanceError(command.Refused):
     """Data that is not understood, and its place."""
 
 
+class Plain(typing.NamedTuple):
+    """An entry of plain leaves, each with its text."""
+
+    b4: str
+    ipv4: str
+    offset: str
+    length: str
+    psid: str
+    aftr: str
+
+    def tree(self):
+        """The entry as any other one is read."""
+        b4, ipv4, offset, length, psid, aftr = (it.strip() for it in self)
+        ports = {"psid-offset": offset, "psid-len": length, "psid": psid}
+        return {"binding-ipv6info": b4, "binding-ipv4-addr": ipv4, "port-set": ports, "br-ipv6-addr": aftr}
+
+
+class Run(list):
+    """Plain entries that stand one behind the other."""
+
+
 def read(text, file):
-    """The tree of a document, without the module's name in front of names."""
+    """The tree of a document, without the module's name in front of names. In the place of an entry in a list a Run may stand."""
     try:
-        if text.lstrip()[:1] == "{":
-            return json.loads(text, object_pairs_hook=lambda pairs: _object(pairs, file))
-        return _of_xml(_without_types(text, file), file)
+        return _read(text, file, _of_json if text.lstrip()[:1] == "{" else _of_xml)
     except (json.JSONDecodeError, ElementTree.ParseError, RecursionError) as error:
         raise InstanceError(f"{file}: neither JSON nor XML: {error}") from None
 
 
-def _object(pairs, file):
-    """An object of JSON, without the module's name in front of names."""
-    found = dict(pairs)
-    if ":" in "".join(found):
-        pairs = [(name.rpartition(":")[2], it) for name, it in pairs]
-        found = dict(pairs)
-    if len(found) != len(pairs):
-        twice = next(name for at, (name, _) in enumerate(pairs) if name in dict(pairs[:at]))
-        raise InstanceError(f"{file}: {twice} is given twice in one object")
-    return found
-
-
-def _without_types(text, file):
-    """A text of XML that defines no entities: instance data has no document type."""
-    if "<!DOCTYPE" in text:
-        raise InstanceError(f"{file}: a document type is not read")
-    return text
+def _read(text, file, form):
+    rest, runs = _set_apart(text, form)
+    if runs:
+        try:
+            return form(rest, runs, file)
+        except (json.JSONDecodeError, ElementTree.ParseError):
+            pass  # the error is to name a line of the whole text
+    return form(text, [], file)
 
 
 def _leaf(name):
-    return rf"<{name}>([\w.:/]*)</{name}>\s*"
+    return rf"<{name}>([^<&]*)</{name}>\s*"
 
 
-# an entry of plain leaves in the order of the module: a document has tens of thousands of these
-PLAIN_ENTRY = re.compile(
+def _pair(name, value):
+    return rf'"{name}"\s*:\s*{value}\s*'
+
+
+# an entry of plain leaves in the order of the module, and what stands behind it: a document has tens of thousands of these
+PLAIN_XML = re.compile(
     r"<binding-entry>\s*" + _leaf("binding-ipv6info") + _leaf("binding-ipv4-addr")
-    + rf"(?:<port-set>\s*{_leaf('psid-offset')}{_leaf('psid-len')}{_leaf('psid')}</port-set>\s*)?"
-    + _leaf("br-ipv6-addr") + "</binding-entry>"
+    + rf"<port-set>\s*{_leaf('psid-offset')}{_leaf('psid-len')}{_leaf('psid')}</port-set>\s*"
+    + _leaf("br-ipv6-addr") + r"</binding-entry>\s*()"
 )
-# what stands in the place of one while the rest is read
-STAND_IN = "plain-entry"
+PLAIN_JSON = re.compile(
+    r"\{\s*" + r",\s*".join((
+        _pair("binding-ipv6info", '"([^"\\\\]*)"'), _pair("binding-ipv4-addr", '"([^"\\\\]*)"'),
+        _pair("port-set", r"\{\s*" + r",\s*".join(_pair(name, "([0-9]+)") for name in ("psid-offset", "psid-len", "psid")) + r"\}"),
+        _pair("br-ipv6-addr", '"([^"\\\\]*)"'),
+    )) + r"\}\s*(,?)\s*"
+)
+# what stands in the place of a run of them while the rest is read
+STAND_IN = "plain-entries"
 
 
-def _of_xml(text, file):
-    rest, entries = _set_apart(text)
-    if entries:
-        try:
-            return _tree_of_xml(rest, iter(entries), file)
-        except ElementTree.ParseError:
-            pass  # the error is to name a line of the whole text
-    return _tree_of_xml(text, iter(()), file)
-
-
-def _set_apart(text):
-    """The text with a stand-in for each plain entry, and these entries; none where a comment or the like might hold what looks like one."""
-    if "<!" in text or "<?" in text.lstrip()[1:] or STAND_IN in text:
+def _set_apart(text, form):
+    """The text with a stand-in for each run of plain entries, and the runs; none where a comment or the like might hold what looks like one."""
+    is_json = form is _of_json
+    if STAND_IN in text or (not is_json and ("<!" in text or "<?" in text.lstrip()[1:])):
         return text, []
-    parts, entries, at = [], [], 0
-    for found in PLAIN_ENTRY.finditer(text):
-        b4, ipv4, offset, length, psid, aftr = found.groups()
-        entry = {"binding-ipv6info": b4, "binding-ipv4-addr": ipv4, "br-ipv6-addr": aftr}
-        if psid is not None:
-            entry["port-set"] = {"psid-offset": offset, "psid-len": length, "psid": psid}
-        entries.append(entry)
-        parts.append(text[at : found.start()])
+    parts, runs, at, comma = [], [], 0, ""
+    stand_in = f'{{"{STAND_IN}":0}}' if is_json else f"<{STAND_IN}/>"
+    for found in (PLAIN_JSON if is_json else PLAIN_XML).finditer(text):
+        if found.start() != at or not runs:
+            # a comma behind a run is that of its last entry
+            parts += [comma, text[at : found.start()], stand_in]
+            runs.append(Run())
+        *leaves, comma = found.groups()
+        runs[-1].append(Plain._make(leaves))
         at = found.end()
-    return f"<{STAND_IN}/>".join([*parts, text[at:]]), entries
+    return "".join([*parts, comma, text[at:]]), runs
 
 
-def _tree_of_xml(text, entries, file):
+def _of_json(text, runs, file):
+    waiting = iter(runs)
+
+    def of_object(pairs):
+        """An object, without the module's name in front of names; of a stand-in its entries."""
+        found = dict(pairs)
+        if STAND_IN in found and runs:
+            return next(waiting)
+        if ":" in "".join(found):
+            pairs = [(name.rpartition(":")[2], it) for name, it in pairs]
+            found = dict(pairs)
+        if len(found) != len(pairs):
+            twice = next(name for at, (name, _) in enumerate(pairs) if name in dict(pairs[:at]))
+            raise InstanceError(f"{file}: {twice} is given twice in one object")
+        return found
+
+    return json.loads(text, object_pairs_hook=of_object)
+
+
+def _of_xml(text, runs, file):
     """The tree of a document of XML. An element that has ended is forgotten, so that the document is in memory once."""
-    parser = ElementTree.XMLPullParser(("start", "end"))
+    if "<!DOCTYPE" in text:
+        raise InstanceError(f"{file}: a document type is not read")
+    parser, waiting = ElementTree.XMLPullParser(("start", "end")), iter(runs)
     # for each element that is open its name and its children by their names
     open_ones = [("", {})]
     for at in range(0, len(text), CHUNK):
@@ -104,8 +139,8 @@ def _tree_of_xml(text, entries, file):
                 open_ones.append((element.tag.rpartition("}")[2], {}))
                 continue
             name, children = open_ones.pop()
-            if name == STAND_IN and (entry := next(entries, None)):
-                name, children = "binding-entry", entry
+            if name == STAND_IN and runs:
+                name, children = "binding-entry", next(waiting)
             _put(open_ones[-1], name, children or (element.text or "").strip(), file)
             element.clear()
     parser.close()

@@ -100,6 +100,7 @@ class Yang(Folder):
         entry = text[first[0] : first[1]]
         forms = (
             text.replace("><", ">\n<"), text.replace("<binding-ipv4-addr>", "<binding-ipv4-addr >", 1), text.replace("203.0.113.1<", "203.0.113.1&#10;<", 1),
+            text.replace(">52<", ">\n52 <"), text.replace("/128", ""), text.replace("<psid>0</psid>", "<!-- whole --><psid>0</psid>"),
             text.replace("<binding-table>", f"<!-- {entry} --><binding-table>"), text.replace("<binding-table>", f"<?old {entry}?><binding-table>"),
             text.replace(" xmlns=", " xmlns:y=").replace("<", "<y:").replace("<y:/", "</y:").replace("<y:?", "<?"),
         )
@@ -112,6 +113,26 @@ class Yang(Folder):
         code, error = self.read(text.replace("</br-instances>", "</br-instance>"))
         self.assertEqual((code, f"line {text.count(chr(10))}" in error), (1, True), error)
         self.assertEqual(self.read(text.replace("<name>lwaftr", f'<name a="{entry}">lwaftr'))[0], 1)
+
+    def test_entries_of_json_are_read_whatever_their_form(self):
+        _, text, _ = ran("to_yang.py", self.file("t.toml", tables.text(a_table())))
+        tree = json.loads(text)
+        entries = self.instance(tree)["binding-table"]["binding-entry"]
+        forms = [text, json.dumps(tree), json.dumps(tree, indent=4), json.dumps(tree, separators=(",", ":")), text.replace("/128", "")]
+        for at in range(len(entries)):
+            # one entry among plain ones with its leaves in another order
+            entries[at] = dict(reversed(entries[at].items()))
+            forms += [json.dumps(tree), json.dumps(tree, indent=1)]
+        for form in forms:
+            code, error = self.read(form)
+            self.assertEqual(code, 0, error)
+            self.assertTrue(same(tables.read(self.file("made.toml")), a_table()))
+        # what is wrong is found at its line, and a list is no entry
+        code, error = self.read(text.replace("\n]", ",\n]", 1))
+        self.assertEqual((code, f"line {text[: text.index(chr(10) + ']')].count(chr(10)) + 2} " in error), (1, True), error)
+        self.instance(tree)["binding-table"]["binding-entry"][1] = [entries[0]]
+        code, error = self.read(tree)
+        self.assertEqual((code, "binding-entry[1]: an entry of a binding table belongs here" in error), (1, True), error)
 
     def test_texts_that_are_no_data(self):
         for text in ("", "nothing", "{", "<a>", "[" * 100_000, '{"a":' * 5000, "<a>" * 5000, "{}", "<a/>", '<!DOCTYPE a [<!ENTITY b "c">]><a>&b;</a>', '{"br-instances": 1}'):
