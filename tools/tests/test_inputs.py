@@ -1,5 +1,6 @@
 """No tool loses or misreads its input."""
 import os
+import re
 import resource
 import struct
 import subprocess
@@ -230,6 +231,9 @@ class Inputs(Folder):
         shell = f'"{sys.executable}" "{HERE}/from_csv.py" "{rows}" {" ".join(WORDS)} -o "{self.file("made.toml")}" 2>&-'
         self.assertEqual(subprocess.run(["sh", "-c", shell], check=False).returncode, 0)
         self.assertEqual(len(tables.read(self.file("made.toml")).bindings), 1)
+        shell = f'"{sys.executable}" "{HERE}/from_vpp.py" "{self.file("v.cli", "set x")}" {" ".join(WORDS)} 2>&-'
+        it = subprocess.run(["sh", "-c", shell], capture_output=True, text=True, check=False)
+        self.assertEqual((it.returncode, it.stdout.partition("\n")[0]), (0, "version = 2"))
         # a reader of standard error that is gone
         reading, writing = os.pipe()
         os.close(reading)
@@ -295,8 +299,9 @@ class Inputs(Folder):
         for tool in sorted(it for it in os.listdir(HERE) if it.endswith(".py")):
             code, out, _ = ran(tool, "--help")
             self.assertEqual((code, "exit codes:" in out), (0, True), tool)
-            for line in out.split("options:")[-1].split("exit codes:")[0].splitlines():
-                self.assertRegex(line, r"^$|^  -.*  \S|^  -|^ {10,}\S", tool)
+            # each word and option has a text, behind it or below it
+            for name, text in re.findall(r"(?m)^  (\S+(?: \S+)*)((?:  .*)?(?:\n {10,}.*)*)$", out[out.index("\noptions:") :].split("\nexit codes:")[0]):
+                self.assertRegex(text, r"\A\s+\w", f"{tool}: {name}")
             self.assertEqual(ran(tool, "--no-such-word")[0], 2, tool)
 
     def test_files_that_are_not_there(self):
