@@ -18,7 +18,8 @@ protocol.fields = { fields.table, fields.verdict, fields.rule, fields.limited, f
 
 local words = { ... }
 local path = words[1] or os.getenv("LWAFTR_VERDICTS")
-local lines, never = {}, {}
+-- for each record what its line says behind the number, which few lines say in another way; and what became of a datagram that began with it
+local said, never = {}, {}
 
 local function read()
     local file, why = io.open(path or "")
@@ -26,10 +27,10 @@ local function read()
         error("lwaftr.lua: name VERDICTS by -X lua_script1:VERDICTS or LWAFTR_VERDICTS: " .. tostring(why))
     end
     for line in file:lines() do
-        local record = line:match("^(%d+) %d+ %l+ ")
+        local record, rest = line:match("^(%d+) (%d+ %l+ .+)$")
         local what, first = line:match("^(%l+) (%d+)$")
         if record then
-            lines[tonumber(record)] = line
+            said[tonumber(record)] = rest
         elseif first then
             never[tonumber(first)] = what
         else
@@ -40,22 +41,39 @@ local function read()
 end
 read()
 
+local values_of = {}
+
+-- The values of the fields, by what a line says.
+local function values(text)
+    local found = values_of[text]
+    if not found then
+        local number, verdict, rest = text:match("^(%d+) (%l+) (.+)$")
+        found = { table = tonumber(number), verdict = verdict, packets = tonumber(rest:match("(%d+)$")) }
+        if verdict == "drop" then
+            found.rule = rest:match("^(%S+)")
+            found.limited = rest:find(" limited ", 1, true) ~= nil
+        end
+        values_of[text] = found
+    end
+    return found
+end
+
 function protocol.dissector(buffer, packet, tree)
-    local line = lines[packet.number - 1]
-    if not line then
+    local record = packet.number - 1
+    if not said[record] then
         return
     end
-    local table_number, verdict, rest = line:match("^%d+ (%d+) (%l+) (.+)$")
-    local shown = tree:add(protocol, "lwaftr: record " .. line)
-    shown:add(fields.table, tonumber(table_number))
-    shown:add(fields.verdict, verdict)
-    shown:add(fields.packets, tonumber(rest:match("(%d+)$")))
-    if verdict == "drop" then
-        shown:add(fields.rule, (rest:match("^(%S+)")))
-        shown:add(fields.limited, rest:find(" limited ", 1, true) ~= nil)
+    local found = values(said[record])
+    local shown = tree:add(protocol, "lwaftr: record " .. record .. " " .. said[record])
+    shown:add(fields.table, found.table)
+    shown:add(fields.verdict, found.verdict)
+    shown:add(fields.packets, found.packets)
+    if found.rule then
+        shown:add(fields.rule, found.rule)
+        shown:add(fields.limited, found.limited)
     end
-    if never[packet.number - 1] then
-        shown:add(fields.never, never[packet.number - 1])
+    if never[record] then
+        shown:add(fields.never, never[record])
     end
 end
 register_postdissector(protocol)

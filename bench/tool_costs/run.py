@@ -7,6 +7,7 @@ Tables have 65,536 bindings, and a capture has 1,000,000 records. Ends with 1 if
 LWAFTR names the program that the tools run (./lwaftr). The tools are run by this Python."""
 import ipaddress
 import os
+import shutil
 import subprocess
 import sys
 import tempfile
@@ -116,6 +117,9 @@ OF_RECORDS = (
     tool("compare", "out.pcap", "out.pcap", "--verdicts", "verdicts.txt"),
     tool("why", "in.pcap", "table.toml", str(RECORDS - 1), "--verdicts", "verdicts.txt"),
 )
+DISSECTED = [
+    "tshark", "-X", f"lua_script:{TOOLS}/lwaftr.lua", "-X", "lua_script1:verdicts.txt", "-r", "in.pcap", "-Y", 'lwaftr.rule == "no-binding"', "-w", "part.pcap",
+]
 
 
 def cost(words):
@@ -132,7 +136,8 @@ def row(words, runs):
     """Measures a command and prints its row; the seconds and the megabytes."""
     costs = [cost(words) for _ in range(runs)]
     seconds, memory = min(it[0] for it in costs), max(it[1] for it in costs)
-    print(f"| `{os.path.basename(words[1])} {' '.join(words[2:])}` | {seconds:.2f} | {memory:.0f} MB |", flush=True)
+    shown = " ".join(words[1:] if words[0] == sys.executable else words).replace(f"{TOOLS}/", "")
+    print(f"| `{shown}` | {seconds:.2f} | {memory:.0f} MB |", flush=True)
     return seconds, memory
 
 
@@ -146,7 +151,7 @@ def main():
         for words in OF_TWO_TABLES:
             row(words, runs)
         apart(a_run)
-        for words in OF_RECORDS:
+        for words in (*OF_RECORDS, *([DISSECTED] if shutil.which("tshark") else ())):
             row(words, 1)
         os.chdir("/")
     if any(seconds > MOST_SECONDS or memory > MOST_MEGABYTES for seconds, memory in costs):
