@@ -261,7 +261,8 @@ def as_json(old, new, found, keys):
 
 
 def ports_as_json(ports_of):
-    return f"{{{', '.join([f'{chr(34)}{ipv4}{chr(34)}: {ports.ranges_as_json()}' for ipv4, ports in ports_of.items()])}}}"
+    inside = ", ".join([f'"{ipv4}": {ports.ranges_as_json()}' for ipv4, ports in ports_of.items()])
+    return f"{{{inside}}}"
 
 
 def main():

@@ -94,13 +94,14 @@ def _set_apart(text, form):
     parts, runs, at, comma = [], [], 0, ""
     stand_in = f'{{"{STAND_IN}":0}}' if is_json else f"<{STAND_IN}/>"
     for found in (PLAIN_JSON if is_json else PLAIN_XML).finditer(text):
-        if found.start() != at or not runs:
+        leaves, start = found.groups(), found.start()
+        if start != at or not runs:
             # a comma behind a run is that of its last entry
-            parts += [comma, text[at : found.start()], stand_in]
-            runs.append(Run())
-        *leaves, comma = found.groups()
-        runs[-1].append(Plain._make(leaves))
-        at = found.end()
+            parts += [comma, text[at:start], stand_in]
+            run = Run()
+            runs.append(run)
+        run.append(Plain._make(leaves[:-1]))
+        comma, at = leaves[-1], found.end()
     return "".join([*parts, comma, text[at:]]), runs
 
 

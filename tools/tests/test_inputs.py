@@ -326,6 +326,14 @@ class Inputs(Folder):
         for tool in sorted(it for it in os.listdir(HERE) if it.endswith(".py")):
             it = subprocess.run([older, os.path.join(HERE, tool), "--help"], capture_output=True, check=False)
             self.assertEqual((it.returncode, it.stderr), (0, b""), tool)
-        for words in (("report.py", names[2], names[3], "--in", names[0], "--table", names[4]), ("why.py", names[0], names[4], "3"), ("compare.py", names[1], names[1])):
+        samples, other = os.path.join(HERE, "samples"), self.file("other.toml", tables.text(a_table(mtu6=1400)))
+        for code, *words in (
+            (0, "report.py", names[2], names[3], "--in", names[0], "--out", names[1], "--table", names[4], "--html", self.file("page.html"), "--json", self.file("r.json")),
+            (0, "why.py", names[0], names[4], "3"), (0, "compare.py", names[1], names[1]), (1, "diff_tables.py", names[4], other), (1, "diff_tables.py", names[4], other, "--json"),
+            (0, "ports.py", names[4]), (0, "who_at.py", self.file("q.csv", f"1,{SHARED},1232\n"), f"0={names[4]}"), (0, "to_b4.py", names[4], "uci"),
+            (0, "from_csv.py", f"{samples}/list.csv", *WORDS), (0, "from_snabb.py", f"{samples}/snabb.conf"), (0, "from_vpp.py", f"{samples}/vpp.cli"),
+            (0, "from_yang.py", f"{samples}/softwire_br.json", *WORDS), (0, "from_yang.py", f"{samples}/softwire_br.xml", *WORDS),
+            (0, "to_snabb.py", names[4]), (0, "to_vpp.py", names[4]), (0, "to_yang.py", names[4]), (0, "to_yang.py", names[4], "--xml"),
+        ):
             it = subprocess.run([older, os.path.join(HERE, words[0]), *words[1:]], capture_output=True, check=False)
-            self.assertEqual((it.returncode, it.stderr), (0, b""), words)
+            self.assertEqual((it.returncode, it.stderr.count(b"Traceback")), (code, 0), (words, it.stderr))
