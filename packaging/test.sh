@@ -23,7 +23,7 @@ inside() {
 mkdir -p "$root/tmp/out"
 cp "$package" "$root/tmp/out"
 cp "$top"/examples/first/* "$top/packaging/walk.sh" "$root/tmp"
-inside sh -c 'cd /tmp && DEBIAN_FRONTEND=noninteractive apt-get install -y ./out/lwaftr_*_amd64.deb'
+inside sh -c 'cd /tmp && DEBIAN_FRONTEND=noninteractive apt-get -o Dpkg::Use-Pty=0 install -y ./out/lwaftr_*_amd64.deb'
 inside lwaftr --version
 inside lwaftr --help | head -n 2
 inside sh -c 'cd /tmp && lwaftr run in.pcap out.pcap verdicts.txt versions.txt t0.toml && cat verdicts.txt versions.txt'
