@@ -139,11 +139,6 @@ class Change:
         return -self.ports_lost, addresses.packed6(self.b4)
 
 
-def rows_of(blocks):
-    """The rows of some bindings."""
-    return tables.rows_of("".join([tables.HEAD + it for it in blocks]))
-
-
 def b4_of(block):
     """The subscriber of a binding, which is told first."""
     return block.split('"', 2)[1]
@@ -152,10 +147,10 @@ def b4_of(block):
 def changes(old, new):
     """The changes of all subscribers, by kind. What both tables have is passed over as text."""
     kept = set(old.blocks).intersection(new.blocks)
-    gone, come = (grouped(rows_of([it for it in its.blocks if it not in kept]), B4) for its in (old, new))
+    gone, come = (grouped(tables.rows_of([it for it in its.blocks if it not in kept]), B4) for its in (old, new))
     touched = gone.keys() | come.keys()
     # where a subscriber has an address in a binding that stays
-    stays = grouped(rows_of([it for it in kept if b4_of(it) in touched]), B4)
+    stays = grouped(tables.rows_of([it for it in kept if b4_of(it) in touched]), B4)
     found = {kind: [] for kind in KINDS}
     for b4 in touched:
         it = Change(b4, gone.get(b4, ()), come.get(b4, ()))
@@ -228,7 +223,7 @@ def as_text(old, new, found, keys, most):
     yield totals(old, new, found)
     first = {kind: heapq.nsmallest(most, its, key=Change.order) for kind, its in found.items()}
     lost = {it[IPV4] for its in first.values() for change in its for it in change.gone}
-    new_rows = grouped(rows_of([it for it in new.blocks if ipv4_of(it) in lost]), IPV4)
+    new_rows = grouped(tables.rows_of([it for it in new.blocks if ipv4_of(it) in lost]), IPV4)
     for kind, its in first.items():
         if found[kind]:
             yield f"\n{kind}: {MEANING[kind]}\n"

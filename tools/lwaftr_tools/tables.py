@@ -146,12 +146,15 @@ class Document:
 
     @functools.cached_property
     def blocks(self):
-        """The text of each binding."""
-        return self.bindings.split(HEAD)[1:]
+        """The text of each binding, without its head."""
+        front, *blocks = self.bindings.split(HEAD)
+        if front:
+            raise unknown_form()
+        return blocks
 
     @functools.cached_property
     def rows(self):
-        return rows_of(self.bindings)
+        return rows_of(self.blocks)
 
 
 class Row(typing.NamedTuple):
@@ -198,9 +201,9 @@ def ran(*words):
     return it.returncode, it.stderr.strip()
 
 
-# a binding as `lwaftr migrate` writes it
+# a binding as `lwaftr migrate` writes it: its head, and what is below it
 HEAD = "[[binding]]\n"
-BINDING = re.compile(r'\[\[binding\]\]\nb4 = "([^"\n]+)"\nipv4 = "([^"\n]+)"\nlength = (\d+)\noffset = (\d+)\npsid = (\d+)\n\n')
+BINDING = re.compile(r'b4 = "([^"\n]+)"\nipv4 = "([^"\n]+)"\nlength = (\d+)\noffset = (\d+)\npsid = (\d+)\n\n')
 SETTING = re.compile(r'(\w+) = (?:"([^"\n]+)"|(\w+))\n')
 
 
@@ -221,9 +224,9 @@ def parsed(text):
     return Document(Softwire(addresses.ipv6(keys["aftr"]), addresses.ipv4(keys["own"]), **settings), front[version.end() + 1 :], int(version[3]))
 
 
-def rows_of(text):
-    """The bindings of a text that is nothing but bindings."""
-    at, rows, row = 0, [], Row._make
+def rows_of(blocks):
+    """The bindings of some blocks."""
+    text, at, rows, row = "".join(blocks), 0, [], Row._make
     for found in BINDING.finditer(text):
         if found.start() != at:
             break
