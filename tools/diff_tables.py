@@ -140,7 +140,7 @@ class Change:
 
 
 def b4_of(block):
-    """The subscriber of a binding, which is told first."""
+    """The subscriber of a binding, which stands first."""
     return block.split('"', 2)[1]
 
 
@@ -236,7 +236,7 @@ def as_text(old, new, found, keys, most):
 
 
 def ipv4_of(block):
-    """The address of a binding, which is told behind the subscriber."""
+    """The address of a binding, which stands behind the subscriber."""
     return block.split('"', 4)[3]
 
 

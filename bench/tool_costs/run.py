@@ -65,7 +65,7 @@ def lists():
 
 
 def apart(make):
-    """Makes files in a process of its own, so that this one stays small: a program that is started is told to have its memory."""
+    """Makes files in a process of its own, so that this one stays small: the memory of the starting process counts as that of a program that it starts."""
     process = os.fork()
     if process == 0:
         make()
