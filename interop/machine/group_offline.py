@@ -178,13 +178,13 @@ def without_own_errors(items):
 
 def whole_packets(items):
     """Packets with fragments put together."""
-    return [data for _, data in packets.reassemble([(0, data) for data in items])[0]]
+    return packets.reassemble(items)[0]
 
 
 def tunnel_contents(items):
     """What tunnel packets carry, each with its outer header; and the fragments that make no whole."""
-    whole, rest = packets.reassemble([(0, data) for data in items])
-    outers = [packets.IPv6(data) for _, data in whole]
+    whole, rest = packets.reassemble(items)
+    outers = [packets.IPv6(data) for data in whole]
     return [(outer.inner().whole(), outer) for outer in outers if outer.inner() is not None], rest
 
 

@@ -62,8 +62,8 @@ def large_pings():
     """Echoes in IPv4 fragments inside the tunnel; their replies come back as fragments of the tunnel packet."""
     with Capture("inet", "out", "second/large.pcap", "inout", "icmp or ip[6:2] & 0x1fff != 0") as capture:
         replies = Ping("h4", SERVER, 3, 0.1, 3000, wait=2).replies
-    whole, _ = packets.reassemble([(0, data) for data in capture.packets()])
-    echoes = collections.Counter(packet.source for packet in (packets.parse(data) for _, data in whole) if packet.protocol == packets.ICMP and packet.length == 3028)
+    whole, _ = packets.reassemble(capture.packets())
+    echoes = collections.Counter(packet.source for packet in map(packets.parse, whole) if packet.protocol == packets.ICMP and packet.length == 3028)
     check("ping of h4, 3,000 bytes (IPv4 fragments in the tunnel): the server is asked and answers", "3 and 3", f"{echoes[ADDRESS]} and {echoes[SERVER]}",
           echoes[ADDRESS] == echoes[SERVER] == 3)
     check("its replies, as fragments of the tunnel packet, which End.DX4 does not put together", "0 of 3 come back", f"{replies} of 3 come back", replies == 0)

@@ -1,5 +1,4 @@
 """Captures, and the packets of IPv4 and IPv6 in them: headers, checksums, fragments put together. No code of the router is in it."""
-import collections
 import ipaddress
 import struct
 
@@ -212,21 +211,8 @@ def in_hex(data, most=96):
     return data[:most].hex(" ") + (f" .. ({len(data)} bytes)" if len(data) > most else "")
 
 
-def _datagram_of(fragments):
-    """The datagram that fragments (by offset) make; None while one is missing."""
-    body, at = b"", 0
-    while at in fragments:
-        part = fragments[at]
-        body += part.body
-        if not part.more:
-            return _rebuild(fragments[0], body)
-        if not part.body:
-            return None
-        at += len(part.body)
-    return None
-
-
 def _rebuild(first, body):
+    """The packet of the first fragment's header and all bytes."""
     if isinstance(first, IPv4):
         flags = 0x4000 if first.df else 0
         header = first.data[:2] + struct.pack("!HHH", first.header_length + len(body), first.id, flags) + first.data[8:first.header_length]
@@ -235,22 +221,48 @@ def _rebuild(first, body):
     return first.data[:4] + struct.pack("!HB", len(body) & 0xffff, following) + first.data[7:40] + body
 
 
-def reassemble(items):
-    """Packets (each with its time) with fragments put together, the others as they are; and the fragments that make no whole."""
-    waiting, done = collections.OrderedDict(), []
-    for at, data in items:
+class Reassembler:
+    """Puts fragments together, those of IPv4 and of IPv6."""
+
+    def __init__(self):
+        self.waiting = {}
+
+    def take(self, data, tunnel=()):
+        """A packet that is no fragment, or the datagram that a fragment makes whole; None while others are missing."""
         packet = parse(data)
         if not packet.is_fragment:
-            done.append((at, data))
-            continue
-        key = packet.source, packet.destination, packet.id, packet.protocol if isinstance(packet, IPv4) else FRAGMENT, isinstance(packet, IPv4)
-        fragments = waiting.setdefault(key, {})
+            return data
+        key = tunnel, packet.source, packet.destination, packet.id, packet.protocol if isinstance(packet, IPv4) else None
+        fragments = self.waiting.setdefault(key, {})
         fragments[packet.offset] = packet
-        datagram = _datagram_of(fragments)
+        datagram = self._datagram_of(fragments)
         if datagram:
-            del waiting[key]
-            done.append((at, datagram))
-    return done, [packet for fragments in waiting.values() for packet in fragments.values()]
+            del self.waiting[key]
+        return datagram
+
+    @staticmethod
+    def _datagram_of(fragments):
+        body, at = b"", 0
+        while at in fragments:
+            part = fragments[at]
+            body += part.body
+            if not part.more:
+                return _rebuild(fragments[0], body)
+            if not part.body:
+                return None
+            at += len(part.body)
+        return None
+
+    def rest(self):
+        """The fragments that make no whole."""
+        return [packet for fragments in self.waiting.values() for packet in fragments.values()]
+
+
+def reassemble(items):
+    """Packets with fragments put together, the others as they are; and the fragments that make no whole."""
+    reassembler = Reassembler()
+    whole = [data for data in map(reassembler.take, items) if data]
+    return whole, reassembler.rest()
 
 
 def ipv4(source, destination, protocol, body, ttl=64, ident=1, flags=0):
