@@ -258,12 +258,12 @@ def odd_headers():
 
 def congestion():
     """Congestion marked between subscriber and router."""
-    load_rules("isp", ["table ip6 mark {", " chain f { type filter hook forward priority 0;", f"  ip6 daddr {AFTR} ip6 ecn {{ ect0, ect1 }} ip6 ecn set ce", " }", "}"])
+    load_rules("isp", ["table ip6 congestion {", " chain f { type filter hook forward priority 0;", f"  ip6 daddr {AFTR} ip6 ecn {{ ect0, ect1 }} ip6 ecn set ce", " }", "}"])
     must("b4c", "sysctl -q -w net.ipv4.tcp_ecn=1")
     with Capture("inet", "out", "live/ce.pcap", "out", "tcp port 80") as to_server:
         upload("b4c", WEB, 50_000)
     must("b4c", "sysctl -q -w net.ipv4.tcp_ecn=2")
-    must("isp", "nft delete table ip6 mark")
+    must("isp", "nft delete table ip6 congestion")
     marked = collections.Counter(packet.tos & 3 for packet in to_server.of_version(4) if packet.source == ALONE)
     check("upload whose tunnel packets were marked CE (3) on their way: ECN of what left the tunnel (Linux's decapsulation makes it 3)",
           "0 and 2, as it was inside", dict(marked), set(marked) == {0, 2})

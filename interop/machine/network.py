@@ -180,7 +180,8 @@ def forget_connections(box):
 
 
 def use_linux_router():
-    ip("isp", "link set core up", f"-6 route replace {AFTR}/128 via 2001:db8:f::2")
+    # a device that was down has lost its IPv6 address
+    ip("isp", "link set core up", "-6 addr replace 2001:db8:f::1/64 dev core nodad", f"-6 route replace {AFTR}/128 via 2001:db8:f::2")
     ip("inet", "link set back up", f"route replace 203.0.113.0/24 via {OWN}")
     ip("aftr", "-6 route replace default via 2001:db8:f::1", "route replace default via 192.0.2.2")
     shell("aftr", "ping -c1 -W2 2001:db8:f::1; ping -c1 -W2 192.0.2.2")
