@@ -286,7 +286,7 @@ def foreign_ports():
     leaked = [str(packet) for packet in to_server.of_version(4) if packet.source == SHARED]
     check("b4a's NAT set to ports outside of its set (5000) and of b4b's set (3072): what the server sees", "nothing", leaked or "nothing", not leaked)
     check_errors_to_b4a(link)
-    check("what h1 is told: b4a's kernel passes the ICMPv6 error on", "No route to host", seen, seen == "No route to host")
+    check("what h1's connect reports: b4a's kernel passes the ICMPv6 error on", "No route to host", seen, seen == "No route to host")
     info("if 203.0.113.1 is no address of b4a's own, but its NAT's alone, Linux passes nothing on", f"TCP: {without}; UDP: {udp_error}")
 
 

@@ -34,7 +34,7 @@ def pmtu():
         small_settings()
         run.go_to(60001)
         network.forget()
-        check_connect("hop_limit = 1: isp's kernel sends time exceeded to 2001:db8::1; what the server's connect is told", "No route to host", "net", ALONE, 80)
+        check_connect("hop_limit = 1: isp's kernel sends time exceeded to 2001:db8::1; what the server's connect reports", "No route to host", "net", ALONE, 80)
         run.go_to(80001)
         silent_settings()
         run.go_to(100001)
@@ -141,13 +141,13 @@ def tunnels_that_end_nowhere():
     must("isp", "ip -6 neigh flush dev cb")
     seen = connect("net", SHARED, 3072)
     must("b4b", f"ip link set wan up; ip -6 addr replace {B4['b']}/64 dev wan nodad; ip -6 route replace default via 2001:db8:2::ff")
-    check("b4b is off: isp's kernel sends 'address unreachable' to 2001:db8::1; what the server's connect is told", "No route to host", seen, seen == "No route to host")
+    check("b4b is off: isp's kernel sends 'address unreachable' to 2001:db8::1; what the server's connect reports", "No route to host", seen, seen == "No route to host")
     network.remove_tunnel_of_b4c()
     with Capture("b4c", "wan", "pmtu/no-tunnel.pcap", "out") as link:
         seen = connect("net", ALONE, 80)
     network.restore_tunnel_of_b4c()
     errors = collections.Counter((packet.body[0], packet.body[1]) for packet in link.of_version(6) if packet.protocol == packets.ICMPV6 and packet.destination == AFTR)
-    check("b4c has no tunnel: type and code of its kernel's ICMPv6 error; what the server's connect is told", "(1, 4); No route to host", f"{dict(errors)}; {seen}",
+    check("b4c has no tunnel: type and code of its kernel's ICMPv6 error; what the server's connect reports", "(1, 4); No route to host", f"{dict(errors)}; {seen}",
           set(errors) == {(1, 4)} and seen == "No route to host")
 
 
