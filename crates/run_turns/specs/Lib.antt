@@ -1,0 +1,12 @@
+pub mod Words
+pub mod Setups
+pub mod Progress
+pub mod Broken
+pub mod Rounds
+pub mod Turns
+pub mod Dealing
+pub mod Fills
+pub mod Passes
+pub mod Writing
+pub mod Seats
+pub mod Runs
